@@ -7,9 +7,9 @@ use Rattle.std.specs.Prelude.{Option, Some, None, slice_get}
 use Rattle.std.specs.Option.{option_map_or}
 use Rattle.topo_file.specs.Topology.{Layout}
 use Rattle.topo_file.specs.declared.node.Node.{Node}
-use Rattle.schedule_file.specs.Schedule.{Script}
-use Rattle.schedule_file.specs.declared.command.Command.{Command}
-use Rattle.schedule_file.specs.declared.command.Command.TheVariants.{Merge, Plan}
+use Rattle.schedule_file.specs.Schedule.{Script, SeatCommand}
+use Rattle.schedule_file.specs.declared.command.Command.TheVariants.{Merge, Show}
+use Rattle.schedule_file.specs.declared.command.Shown.TheVariants.{Plan}
 use Rattle.fact_store.specs.Report.{Sightings}
 use Rattle.fact_store.specs.Seen.{HaveSameMembers}
 use Rattle.fact_store.specs.View.{Facts, cells_of, view_at}
@@ -17,7 +17,7 @@ use Rattle.fact_store.proofs.Views.{members_decide_view}
 use Rattle.record_file.specs.FactsText.{facts_text}
 use Rattle.lft_blocks.specs.Planning.{Planning}
 use Rattle.sm_manager.specs.Plans.{plan_fault}
-use Rattle.schedule_run.specs.Commands.{after_command, after_commands, facts_shown, plan_or_refusal, plan_shown, script_text, world_of}
+use Rattle.schedule_run.specs.Commands.{after_command, after_commands, plan_or_refusal, script_text, shown_of, world_of}
 use Rattle.schedule_run.specs.World.{SeatedValue, WorldValue}
 use Rattle.run_laws.specs.Accounts.{Account, Accounts, account_after, joined, opened, told_by_command, told_by_commands, with_more, world_after}
 use Rattle.run_laws.specs.Lines.{LaterLinesComeBehind, MergedManagersPlanAlike, PrintsPlansAlike, SameTakenInPlansAlike, SameTakenInSameLines}
@@ -27,12 +27,12 @@ use Rattle.run_laws.proofs.Seats.{AreKnown, more_here, more_there}
 
 -- lines behind others ------------------------------------------------------------------------------------
 
-now_behind : (nodes : List Node) (w : WorldValue) (commands lines : List Command)
+now_behind : (nodes : List Node) (w : WorldValue) (commands lines : List SeatCommand)
     → (after_commands nodes w (commands ++ lines)).now ≡ (after_commands nodes (after_commands nodes w commands).now lines).now
 now_behind nodes w [] lines = refl
 now_behind nodes w (command ∷ later) lines = now_behind nodes (after_command nodes w command).now later lines
 
-text_behind : (nodes : List Node) (w : WorldValue) (commands lines : List Command)
+text_behind : (nodes : List Node) (w : WorldValue) (commands lines : List SeatCommand)
     → (after_commands nodes w (commands ++ lines)).text
     ≡ (after_commands nodes w commands).text ++ (after_commands nodes (after_commands nodes w commands).now lines).text
 text_behind nodes w [] lines = refl
@@ -42,7 +42,7 @@ text_behind nodes w (command ∷ later) lines =
     ∙ sym (append_assoc (after_command nodes w command).text (after_commands nodes next later).text (after_commands nodes
     (after_commands nodes next later).now lines).text)
 
-told_behind : (nodes : List Node) (w : WorldValue) (accounts : Accounts) (commands lines : List Command)
+told_behind : (nodes : List Node) (w : WorldValue) (accounts : Accounts) (commands lines : List SeatCommand)
     → told_by_commands nodes w accounts (commands ++ lines)
     ≡ told_by_commands nodes (after_commands nodes w commands).now (told_by_commands nodes w accounts commands) lines
 told_behind nodes w accounts [] lines = refl
@@ -65,7 +65,7 @@ module _ (one other : WorldValue) (seat seat' : ℕ) (s s' : SeatedValue) (there
       ∙ ap (λ o. option_map_or (λ (x : SeatedValue). text x.manager.planning x.manager.store) o []) (sym there')
 
   know_alike : TellTheSame one other seat seat'
-  unfolding facts_shown plan_shown
+  unfolding shown_of
   know_alike =
       record {
         facts = told_alike (λ planning facts. facts_text facts);
@@ -113,11 +113,11 @@ plans_twice : (planning : Planning) (topology : Layout) (script : Script) (seat 
     → PrintsPlansAlike planning topology script seat other
 plans_twice planning topology script seat other alike =
     let w = world_after planning topology script in
-    let plan = plan_shown w seat in
+    let plan = shown_of w seat Plan in
     record {
       plan = plan;
-      twice = later_lines_come_behind planning topology script (Plan seat ∷ Plan other ∷ [])
-          ∙ ap (λ text. script_text planning topology script ++ (plan ++ text)) (append-nil (plan_shown w other) ∙ sym alike.plan);
+      twice = later_lines_come_behind planning topology script (Show seat Plan ∷ Show other Plan ∷ [])
+          ∙ ap (λ text. script_text planning topology script ++ (plan ++ text)) (append-nil (shown_of w other Plan) ∙ sym alike.plan);
     }
 
 pub same_taken_in_plans_alike : SameTakenInPlansAlike

@@ -3,7 +3,8 @@ use Rattle.std.proofs.Common.{◌≡◌, ℕ, cond, List, [], ◌∷◌, refl, s
 use Rattle.std.proofs.lemmas.List.Elements.{All-nil}
 use Rattle.std.specs.Prelude.{◌-◌, ◌^◌, ◌==◌, if◌then◌else◌, All, Option, Some, None, is_none}
 use Rattle.topo_file.specs.declared.node.Node.{Node}
-use Rattle.schedule_file.specs.declared.command.Command.{Command}
+use Rattle.schedule_file.specs.Schedule.{SeatCommand}
+use Rattle.schedule_file.specs.declared.command.Ask.TheVariants as ask
 use Rattle.schedule_file.specs.declared.command.Command.TheVariants as command
 use Rattle.fabric_sim.specs.Simulation.{fabric_of}
 use Rattle.fact_store.specs.View.{cells_of}
@@ -19,7 +20,7 @@ use Rattle.manager_laws.specs.Sets.{IsOwnSet, OwnSets}
 use Rattle.manager_laws.specs.Written.{AllKeep, plan_at}
 use Rattle.manager_laws.proofs.Generations.{nothing_found, nothing_newest}
 use Rattle.manager_laws.proofs.Rests.{new_managers_rest}
-use Rattle.schedule_run.specs.Commands.{after_command, after_commands, after_sweep_line, after_write_line}
+use Rattle.schedule_run.specs.Commands.{after_ask_line, after_command, after_commands}
 use Rattle.schedule_run.specs.World.{SeatedValue, WorldValue, after_manager_call, after_send}
 use Rattle.run_laws.specs.Alone.{BringsUpAlone, IsOnly, KeepsLines, RunsOfOneAreReached, at_end, at_first_steps, at_writing}
 use Rattle.run_laws.specs.Reached.{EachPingSaysReached}
@@ -40,8 +41,8 @@ manager_is name m w s manager same only =
 module _ (nodes : List Node) (name : List ℕ) (m : Managing) where
   -- the line `sweep`
   sweep_line : begin_fault m.manager ≡ None
-      → (after_command nodes (as_world name m) (command.Sweep 0)).now ≡ (after_send (as_world name (after_manager_event m Begin)) 0).now
-  unfolding after_sweep_line
+      → (after_command nodes (as_world name m) (command.Ask 0 ask.Sweep)).now ≡ (after_send (as_world name (after_manager_event m Begin)) 0).now
+  unfolding after_ask_line
   sweep_line none =
       ap (λ (o : Option ManagerFault). (after_manager_call (λ now. after_send now 0) (as_world name m) 0 (seated_as name m) o (after_begin_sweep m.manager)).now) none
       ∙ ap (λ (o : Option ManagerFault). (after_send (as_world name (managing_of m.scene m.seat (cond (is_none o)
@@ -49,14 +50,14 @@ module _ (nodes : List Node) (name : List ℕ) (m : Managing) where
 
   -- the line `write`
   write_line : writing_fault m.manager ≡ None
-      → (after_command nodes (as_world name m) (command.Write 0)).now ≡ (after_send (as_world name (after_manager_event m Write)) 0).now
-  unfolding after_write_line
+      → (after_command nodes (as_world name m) (command.Ask 0 ask.Write)).now ≡ (after_send (as_world name (after_manager_event m Write)) 0).now
+  unfolding after_ask_line
   write_line none =
       ap (λ (o : Option ManagerFault). (after_manager_call (λ now. after_send now 0) (as_world name m) 0 (seated_as name m) o (after_write_steps m.manager)).now) none
       ∙ ap (λ (o : Option ManagerFault). (after_send (as_world name (managing_of m.scene m.seat (cond (is_none o)
       (after_write_steps m.manager) m.manager) m.out)) 0).now) (sym none)
 
-module _ (nodes : List Node) (w : WorldValue) (s : SeatedValue) (between after : List Command) (b : BringsUpAlone nodes w s between after) where
+module _ (nodes : List Node) (w : WorldValue) (s : SeatedValue) (between after : List SeatCommand) (b : BringsUpAlone nodes w s between after) where
   abbrev plan : PlanValue
   plan = plan_of b.swept.planning.rule b.swept.planning.lmc (cells_of b.swept.store)
 
@@ -93,8 +94,8 @@ module _ (nodes : List Node) (w : WorldValue) (s : SeatedValue) (between after :
   abbrev m2 : Managing
   m2 = after_manager_events swept.events m1
 
-  sweep_so : as_world s.name then1 ≡ (after_command nodes w (command.Sweep 0)).now
-  sweep_so = sent1.ends ∙ sym (sweep_line nodes s.name start begun) ∙ ap (λ x. (after_command nodes x (command.Sweep 0)).now) starts_so
+  sweep_so : as_world s.name then1 ≡ (after_command nodes w (command.Ask 0 ask.Sweep)).now
+  sweep_so = sent1.ends ∙ sym (sweep_line nodes s.name start begun) ∙ ap (λ x. (after_command nodes x (command.Ask 0 ask.Sweep)).now) starts_so
 
   writing_so : as_world s.name m2 ≡ at_writing nodes w between
   writing_so = swept.ends ∙ ap (λ x. (after_commands nodes x between).now) sweep_so
@@ -126,7 +127,7 @@ module _ (nodes : List Node) (w : WorldValue) (s : SeatedValue) (between after :
   m4 = after_manager_events wrote.events m3
 
   steps_so : as_world s.name then3 ≡ at_first_steps nodes w between
-  steps_so = sent3.ends ∙ sym (write_line nodes s.name m2 begins) ∙ ap (λ x. (after_command nodes x (command.Write 0)).now) writing_so
+  steps_so = sent3.ends ∙ sym (write_line nodes s.name m2 begins) ∙ ap (λ x. (after_command nodes x (command.Ask 0 ask.Write)).now) writing_so
 
   end_so : as_world s.name m4 ≡ at_end nodes w between after
   end_so = wrote.ends ∙ ap (λ x. (after_commands nodes x after).now) steps_so

@@ -9,8 +9,10 @@ use Rattle.smp_bytes.specs.Field.{with_bytes}
 use Rattle.node_agents.specs.Agent.{fresh_agent}
 use Rattle.node_agents.specs.Answers.{after_answer, get_of, set_of}
 use Rattle.node_agents.specs.PortInfo.{changed_port}
-use Rattle.schedule_file.specs.declared.command.Command.{Command}
+use Rattle.schedule_file.specs.Schedule.{SeatCommand}
+use Rattle.schedule_file.specs.declared.command.Ask.TheVariants as ask
 use Rattle.schedule_file.specs.declared.command.Command.TheVariants as command
+use Rattle.schedule_file.specs.declared.command.Fate.TheVariants as fate
 use Rattle.schedule_file.specs.declared.command.Which.TheVariants.{Last, Serial}
 use Rattle.fact_store.specs.Report.{Sightings}
 use Rattle.fact_store.specs.View.{cells_of, no_facts}
@@ -36,7 +38,7 @@ use Rattle.manager_laws.proofs.Computed.{delivery_keeps, fault_is, fault_with, i
 use Rattle.manager_laws.proofs.Computed.{phases_with, sweep_in, sweep_there, told_by_agents}
 use Rattle.manager_laws.proofs.ExampleFabric.{distinct_by, is_alone, nodes, port, with_own_seat}
 use Rattle.manager_laws.proofs.Generations.{nothing_newest}
-use Rattle.schedule_run.specs.Commands.{after_commands, after_deliver_line, after_hand_up, after_lose_line, after_repeat_line, after_step, after_sweep_line, after_take_and_send, after_write_line}
+use Rattle.schedule_run.specs.Commands.{after_ask_line, after_commands, after_hand_up, after_packet_line, after_step, after_take_and_send}
 use Rattle.schedule_run.specs.World.{SeatedValue, WorldValue, after_manager_call, after_send}
 use Rattle.run_laws.specs.Alone.{BringsUpAlone, KeepsLines, KeepsStep, KeepsSteps, SomeRunOfOne, after_first, at_first_steps, at_writing, first_serial}
 
@@ -73,8 +75,8 @@ alone (s ∷ other ∷ ms) e = absurd (cc)
 
 -- its sweep --------------------------------------------------------------------------------------------------------
 
-abbrev between : List Command
-between = command.Repeat Last ∷ command.Lose (Serial 0) ∷ command.Drain 60 ∷ []
+abbrev between : List SeatCommand
+between = command.Packet Last fate.Repeat ∷ command.Packet (Serial 0) fate.Lose ∷ command.Drain 60 ∷ []
 
 -- the manager as it is when a sweep of a generation has begun
 abbrev sweeping : ℕ → Manager
@@ -86,8 +88,8 @@ may_begin = ap (λ n. if n == 2 ^ 32 - 1 then Some GenerationsSpent else None) n
 abbrev begun : WorldValue
 begun = (after_send (world_with with_own_seat (sweeping 1)) 0).now
 
-begins : (after_sweep_line world 0).now ≡ begun
-unfolding after_sweep_line
+begins : (after_ask_line world 0 ask.Sweep).now ≡ begun
+unfolding after_ask_line
 begins =
     ap (λ (o : Option ManagerFault). (after_manager_call (λ now. after_send now 0) world 0 (seated_with new) o (after_begin_sweep new)).now) may_begin
     ∙ ap (λ n. (after_send (world_with with_own_seat (sweeping (max (n + 1) 1))) 0).now) nothing_newest
@@ -102,19 +104,19 @@ at_is : at_writing nodes world between ≡ swept_world
 at_is = ap (λ (w : WorldValue). (after_commands nodes w between).now) begins
 
 alone_then : swept_world.managers ≡ seated_with swept ∷ []
-unfolding after_send after_deliver_line after_lose_line after_repeat_line after_take_and_send after_hand_up after_step manager_in
+unfolding after_send after_packet_line after_take_and_send after_hand_up after_step manager_in
     cabled_at fresh_agent after_inject after_lose after_repeat after_deliver outcome_of after_answer get_of set_of changed_port with_bytes
 alone_then = alone swept_world.managers refl
 
 whole : IsWhole (sweep_in swept.sweep)
-unfolding after_send after_deliver_line after_lose_line after_repeat_line after_take_and_send after_hand_up after_step manager_in
+unfolding after_send after_packet_line after_take_and_send after_hand_up after_step manager_in
     cabled_at fresh_agent after_inject after_lose after_repeat after_deliver outcome_of after_answer get_of set_of changed_port with_bytes
 whole = record { done = refl; answered = refl; near = refl }
 
 -- what it was told ----------------------------------------------------------------------------------------------
 
 merged_all : swept.store ≡ merged_with no_facts told_by_agents
-unfolding after_send after_deliver_line after_lose_line after_repeat_line after_take_and_send after_hand_up after_step manager_in
+unfolding after_send after_packet_line after_take_and_send after_hand_up after_step manager_in
     cabled_at fresh_agent after_inject after_lose after_repeat after_deliver outcome_of after_answer get_of set_of changed_port with_bytes
 merged_all = refl
 
@@ -129,19 +131,19 @@ known = ap cells_of (merged_all ∙ one_view [] told_by_agents) ∙ entries-view
 
 -- its writing ---------------------------------------------------------------------------------------------------
 
-abbrev after : List Command
+abbrev after : List SeatCommand
 after = command.Drain 80 ∷ []
 
 abbrev the_sweep : Sweep
 the_sweep = sweep_in swept.sweep
 
 has_swept : is_some swept.sweep ≡ true
-unfolding after_send after_deliver_line after_lose_line after_repeat_line after_take_and_send after_hand_up after_step manager_in
+unfolding after_send after_packet_line after_take_and_send after_hand_up after_step manager_in
     cabled_at fresh_agent after_inject after_lose after_repeat after_deliver outcome_of after_answer get_of set_of changed_port with_bytes
 has_swept = refl
 
 planning_is : swept.planning ≡ in_pairs
-unfolding after_send after_deliver_line after_lose_line after_repeat_line after_take_and_send after_hand_up after_step manager_in
+unfolding after_send after_packet_line after_take_and_send after_hand_up after_step manager_in
     cabled_at fresh_agent after_inject after_lose after_repeat after_deliver outcome_of after_answer get_of set_of changed_port with_bytes
 planning_is = refl
 
@@ -149,7 +151,7 @@ abbrev phases : List Phase
 phases = phases_with in_pairs swept (Some the_sweep) cells
 
 no_fault : fault_with in_pairs swept (Some the_sweep) cells ≡ None
-unfolding after_send after_deliver_line after_lose_line after_repeat_line after_take_and_send after_hand_up after_step manager_in
+unfolding after_send after_packet_line after_take_and_send after_hand_up after_step manager_in
     cabled_at fresh_agent after_inject after_lose after_repeat after_deliver outcome_of after_answer get_of set_of changed_port with_bytes
 no_fault = refl
 
@@ -158,8 +160,8 @@ may_write = fault_is swept in_pairs (Some the_sweep) cells planning_is (sweep_th
 
 -- the line `write` of a world with one manager, which is not refused
 write_line : (fabric : Simulation) (m : Manager) (ps : List Phase) → writing_fault m ≡ None → phases_by m m.sweep ≡ ps
-    → (after_write_line (world_with fabric m) 0).now ≡ (after_send (world_with fabric (begun_with m ps)) 0).now
-unfolding after_write_line
+    → (after_ask_line (world_with fabric m) 0 ask.Write).now ≡ (after_send (world_with fabric (begun_with m ps)) 0).now
+unfolding after_ask_line
 write_line fabric m ps none are =
     ap (λ (o : Option ManagerFault). (after_manager_call (λ now. after_send now 0) (world_with fabric m) 0 (seated_with m) o (after_write_steps m)).now) none
     ∙ ap (λ (x : List Phase). (after_send (world_with fabric (begun_with m x)) 0).now) are
@@ -174,9 +176,9 @@ writing = (after_send (world_with swept_world.fabric (begun_with swept phases)) 
 its_phases : phases_by swept swept.sweep ≡ phases
 its_phases = phases_are swept in_pairs (Some the_sweep) cells planning_is (sweep_there swept.sweep has_swept) known
 
-writes : (after_write_line swept_world 0).now ≡ writing
+writes : (after_ask_line swept_world 0 ask.Write).now ≡ writing
 writes =
-    ap (λ (w : WorldValue). (after_write_line w 0).now) (as_world swept_world swept alone_then)
+    ap (λ (w : WorldValue). (after_ask_line w 0 ask.Write).now) (as_world swept_world swept alone_then)
     ∙ write_line swept_world.fabric swept phases may_write its_phases
 
 abbrev written_world : WorldValue
@@ -186,12 +188,12 @@ abbrev writer : Manager
 writer = manager_in written_world.managers
 
 alone_at_end : written_world.managers ≡ seated_with writer ∷ []
-unfolding after_send after_deliver_line after_lose_line after_repeat_line after_take_and_send after_hand_up after_step manager_in
+unfolding after_send after_packet_line after_take_and_send after_hand_up after_step manager_in
     cabled_at fresh_agent after_inject after_lose after_repeat after_deliver outcome_of after_answer get_of set_of changed_port with_bytes
 alone_at_end = alone written_world.managers refl
 
 is_written_then : is_written writer ≡ true
-unfolding after_send after_deliver_line after_lose_line after_repeat_line after_take_and_send after_hand_up after_step manager_in
+unfolding after_send after_packet_line after_take_and_send after_hand_up after_step manager_in
     cabled_at fresh_agent after_inject after_lose after_repeat after_deliver outcome_of after_answer get_of set_of changed_port with_bytes
 is_written_then = refl
 
@@ -220,7 +222,7 @@ module _ (plan : PlanValue) (phases : List Phase) where
       (step_keeps w.fabric (first_serial w) parts.0, steps_keep (after_first w) most parts.1)
 
 kept : are_steps_kept (plan_of up_and_down 1 cells) phases writing 80 ≡ true
-unfolding after_send after_deliver_line after_lose_line after_repeat_line after_take_and_send after_hand_up after_step manager_in
+unfolding after_send after_packet_line after_take_and_send after_hand_up after_step manager_in
     cabled_at fresh_agent after_inject after_lose after_repeat after_deliver outcome_of after_answer get_of set_of changed_port with_bytes
 kept = refl
 
@@ -242,7 +244,7 @@ keep_by w began m planning o c by_planning by_cells are same keep =
     (IsOwnSet (fabric_of with_own_seat) (port 0 1) (phases_with planning m o c)) nodes began after) (sym by_cells) keep)))
 
 first_steps : at_first_steps nodes world between ≡ writing
-first_steps = ap (λ (w : WorldValue). (after_write_line w 0).now) at_is ∙ writes
+first_steps = ap (λ (w : WorldValue). (after_ask_line w 0 ask.Write).now) at_is ∙ writes
 
 keeps : KeepsLines (plan_of swept.planning.rule swept.planning.lmc (cells_of swept.store)) (IsOwnSet (fabric_of with_own_seat) (port 0 1) (phases_by swept swept.sweep))
     nodes (at_first_steps nodes world between) after

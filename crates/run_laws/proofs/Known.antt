@@ -9,8 +9,10 @@ use Rattle.smp_bytes.specs.declared.smp_fault.SmpFault.{SmpFault}
 use Rattle.topo_file.specs.Topology.{Layout}
 use Rattle.topo_file.specs.declared.node.Node.{Node}
 use Rattle.schedule_file.specs.Schedule.{Script}
-use Rattle.schedule_file.specs.declared.command.Command.{Command}
+use Rattle.schedule_file.specs.Schedule.{SeatCommand}
+use Rattle.schedule_file.specs.declared.command.Ask.TheVariants as ask
 use Rattle.schedule_file.specs.declared.command.Command.TheVariants as command
+use Rattle.schedule_file.specs.declared.command.Fate.TheVariants as fate
 use Rattle.schedule_file.specs.declared.command.Which.{Which}
 use Rattle.fabric_sim.specs.FabricFault.{fabric_fault_name}
 use Rattle.fabric_sim.specs.Delivery.{after_deliver}
@@ -44,10 +46,10 @@ use Rattle.sm_manager.specs.Plans.{writing_fault}
 use Rattle.sm_manager.specs.Served.{served}
 use Rattle.sm_manager.specs.Writing.{is_spent, after_write_steps}
 use Rattle.sm_manager.proofs.Lives.{Keeps, handing_keeps, planning_stays, takes_call, timeout_keeps}
-use Rattle.schedule_run.specs.Commands.{after_arrival, after_command, after_commands, after_cut_line, after_deliver_line, after_drain_line, after_floor_line, after_give_up, after_giving_up, after_hand_up}
-use Rattle.schedule_run.specs.Commands.{after_handover_line}
-use Rattle.schedule_run.specs.Commands.{after_lose_line, after_merge_line, after_plug_line, after_poll_line, after_repeat_line, seat_at, after_manager_line, after_step, after_sweep_line, after_take, after_timeout_line}
-use Rattle.schedule_run.specs.Commands.{after_take_and_send, with_packet, world_of, after_write_line}
+use Rattle.schedule_run.specs.Commands.{after_arrival, after_ask_line, after_command, after_commands, after_cut_line, after_drain_line}
+use Rattle.schedule_run.specs.Commands.{after_fate, after_floor_line, after_give_up, after_giving_up, after_hand_up, after_manager_line, after_merge_line}
+use Rattle.schedule_run.specs.Commands.{after_packet_line, after_plug_line, after_step, after_take, after_take_and_send, after_timeout_line}
+use Rattle.schedule_run.specs.Commands.{seat_at, world_of}
 use Rattle.schedule_run.specs.Flights.{serial_of}
 use Rattle.schedule_run.specs.Refusals.{refusal_line}
 use Rattle.schedule_run.specs.World.{Outcome, SeatedValue, WorldValue, and_then, after_ask, at_seat, after_manager_call, after_fabric_call, quiet, after_send, after_send_by, shows, with_manager}
@@ -224,8 +226,8 @@ module _ (count : ℕ) (planning : Planning) where
       came_known (after_fabric_call w called).now accounts called.result (record { many = known.many; plannings = known.plannings; knows = known.knows })
 
   deliver_known : (w : WorldValue) (accounts : Accounts) (which : Which) → AreKnown count planning w.managers accounts
-      → AreKnown count planning (after_deliver_line w which).now.managers (told_by_deliver w accounts which)
-  unfolding after_deliver_line
+      → AreKnown count planning (after_packet_line w which fate.Deliver).now.managers (told_by_deliver w accounts which)
+  unfolding after_packet_line
   deliver_known w accounts which known = by_serial (serial_of w.fabric.flights which)
     where
       by_serial : (o : Option ℕ) → AreKnown count planning (option_map_or (after_step w) o (shows (refusal_line (fabric_fault_name NoSuchPacket)) w)).now.managers
@@ -249,7 +251,8 @@ module _ (count : ℕ) (planning : Planning) where
 
   -- a packet that is meant, of which managers learn nothing
   which_known : (w : WorldValue) (accounts : Accounts) (which : Which) (run : ℕ → Outcome WorldValue) → AreKnown count planning w.managers accounts
-      → ((serial : ℕ) → (run serial).now.managers ≡ w.managers) → AreKnown count planning (with_packet w which run).now.managers accounts
+      → ((serial : ℕ) → (run serial).now.managers ≡ w.managers)
+      → AreKnown count planning (option_map_or run (serial_of w.fabric.flights which) (shows (refusal_line (fabric_fault_name NoSuchPacket)) w)).now.managers accounts
   which_known w accounts which run known same = by_serial (serial_of w.fabric.flights which)
     where
       by_serial : (o : Option ℕ) → AreKnown count planning (option_map_or run o (shows (refusal_line (fabric_fault_name NoSuchPacket)) w)).now.managers accounts
@@ -258,34 +261,34 @@ module _ (count : ℕ) (planning : Planning) where
 
   -- all lines ----------------------------------------------------------------------------------------------
 
-  pub command_known : (nodes : List Node) (w : WorldValue) (accounts : Accounts) (command : Command) → AreKnown count planning w.managers accounts
+  pub command_known : (nodes : List Node) (w : WorldValue) (accounts : Accounts) (command : SeatCommand) → AreKnown count planning w.managers accounts
       → AreKnown count planning (after_command nodes w command).now.managers (told_by_command w accounts command)
-  unfolding after_manager_line after_sweep_line after_write_line after_handover_line after_poll_line after_lose_line after_repeat_line after_cut_line after_plug_line
+  unfolding after_manager_line after_ask_line after_packet_line after_cut_line after_plug_line
   command_known nodes w accounts (command.Manager seat) known =
       at_seat_is w seat _ (λ x. AreKnown count planning x.managers accounts) (λ _. known) (λ s there. known)
-  command_known nodes w accounts (command.Sweep seat) known = sending_known w accounts seat begin_fault after_begin_sweep (λ m. record { store = refl; planning = refl }) known
-  command_known nodes w accounts (command.Write seat) known = sending_known w accounts seat writing_fault after_write_steps (λ m. record { store = refl; planning = refl }) known
-  command_known nodes w accounts (command.Handover seat) known =
+  command_known nodes w accounts (command.Ask seat ask.Sweep) known =
+      sending_known w accounts seat begin_fault after_begin_sweep (λ m. record { store = refl; planning = refl }) known
+  command_known nodes w accounts (command.Ask seat ask.Write) known =
+      sending_known w accounts seat writing_fault after_write_steps (λ m. record { store = refl; planning = refl }) known
+  command_known nodes w accounts (command.Ask seat ask.Handover) known =
       sending_known w accounts seat handover_fault after_handover (λ m. handing_keeps m (successor_lid m)) known
-  command_known nodes w accounts (command.Poll seat lid) known = sending_known w accounts seat poll_fault (λ m. after_poll m lid) (λ m. record { store = refl; planning = refl }) known
-  command_known nodes w accounts (command.Merge seat other) known = merge_known w accounts seat other known
-  command_known nodes w accounts (command.Floor seat floor) known = floor_known w accounts seat floor known
-  command_known nodes w accounts (command.Deliver which) known = deliver_known w accounts which known
-  command_known nodes w accounts (command.Lose which) known = which_known w accounts which _ known (λ serial. refl)
-  command_known nodes w accounts (command.Repeat which) known = which_known w accounts which _ known (λ serial. refl)
-  command_known nodes w accounts (command.Drain most) known = drain_known most w accounts known
+  command_known nodes w accounts (command.Ask seat (ask.Poll lid)) known =
+      sending_known w accounts seat poll_fault (λ m. after_poll m lid) (λ m. record { store = refl; planning = refl }) known
   command_known nodes w accounts (command.Timeout seat) known = timeout_known w accounts seat known
+  command_known nodes w accounts (command.Floor seat floor) known = floor_known w accounts seat floor known
+  command_known nodes w accounts (command.Merge seat other) known = merge_known w accounts seat other known
+  command_known nodes w accounts (command.Show seat what) known = known
+  command_known nodes w accounts (command.Packet which fate.Deliver) known = deliver_known w accounts which known
+  command_known nodes w accounts (command.Packet which fate.Lose) known = which_known w accounts which (after_fate w fate.Lose) known (λ serial. refl)
+  command_known nodes w accounts (command.Packet which fate.Repeat) known = which_known w accounts which (after_fate w fate.Repeat) known (λ serial. refl)
+  command_known nodes w accounts (command.Drain most) known = drain_known most w accounts known
   command_known nodes w accounts (command.Cut p) known = known
   command_known nodes w accounts (command.Plug p q) known = known
   command_known nodes w accounts (command.Ping p lid) known = known
-  command_known nodes w accounts (command.Facts seat) known = known
-  command_known nodes w accounts (command.Plan seat) known = known
-  command_known nodes w accounts (command.Progress seat) known = known
-  command_known nodes w accounts (command.State seat) known = known
   command_known nodes w accounts command.Tables known = known
   command_known nodes w accounts command.Flight known = known
 
-  commands_known : (nodes : List Node) (w : WorldValue) (accounts : Accounts) (commands : List Command) → AreKnown count planning w.managers accounts
+  commands_known : (nodes : List Node) (w : WorldValue) (accounts : Accounts) (commands : List SeatCommand) → AreKnown count planning w.managers accounts
       → AreKnown count planning (after_commands nodes w commands).now.managers (told_by_commands nodes w accounts commands)
   commands_known nodes w accounts [] known = known
   commands_known nodes w accounts (command ∷ later) known =

@@ -8,10 +8,11 @@ use Rattle.fabric_model.specs.Cables.{is_same_port}
 use Rattle.fabric_model.specs.declared.cable.NodePort.{NodePort}
 use Rattle.fabric_model.proofs.Cabled.{same_port-is, same_port-refl}
 use Rattle.topo_file.specs.declared.node.Node.{Node}
-use Rattle.schedule_file.specs.declared.command.Command.{Command}
+use Rattle.schedule_file.specs.Schedule.{SeatCommand}
+use Rattle.schedule_file.specs.declared.command.Ask.TheVariants as ask
 use Rattle.schedule_file.specs.declared.command.Command.TheVariants as command
+use Rattle.schedule_file.specs.declared.command.Fate.TheVariants as fate
 use Rattle.schedule_file.specs.declared.command.Which.{Which}
-use Rattle.fabric_sim.specs.Changes.{after_lose, after_repeat}
 use Rattle.fabric_sim.specs.Delivery.{after_deliver}
 use Rattle.fabric_sim.specs.FabricFault.{fabric_fault_name}
 use Rattle.fabric_sim.specs.Simulation.{Simulation, is_seat_at}
@@ -34,11 +35,11 @@ use Rattle.manager_laws.specs.Managing.{after_manager_event, after_manager_event
 use Rattle.manager_laws.specs.WritingPings.{AreNoSweeps, BeginsNoSweep}
 use Rattle.manager_laws.specs.Sets.{OwnSets}
 use Rattle.manager_laws.specs.Written.{AllKeep, Keeps}
-use Rattle.schedule_run.specs.Commands.{after_arrival, after_command, after_commands, after_deliver_line, after_drain_line, after_give_up, after_giving_up, after_hand_up, after_handover_line}
-use Rattle.schedule_run.specs.Commands.{after_lose_line, after_poll_line, after_repeat_line, seat_at, after_step, after_timeout_line, after_take_and_send}
+use Rattle.schedule_run.specs.Commands.{after_arrival, after_ask_line, after_command, after_commands, after_drain_line, after_fate, after_give_up}
+use Rattle.schedule_run.specs.Commands.{after_giving_up, after_hand_up, after_packet_line, after_step, after_take_and_send, after_timeout_line, seat_at}
 use Rattle.schedule_run.specs.Flights.{packet_out, serial_of}
 use Rattle.schedule_run.specs.Refusals.{refusal_line}
-use Rattle.schedule_run.specs.World.{SeatedValue, WorldValue, and_then, after_ask, after_manager_call, after_fabric_call, quiet, after_send, after_inject_all, shows}
+use Rattle.schedule_run.specs.World.{SeatedValue, WorldValue, and_then, after_ask, after_manager_call, quiet, after_send, after_inject_all, shows}
 use Rattle.run_laws.specs.Alone.{AreLines, IsLine, KeepsLine, KeepsLines, KeepsStep, KeepsSteps}
 
 abbrev pub managing_of : Scene → NodePort → Manager → List Outgoing → Managing
@@ -297,8 +298,8 @@ module _ (plan : PlanValue) (own : OwnSets) (name : List ℕ) where
       came (Err fault) fabric = rests _ premise
 
   deliver_lives : (m : Managing) (which : Which)
-      → Lives m (KeepsStep plan own m.scene.fabric (serial_of m.scene.fabric.flights which)) (after_deliver_line (as_world name m) which).now
-  unfolding after_deliver_line
+      → Lives m (KeepsStep plan own m.scene.fabric (serial_of m.scene.fabric.flights which)) (after_packet_line (as_world name m) which fate.Deliver).now
+  unfolding after_packet_line
   deliver_lives m which = by_serial (serial_of m.scene.fabric.flights which)
     where
       by_serial : (o : Option ℕ) → Lives m (KeepsStep plan own m.scene.fabric o)
@@ -326,46 +327,41 @@ module _ (plan : PlanValue) (own : OwnSets) (name : List ℕ) where
 
   -- all lines --------------------------------------------------------------------------------------------------
 
-  pub command_lives : (nodes : List Node) (m : Managing) (command : Command) → IsLine command
+  pub command_lives : (nodes : List Node) (m : Managing) (command : SeatCommand) → IsLine command
       → Lives m (KeepsLine plan own (as_world name m) command) (after_command nodes (as_world name m) command).now
-  unfolding after_handover_line after_poll_line after_lose_line after_repeat_line
-  command_lives nodes m (command.Handover zero) is = asked_lives m _ HandOver handover_fault after_handover refl tt tt tt
-  command_lives nodes m (command.Handover (suc seat)) is = rests m _
-  command_lives nodes m (command.Poll zero lid) is = asked_lives m _ (Poll lid) poll_fault (λ x. after_poll x lid) refl tt tt tt
-  command_lives nodes m (command.Poll (suc seat) lid) is = rests m _
-  command_lives nodes m (command.Deliver which) is = deliver_lives m which
-  command_lives nodes m (command.Lose which) is = by_serial (serial_of m.scene.fabric.flights which)
+  unfolding after_ask_line after_packet_line
+  command_lives nodes m (command.Manager seat) is = absurd is
+  command_lives nodes m (command.Ask seat ask.Sweep) is = absurd is
+  command_lives nodes m (command.Ask seat ask.Write) is = absurd is
+  command_lives nodes m (command.Ask zero ask.Handover) is = asked_lives m _ HandOver handover_fault after_handover refl tt tt tt
+  command_lives nodes m (command.Ask (suc seat) ask.Handover) is = rests m _
+  command_lives nodes m (command.Ask zero (ask.Poll lid)) is = asked_lives m _ (Poll lid) poll_fault (λ x. after_poll x lid) refl tt tt tt
+  command_lives nodes m (command.Ask (suc seat) (ask.Poll lid)) is = rests m _
+  command_lives nodes m (command.Timeout seat) is = timeout_lives m _ seat
+  command_lives nodes m (command.Floor seat floor) is = absurd is
+  command_lives nodes m (command.Merge seat other) is = absurd is
+  command_lives nodes m (command.Show seat what) is = rests m _
+  command_lives nodes m (command.Packet which fate.Deliver) is = deliver_lives m which
+  command_lives nodes m (command.Packet which fate.Lose) is = by_serial (serial_of m.scene.fabric.flights which)
     where
       by_serial : (o : Option ℕ) → Lives m (Unit {0})
-          (option_map_or (λ serial. after_fabric_call (as_world name m) (after_lose m.scene.fabric serial)) o
-          (shows (refusal_line (fabric_fault_name NoSuchPacket)) (as_world name m))).now
+          (option_map_or (after_fate (as_world name m) fate.Lose) o (shows (refusal_line (fabric_fault_name NoSuchPacket)) (as_world name m))).now
       by_serial None = rests m _
       by_serial (Some serial) = happens m _ (Around (around.Lose serial)) _ refl refl (tt, tt) tt (λ _. tt)
-  command_lives nodes m (command.Repeat which) is = by_serial (serial_of m.scene.fabric.flights which)
+  command_lives nodes m (command.Packet which fate.Repeat) is = by_serial (serial_of m.scene.fabric.flights which)
     where
       by_serial : (o : Option ℕ) → Lives m (Unit {0})
-          (option_map_or (λ serial. after_fabric_call (as_world name m) (after_repeat m.scene.fabric serial)) o
-          (shows (refusal_line (fabric_fault_name NoSuchPacket)) (as_world name m))).now
+          (option_map_or (after_fate (as_world name m) fate.Repeat) o (shows (refusal_line (fabric_fault_name NoSuchPacket)) (as_world name m))).now
       by_serial None = rests m _
       by_serial (Some serial) = happens m _ (Around (around.Repeat serial)) _ refl refl (tt, tt) tt (λ _. tt)
   command_lives nodes m (command.Drain most) is = drain_lives most m
-  command_lives nodes m (command.Timeout seat) is = timeout_lives m _ seat
-  command_lives nodes m (command.Ping p lid) is = rests m _
-  command_lives nodes m (command.Facts seat) is = rests m _
-  command_lives nodes m (command.Plan seat) is = rests m _
-  command_lives nodes m (command.Progress seat) is = rests m _
-  command_lives nodes m (command.State seat) is = rests m _
-  command_lives nodes m command.Tables is = rests m _
-  command_lives nodes m command.Flight is = rests m _
-  command_lives nodes m (command.Manager seat) is = absurd is
-  command_lives nodes m (command.Sweep seat) is = absurd is
-  command_lives nodes m (command.Write seat) is = absurd is
-  command_lives nodes m (command.Merge seat other) is = absurd is
-  command_lives nodes m (command.Floor seat floor) is = absurd is
   command_lives nodes m (command.Cut p) is = absurd is
   command_lives nodes m (command.Plug p q) is = absurd is
+  command_lives nodes m (command.Ping p lid) is = rests m _
+  command_lives nodes m command.Tables is = rests m _
+  command_lives nodes m command.Flight is = rests m _
 
-  pub commands_live : (nodes : List Node) (m : Managing) (commands : List Command) → AreLines commands
+  pub commands_live : (nodes : List Node) (m : Managing) (commands : List SeatCommand) → AreLines commands
       → Lives m (KeepsLines plan own nodes (as_world name m) commands) (after_commands nodes (as_world name m) commands).now
   commands_live nodes m [] are = rests m _
   commands_live nodes m (command ∷ later) are =

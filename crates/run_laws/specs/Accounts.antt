@@ -4,9 +4,9 @@ use Rattle.std.specs.Option.{option_map_or}
 use Rattle.fabric_model.specs.declared.cable.NodePort.{NodePort}
 use Rattle.topo_file.specs.Topology.{Layout}
 use Rattle.topo_file.specs.declared.node.Node.{Node}
-use Rattle.schedule_file.specs.Schedule.{Script}
-use Rattle.schedule_file.specs.declared.command.Command.{Command}
+use Rattle.schedule_file.specs.Schedule.{Script, SeatCommand}
 use Rattle.schedule_file.specs.declared.command.Command.TheVariants as command
+use Rattle.schedule_file.specs.declared.command.Fate.TheVariants as fate
 use Rattle.schedule_file.specs.declared.command.Which.{Which}
 use Rattle.fabric_sim.specs.Delivery.{after_deliver}
 use Rattle.fabric_sim.specs.declared.delivered.Delivered.{Delivered}
@@ -85,31 +85,15 @@ told_by_merge w accounts seat other = option_map_or (λ o. with_more accounts se
 -- all of them ------------------------------------------------------------------------------------
 
 -- what the managers took in by a line
-abbrev pub told_by_command : WorldValue → Accounts → Command → Accounts
+abbrev pub told_by_command : WorldValue → Accounts → SeatCommand → Accounts
 told_by_command w accounts (command.Merge seat other) = told_by_merge w accounts seat other
 told_by_command w accounts (command.Floor seat floor) = with_more accounts seat (record { told = []; floor = floor })
-told_by_command w accounts (command.Deliver which) = told_by_deliver w accounts which
+told_by_command w accounts (command.Packet which fate.Deliver) = told_by_deliver w accounts which
 told_by_command w accounts (command.Drain most) = told_by_drain w accounts most
-told_by_command w accounts (command.Manager seat) = accounts
-told_by_command w accounts (command.Sweep seat) = accounts
-told_by_command w accounts (command.Write seat) = accounts
-told_by_command w accounts (command.Handover seat) = accounts
-told_by_command w accounts (command.Poll seat lid) = accounts
-told_by_command w accounts (command.Lose which) = accounts
-told_by_command w accounts (command.Repeat which) = accounts
-told_by_command w accounts (command.Timeout seat) = accounts
-told_by_command w accounts (command.Cut p) = accounts
-told_by_command w accounts (command.Plug p q) = accounts
-told_by_command w accounts (command.Ping p lid) = accounts
-told_by_command w accounts (command.Facts seat) = accounts
-told_by_command w accounts (command.Plan seat) = accounts
-told_by_command w accounts (command.Progress seat) = accounts
-told_by_command w accounts (command.State seat) = accounts
-told_by_command w accounts command.Tables = accounts
-told_by_command w accounts command.Flight = accounts
+told_by_command w accounts command = accounts
 
 -- by one line after the other
-abbrev pub told_by_commands : List Node → WorldValue → Accounts → List Command → Accounts
+abbrev pub told_by_commands : List Node → WorldValue → Accounts → List SeatCommand → Accounts
 told_by_commands nodes w accounts [] = accounts
 told_by_commands nodes w accounts (command ∷ later) =
     told_by_commands nodes (after_command nodes w command).now (told_by_command w accounts command) later

@@ -2,8 +2,10 @@
 use Rattle.std.specs.Prelude.{◌≡◌, ◌<◌, ℕ, zero, suc, true, List, [], ◌∷◌, slice_get, Option, Some, None}
 use Rattle.std.specs.Option.{option_map_or}
 use Rattle.topo_file.specs.declared.node.Node.{Node}
-use Rattle.schedule_file.specs.declared.command.Command.{Command}
+use Rattle.schedule_file.specs.Schedule.{SeatCommand}
+use Rattle.schedule_file.specs.declared.command.Ask.TheVariants as ask
 use Rattle.schedule_file.specs.declared.command.Command.TheVariants as command
+use Rattle.schedule_file.specs.declared.command.Fate.TheVariants as fate
 use Rattle.fabric_sim.specs.Simulation.{IsSimulation, Simulation, fabric_of, is_seat_at}
 use Rattle.fact_store.specs.View.{cells_of}
 use Rattle.lft_blocks.specs.Plan.{PlanValue, plan_of}
@@ -22,17 +24,17 @@ use Rattle.schedule_run.specs.World.{SeatedValue, WorldValue}
 use Rattle.run_laws.specs.Reached.{EachPingSaysReached}
 
 -- lines by which no sweep and no writing begins, no cable moves, no manager comes to sit, and none is given facts or a floor
-abbrev pub IsLine : Command → Type 0
+abbrev pub IsLine : SeatCommand → Type 0
 IsLine (command.Manager seat) = ⊥
-IsLine (command.Sweep seat) = ⊥
-IsLine (command.Write seat) = ⊥
+IsLine (command.Ask seat ask.Sweep) = ⊥
+IsLine (command.Ask seat ask.Write) = ⊥
 IsLine (command.Merge seat other) = ⊥
 IsLine (command.Floor seat floor) = ⊥
 IsLine (command.Cut p) = ⊥
 IsLine (command.Plug p q) = ⊥
 IsLine command = Unit {0}
 
-abbrev pub AreLines : List Command → Type 0
+abbrev pub AreLines : List SeatCommand → Type 0
 AreLines [] = Unit {0}
 AreLines (command ∷ later) = IsLine command × AreLines later
 
@@ -55,25 +57,25 @@ module _ (plan : PlanValue) (own : OwnSets) where
   KeepsSteps w zero = Unit {0}
   KeepsSteps w (suc most) = KeepsStep w.fabric (first_serial w) × KeepsSteps (after_first w) most
 
-  abbrev pub KeepsLine : WorldValue → Command → Type 0
-  KeepsLine w (command.Deliver which) = KeepsStep w.fabric (serial_of w.fabric.flights which)
+  abbrev pub KeepsLine : WorldValue → SeatCommand → Type 0
+  KeepsLine w (command.Packet which fate.Deliver) = KeepsStep w.fabric (serial_of w.fabric.flights which)
   KeepsLine w (command.Drain most) = KeepsSteps w most
   KeepsLine w command = Unit {0}
 
-  abbrev pub KeepsLines : List Node → WorldValue → List Command → Type 0
+  abbrev pub KeepsLines : List Node → WorldValue → List SeatCommand → Type 0
   KeepsLines nodes w [] = Unit {0}
   KeepsLines nodes w (command ∷ later) = KeepsLine w command × KeepsLines nodes (after_command nodes w command).now later
 
 -- runs -------------------------------------------------------------------------------------------------
 
 -- the world after a sweep was begun and these lines, after a writing was begun, and after more lines
-abbrev pub at_writing : List Node → WorldValue → List Command → WorldValue
-at_writing nodes w between = (after_commands nodes (after_command nodes w (command.Sweep 0)).now between).now
+abbrev pub at_writing : List Node → WorldValue → List SeatCommand → WorldValue
+at_writing nodes w between = (after_commands nodes (after_command nodes w (command.Ask 0 ask.Sweep)).now between).now
 
-abbrev pub at_first_steps : List Node → WorldValue → List Command → WorldValue
-at_first_steps nodes w between = (after_command nodes (at_writing nodes w between) (command.Write 0)).now
+abbrev pub at_first_steps : List Node → WorldValue → List SeatCommand → WorldValue
+at_first_steps nodes w between = (after_command nodes (at_writing nodes w between) (command.Ask 0 ask.Write)).now
 
-abbrev pub at_end : List Node → WorldValue → List Command → List Command → WorldValue
+abbrev pub at_end : List Node → WorldValue → List SeatCommand → List SeatCommand → WorldValue
 at_end nodes w between after = (after_commands nodes (at_first_steps nodes w between) after).now
 
 -- this manager is the only one, in its seat
@@ -81,7 +83,7 @@ abbrev pub IsOnly : WorldValue → SeatedValue → Manager → Type 0
 IsOnly w s manager = w.managers ≡ record s { manager = manager } ∷ []
 
 -- One new manager sits on a fabric where nothing is on its way; it is told to sweep, and some time later to write.
-pub record BringsUpAlone (nodes : List Node) (w : WorldValue) (s : SeatedValue) (between after : List Command) : Type 0 where
+pub record BringsUpAlone (nodes : List Node) (w : WorldValue) (s : SeatedValue) (between after : List SeatCommand) : Type 0 where
   pub port_guid : ℕ
   pub priority : ℕ
   -- an LMC that there is
@@ -111,7 +113,7 @@ pub record BringsUpAlone (nodes : List Node) (w : WorldValue) (s : SeatedValue) 
 
 -- then each `ping` from an end port of what its port is joined to, for each LID of the plan, says that it reached the owner
 abbrev pub RunsOfOneAreReached : Type 0
-RunsOfOneAreReached = (nodes : List Node) (w : WorldValue) (s : SeatedValue) (between after : List Command)
+RunsOfOneAreReached = (nodes : List Node) (w : WorldValue) (s : SeatedValue) (between after : List SeatCommand)
     → (b : BringsUpAlone nodes w s between after)
     → EachPingSaysReached (plan_of b.swept.planning.rule b.swept.planning.lmc (cells_of b.swept.store)) (at_end nodes w between after) s.at
 
@@ -120,6 +122,6 @@ pub record SomeRunOfOne : Type 0 where
   pub nodes : List Node
   pub world : WorldValue
   pub seated : SeatedValue
-  pub between : List Command
-  pub after : List Command
+  pub between : List SeatCommand
+  pub after : List SeatCommand
   pub brings_up : BringsUpAlone nodes world seated between after

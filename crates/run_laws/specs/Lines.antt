@@ -2,29 +2,29 @@
 use Rattle.lft_blocks.specs.Planning.{Planning}
 use Rattle.std.specs.Prelude.{◌≡◌, ◌<◌, ℕ, List, [], ◌∷◌, ◌++◌, length}
 use Rattle.topo_file.specs.Topology.{Layout}
-use Rattle.schedule_file.specs.Schedule.{Script}
-use Rattle.schedule_file.specs.declared.command.Command.{Command}
-use Rattle.schedule_file.specs.declared.command.Command.TheVariants.{Merge, Plan}
+use Rattle.schedule_file.specs.Schedule.{Script, SeatCommand}
+use Rattle.schedule_file.specs.declared.command.Command.TheVariants.{Merge, Show}
+use Rattle.schedule_file.specs.declared.command.Shown.TheVariants.{Facts, Plan}
 use Rattle.fact_store.specs.Seen.{HaveSameMembers}
-use Rattle.schedule_run.specs.Commands.{after_commands, facts_shown, plan_shown, script_text}
+use Rattle.schedule_run.specs.Commands.{after_commands, script_text, shown_of}
 use Rattle.schedule_run.specs.World.{WorldValue}
 use Rattle.run_laws.specs.Accounts.{account_after, world_after}
 
 -- these lines stand behind a schedule
-abbrev pub and_lines : Script → List Command → Script
+abbrev pub and_lines : Script → List SeatCommand → Script
 and_lines script lines = record script { commands = script.commands ++ lines }
 
 -- what stands behind a schedule changes nothing of what it prints, and prints what it does in the world then
 abbrev pub LaterLinesComeBehind : Type 0
 LaterLinesComeBehind =
-    (planning : Planning) (topology : Layout) (script : Script) (lines : List Command)
+    (planning : Planning) (topology : Layout) (script : Script) (lines : List SeatCommand)
     → script_text planning topology (and_lines script lines)
     ≡ script_text planning topology script ++ (after_commands topology.nodes (world_after planning topology script) lines).text
 
 -- a manager of one world and a manager of another print the same of what they know, and the same plan
 pub record TellTheSame (one other : WorldValue) (seat seat' : ℕ) : Type 0 where
-  pub facts : facts_shown one seat ≡ facts_shown other seat'
-  pub plan : plan_shown one seat ≡ plan_shown other seat'
+  pub facts : shown_of one seat Facts ≡ shown_of other seat' Facts
+  pub plan : shown_of one seat Plan ≡ shown_of other seat' Plan
 
 -- two managers, of one run or of two under the same LMC, that took in the same, in whatever order and however often, and have one greatest floor
 abbrev pub SameTakenInSameLines : Type 0
@@ -37,7 +37,8 @@ SameTakenInSameLines =
 -- behind a schedule the plans of two managers are printed alike
 pub record PrintsPlansAlike (planning : Planning) (topology : Layout) (script : Script) (seat other : ℕ) : Type 0 where
   pub plan : List ℕ
-  pub twice : script_text planning topology (and_lines script (Plan seat ∷ Plan other ∷ [])) ≡ script_text planning topology script ++ (plan ++ plan)
+  pub twice :
+      script_text planning topology (and_lines script (Show seat Plan ∷ Show other Plan ∷ [])) ≡ script_text planning topology script ++ (plan ++ plan)
 
 -- where they took in the same, and have one greatest floor
 abbrev pub SameTakenInPlansAlike : Type 0

@@ -2,7 +2,6 @@
 use Rattle.std.proofs.Common.{◌≡◌, ℕ, ◌+◌, ◌<◌, ◌≤◌, Bool, true, false, List, [], ◌∷◌, ◌++◌, Option, None, Some, Result, Ok, Err, length, length-append, refl, sym, ap, subst, ◌∙◌, append_assoc, inl, inr, arith}
 use Rattle.text_words.specs.Text.{lines}
 use Rattle.topo_file.specs.declared.node.Node.{Node}
-use Rattle.schedule_file.specs.declared.command.Command.{Command}
 use Rattle.schedule_file.specs.declared.fault.ScheduleFault.{ScheduleFault}
 use Rattle.schedule_file.specs.declared.fault.ScheduleFault.TheVariants as fault
 use Rattle.schedule_file.specs.declared.line.ScheduleLine.{ScheduleLine}
@@ -13,8 +12,9 @@ use Rattle.schedule_file.specs.ScheduleFault.{IsRefused}
 use Rattle.schedule_file.specs.declared.line.ScheduleLine.TheVariants as line
 use Rattle.schedule_file.specs.declared.schedule.Seat.{Seat}
 use Rattle.schedule_file.specs.Command.{line_of}
-use Rattle.schedule_file.specs.Schedule.{◌>>=◌, Script, command_of, is_free, new_seat, port_of, schedule_of, seat_at, seat_of, schedule_of_lines, with_command, with_line, with_lines, with_seat}
-use Rattle.schedule_file.specs.FirstFault.{IsSoundOrCrowded, Leaves, fault_of, seats_with, where_known}
+use Rattle.schedule_file.specs.Schedule.{◌>>=◌, Script, SeatCommand, command_of, is_free, new_seat, port_of, schedule_of, seat_at, seat_of}
+use Rattle.schedule_file.specs.Schedule.{schedule_of_lines, where_known, with_command, with_line, with_lines, with_seat}
+use Rattle.schedule_file.specs.FirstFault.{IsSoundOrCrowded, Leaves, fault_of, seats_with}
 
 -- the managers of lines that count from this number, behind those before them
 abbrev pub seats_in : List Node → ℕ → List Seat → List (List ℕ) → Result (List Seat) ScheduleFault
@@ -26,9 +26,10 @@ abbrev seen : Result Script ScheduleFault → Result (List Seat) ScheduleFault
 seen (Ok script) = Ok script.seats
 seen (Err fault) = Err fault
 
-command_same : (number : ℕ) (before : Script) (given : Option Command) → seen (with_command number before given) ≡ where_known number before.seats given
-command_same number before None = refl
-command_same number before (Some given) = refl
+command_same : (before : Script) (given : Result SeatCommand ScheduleFault)
+    → seen (given >>= λ c. Ok (with_command before c)) ≡ (given >>= λ c. Ok before.seats)
+command_same before (Ok given) = refl
+command_same before (Err fault) = refl
 
 manager_same : (before : Script) (seat : Result Seat ScheduleFault)
     → seen (seat >>= λ s. Ok (with_seat before s)) ≡ (seat >>= λ s. Ok (before.seats ++ s ∷ []))
@@ -39,7 +40,7 @@ line_same : (nodes : List Node) (number : ℕ) (before : Script) (told : Option 
 line_same nodes number before None = refl
 line_same nodes number before (Some line.Empty) = refl
 line_same nodes number before (Some (line.Manager new)) = manager_same before (new_seat nodes before.seats number new)
-line_same nodes number before (Some (line.Command spoken)) = command_same number before (command_of nodes before.seats spoken)
+line_same nodes number before (Some (line.Command named)) = command_same before (where_known number (command_of nodes before.seats named))
 
 then_same : (told : Result Script ScheduleFault) (seats : Result (List Seat) ScheduleFault)
     (f : Script → Result Script ScheduleFault) (g : List Seat → Result (List Seat) ScheduleFault)
@@ -200,15 +201,16 @@ at_plain nodes seats number new (Some p) = plain_either (is_free nodes seats p) 
 seat_plain : (nodes : List Node) (seats : List Seat) (number : ℕ) (new : NewManager) → IsPlain (new_seat nodes seats number new)
 seat_plain nodes seats number new = plain_either (is_some (seat_of seats new.name)) _ _ tt (at_plain nodes seats number new (port_of nodes new.at))
 
-command_plain : (number : ℕ) (before : Script) (given : Option Command) → IsPlain (with_command number before given)
-command_plain number before None = tt
-command_plain number before (Some given) = tt
+command_plain : (number : ℕ) (given : Option SeatCommand) → IsPlain (where_known number given)
+command_plain number None = tt
+command_plain number (Some given) = tt
 
 line_plain : (nodes : List Node) (number : ℕ) (before : Script) (told : Option ScheduleLine) → IsPlain (with_line nodes number before told)
 line_plain nodes number before None = tt
 line_plain nodes number before (Some line.Empty) = tt
 line_plain nodes number before (Some (line.Manager new)) = plain_then (new_seat nodes before.seats number new) _ (seat_plain nodes before.seats number new) (λ seat. tt)
-line_plain nodes number before (Some (line.Command spoken)) = command_plain number before (command_of nodes before.seats spoken)
+line_plain nodes number before (Some (line.Command named)) =
+    plain_then (where_known number (command_of nodes before.seats named)) _ (command_plain number (command_of nodes before.seats named)) (λ c. tt)
 
 lines_plain : (nodes : List Node) (number : ℕ) (before : Script) (ls : List (List ℕ)) → IsPlain (with_lines nodes number before ls)
 lines_plain nodes number before [] = tt

@@ -1,4 +1,6 @@
 pub mod FirstFault
+pub mod Lines
 pub mod NameBytes
+pub mod Printed
 pub mod Scripts
 pub mod Serials

@@ -1,28 +1,30 @@
 -- What a line says: nothing, a new manager, or a command with the names that it tells.
-use Rattle.std.specs.Prelude.{ℕ, ◌-◌, ◌^◌, List, [], ◌∷◌, Option, None, Some, option_map, option_and_then, codes, nat_le, ◌==◌, if◌then◌else◌}
+use Rattle.std.specs.Prelude.{ℕ, ◌-◌, ◌^◌, List, [], ◌∷◌, Option, None, Some, option_map, option_and_then, codes, decimal, nat_le, ◌==◌, if◌then◌else◌}
 use Rattle.std.specs.Str.{bytes_eq}
 use Rattle.text_words.specs.Text.{words}
 use Rattle.text_words.specs.NodeName.{name_in}
 use Rattle.text_words.specs.Number.{number_of}
+use Rattle.text_words.specs.Printed.{named_text}
 use Rattle.text_words.specs.Quoted.{enclosed, alone}
+use Rattle.schedule_file.specs.declared.command.Ask.{Ask}
+use Rattle.schedule_file.specs.declared.command.Ask.TheVariants.{Sweep, Write, Handover, Poll}
 use Rattle.schedule_file.specs.declared.command.Command.{Command}
-use Rattle.schedule_file.specs.declared.command.Command.TheVariants.{Deliver, Lose, Repeat, Drain, Tables, Flight}
+use Rattle.schedule_file.specs.declared.command.Command.TheVariants as command
+use Rattle.schedule_file.specs.declared.command.Fate.{Fate}
+use Rattle.schedule_file.specs.declared.command.Fate.TheVariants.{Deliver, Lose, Repeat}
+use Rattle.schedule_file.specs.declared.command.Shown.{Shown}
+use Rattle.schedule_file.specs.declared.command.Shown.TheVariants.{Facts, Plan, Progress, State}
 use Rattle.schedule_file.specs.declared.command.Which.{Which}
 use Rattle.schedule_file.specs.declared.command.Which.TheVariants.{Last, Serial}
 use Rattle.schedule_file.specs.declared.line.ScheduleLine.{ScheduleLine}
 use Rattle.schedule_file.specs.declared.line.ScheduleLine.TheVariants as line
 use Rattle.schedule_file.specs.declared.line.NewManager.{NewManager}
-use Rattle.schedule_file.specs.declared.spoken.PortName.{PortName}
-use Rattle.schedule_file.specs.declared.spoken.Spoken.{Spoken}
-use Rattle.schedule_file.specs.declared.spoken.Spoken.TheVariants.{Plain, OfOne, Merge, Poll, Floor, Cut, Plug, Ping}
-use Rattle.schedule_file.specs.declared.spoken.Verb.{Verb}
-use Rattle.schedule_file.specs.declared.spoken.Verb.TheVariants.{Sweep, Write, Handover, Timeout, Facts, Plan, Progress, State}
+use Rattle.schedule_file.specs.declared.named.PortName.{PortName}
 use Rattle.schedule_file.specs.ManagerName.{manager_name_in}
 
--- the only word
-abbrev pub only : List (List ℕ) → Option (List ℕ)
-only (word ∷ []) = Some word
-only _ = None
+-- a command as its line tells it: managers and nodes by their names
+abbrev pub NamedCommand : Type 0
+NamedCommand = Command (List ℕ) PortName
 
 -- both of two words
 abbrev pub pair : List (List ℕ) → Option (List ℕ × List ℕ)
@@ -54,91 +56,140 @@ new_manager (name ∷ rest) =
     option_and_then (λ x. option_and_then (λ n. option_and_then (λ p. option_map (λ q. record { name = n; at = p; priority = q })
     (number_up_to 15 x.1)) (port_name x.0)) (manager_name_in name)) (pair rest)
 
--- a command to one manager
-abbrev pub verb_of : List ℕ → Option Verb
-verb_of word =
-    if bytes_eq word (codes "sweep") then Some Sweep
-    else if bytes_eq word (codes "write") then Some Write
-    else if bytes_eq word (codes "handover") then Some Handover
-    else if bytes_eq word (codes "timeout") then Some Timeout
-    else if bytes_eq word (codes "facts") then Some Facts
-    else if bytes_eq word (codes "plan") then Some Plan
-    else if bytes_eq word (codes "progress") then Some Progress
-    else if bytes_eq word (codes "state") then Some State
-    else None
-
-abbrev pub of_one : Verb → List (List ℕ) → Option Spoken
-of_one verb args = option_map (OfOne verb) (option_and_then manager_name_in (only args))
-
-abbrev pub merge : List (List ℕ) → Option Spoken
-merge args = option_and_then (λ x. option_and_then (λ m. option_map (Merge m) (manager_name_in x.1)) (manager_name_in x.0)) (pair args)
-
-abbrev pub poll : List (List ℕ) → Option Spoken
-poll args = option_and_then (λ x. option_and_then (λ m. option_map (Poll m) (number_up_to 0xFFFF x.1)) (manager_name_in x.0)) (pair args)
-
 -- a generation in decimal
 abbrev pub generation_of : List ℕ → Option ℕ
 generation_of word = option_and_then (λ n. if n == 0 then None else Some n) (number_up_to 0xFFFFFFFF word)
 
-abbrev pub floor : List (List ℕ) → Option Spoken
-floor args = option_and_then (λ x. option_and_then (λ m. option_map (Floor m) (generation_of x.1)) (manager_name_in x.0)) (pair args)
+-- commands of one word -----------------------------------------------------------------------
 
-abbrev pub cut : List (List ℕ) → Option Spoken
-cut args = option_map Cut (option_and_then port_name (only args))
-
-abbrev pub plug : List (List ℕ) → Option Spoken
-plug args = option_and_then (λ x. option_and_then (λ p. option_map (Plug p) (port_name x.1)) (port_name x.0)) (pair args)
-
-abbrev pub ping : List (List ℕ) → Option Spoken
-ping args = option_and_then (λ x. option_and_then (λ p. option_map (Ping p) (number_up_to 0xFFFF x.1)) (port_name x.0)) (pair args)
-
--- a command of one word
-abbrev pub bare_of : List ℕ → Option Command
+abbrev pub bare_of : List ℕ → Option NamedCommand
 bare_of word =
-    if bytes_eq word (codes "tables") then Some Tables
-    else if bytes_eq word (codes "flight") then Some Flight
+    if bytes_eq word (codes "tables") then Some command.Tables
+    else if bytes_eq word (codes "flight") then Some command.Flight
     else None
 
--- a command about packets in flight
-abbrev pub packet_of : List ℕ → List ℕ → Option Command
-packet_of word arg =
-    if bytes_eq word (codes "deliver") then option_map Deliver (which_of arg)
-    else if bytes_eq word (codes "lose") then option_map Lose (which_of arg)
-    else if bytes_eq word (codes "repeat") then option_map Repeat (which_of arg)
-    else if bytes_eq word (codes "drain") then option_map Drain (number_up_to 1000000 arg)
+-- commands with one word behind their own --------------------------------------------------------
+
+-- the manager of a name is asked for something, or something of it is shown
+abbrev pub ask : Ask → List ℕ → Option NamedCommand
+ask what name = option_map (λ manager. command.Ask manager what) (manager_name_in name)
+
+abbrev pub show : Shown → List ℕ → Option NamedCommand
+show what name = option_map (λ manager. command.Show manager what) (manager_name_in name)
+
+-- a command to one manager, by its word
+abbrev pub to_manager : List ℕ → List ℕ → Option NamedCommand
+to_manager word name =
+    if bytes_eq word (codes "sweep") then ask Sweep name
+    else if bytes_eq word (codes "write") then ask Write name
+    else if bytes_eq word (codes "handover") then ask Handover name
+    else if bytes_eq word (codes "timeout") then option_map command.Timeout (manager_name_in name)
+    else if bytes_eq word (codes "facts") then show Facts name
+    else if bytes_eq word (codes "plan") then show Plan name
+    else if bytes_eq word (codes "progress") then show Progress name
+    else if bytes_eq word (codes "state") then show State name
     else None
 
--- a command that tells no name
-abbrev pub plain_of : List ℕ → List (List ℕ) → Option Command
-plain_of word [] = bare_of word
-plain_of word (arg ∷ []) = packet_of word arg
-plain_of word _ = None
+-- what becomes of a packet in flight
+abbrev pub packet : Fate → List ℕ → Option NamedCommand
+packet fate which = option_map (λ w. command.Packet w fate) (which_of which)
 
--- a command that tells two names, a port, or no name
-abbrev pub other_of : List ℕ → List (List ℕ) → Option Spoken
-other_of word args =
-    if bytes_eq word (codes "merge") then merge args
-    else if bytes_eq word (codes "poll") then poll args
-    else if bytes_eq word (codes "floor") then floor args
-    else if bytes_eq word (codes "cut") then cut args
-    else if bytes_eq word (codes "plug") then plug args
-    else if bytes_eq word (codes "ping") then ping args
-    else option_map Plain (plain_of word args)
+-- any other command
+abbrev pub of_one : List ℕ → List ℕ → Option NamedCommand
+of_one word arg =
+    if bytes_eq word (codes "deliver") then packet Deliver arg
+    else if bytes_eq word (codes "lose") then packet Lose arg
+    else if bytes_eq word (codes "repeat") then packet Repeat arg
+    else if bytes_eq word (codes "drain") then option_map command.Drain (number_up_to 1000000 arg)
+    else if bytes_eq word (codes "cut") then option_map command.Cut (port_name arg)
+    else to_manager word arg
 
-abbrev pub spoken_with : Option Verb → List ℕ → List (List ℕ) → Option Spoken
-spoken_with (Some verb) word args = of_one verb args
-spoken_with None word args = other_of word args
+-- commands with two words behind their own -------------------------------------------------------
+
+abbrev pub merge : List ℕ → List ℕ → Option NamedCommand
+merge one other = option_and_then (λ m. option_map (command.Merge m) (manager_name_in other)) (manager_name_in one)
+
+abbrev pub poll : List ℕ → List ℕ → Option NamedCommand
+poll name lid =
+    option_and_then (λ m. option_map (λ n. command.Ask m (Poll n)) (number_up_to 0xFFFF lid)) (manager_name_in name)
+
+abbrev pub floor : List ℕ → List ℕ → Option NamedCommand
+floor name generation =
+    option_and_then (λ m. option_map (command.Floor m) (generation_of generation)) (manager_name_in name)
+
+abbrev pub plug : List ℕ → List ℕ → Option NamedCommand
+plug one other = option_and_then (λ p. option_map (command.Plug p) (port_name other)) (port_name one)
+
+abbrev pub ping : List ℕ → List ℕ → Option NamedCommand
+ping port lid = option_and_then (λ p. option_map (command.Ping p) (number_up_to 0xFFFF lid)) (port_name port)
+
+abbrev pub of_two : List ℕ → List ℕ → List ℕ → Option NamedCommand
+of_two word one other =
+    if bytes_eq word (codes "merge") then merge one other
+    else if bytes_eq word (codes "poll") then poll one other
+    else if bytes_eq word (codes "floor") then floor one other
+    else if bytes_eq word (codes "plug") then plug one other
+    else if bytes_eq word (codes "ping") then ping one other
+    else None
+
+-- the words of commands ---------------------------------------------------------------------
+
+-- a port, by the name of its node
+abbrev pub port_word : PortName → List ℕ
+port_word p = named_text p.node p.port
+
+abbrev pub which_word : Which → List ℕ
+which_word Last = codes "last"
+which_word (Serial serial) = decimal serial
+
+abbrev pub fate_word : Fate → List ℕ
+fate_word Deliver = codes "deliver"
+fate_word Lose = codes "lose"
+fate_word Repeat = codes "repeat"
+
+abbrev pub shown_word : Shown → List ℕ
+shown_word Facts = codes "facts"
+shown_word Plan = codes "plan"
+shown_word Progress = codes "progress"
+shown_word State = codes "state"
+
+abbrev pub ask_words : Ask → List ℕ → List (List ℕ)
+ask_words Sweep name = codes "sweep" ∷ name ∷ []
+ask_words Write name = codes "write" ∷ name ∷ []
+ask_words Handover name = codes "handover" ∷ name ∷ []
+ask_words (Poll lid) name = codes "poll" ∷ name ∷ decimal lid ∷ []
+
+-- the words of a command; those of a new manager say more of it
+abbrev pub named_words : NamedCommand → List (List ℕ)
+named_words (command.Manager name) = []
+named_words (command.Ask name what) = ask_words what name
+named_words (command.Timeout name) = codes "timeout" ∷ name ∷ []
+named_words (command.Floor name floor) = codes "floor" ∷ name ∷ decimal floor ∷ []
+named_words (command.Merge one other) = codes "merge" ∷ one ∷ other ∷ []
+named_words (command.Show name what) = shown_word what ∷ name ∷ []
+named_words (command.Packet which fate) = fate_word fate ∷ which_word which ∷ []
+named_words (command.Drain most) = codes "drain" ∷ decimal most ∷ []
+named_words (command.Cut p) = codes "cut" ∷ port_word p ∷ []
+named_words (command.Plug p q) = codes "plug" ∷ port_word p ∷ port_word q ∷ []
+named_words (command.Ping p lid) = codes "ping" ∷ port_word p ∷ decimal lid ∷ []
+named_words command.Tables = codes "tables" ∷ []
+named_words command.Flight = codes "flight" ∷ []
+
+-- lines ----------------------------------------------------------------------------------------
 
 -- the command that a word and those behind it are
-abbrev pub spoken_of : List ℕ → List (List ℕ) → Option Spoken
-spoken_of word args = spoken_with (verb_of word) word args
+abbrev pub command_in : List ℕ → List (List ℕ) → Option NamedCommand
+command_in word [] = bare_of word
+command_in word (arg ∷ []) = of_one word arg
+command_in word (one ∷ other ∷ []) = of_two word one other
+command_in word _ = None
 
 -- the line that the words are
 abbrev pub line_in : List (List ℕ) → Option ScheduleLine
 line_in [] = Some line.Empty
 line_in (word ∷ args) =
     if bytes_eq word (codes "manager") then option_map line.Manager (new_manager args)
-    else option_map line.Command (spoken_of word args)
+    else option_map line.Command (command_in word args)
 
 -- what a line says
 unfoldable pub line_of : List ℕ → Option ScheduleLine

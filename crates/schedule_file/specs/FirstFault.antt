@@ -1,13 +1,12 @@
 -- The first fault of a text, by the managers alone.
 use Rattle.std.specs.Prelude.{◌≡◌, ◌⊎◌, ◌<◌, ℕ, Bool, true, false, List, [], ◌∷◌, ◌++◌, Option, None, Some, Result, Ok, Err, length}
 use Rattle.topo_file.specs.declared.node.Node.{Node}
-use Rattle.schedule_file.specs.declared.command.Command.{Command}
 use Rattle.schedule_file.specs.declared.fault.ScheduleFault.{ScheduleFault}
-use Rattle.schedule_file.specs.declared.fault.ScheduleFault.TheVariants.{Syntax, Name}
+use Rattle.schedule_file.specs.declared.fault.ScheduleFault.TheVariants.{Syntax}
 use Rattle.schedule_file.specs.declared.line.ScheduleLine.{ScheduleLine}
 use Rattle.schedule_file.specs.declared.line.ScheduleLine.TheVariants as line
 use Rattle.schedule_file.specs.declared.schedule.Seat.{Seat}
-use Rattle.schedule_file.specs.Schedule.{◌>>=◌, Script, command_of, new_seat, schedule_of_lines}
+use Rattle.schedule_file.specs.Schedule.{◌>>=◌, Script, command_of, new_seat, schedule_of_lines, where_known}
 
 -- the fault of what is told, where it has one
 abbrev pub fault_of : {T : Type 0} → Result T ScheduleFault → Option ScheduleFault
@@ -27,17 +26,13 @@ pub record IsCrowded (nodes : List Node) (lines : List (List ℕ)) : Type 0 wher
 abbrev pub IsSoundOrCrowded : List Node → List (List ℕ) → Type 0
 IsSoundOrCrowded nodes lines = (fault_of (schedule_of_lines nodes lines) ≡ None) ⊎ IsCrowded nodes lines
 
--- a command keeps the managers, where its names are known
-abbrev pub where_known : ℕ → List Seat → Option Command → Result (List Seat) ScheduleFault
-where_known number seats (Some command) = Ok seats
-where_known number seats None = Err (Name number)
-
 -- the managers with that of a line
 abbrev pub seats_with : List Node → ℕ → List Seat → Option ScheduleLine → Result (List Seat) ScheduleFault
 seats_with nodes number seats None = Err (Syntax number)
 seats_with nodes number seats (Some line.Empty) = Ok seats
 seats_with nodes number seats (Some (line.Manager new)) = new_seat nodes seats number new >>= λ seat. Ok (seats ++ seat ∷ [])
-seats_with nodes number seats (Some (line.Command spoken)) = where_known number seats (command_of nodes seats spoken)
+seats_with nodes number seats (Some (line.Command named)) =
+    where_known number (command_of nodes seats named) >>= λ command. Ok seats
 
 -- a call left these managers, or there was no room for all of them, or it answered the fault
 abbrev pub Leaves : Result (List Seat) ScheduleFault → Result Bool ScheduleFault → List Seat → Type 0

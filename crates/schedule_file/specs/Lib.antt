@@ -3,3 +3,4 @@ pub mod ManagerName
 pub mod Schedule
 pub mod ScheduleFault
 pub mod FirstFault
+pub mod Printed

@@ -17,18 +17,18 @@ use Rattle.schedule_file.specs.declared.fault.ScheduleFault.TheVariants as fault
 use Rattle.schedule_file.specs.declared.line.ScheduleLine.{ScheduleLine}
 use Rattle.schedule_file.specs.declared.line.ScheduleLine.TheVariants as line
 use Rattle.schedule_file.specs.declared.line.NewManager.{NewManager}
+use Rattle.schedule_file.specs.declared.named.PortName.{PortName}
 use Rattle.schedule_file.specs.declared.schedule.Seat.{Seat}
-use Rattle.schedule_file.specs.declared.spoken.PortName.{PortName}
-use Rattle.schedule_file.specs.declared.spoken.Spoken.{Spoken}
-use Rattle.schedule_file.specs.declared.spoken.Spoken.TheVariants.{Plain, OfOne, Merge, Poll, Floor, Cut, Plug, Ping}
-use Rattle.schedule_file.specs.declared.spoken.Verb.{Verb}
-use Rattle.schedule_file.specs.declared.spoken.Verb.TheVariants.{Sweep, Write, Handover, Timeout, Facts, Plan, Progress, State}
-use Rattle.schedule_file.specs.Command.{line_of}
+use Rattle.schedule_file.specs.Command.{NamedCommand, line_of}
+
+-- a command as it is run: managers by the indices of their seats, from 0, and nodes by theirs
+abbrev pub SeatCommand : Type 0
+SeatCommand = Command ℕ NodePort
 
 -- the managers and the commands
 pub record Script : Type 0 where
   pub seats : List Seat
-  pub commands : List Command
+  pub commands : List SeatCommand
 
 -- what may follow a value, or its fault
 infixl 10 ◌>>=◌
@@ -60,32 +60,32 @@ is_free nodes seats p = is_seat nodes p && not (is_taken seats p)
 abbrev pub port_of : List Node → PortName → Option NodePort
 port_of nodes name = option_map (λ id. record { node = id; port = name.port }) (id_of nodes name.node)
 
--- the command to the manager of a seat
-abbrev pub of_verb : Verb → ℕ → Command
-of_verb Sweep seat = command.Sweep seat
-of_verb Write seat = command.Write seat
-of_verb Handover seat = command.Handover seat
-of_verb Timeout seat = command.Timeout seat
-of_verb Facts seat = command.Facts seat
-of_verb Plan seat = command.Plan seat
-of_verb Progress seat = command.Progress seat
-of_verb State seat = command.State seat
-
 -- the command, where all its names are known
-abbrev pub command_of : List Node → List Seat → Spoken → Option Command
-command_of nodes seats (Plain command) = Some command
-command_of nodes seats (OfOne verb name) = option_map (of_verb verb) (seat_of seats name)
-command_of nodes seats (Merge one other) = option_and_then (λ a. option_map (command.Merge a) (seat_of seats other)) (seat_of seats one)
-command_of nodes seats (Poll name lid) = option_map (λ seat. command.Poll seat lid) (seat_of seats name)
-command_of nodes seats (Floor name floor) = option_map (λ seat. command.Floor seat floor) (seat_of seats name)
-command_of nodes seats (Cut name) = option_map command.Cut (port_of nodes name)
-command_of nodes seats (Plug one other) = option_and_then (λ p. option_map (command.Plug p) (port_of nodes other)) (port_of nodes one)
-command_of nodes seats (Ping name lid) = option_map (λ p. command.Ping p lid) (port_of nodes name)
+abbrev pub command_of : List Node → List Seat → NamedCommand → Option SeatCommand
+command_of nodes seats (command.Manager name) = option_map command.Manager (seat_of seats name)
+command_of nodes seats (command.Ask name what) = option_map (λ seat. command.Ask seat what) (seat_of seats name)
+command_of nodes seats (command.Timeout name) = option_map command.Timeout (seat_of seats name)
+command_of nodes seats (command.Floor name floor) = option_map (λ seat. command.Floor seat floor) (seat_of seats name)
+command_of nodes seats (command.Merge one other) =
+    option_and_then (λ a. option_map (command.Merge a) (seat_of seats other)) (seat_of seats one)
+command_of nodes seats (command.Show name what) = option_map (λ seat. command.Show seat what) (seat_of seats name)
+command_of nodes seats (command.Packet which fate) = Some (command.Packet which fate)
+command_of nodes seats (command.Drain most) = Some (command.Drain most)
+command_of nodes seats (command.Cut p) = option_map command.Cut (port_of nodes p)
+command_of nodes seats (command.Plug p q) =
+    option_and_then (λ a. option_map (command.Plug a) (port_of nodes q)) (port_of nodes p)
+command_of nodes seats (command.Ping p lid) = option_map (λ a. command.Ping a lid) (port_of nodes p)
+command_of nodes seats command.Tables = Some command.Tables
+command_of nodes seats command.Flight = Some command.Flight
+
+-- the command of a line of this number
+abbrev pub where_known : ℕ → Option SeatCommand → Result SeatCommand ScheduleFault
+where_known number (Some command) = Ok command
+where_known number None = Err (fault.Name number)
 
 -- a command more
-abbrev pub with_command : ℕ → Script → Option Command → Result Script ScheduleFault
-with_command number before (Some command) = Ok (record before { commands = before.commands ++ command ∷ [] })
-with_command number before None = Err (fault.Name number)
+abbrev pub with_command : Script → SeatCommand → Script
+with_command before command = record before { commands = before.commands ++ command ∷ [] }
 
 -- the seat at a port, where a manager may sit and none sits
 abbrev pub seat_at : List Node → List Seat → ℕ → NewManager → Option NodePort → Result Seat ScheduleFault
@@ -109,7 +109,8 @@ abbrev pub with_line : List Node → ℕ → Script → Option ScheduleLine → 
 with_line nodes number before None = Err (fault.Syntax number)
 with_line nodes number before (Some line.Empty) = Ok before
 with_line nodes number before (Some (line.Manager new)) = new_seat nodes before.seats number new >>= λ seat. Ok (with_seat before seat)
-with_line nodes number before (Some (line.Command spoken)) = with_command number before (command_of nodes before.seats spoken)
+with_line nodes number before (Some (line.Command named)) =
+    where_known number (command_of nodes before.seats named) >>= λ command. Ok (with_command before command)
 
 -- what lines add that count from this number
 abbrev pub with_lines : List Node → ℕ → Script → List (List ℕ) → Result Script ScheduleFault
@@ -127,19 +128,13 @@ schedule_of nodes text = schedule_of_lines nodes (lines text)
 -- what holds of each schedule ---------------------------------------------------------------
 
 -- the command names managers only that are among so many
-abbrev pub NamesManagers : ℕ → Command → Type 0
+abbrev pub NamesManagers : ℕ → SeatCommand → Type 0
 NamesManagers count (command.Manager seat) = seat < count
-NamesManagers count (command.Sweep seat) = seat < count
-NamesManagers count (command.Write seat) = seat < count
-NamesManagers count (command.Handover seat) = seat < count
-NamesManagers count (command.Poll seat lid) = seat < count
+NamesManagers count (command.Ask seat what) = seat < count
+NamesManagers count (command.Timeout seat) = seat < count
 NamesManagers count (command.Floor seat floor) = seat < count
 NamesManagers count (command.Merge seat other) = (seat < count) × (other < count)
-NamesManagers count (command.Timeout seat) = seat < count
-NamesManagers count (command.Facts seat) = seat < count
-NamesManagers count (command.Plan seat) = seat < count
-NamesManagers count (command.Progress seat) = seat < count
-NamesManagers count (command.State seat) = seat < count
+NamesManagers count (command.Show seat what) = seat < count
 NamesManagers count _ = Unit {0}
 
 -- its managers sit at ports of the fabric's adapters, and its commands name no others

@@ -7,7 +7,7 @@ ghost use Rattle.schedule_file.specs.Schedule.{schedule_of_lines};
 
 use crate::fault::ScheduleFault;
 use crate::line::{ScheduleLine, read_line};
-use crate::resolve::command;
+use crate::resolve::resolve;
 use crate::schedule::{Seat, new_seat};
 use arrayvec::ArrayVec;
 use text_words::split_line;
@@ -54,9 +54,9 @@ fn judge_line(
             let seat = new_seat(topology, seats.as_slice(), number, new)?;
             Ok(seats.try_push(seat).is_ok())
         }
-        Some(ScheduleLine::Command(spoken)) => match command(topology, seats.as_slice(), spoken) {
-            Some(_) => Ok(true),
-            None => Err(ScheduleFault::Name { line: number }),
-        },
+        Some(ScheduleLine::Command(named)) => {
+            let _known = resolve(topology, seats.as_slice(), number, named)?;
+            Ok(true)
+        }
     }
 }

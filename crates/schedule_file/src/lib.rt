@@ -4,15 +4,16 @@
 mod command;
 mod fault;
 mod first_fault;
+pub mod laws;
 mod line;
 mod manager_name;
+mod named;
 mod numbers;
-mod plain;
 mod resolve;
 mod schedule;
-mod spoken;
 
-pub use command::{Command, Which};
+pub use command::{Ask, Command, Fate, Shown, Which};
 pub use fault::ScheduleFault;
 pub use manager_name::ManagerName;
+pub use resolve::SeatCommand;
 pub use schedule::{Schedule, Seat, parse};

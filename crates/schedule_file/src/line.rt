@@ -3,8 +3,8 @@ ghost use Rattle.text_words.specs.Text.{words};
 ghost use Rattle.schedule_file.specs.Command.{line_of, new_manager, number_up_to};
 
 use crate::manager_name::ManagerName;
+use crate::named::{NamedCommand, PortName, named_command, pair, port_name};
 use crate::numbers::number_up_to;
-use crate::spoken::{PortName, Spoken, pair, port_name, read_command};
 use attr_codec::Priority;
 use text_words::{is_word, split_word};
 
@@ -13,7 +13,7 @@ use text_words::{is_word, split_word};
 pub(crate) enum ScheduleLine {
     Empty,
     Manager(NewManager),
-    Command(Spoken),
+    Command(NamedCommand),
 }
 
 /// A new manager as its line tells it.
@@ -35,7 +35,7 @@ pub(crate) fn read_line(line: &[u8]) -> Option<ScheduleLine>
     if is_word(word, "manager") {
         Some(ScheduleLine::Manager(new_manager(rest)?))
     } else {
-        Some(ScheduleLine::Command(read_command(word, rest)?))
+        Some(ScheduleLine::Command(named_command(word, rest)?))
     }
 }
 

@@ -1,50 +1,60 @@
+//! Commands as they are run: names are looked up.
 ghost use Rattle.std.specs.Prelude.{◌≡◌};
-ghost use Rattle.schedule_file.specs.Schedule.{seat_of, is_taken, may_seat, is_seat, is_free, port_of, of_verb, command_of};
+ghost use Rattle.schedule_file.specs.Schedule.{command_of, is_free, is_seat, is_taken, may_seat};
+ghost use Rattle.schedule_file.specs.Schedule.{port_of, seat_of, where_known};
 
 use crate::command::Command;
+use crate::fault::ScheduleFault;
 use crate::manager_name::ManagerName;
+use crate::named::{NamedCommand, PortName};
 use crate::schedule::Seat;
-use crate::spoken::{PortName, Spoken, Verb};
 use fabric_model::NodePort;
 use smp_bytes::NodeType;
 use topo_file::{Node, Topology};
 
-/// The command, where all its names are known.
-pub(crate) fn command(topology: &Topology, seats: &[Seat], spoken: Spoken) -> Option<Command>
-    ensures { result ≡ command_of topology.now.nodes seats.now spoken }
+/// A command as it is run: managers by the indices of their seats, from 0, and nodes by theirs.
+pub type SeatCommand = Command<usize, NodePort>;
+
+/// The command of a line, where all its names are known.
+pub(crate) fn resolve(
+    topology: &Topology,
+    seats: &[Seat],
+    line: usize,
+    command: NamedCommand,
+) -> Result<SeatCommand, ScheduleFault>
+    ensures { result ≡ where_known line (command_of topology.now.nodes seats.now command) }
 {
-    match spoken {
-        Spoken::Plain(command) => Some(command),
-        Spoken::OfOne(verb, name) => Some(of_verb(verb, seat(seats, &name)?)),
-        Spoken::Merge(one, other) => {
-            let one = seat(seats, &one)?;
-            Some(Command::Merge(one, seat(seats, &other)?))
-        }
-        Spoken::Poll(name, lid) => Some(Command::Poll(seat(seats, &name)?, lid)),
-        Spoken::Floor(name, floor) => Some(Command::Floor(seat(seats, &name)?, floor)),
-        Spoken::Cut(name) => Some(Command::Cut(port(topology, &name)?)),
-        Spoken::Plug(one, other) => {
-            let one = port(topology, &one)?;
-            Some(Command::Plug(one, port(topology, &other)?))
-        }
-        Spoken::Ping(name, lid) => Some(Command::Ping(port(topology, &name)?, lid)),
+    match command_of(topology, seats, command) {
+        Some(command) => Ok(command),
+        None => Err(ScheduleFault::Name { line }),
     }
 }
 
-/// The command to the manager of a seat.
-fn of_verb(verb: Verb, seat: usize) -> Command
-    ensures { result ≡ of_verb verb seat }
+/// The command, where all its names are known.
+fn command_of(topology: &Topology, seats: &[Seat], command: NamedCommand) -> Option<SeatCommand>
+    ensures { result ≡ command_of topology.now.nodes seats.now command }
 {
-    match verb {
-        Verb::Sweep => Command::Sweep(seat),
-        Verb::Write => Command::Write(seat),
-        Verb::Handover => Command::Handover(seat),
-        Verb::Timeout => Command::Timeout(seat),
-        Verb::Facts => Command::Facts(seat),
-        Verb::Plan => Command::Plan(seat),
-        Verb::Progress => Command::Progress(seat),
-        Verb::State => Command::State(seat),
-    }
+    Some(match command {
+        Command::Manager(name) => Command::Manager(seat(seats, &name)?),
+        Command::Ask(name, what) => Command::Ask(seat(seats, &name)?, what),
+        Command::Timeout(name) => Command::Timeout(seat(seats, &name)?),
+        Command::Floor(name, floor) => Command::Floor(seat(seats, &name)?, floor),
+        Command::Merge(one, other) => {
+            let one = seat(seats, &one)?;
+            Command::Merge(one, seat(seats, &other)?)
+        }
+        Command::Show(name, what) => Command::Show(seat(seats, &name)?, what),
+        Command::Packet(which, fate) => Command::Packet(which, fate),
+        Command::Drain(most) => Command::Drain(most),
+        Command::Cut(name) => Command::Cut(port(topology, &name)?),
+        Command::Plug(one, other) => {
+            let one = port(topology, &one)?;
+            Command::Plug(one, port(topology, &other)?)
+        }
+        Command::Ping(name, lid) => Command::Ping(port(topology, &name)?, lid),
+        Command::Tables => Command::Tables,
+        Command::Flight => Command::Flight,
+    })
 }
 
 /// The index of the manager that has the name. A walk over the seats.

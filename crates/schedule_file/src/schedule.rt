@@ -1,7 +1,7 @@
-ghost use Rattle.std.specs.Prelude.{◌≡◌, [], Ok, Err, IfOk};
+ghost use Rattle.std.specs.Prelude.{◌≡◌, [], ◌∷◌, ◌++◌, Ok, Err, IfOk, OnErr};
 ghost use Rattle.text_words.specs.Text.{lines};
 ghost use Rattle.schedule_file.specs.Command.{line_of};
-ghost use Rattle.schedule_file.specs.Schedule.{IsScript, schedule_of, schedule_of_lines, with_line, with_command, new_seat, with_seat};
+ghost use Rattle.schedule_file.specs.Schedule.{IsScript, schedule_of, schedule_of_lines, with_line, new_seat};
 ghost use Rattle.schedule_file.specs.FirstFault.{IsSoundOrCrowded};
 ghost use Rattle.schedule_file.specs.ScheduleFault.{Reads};
 
@@ -10,7 +10,7 @@ use crate::fault::ScheduleFault;
 use crate::first_fault::first_fault;
 use crate::line::{NewManager, ScheduleLine, read_line};
 use crate::manager_name::ManagerName;
-use crate::resolve::{command, is_free, port, seat};
+use crate::resolve::{SeatCommand, is_free, port, resolve, seat};
 use attr_codec::Priority;
 use fabric_model::{NodeId, NodePort};
 use smp_bytes::PortNum;
@@ -46,7 +46,7 @@ impl Default for Seat {
 #[derive(Drop)]
 pub struct Schedule {
     seats: Vec<Seat>,
-    commands: Vec<Command>,
+    commands: Vec<SeatCommand>,
 }
 
 impl Model for Schedule {
@@ -66,7 +66,7 @@ impl Schedule {
     }
 
     /// The commands in their order.
-    pub fn commands(&self) -> &[Command]
+    pub fn commands(&self) -> &[SeatCommand]
         ensures { result.now ≡ self.now.commands }
     {
         &self.commands
@@ -91,42 +91,29 @@ impl Schedule {
             Some(ScheduleLine::Empty) => Ok(self),
             Some(ScheduleLine::Manager(new)) => {
                 let seat = new_seat(topology, &self.seats, number, new)?;
-                self.with_seat(seat)
+                let Schedule { seats, commands } = self;
+                let commands = and_one(commands, Command::Manager(seats.len()))?;
+                let seats = and_one(seats, seat)?;
+                Ok(Schedule { seats, commands })
             }
-            Some(ScheduleLine::Command(spoken)) => {
-                let command = command(topology, &self.seats, spoken);
-                self.with_command(number, command)
+            Some(ScheduleLine::Command(named)) => {
+                let command = resolve(topology, &self.seats, number, named)?;
+                let Schedule { seats, commands } = self;
+                let commands = and_one(commands, command)?;
+                Ok(Schedule { seats, commands })
             }
         }
     }
+}
 
-    /// A manager more, and that it is there.
-    fn with_seat(self, seat: Seat) -> Result<Self, ScheduleFault>
-        ensures { Reads result (Ok (with_seat self seat)) }
-    {
-        let Schedule {
-            mut seats,
-            mut commands,
-        } = self;
-        commands.push(Command::Manager(seats.len()))?;
-        seats.push(seat)?;
-        Ok(Schedule { seats, commands })
-    }
-
-    /// A command more, where its names are known.
-    fn with_command(self, line: usize, command: Option<Command>) -> Result<Self, ScheduleFault>
-        ensures { Reads result (with_command line self command) }
-    {
-        let Some(command) = command else {
-            return Err(ScheduleFault::Name { line });
-        };
-        let Schedule {
-            seats,
-            mut commands,
-        } = self;
-        commands.push(command)?;
-        Ok(Schedule { seats, commands })
-    }
+/// Items, and one more.
+fn and_one<T: Drop>(items: Vec<T>, item: T) -> Result<Vec<T>, ScheduleFault>
+    ensures grown { IfOk result (λ now. now.items ≡ items.items ++ item ∷ []) }
+    ensures memory { OnErr result (result ≡ Err ScheduleFault.Memory) }
+{
+    let mut items = items;
+    items.push(item)?;
+    Ok(items)
 }
 
 /// The seat of a new manager. A search, and a walk over the seats.

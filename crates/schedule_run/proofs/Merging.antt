@@ -48,6 +48,16 @@ merges fabric items now seat other s o there also same before is =
     ∙ ap (λ r. r.now) (sym (ap (λ found. option_map_or (λ s. at_seat w other (call s)) found (quiet w)) one
     ∙ ap (λ found. option_map_or (call (seated_value s)) found (quiet w)) two)) ∙ ap (λ b. (after_merge_line b seat other).now) (sym is)
 
+-- and nothing is printed
+pub merge_quiet : (w : WorldValue) (seat other : ℕ) → (after_merge_line w seat other).text ≡ []
+unfolding after_merge_line
+merge_quiet w seat other =
+    let call = λ (s o : SeatedValue). with_manager w seat s (after_merge s.manager o.manager.store) in
+    elim (slice_get w.managers seat) as (λ one. (option_map_or (λ s. at_seat w other (λ o. quiet (call s o))) one (quiet w)).text ≡ []) [
+      | None ↦ refl
+      | Some s ↦ elim (slice_get w.managers other) as (λ two. (option_map_or (λ o. quiet (call s o)) two (quiet w)).text ≡ []) [ None ↦ refl | Some o ↦ refl ]
+    ]
+
 -- its own facts tell it nothing ---------------------------------------------------------------------------
 
 merged_itself : (m : Manager) → after_merge m m.store ≡ m

@@ -6,7 +6,7 @@ use Rattle.std.specs.Option.{option_map_or}
 use Rattle.std.proofs.Math.ListN.{set}
 use Rattle.std.proofs.Math.Seq.{map-set_same}
 use Rattle.std.proofs.lemmas.Bool.{false_from_ne_true, lt-ltb, ltb-true}
-use Rattle.std.proofs.lemmas.List.{map-set}
+use Rattle.std.proofs.lemmas.List.{length-set, map-set}
 use Rattle.std.proofs.lemmas.List.Sums.{position_or_len_is}
 use Rattle.std.proofs.lemmas.Option.{get_or_from_slice_get, slice_get-map, slice_get_read, slice_get_within}
 use Rattle.smp_bytes.specs.Judges.{JudgesButFor}
@@ -19,11 +19,13 @@ use Rattle.sm_manager.specs.declared.fault.ManagerFault.{ManagerFault}
 use Rattle.sm_manager.specs.declared.fault.ManagerFault.TheVariants as manager
 use Rattle.schedule_run.specs.Commands.{after_giving_up, seat_at, after_timeout_line}
 use Rattle.schedule_run.specs.Prints.{PrintsUnless}
-use Rattle.schedule_run.specs.World.{Outcome, SeatedValue, WorldValue, and_then, after_ask, at_seat, after_manager_call, emptied, manager_line, quiet, seated_value, after_send, after_send_by, after_inject_all, shows, with_manager}
+use Rattle.schedule_run.specs.World.{Does, Outcome, SeatedValue, WorldValue, after_ask, after_inject_all, after_manager_call, after_send, after_send_by}
+use Rattle.schedule_run.specs.World.{and_then, at_seat, emptied, manager_line, quiet, seated_value, shows, value_of, with_manager}
 use Rattle.schedule_run.specs.declared.run_fault.RunFault.{RunFault}
 use Rattle.schedule_run.specs.declared.run_fault.RunFault.TheVariants.{Memory}
 use Rattle.schedule_run.specs.declared.world.Seated.{Seated}
-use Rattle.schedule_run.proofs.Printing.{ends_unprinted, failed_with, prints_same}
+use Rattle.schedule_run.specs.declared.world.World.{World}
+use Rattle.schedule_run.proofs.Printing.{ends_unprinted, failed_with, prints_nothing, prints_same}
 
 -- the manager of a seat
 pub sits : (items : List Seated) (seat : ℕ) (s : Seated) → seat < length items → s ≡ get_or items seat s
@@ -184,6 +186,76 @@ module _ (fabric : Simulation) (items : List Seated) (seat : ℕ) (s : Seated) (
       ∙ ap (λ ms. record before { fabric = (after_inject_all fabric s.seat.now.at s.manager.outgoing).now; managers = ms })
       (changes items seat s m ∙ ap (λ m. set (map seated_value items) seat (record (seated_value s) { manager = m })) empties)
       ∙ ap (λ r. r.now) (sym (at_seat_is (after_send_by before seat)))
+
+-- calls in a seat, whole ---------------------------------------------------------------------------------
+
+module _ (old : World) (seat : ℕ) (s : Seated) (within : seat < length old.managers.items) (is : s ≡ get_or old.managers.items seat s) where
+  -- nothing is another but this manager
+  pub record IsIn (m : Manager) (new : World) : Type 0 where
+    pub fabric : new.fabric ≡ old.fabric
+    pub managers : new.managers.items ≡ set old.managers.items seat (with_one s m)
+
+  -- and there are as many as before
+  as_many : (m : Manager) (new : World) → new.managers.items ≡ set old.managers.items seat (with_one s m)
+      → length new.managers.items ≡ length old.managers.items
+  as_many m new e = ap length e ∙ length-set old.managers.items seat (with_one s m)
+
+  value_is : (m : Manager) (new : World) → IsIn m new → value_of new ≡ now_with old.fabric old.managers.items seat s within is m
+  value_is m new h =
+      let made : Simulation → List Seated → WorldValue = λ f xs. record { fabric = f; managers = map seated_value xs } in
+      ap (λ f. made f new.managers.items) h.fabric ∙ ap (made old.fabric) h.managers
+
+  module _ (next : WorldValue → Outcome WorldValue) (fault : Manager → Option ManagerFault) (after : Manager → Manager)
+      {W : Type 0} (written : W → Option (List ℕ)) (has_failed : W → Bool) where
+    -- it did what it was asked for, and then came what is next
+    pub done_does : (m : Manager) (mid new : World) → IsIn m mid → fault s.manager ≡ None → m ≡ after s.manager
+        → (result : Result (Unit {0}) RunFault) (sink sink' : W) → Does written has_failed mid new result sink sink' (next (value_of mid))
+        → Does written has_failed old new result sink sink' (after_ask next (value_of old) seat fault after)
+    done_does m mid new now none same result sink sink' h = record {
+      managers = h.managers ∙ as_many m mid now.managers;
+      leaves = done_leaves old.fabric old.managers.items seat s within is next fault after m none same result (value_of new)
+          (subst (λ w. OnOk result (value_of new ≡ (next w).now)) (value_is m mid now) h.leaves);
+      prints = done_prints old.fabric old.managers.items seat s within is next fault after written has_failed m none same result sink sink'
+          (subst (λ w. PrintsUnless written has_failed result sink sink' (next w).text) (value_is m mid now) h.prints);
+    }
+
+    -- it refused to
+    pub refused_does : (m : Manager) (new : World) → IsIn m new → (given : ManagerFault) → m ≡ s.manager
+        → (is_memory given ≡ false → fault s.manager ≡ Some given) → (result : Result (Unit {0}) RunFault) (sink sink' : W) → IsMemory result given
+        → PrintsUnless written has_failed result sink sink' (manager_line given) → (given ≡ manager.Memory → sink' ≡ sink)
+        → Does written has_failed old new result sink sink' (after_ask next (value_of old) seat fault after)
+    refused_does m new now given same only result sink sink' memory prints unprinted = record {
+      managers = as_many m new now.managers;
+      leaves = subst (λ w. OnOk result (w ≡ (after_ask next (value_of old) seat fault after).now)) (sym (value_is m new now))
+          (refused_leaves old.fabric old.managers.items seat s within is next fault after m given same only result memory);
+      prints = refused_prints old.fabric old.managers.items seat s within is next fault after written has_failed given only result sink sink' memory prints
+          unprinted;
+    }
+
+  -- it did what it was asked for, and nothing comes next
+  pub quiet_does : (fault : Manager → Option ManagerFault) (after : Manager → Manager) {W : Type 0} (written : W → Option (List ℕ)) (has_failed : W → Bool)
+      (m : Manager) (new : World) → IsIn m new → fault s.manager ≡ None → m ≡ after s.manager → (sink : W)
+      → Does written has_failed old new (Ok tt) sink sink (after_ask quiet (value_of old) seat fault after)
+  quiet_does fault after written has_failed m new now none same sink =
+      done_does quiet fault after written has_failed m new new now none same (Ok tt) sink sink
+      (record { managers = refl; leaves = refl; prints = prints_nothing written has_failed sink })
+
+  -- all that it has queued goes out
+  pub sent_does : {W : Type 0} (written : W → Option (List ℕ)) (has_failed : W → Bool) (m : Manager) (new : World)
+      → new.managers.items ≡ set old.managers.items seat (with_one s m) → (result : Result (Unit {0}) RunFault) (sink sink' : W)
+      → OnOk result (new.fabric ≡ (after_inject_all old.fabric s.seat.now.at s.manager.outgoing).now) → OnOk result (m ≡ emptied s.manager)
+      → PrintsUnless written has_failed result sink sink' (after_inject_all old.fabric s.seat.now.at s.manager.outgoing).text
+      → Does written has_failed old new result sink sink' (after_send (value_of old) seat)
+  unfolding after_send
+  sent_does written has_failed m new now result sink sink' sends empties prints =
+      let made : Simulation → List Seated → WorldValue = λ f xs. record { fabric = f; managers = map seated_value xs } in
+      record {
+        managers = as_many m new now;
+        leaves = subst (λ w. OnOk result (w ≡ (after_send (value_of old) seat).now)) (sym (ap (made new.fabric) now))
+            (sent_leaves old.fabric old.managers.items seat s within is new.fabric m result sends empties);
+        prints = prints_same written has_failed result sink sink' _ _
+            (ap (λ r. r.text) (sym (at_seat_is old.fabric old.managers.items seat s within is (after_send_by (value_of old) seat)))) prints;
+      }
 
 -- which seat is at a port --------------------------------------------------------------------------------
 

@@ -6,7 +6,7 @@ use Rattle.std.specs.Option.{option_map_or}
 use Rattle.std.proofs.lemmas.Option.{get_or_from_slice_get, slice_get-get_or, slice_get_read, slice_get_within}
 use Rattle.std.proofs.lemmas.List.FromFn.{get_or-range_with_len, length-range_with_len}
 use Rattle.topo_file.specs.declared.node.Node.{Node}
-use Rattle.schedule_file.specs.declared.command.Command.{Command}
+use Rattle.schedule_file.specs.Schedule.{SeatCommand}
 use Rattle.std.proofs.Math.Seq.{drop-cons}
 use Rattle.std.proofs.Math.ListN.{drop_of_length-le}
 use Rattle.fabric_sim.specs.declared.flight.Flight.{Flight}
@@ -63,14 +63,14 @@ lines_none line xs i h = ap (λ ys. shows (flat_map line ys) tt) (drop_of_length
 
 -- commands that are run ------------------------------------------------------------------------------------------
 
-pub commands_next : (nodes : List Node) (w : WorldValue) (commands : List Command) (i : ℕ) (command : Command) → slice_get commands i ≡ Some command
+pub commands_next : (nodes : List Node) (w : WorldValue) (commands : List SeatCommand) (i : ℕ) (command : SeatCommand) → slice_get commands i ≡ Some command
     → after_commands nodes w (drop i commands) ≡ and_then (after_command nodes w command) (λ now. after_commands nodes now (drop (i + 1) commands))
 commands_next nodes w commands i command there =
     let at : drop i commands ≡ command ∷ drop (i + 1) commands = drop-cons commands i command (slice_get_within commands i command there)
     ∙ ap (λ y. y ∷ drop (suc i) commands) (get_or_from_slice_get commands i command command there) ∙ ap (λ n. command ∷ drop n commands) (sym (add-one i)) in
     ap (after_commands nodes w) at
 
-pub commands_none : (nodes : List Node) (w : WorldValue) (commands : List Command) (i : ℕ) → length commands ≤ i
+pub commands_none : (nodes : List Node) (w : WorldValue) (commands : List SeatCommand) (i : ℕ) → length commands ≤ i
     → after_commands nodes w (drop i commands) ≡ quiet w
 commands_none nodes w commands i h = ap (after_commands nodes w) (drop_of_length-le commands h)
 

@@ -8,9 +8,14 @@ use Rattle.topo_file.specs.Reading.{topology_of}
 use Rattle.topo_file.specs.Topology.{Layout}
 use Rattle.topo_file.specs.declared.fault.TopoFault.{TopoFault}
 use Rattle.topo_file.specs.declared.node.Node.{Node}
-use Rattle.schedule_file.specs.Schedule.{Script, schedule_of}
-use Rattle.schedule_file.specs.declared.command.Command.{Command}
+use Rattle.schedule_file.specs.Schedule.{Script, SeatCommand, schedule_of}
+use Rattle.schedule_file.specs.declared.command.Ask.{Ask}
+use Rattle.schedule_file.specs.declared.command.Ask.TheVariants.{Sweep, Write, Handover, Poll}
 use Rattle.schedule_file.specs.declared.command.Command.TheVariants as command
+use Rattle.schedule_file.specs.declared.command.Fate.{Fate}
+use Rattle.schedule_file.specs.declared.command.Fate.TheVariants.{Deliver, Lose, Repeat}
+use Rattle.schedule_file.specs.declared.command.Shown.{Shown}
+use Rattle.schedule_file.specs.declared.command.Shown.TheVariants.{Facts, Plan, Progress, State}
 use Rattle.schedule_file.specs.declared.command.Which.{Which}
 use Rattle.schedule_file.specs.declared.fault.ScheduleFault.{ScheduleFault}
 use Rattle.schedule_file.specs.declared.schedule.Seat.{Seat}
@@ -50,25 +55,23 @@ use Rattle.schedule_run.specs.World.{Outcome, SeatedValue, WorldValue, and_then,
 unfoldable pub after_manager_line : WorldValue → ℕ → Outcome WorldValue
 after_manager_line w seat = at_seat w seat (λ s. after_fabric_call w (after_seat w.fabric s.at))
 
--- what the manager of a seat is asked for, and then it sends what it has queued
-abbrev pub after_ask_and_send : WorldValue → ℕ → (Manager → Option ManagerFault) → (Manager → Manager) → Outcome WorldValue
-after_ask_and_send w seat fault after = after_ask (λ now. after_send now seat) w seat fault after
+-- why a manager refuses what it is asked for, by `sweep`, `write`, `handover` or `poll`
+abbrev pub asked_fault : Ask → Manager → Option ManagerFault
+asked_fault Sweep m = begin_fault m
+asked_fault Write m = writing_fault m
+asked_fault Handover m = handover_fault m
+asked_fault (Poll lid) m = poll_fault m
 
--- `sweep M`
-unfoldable pub after_sweep_line : WorldValue → ℕ → Outcome WorldValue
-after_sweep_line w seat = after_ask_and_send w seat begin_fault after_begin_sweep
+-- the manager that does what it is asked for
+abbrev pub after_asked : Ask → Manager → Manager
+after_asked Sweep m = after_begin_sweep m
+after_asked Write m = after_write_steps m
+after_asked Handover m = after_handover m
+after_asked (Poll lid) m = after_poll m lid
 
--- `write M`
-unfoldable pub after_write_line : WorldValue → ℕ → Outcome WorldValue
-after_write_line w seat = after_ask_and_send w seat writing_fault after_write_steps
-
--- `handover M`
-unfoldable pub after_handover_line : WorldValue → ℕ → Outcome WorldValue
-after_handover_line w seat = after_ask_and_send w seat handover_fault after_handover
-
--- `poll M L`
-unfoldable pub after_poll_line : WorldValue → ℕ → ℕ → Outcome WorldValue
-after_poll_line w seat lid = after_ask_and_send w seat poll_fault (λ m. after_poll m lid)
+-- such a line: the manager of a seat does it, and then it sends what it has queued
+unfoldable pub after_ask_line : WorldValue → ℕ → Ask → Outcome WorldValue
+after_ask_line w seat what = after_ask (λ now. after_send now seat) w seat (asked_fault what) (after_asked what)
 
 -- `merge M N`: the first takes in all that the second knows
 unfoldable pub after_merge_line : WorldValue → ℕ → ℕ → Outcome WorldValue
@@ -123,21 +126,17 @@ after_arrival w (Err fault) = quiet w
 unfoldable pub after_step : WorldValue → ℕ → Outcome WorldValue
 after_step w serial = let called = after_deliver w.fabric serial in and_then (after_fabric_call w called) (λ now. after_arrival now called.result)
 
--- what is done with the packet that is meant; there is no last one where none is in flight
-abbrev pub with_packet : WorldValue → Which → (ℕ → Outcome WorldValue) → Outcome WorldValue
-with_packet w which run = option_map_or run (serial_of w.fabric.flights which) (shows (refusal_line (fabric_fault_name NoSuchPacket)) w)
+-- the packet of a serial number meets its fate, by `deliver`, `lose` or `repeat`
+abbrev pub after_fate : WorldValue → Fate → ℕ → Outcome WorldValue
+after_fate w Deliver serial = after_step w serial
+after_fate w Lose serial = after_fabric_call w (after_lose w.fabric serial)
+after_fate w Repeat serial = after_fabric_call w (after_repeat w.fabric serial)
 
--- `deliver S`
-unfoldable pub after_deliver_line : WorldValue → Which → Outcome WorldValue
-after_deliver_line w which = with_packet w which (after_step w)
-
--- `lose S`
-unfoldable pub after_lose_line : WorldValue → Which → Outcome WorldValue
-after_lose_line w which = with_packet w which (λ serial. after_fabric_call w (after_lose w.fabric serial))
-
--- `repeat S`
-unfoldable pub after_repeat_line : WorldValue → Which → Outcome WorldValue
-after_repeat_line w which = with_packet w which (λ serial. after_fabric_call w (after_repeat w.fabric serial))
+-- such a line: the packet that is meant does; there is no last one where none is in flight
+unfoldable pub after_packet_line : WorldValue → Which → Fate → Outcome WorldValue
+after_packet_line w which fate =
+    option_map_or (after_fate w fate) (serial_of w.fabric.flights which)
+    (shows (refusal_line (fabric_fault_name NoSuchPacket)) w)
 
 -- `drain N`: the packet of the least serial number takes one step, at most so many times
 abbrev pub after_drain_line : WorldValue → ℕ → Outcome WorldValue
@@ -173,59 +172,44 @@ ping_shown nodes w source lid = ping_text nodes w.fabric source lid (ping_fault 
 
 -- what managers know -----------------------------------------------------------------------------------
 
--- a text about the manager of a seat
-abbrev pub text_about : WorldValue → ℕ → (SeatedValue → List ℕ) → List ℕ
-text_about w seat text = option_map_or text (slice_get w.managers seat) []
-
--- `facts M`
-unfoldable pub facts_shown : WorldValue → ℕ → List ℕ
-facts_shown w seat = text_about w seat (λ s. facts_text s.manager.store)
-
--- `plan M`: the plan, or why there is none
+-- the plan, or why there is none
 abbrev pub plan_or_refusal : Planning → Cells → Option ManagerFault → List ℕ
 plan_or_refusal planning cells None = plan_text (plan_of planning.rule planning.lmc cells)
 plan_or_refusal planning cells (Some fault) = manager_line fault
 
-unfoldable pub plan_shown : WorldValue → ℕ → List ℕ
-plan_shown w seat =
-    text_about w seat (λ s. plan_or_refusal s.manager.planning (cells_of s.manager.store) (plan_fault s.manager.planning.lmc (cells_of s.manager.store)))
+-- what `facts`, `plan`, `progress` or `state` show of a manager
+abbrev pub text_of : Shown → SeatedValue → List ℕ
+text_of Facts s = facts_text s.manager.store
+text_of Plan s =
+    plan_or_refusal s.manager.planning (cells_of s.manager.store)
+    (plan_fault s.manager.planning.lmc (cells_of s.manager.store))
+text_of Progress s = progress_line s.name (progress_of s.manager.sweep)
+text_of State s = state_line s.name s.manager.standing.state
 
--- `progress M`
-unfoldable pub progress_shown : WorldValue → ℕ → List ℕ
-progress_shown w seat = text_about w seat (λ s. progress_line s.name (progress_of s.manager.sweep))
-
--- `state M`
-unfoldable pub state_shown : WorldValue → ℕ → List ℕ
-state_shown w seat = text_about w seat (λ s. state_line s.name s.manager.standing.state)
+-- of the manager of a seat
+unfoldable pub shown_of : WorldValue → ℕ → Shown → List ℕ
+shown_of w seat what = option_map_or (text_of what) (slice_get w.managers seat) []
 
 -- all of them ------------------------------------------------------------------------------------------
 
 -- a line, in the fabric of these nodes
-abbrev pub after_command : List Node → WorldValue → Command → Outcome WorldValue
+abbrev pub after_command : List Node → WorldValue → SeatCommand → Outcome WorldValue
 after_command nodes w (command.Manager seat) = after_manager_line w seat
-after_command nodes w (command.Sweep seat) = after_sweep_line w seat
-after_command nodes w (command.Write seat) = after_write_line w seat
-after_command nodes w (command.Handover seat) = after_handover_line w seat
-after_command nodes w (command.Poll seat lid) = after_poll_line w seat lid
-after_command nodes w (command.Merge seat other) = after_merge_line w seat other
-after_command nodes w (command.Floor seat floor) = after_floor_line w seat floor
-after_command nodes w (command.Deliver which) = after_deliver_line w which
-after_command nodes w (command.Lose which) = after_lose_line w which
-after_command nodes w (command.Repeat which) = after_repeat_line w which
-after_command nodes w (command.Drain most) = after_drain_line w most
+after_command nodes w (command.Ask seat what) = after_ask_line w seat what
 after_command nodes w (command.Timeout seat) = after_timeout_line w seat
+after_command nodes w (command.Floor seat floor) = after_floor_line w seat floor
+after_command nodes w (command.Merge seat other) = after_merge_line w seat other
+after_command nodes w (command.Show seat what) = shows (shown_of w seat what) w
+after_command nodes w (command.Packet which fate) = after_packet_line w which fate
+after_command nodes w (command.Drain most) = after_drain_line w most
 after_command nodes w (command.Cut p) = after_cut_line w p
 after_command nodes w (command.Plug p q) = after_plug_line w p q
 after_command nodes w (command.Ping p lid) = shows (ping_shown nodes w p lid) w
-after_command nodes w (command.Facts seat) = shows (facts_shown w seat) w
-after_command nodes w (command.Plan seat) = shows (plan_shown w seat) w
-after_command nodes w (command.Progress seat) = shows (progress_shown w seat) w
-after_command nodes w (command.State seat) = shows (state_shown w seat) w
 after_command nodes w command.Tables = shows (tables_text w.fabric) w
 after_command nodes w command.Flight = shows (flights_text nodes w.fabric.flights) w
 
 -- line by line
-abbrev pub after_commands : List Node → WorldValue → List Command → Outcome WorldValue
+abbrev pub after_commands : List Node → WorldValue → List SeatCommand → Outcome WorldValue
 after_commands nodes w [] = quiet w
 after_commands nodes w (command ∷ later) = and_then (after_command nodes w command) (λ now. after_commands nodes now later)
 

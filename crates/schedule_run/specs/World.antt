@@ -1,5 +1,6 @@
 -- A world: a simulated fabric and the managers that sit in it; what calls on them leave, and which lines tell of them.
-use Rattle.std.specs.Prelude.{ℕ, List, [], ◌∷◌, ◌++◌, map, slice_get, slice_set, Option, None, Some, Result, Ok, Err}
+use Rattle.std.specs.Prelude.{◌≡◌, ℕ, Bool, List, [], ◌∷◌, ◌++◌, length, map, slice_get, slice_set, Option, None, Some}
+use Rattle.std.specs.Prelude.{Result, Ok, Err, OnOk}
 use Rattle.std.specs.Option.{option_map_or}
 use Rattle.fabric_model.specs.declared.cable.NodePort.{NodePort}
 use Rattle.fabric_sim.specs.declared.fault.FabricFault.{FabricFault}
@@ -12,7 +13,9 @@ use Rattle.sm_manager.specs.declared.outgoing.Outgoing.{Outgoing}
 use Rattle.sm_manager.specs.Fault.{manager_fault_name}
 use Rattle.sm_manager.specs.Manager.{Manager}
 use Rattle.schedule_run.specs.Flights.{packet_out}
+use Rattle.schedule_run.specs.Prints.{PrintsUnless}
 use Rattle.schedule_run.specs.Refusals.{refusal_line}
+use Rattle.schedule_run.specs.declared.run_fault.RunFault.{RunFault}
 use Rattle.schedule_run.specs.declared.world.Seated.{Seated}
 use Rattle.schedule_run.specs.declared.world.World.{World}
 
@@ -106,3 +109,13 @@ after_send_by w seat s = in_fabric (with_manager w seat s (emptied s.manager)) (
 
 unfoldable pub after_send : WorldValue → ℕ → Outcome WorldValue
 after_send w seat = at_seat w seat (after_send_by w seat)
+
+-- calls --------------------------------------------------------------------------------------------
+
+-- a call on a world does what an outcome says: there are as many managers as before, it leaves the outcome's world, and
+-- prints its text; where it ends early it says nothing of the world, and prints a beginning, or the output has failed
+pub record Does {W : Type 0} (written : W → Option (List ℕ)) (has_failed : W → Bool) (old new : World)
+    (result : Result (Unit {0}) RunFault) (sink sink' : W) (outcome : Outcome WorldValue) : Type 0 where
+  pub managers : length new.managers.items ≡ length old.managers.items
+  pub leaves : OnOk result (value_of new ≡ outcome.now)
+  pub prints : PrintsUnless written has_failed result sink sink' outcome.text

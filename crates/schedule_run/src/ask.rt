@@ -1,17 +1,19 @@
 //! The commands to managers.
 ghost use Rattle.std.specs.Prelude.{◌≡◌, ◌≢◌, ◌<◌, Err, Some, length, slice_get, slice_set, IfOk, OnErr, OnOk};
 ghost use Rattle.sm_manager.specs.Manager.{after_merge, outstanding};
-ghost use Rattle.schedule_run.specs.Commands.{after_floor_line, after_give_up, after_handover_line, after_merge_line, after_poll_line, after_manager_line};
-ghost use Rattle.schedule_run.specs.Commands.{after_sweep_line, after_timeout_line, after_write_line};
-ghost use Rattle.schedule_run.specs.Prints.{PrintsUnless};
-ghost use Rattle.schedule_run.specs.World.{value_of};
+ghost use Rattle.schedule_run.specs.Commands.{after_ask_line, after_asked, after_floor_line, after_give_up};
+ghost use Rattle.schedule_run.specs.Commands.{after_manager_line, after_merge_line, after_timeout_line, asked_fault};
+ghost use Rattle.schedule_run.specs.World.{Does, value_of};
+ghost use Rattle.smp_bytes.specs.Judges.{JudgesButFor};
+ghost use Rattle.sm_manager.specs.Fault.{is_memory};
 
 use crate::refusals::{refuse_fabric, refuse_manager};
 use crate::run_fault::RunFault;
 use crate::world::{Seated, World};
 use byte_io::Sink;
+use schedule_file::Ask;
 use sm_manager::{Manager, ManagerFault};
-use smp_bytes::{Generation, Lid};
+use smp_bytes::Generation;
 use std::alloc::{AllocError, Global};
 
 impl World<'_> {
@@ -19,10 +21,8 @@ impl World<'_> {
     #[tactic(auto, using(crate::proofs::Seats::sits), unfolding(crate::specs::Commands::after_manager_line))]
     pub(crate) fn seat<W: Sink>(&mut self, seat: usize, sink: &mut W) -> Result<(), RunFault>
         requires { seat < length self.old.managers.items }
-        ensures managers { length self.new.managers.items ≡ length self.old.managers.items }
-        ensures leaves { OnOk result (value_of self.new ≡ (after_manager_line (value_of self.old) seat).now) }
-        ensures prints { PrintsUnless W.written W.has_failed result sink.old sink.new
-            (after_manager_line (value_of self.old) seat).text }
+        ensures does { Does W.written W.has_failed self.old self.new result sink.old sink.new
+            (after_manager_line (value_of self.old) seat) }
     {
         match self.fabric.seat(self.managers[seat].seat.at) {
             Ok(()) => Ok(()),
@@ -30,62 +30,18 @@ impl World<'_> {
         }
     }
 
-    /// A manager begins a sweep.
-    pub(crate) fn sweep<W: Sink>(&mut self, seat: usize, sink: &mut W) -> Result<(), RunFault>
-        requires { seat < length self.old.managers.items }
-        ensures managers { length self.new.managers.items ≡ length self.old.managers.items }
-        ensures leaves { OnOk result (value_of self.new ≡ (after_sweep_line (value_of self.old) seat).now) }
-        ensures prints { PrintsUnless W.written W.has_failed result sink.old sink.new
-            (after_sweep_line (value_of self.old) seat).text }
-    {
-        if let Err(fault) = self.managers[seat].manager.begin_sweep() {
-            return refuse_manager(sink, fault);
-        }
-        self.send(seat, sink)
-    }
-
-    /// A manager begins to write its plan.
-    pub(crate) fn write<W: Sink>(&mut self, seat: usize, sink: &mut W) -> Result<(), RunFault>
-        requires { seat < length self.old.managers.items }
-        ensures managers { length self.new.managers.items ≡ length self.old.managers.items }
-        ensures leaves { OnOk result (value_of self.new ≡ (after_write_line (value_of self.old) seat).now) }
-        ensures prints { PrintsUnless W.written W.has_failed result sink.old sink.new
-            (after_write_line (value_of self.old) seat).text }
-    {
-        if let Err(fault) = self.managers[seat].manager.write_steps() {
-            return refuse_manager(sink, fault);
-        }
-        self.send(seat, sink)
-    }
-
-    /// A manager hands over to another.
-    pub(crate) fn hand_over<W: Sink>(&mut self, seat: usize, sink: &mut W) -> Result<(), RunFault>
-        requires { seat < length self.old.managers.items }
-        ensures managers { length self.new.managers.items ≡ length self.old.managers.items }
-        ensures leaves { OnOk result (value_of self.new ≡ (after_handover_line (value_of self.old) seat).now) }
-        ensures prints { PrintsUnless W.written W.has_failed result sink.old sink.new
-            (after_handover_line (value_of self.old) seat).text }
-    {
-        if let Err(fault) = self.managers[seat].manager.handover() {
-            return refuse_manager(sink, fault);
-        }
-        self.send(seat, sink)
-    }
-
-    /// A manager asks the one at a LID whether it is there.
-    pub(crate) fn poll<W: Sink>(
+    /// A manager is asked for something. What it queues then goes out.
+    pub(crate) fn ask<W: Sink>(
         &mut self,
         seat: usize,
-        lid: Lid,
+        what: Ask,
         sink: &mut W,
     ) -> Result<(), RunFault>
         requires { seat < length self.old.managers.items }
-        ensures managers { length self.new.managers.items ≡ length self.old.managers.items }
-        ensures leaves { OnOk result (value_of self.new ≡ (after_poll_line (value_of self.old) seat lid).now) }
-        ensures prints { PrintsUnless W.written W.has_failed result sink.old sink.new
-            (after_poll_line (value_of self.old) seat lid).text }
+        ensures does { Does W.written W.has_failed self.old self.new result sink.old sink.new
+            (after_ask_line (value_of self.old) seat what) }
     {
-        if let Err(fault) = self.managers[seat].manager.poll(lid) {
+        if let Err(fault) = ask_manager(&mut self.managers[seat].manager, what) {
             return refuse_manager(sink, fault);
         }
         self.send(seat, sink)
@@ -110,10 +66,8 @@ impl World<'_> {
     ) -> Result<(), RunFault>
         requires seat { seat < length self.old.managers.items }
         requires other { other < length self.old.managers.items }
-        ensures managers { length self.new.managers.items ≡ length self.old.managers.items }
-        ensures leaves { OnOk result (value_of self.new ≡ (after_merge_line (value_of self.old) seat other).now) }
-        ensures prints { PrintsUnless W.written W.has_failed result sink.old sink.new
-            (after_merge_line (value_of self.old) seat other).text }
+        ensures does { Does W.written W.has_failed self.old self.new result sink.old sink.new
+            (after_merge_line (value_of self.old) seat other) }
     {
         if seat == other {
             return Ok(());
@@ -132,10 +86,8 @@ impl World<'_> {
         sink: &mut W,
     ) -> Result<(), RunFault>
         requires { seat < length self.old.managers.items }
-        ensures managers { length self.new.managers.items ≡ length self.old.managers.items }
-        ensures leaves { OnOk result (value_of self.new ≡ (after_timeout_line (value_of self.old) seat).now) }
-        ensures prints { PrintsUnless W.written W.has_failed result sink.old sink.new
-            (after_timeout_line (value_of self.old) seat).text }
+        ensures does { Does W.written W.has_failed self.old self.new result sink.old sink.new
+            (after_timeout_line (value_of self.old) seat) }
     {
         let waiting = waiting(alloc, &self.managers[seat].manager)?;
         for transaction in &waiting {
@@ -152,16 +104,27 @@ impl World<'_> {
         sink: &mut W,
     ) -> Result<(), RunFault>
         requires { seat < length self.old.managers.items }
-        ensures managers { length self.new.managers.items ≡ length self.old.managers.items }
-        ensures leaves { OnOk result (value_of self.new
-            ≡ (after_give_up (value_of self.old) seat transaction).now) }
-        ensures prints { PrintsUnless W.written W.has_failed result sink.old sink.new
-            (after_give_up (value_of self.old) seat transaction).text }
+        ensures does { Does W.written W.has_failed self.old self.new result sink.old sink.new
+            (after_give_up (value_of self.old) seat transaction) }
     {
         match self.managers[seat].manager.on_timeout(transaction) {
             Ok(()) => Ok(()),
             Err(fault) => refuse_manager(sink, fault),
         }
+    }
+}
+
+/// Asks a manager for something.
+fn ask_manager(manager: &mut Manager, what: Ask) -> Result<(), ManagerFault>
+    ensures judged { JudgesButFor is_memory result (asked_fault what manager.old) }
+    ensures ok { OnOk result (manager.new ≡ after_asked what manager.old) }
+    ensures err { OnErr result (manager.new ≡ manager.old) }
+{
+    match what {
+        Ask::Sweep => manager.begin_sweep(),
+        Ask::Write => manager.write_steps(),
+        Ask::Handover => manager.handover(),
+        Ask::Poll(lid) => manager.poll(lid),
     }
 }
 

@@ -1,8 +1,6 @@
 //! The commands about cables and ports.
-ghost use Rattle.std.specs.Prelude.{◌≡◌, length, OnOk};
 ghost use Rattle.schedule_run.specs.Commands.{after_cut_line, after_plug_line};
-ghost use Rattle.schedule_run.specs.Prints.{PrintsUnless};
-ghost use Rattle.schedule_run.specs.World.{value_of};
+ghost use Rattle.schedule_run.specs.World.{Does, value_of};
 
 use crate::refusals::refuse_fabric;
 use crate::run_fault::RunFault;
@@ -14,10 +12,8 @@ impl World<'_> {
     /// The cable in a port is cut.
     #[tactic(auto, unfolding(crate::specs::Commands::after_cut_line))]
     pub(crate) fn cut<W: Sink>(&mut self, port: NodePort, sink: &mut W) -> Result<(), RunFault>
-        ensures managers { length self.new.managers.items ≡ length self.old.managers.items }
-        ensures leaves { OnOk result (value_of self.new ≡ (after_cut_line (value_of self.old) port).now) }
-        ensures prints { PrintsUnless W.written W.has_failed result sink.old sink.new
-            (after_cut_line (value_of self.old) port).text }
+        ensures does { Does W.written W.has_failed self.old self.new result sink.old sink.new
+            (after_cut_line (value_of self.old) port) }
     {
         match self.fabric.cut(port) {
             Ok(()) => Ok(()),
@@ -33,10 +29,8 @@ impl World<'_> {
         other: NodePort,
         sink: &mut W,
     ) -> Result<(), RunFault>
-        ensures managers { length self.new.managers.items ≡ length self.old.managers.items }
-        ensures leaves { OnOk result (value_of self.new ≡ (after_plug_line (value_of self.old) one other).now) }
-        ensures prints { PrintsUnless W.written W.has_failed result sink.old sink.new
-            (after_plug_line (value_of self.old) one other).text }
+        ensures does { Does W.written W.has_failed self.old self.new result sink.old sink.new
+            (after_plug_line (value_of self.old) one other) }
     {
         match self.fabric.plug(one, other) {
             Ok(()) => Ok(()),

@@ -1,10 +1,9 @@
 //! The commands about packets in flight.
-ghost use Rattle.std.specs.Prelude.{◌≡◌, ◌<◌, length, OnOk};
-ghost use Rattle.schedule_run.specs.Commands.{after_deliver_line, after_drain_line, after_hand_up};
-ghost use Rattle.schedule_run.specs.Commands.{after_lose_line, after_repeat_line, after_step, after_take};
+ghost use Rattle.std.specs.Prelude.{◌≡◌, ◌<◌, length};
+ghost use Rattle.schedule_run.specs.Commands.{after_drain_line, after_fate, after_hand_up};
+ghost use Rattle.schedule_run.specs.Commands.{after_packet_line, after_step, after_take};
 ghost use Rattle.schedule_run.specs.Flights.{serial_of};
-ghost use Rattle.schedule_run.specs.Prints.{PrintsUnless};
-ghost use Rattle.schedule_run.specs.World.{value_of};
+ghost use Rattle.schedule_run.specs.World.{Does, value_of};
 
 use crate::refusals::{refuse_fabric, refuse_manager};
 use crate::run_fault::RunFault;
@@ -12,35 +11,35 @@ use crate::world::World;
 use byte_io::Sink;
 use fabric_model::NodePort;
 use fabric_sim::{Delivered, Fabric, FabricFault, Packet};
-use schedule_file::Which;
+use schedule_file::{Fate, Which};
 
 impl World<'_> {
-    /// A packet in flight takes one step. What comes to a manager is taken in by it, and what it
-    /// queues then goes out.
-    #[tactic(auto, unfolding(crate::specs::Commands::after_deliver_line))]
-    pub(crate) fn deliver<W: Sink>(&mut self, which: Which, sink: &mut W) -> Result<(), RunFault>
-        ensures managers { length self.new.managers.items ≡ length self.old.managers.items }
-        ensures leaves { OnOk result (value_of self.new ≡ (after_deliver_line (value_of self.old) which).now) }
-        ensures prints { PrintsUnless W.written W.has_failed result sink.old sink.new
-            (after_deliver_line (value_of self.old) which).text }
-    {
-        match serial(&self.fabric, which) {
-            Some(serial) => self.deliver_one(serial, sink),
-            None => refuse_fabric(sink, FabricFault::NoSuchPacket),
-        }
-    }
-
-    /// A packet in flight is lost.
-    #[tactic(auto, unfolding(crate::specs::Commands::after_lose_line))]
-    pub(crate) fn lose<W: Sink>(&mut self, which: Which, sink: &mut W) -> Result<(), RunFault>
-        ensures managers { length self.new.managers.items ≡ length self.old.managers.items }
-        ensures leaves { OnOk result (value_of self.new ≡ (after_lose_line (value_of self.old) which).now) }
-        ensures prints { PrintsUnless W.written W.has_failed result sink.old sink.new
-            (after_lose_line (value_of self.old) which).text }
+    /// A packet in flight meets its fate.
+    #[tactic(auto, unfolding(crate::specs::Commands::after_packet_line))]
+    pub(crate) fn handle_packet<W: Sink>(
+        &mut self,
+        which: Which,
+        fate: Fate,
+        sink: &mut W,
+    ) -> Result<(), RunFault>
+        ensures does { Does W.written W.has_failed self.old self.new result sink.old sink.new
+            (after_packet_line (value_of self.old) which fate) }
     {
         let Some(serial) = serial(&self.fabric, which) else {
             return refuse_fabric(sink, FabricFault::NoSuchPacket);
         };
+        match fate {
+            Fate::Deliver => self.deliver(serial, sink),
+            Fate::Lose => self.lose(serial, sink),
+            Fate::Repeat => self.repeat(serial, sink),
+        }
+    }
+
+    /// A packet in flight is lost.
+    fn lose<W: Sink>(&mut self, serial: u64, sink: &mut W) -> Result<(), RunFault>
+        ensures does { Does W.written W.has_failed self.old self.new result sink.old sink.new
+            (after_fate (value_of self.old) Fate.Lose serial) }
+    {
         match self.fabric.lose(serial) {
             Ok(()) => Ok(()),
             Err(fault) => refuse_fabric(sink, fault),
@@ -48,16 +47,10 @@ impl World<'_> {
     }
 
     /// A packet in flight is there once more.
-    #[tactic(auto, unfolding(crate::specs::Commands::after_repeat_line))]
-    pub(crate) fn repeat<W: Sink>(&mut self, which: Which, sink: &mut W) -> Result<(), RunFault>
-        ensures managers { length self.new.managers.items ≡ length self.old.managers.items }
-        ensures leaves { OnOk result (value_of self.new ≡ (after_repeat_line (value_of self.old) which).now) }
-        ensures prints { PrintsUnless W.written W.has_failed result sink.old sink.new
-            (after_repeat_line (value_of self.old) which).text }
+    fn repeat<W: Sink>(&mut self, serial: u64, sink: &mut W) -> Result<(), RunFault>
+        ensures does { Does W.written W.has_failed self.old self.new result sink.old sink.new
+            (after_fate (value_of self.old) Fate.Repeat serial) }
     {
-        let Some(serial) = serial(&self.fabric, which) else {
-            return refuse_fabric(sink, FabricFault::NoSuchPacket);
-        };
         match self.fabric.repeat(serial) {
             Ok(_) => Ok(()),
             Err(fault) => refuse_fabric(sink, fault),
@@ -66,28 +59,25 @@ impl World<'_> {
 
     /// The packet of the least serial number takes a step, at most so many times.
     pub(crate) fn drain<W: Sink>(&mut self, most: u32, sink: &mut W) -> Result<(), RunFault>
-        ensures managers { length self.new.managers.items ≡ length self.old.managers.items }
-        ensures leaves { OnOk result (value_of self.new ≡ (after_drain_line (value_of self.old) most).now) }
-        ensures prints { PrintsUnless W.written W.has_failed result sink.old sink.new
-            (after_drain_line (value_of self.old) most).text }
+        ensures does { Does W.written W.has_failed self.old self.new result sink.old sink.new
+            (after_drain_line (value_of self.old) most) }
     {
         for _step in 0..most {
             let Some(first) = self.fabric.in_flight(0) else {
                 return Ok(());
             };
             let serial = first.serial;
-            self.deliver_one(serial, sink)?;
+            self.deliver(serial, sink)?;
         }
         Ok(())
     }
 
-    /// The packet with a serial number takes one step.
+    /// The packet with a serial number takes one step. What comes to a manager is taken in by it, and what it
+    /// queues then goes out.
     #[tactic(auto, using(crate::proofs::Printing::prints_then), unfolding(crate::specs::Commands::after_step))]
-    fn deliver_one<W: Sink>(&mut self, serial: u64, sink: &mut W) -> Result<(), RunFault>
-        ensures managers { length self.new.managers.items ≡ length self.old.managers.items }
-        ensures leaves { OnOk result (value_of self.new ≡ (after_step (value_of self.old) serial).now) }
-        ensures prints { PrintsUnless W.written W.has_failed result sink.old sink.new
-            (after_step (value_of self.old) serial).text }
+    fn deliver<W: Sink>(&mut self, serial: u64, sink: &mut W) -> Result<(), RunFault>
+        ensures does { Does W.written W.has_failed self.old self.new result sink.old sink.new
+            (after_step (value_of self.old) serial) }
     {
         match self.fabric.deliver(serial) {
             Ok(Delivered::ToManager(port, packet)) => self.hand_up(&port, &packet, sink),
@@ -105,10 +95,8 @@ impl World<'_> {
         packet: &Packet,
         sink: &mut W,
     ) -> Result<(), RunFault>
-        ensures managers { length self.new.managers.items ≡ length self.old.managers.items }
-        ensures leaves { OnOk result (value_of self.new ≡ (after_hand_up (value_of self.old) port.now packet.now).now) }
-        ensures prints { PrintsUnless W.written W.has_failed result sink.old sink.new
-            (after_hand_up (value_of self.old) port.now packet.now).text }
+        ensures does { Does W.written W.has_failed self.old self.new result sink.old sink.new
+            (after_hand_up (value_of self.old) port.now packet.now) }
     {
         let Some(seat) = self.manager_at(port) else {
             return Ok(());
@@ -125,11 +113,8 @@ impl World<'_> {
         sink: &mut W,
     ) -> Result<(), RunFault>
         requires { seat < length self.old.managers.items }
-        ensures managers { length self.new.managers.items ≡ length self.old.managers.items }
-        ensures leaves { OnOk result (value_of self.new
-            ≡ (after_take (value_of self.old) seat packet.now).now) }
-        ensures prints { PrintsUnless W.written W.has_failed result sink.old sink.new
-            (after_take (value_of self.old) seat packet.now).text }
+        ensures does { Does W.written W.has_failed self.old self.new result sink.old sink.new
+            (after_take (value_of self.old) seat packet.now) }
     {
         let manager = &mut self.managers[seat].manager;
         match manager.on_packet(&packet.bytes, Some(packet.slid)) {

@@ -6,7 +6,7 @@ ghost use Rattle.sm_cli.specs.Asked.{texts_for};
 ghost use Rattle.schedule_run.specs.Commands.{after_command, script_text};
 ghost use Rattle.schedule_run.specs.Prints.{PrintsSome, PrintsUnless};
 ghost use Rattle.schedule_run.specs.Run.{HasRun, IsRunFault};
-ghost use Rattle.schedule_run.specs.World.{value_of};
+ghost use Rattle.schedule_run.specs.World.{Does, value_of};
 
 use crate::roots::rule_fault;
 use crate::run_fault::RunFault;
@@ -15,7 +15,7 @@ use crate::world::World;
 use attr_codec::Lmc;
 use byte_io::{Sink, Source};
 use lft_blocks::Planning;
-use schedule_file::Command;
+use schedule_file::{Command, SeatCommand};
 use sm_cli::{Fault, RuleAsked, read_rule};
 use std::alloc::Global;
 use topo_file::Topology;
@@ -98,39 +98,28 @@ impl World<'_> {
         &mut self,
         alloc: Global,
         topology: &Topology,
-        command: Command,
+        command: SeatCommand,
         sink: &mut W,
     ) -> Result<(), RunFault>
         requires { NamesManagers (length self.old.managers.items) command }
-        ensures managers { length self.new.managers.items ≡ length self.old.managers.items }
-        ensures leaves { OnOk result (value_of self.new
-            ≡ (after_command topology.now.nodes (value_of self.old) command).now) }
-        ensures prints { PrintsUnless W.written W.has_failed result sink.old sink.new
-            (after_command topology.now.nodes (value_of self.old) command).text }
+        ensures does { Does W.written W.has_failed self.old self.new result sink.old sink.new
+            (after_command topology.now.nodes (value_of self.old) command) }
     {
         match command {
             Command::Manager(seat) => self.seat(seat, sink),
-            Command::Sweep(seat) => self.sweep(seat, sink),
-            Command::Write(seat) => self.write(seat, sink),
-            Command::Handover(seat) => self.hand_over(seat, sink),
-            Command::Poll(seat, lid) => self.poll(seat, lid, sink),
+            Command::Ask(seat, what) => self.ask(seat, what, sink),
+            Command::Timeout(seat) => self.time_out(alloc, seat, sink),
             Command::Floor(seat, floor) => {
                 self.raise_floor(seat, floor);
                 Ok(())
             }
             Command::Merge(seat, other) => self.merge(seat, other, sink),
-            Command::Deliver(which) => self.deliver(which, sink),
-            Command::Lose(which) => self.lose(which, sink),
-            Command::Repeat(which) => self.repeat(which, sink),
+            Command::Show(seat, what) => self.show(seat, what, sink),
+            Command::Packet(which, fate) => self.handle_packet(which, fate, sink),
             Command::Drain(most) => self.drain(most, sink),
-            Command::Timeout(seat) => self.time_out(alloc, seat, sink),
             Command::Cut(port) => self.cut(port, sink),
             Command::Plug(one, other) => self.plug(one, other, sink),
             Command::Ping(from, lid) => self.show_ping(topology, from, lid, sink),
-            Command::Facts(seat) => self.show_facts(seat, sink),
-            Command::Plan(seat) => self.show_plan(seat, sink),
-            Command::Progress(seat) => self.show_progress(seat, sink),
-            Command::State(seat) => self.show_state(seat, sink),
             Command::Tables => self.show_tables(alloc, sink),
             Command::Flight => self.show_flight(topology, sink),
         }

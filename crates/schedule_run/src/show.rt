@@ -1,69 +1,37 @@
-ghost use Rattle.std.specs.Prelude.{◌<◌, Err, length};
-ghost use Rattle.schedule_run.specs.Commands.{facts_shown, plan_shown, progress_shown, state_shown, ping_shown, flights_text};
+ghost use Rattle.std.specs.Prelude.{◌<◌, length};
+ghost use Rattle.fact_store.specs.View.{cells_of};
+ghost use Rattle.sm_manager.specs.Plans.{plan_fault};
+ghost use Rattle.schedule_run.specs.Commands.{flights_text, ping_shown, plan_or_refusal, shown_of, text_of};
 ghost use Rattle.schedule_run.specs.Prints.{PrintsUnless};
-ghost use Rattle.schedule_run.specs.World.{value_of};
+ghost use Rattle.schedule_run.specs.World.{seated_value, value_of};
 
 use crate::lines::{write_flight, write_ping, write_progress, write_state};
 use crate::refusals::{refuse_fabric, refuse_manager};
 use crate::run_fault::RunFault;
-use crate::world::World;
+use crate::world::{Seated, World};
 use byte_io::Sink;
 use fabric_model::NodePort;
 use lft_blocks::write_plan;
 use record_file::write_facts;
+use schedule_file::Shown;
+use sm_manager::Manager;
 use smp_bytes::Lid;
 use topo_file::Topology;
 
 impl World<'_> {
-    /// Prints a manager's facts.
-    #[tactic(auto, using(crate::proofs::Printing::wrote), unfolding(crate::specs::Commands::facts_shown))]
-    pub(crate) fn show_facts<W: Sink>(&self, seat: usize, sink: &mut W) -> Result<(), RunFault>
+    /// Prints something of a manager.
+    #[tactic(auto, using(crate::proofs::Seats::sits), unfolding(crate::specs::Commands::shown_of))]
+    pub(crate) fn show<W: Sink>(
+        &self,
+        seat: usize,
+        what: Shown,
+        sink: &mut W,
+    ) -> Result<(), RunFault>
         requires { seat < length self.now.managers.items }
         ensures prints { PrintsUnless W.written W.has_failed result sink.old sink.new
-            (facts_shown (value_of self.now) seat) }
+            (shown_of (value_of self.now) seat what) }
     {
-        write_facts(sink, self.managers[seat].manager.store())?;
-        Ok(())
-    }
-
-    /// Prints a manager's plan.
-    #[tactic(auto, using(crate::proofs::Printing::wrote, crate::proofs::Seats::sits), unfolding(crate::specs::Commands::plan_shown))]
-    pub(crate) fn show_plan<W: Sink>(&self, seat: usize, sink: &mut W) -> Result<(), RunFault>
-        requires { seat < length self.now.managers.items }
-        ensures prints { PrintsUnless W.written W.has_failed result sink.old sink.new
-            (plan_shown (value_of self.now) seat) }
-    {
-        match self.managers[seat].manager.plan() {
-            Ok(plan) => {
-                write_plan(sink, &plan)?;
-                Ok(())
-            }
-            Err(fault) => refuse_manager(sink, fault),
-        }
-    }
-
-    /// Prints how far a manager is with its sweep.
-    #[tactic(auto, using(crate::proofs::Printing::wrote, crate::proofs::Seats::sits), unfolding(crate::specs::Commands::progress_shown))]
-    pub(crate) fn show_progress<W: Sink>(&self, seat: usize, sink: &mut W) -> Result<(), RunFault>
-        requires { seat < length self.now.managers.items }
-        ensures prints { PrintsUnless W.written W.has_failed result sink.old sink.new
-            (progress_shown (value_of self.now) seat) }
-    {
-        let seated = &self.managers[seat];
-        write_progress(sink, seated.seat.name.as_str(), seated.manager.progress())?;
-        Ok(())
-    }
-
-    /// Prints a manager's state.
-    #[tactic(auto, using(crate::proofs::Printing::wrote, crate::proofs::Seats::sits), unfolding(crate::specs::Commands::state_shown))]
-    pub(crate) fn show_state<W: Sink>(&self, seat: usize, sink: &mut W) -> Result<(), RunFault>
-        requires { seat < length self.now.managers.items }
-        ensures prints { PrintsUnless W.written W.has_failed result sink.old sink.new
-            (state_shown (value_of self.now) seat) }
-    {
-        let seated = &self.managers[seat];
-        write_state(sink, seated.seat.name.as_str(), seated.manager.state())?;
-        Ok(())
+        self.managers[seat].show(what, sink)
     }
 
     /// Prints where a packet comes to that is sent from a port to a LID.
@@ -106,5 +74,40 @@ impl World<'_> {
             )?;
         }
         Ok(())
+    }
+}
+
+impl Seated<'_> {
+    /// Prints something of the manager.
+    #[tactic(auto, using(crate::proofs::Printing::wrote))]
+    fn show<W: Sink>(&self, what: Shown, sink: &mut W) -> Result<(), RunFault>
+        ensures prints { PrintsUnless W.written W.has_failed result sink.old sink.new
+            (text_of what (seated_value self.now)) }
+    {
+        match what {
+            Shown::Facts => write_facts(sink, self.manager.store())?,
+            Shown::Plan => return show_plan(sink, &self.manager),
+            Shown::Progress => {
+                write_progress(sink, self.seat.name.as_str(), self.manager.progress())?
+            }
+            Shown::State => write_state(sink, self.seat.name.as_str(), self.manager.state())?,
+        }
+        Ok(())
+    }
+}
+
+/// Prints a manager's plan, or why there is none.
+#[tactic(auto, using(crate::proofs::Printing::wrote))]
+fn show_plan<W: Sink>(sink: &mut W, manager: &Manager) -> Result<(), RunFault>
+    ensures prints { PrintsUnless W.written W.has_failed result sink.old sink.new
+        (plan_or_refusal manager.now.planning (cells_of manager.now.store)
+        (plan_fault manager.now.planning.lmc (cells_of manager.now.store))) }
+{
+    match manager.plan() {
+        Ok(plan) => {
+            write_plan(sink, &plan)?;
+            Ok(())
+        }
+        Err(fault) => refuse_manager(sink, fault),
     }
 }

@@ -6,7 +6,7 @@ ghost use Rattle.fabric_sim.specs.Changes.{after_inject};
 ghost use Rattle.schedule_run.specs.Commands.{seat_at, world_of};
 ghost use Rattle.schedule_run.specs.Flights.{packet_out};
 ghost use Rattle.schedule_run.specs.Prints.{PrintsUnless};
-ghost use Rattle.schedule_run.specs.World.{after_fabric, emptied, after_send, after_inject_all, value_of};
+ghost use Rattle.schedule_run.specs.World.{after_fabric, emptied, after_send, after_inject_all, value_of, Does};
 
 use crate::refusals::refuse_fabric;
 use crate::run_fault::RunFault;
@@ -68,10 +68,8 @@ impl<'s> World<'s> {
     #[tactic(auto, using(crate::proofs::Seats::sits), unfolding(crate::specs::World::after_send))]
     pub(crate) fn send<W: Sink>(&mut self, seat: usize, sink: &mut W) -> Result<(), RunFault>
         requires { seat < length self.old.managers.items }
-        ensures managers { length self.new.managers.items ≡ length self.old.managers.items }
-        ensures leaves { OnOk result (value_of self.new ≡ (after_send (value_of self.old) seat).now) }
-        ensures prints { PrintsUnless W.written W.has_failed result sink.old sink.new
-            (after_send (value_of self.old) seat).text }
+        ensures does { Does W.written W.has_failed self.old self.new result sink.old sink.new
+            (after_send (value_of self.old) seat) }
     {
         let Seated { seat, manager } = &mut self.managers[seat];
         send_outgoing(&mut self.fabric, &seat.at, manager, sink)

@@ -31,10 +31,10 @@ loop-command-preserved g c =
     let there = slice_get_read items (length items) i command refl c.loop-command-test.true c.command-item.is in
     let gone = goes_on g.W.Sink.written g.W.Sink.has_failed c.args.sink.now c.loop-command.sink c.execute.new.sink whole (after_command nodes w command)
     (λ now. after_commands nodes now (drop (i + 1) items)) (subst (Under c.loop-command.sink) (commands_next nodes w items i command there) c.loop-command.invariant.runs)
-    c.in_ok-execute.ensures.prints in
+    c.in_ok-execute.ensures.does.prints in
     record {
-      managers = c.in_ok-execute.ensures.managers ∙ c.loop-command.invariant.managers;
-      runs = subst (λ v. Under c.execute.new.sink (after_commands nodes v (drop (i + 1) items))) (sym c.in_ok-execute.ensures.leaves) gone;
+      managers = c.in_ok-execute.ensures.does.managers ∙ c.loop-command.invariant.managers;
+      runs = subst (λ v. Under c.execute.new.sink (after_commands nodes v (drop (i + 1) items))) (sym c.in_ok-execute.ensures.does.leaves) gone;
     }
 
 pub returns-in_err-execute-clause-prints : goal.returns-in_err-execute-clause-prints
@@ -55,7 +55,7 @@ returns-in_err-execute-clause-prints g c =
     rw (p.1, p.2) (prints_same g.W.Sink.written g.W.Sink.has_failed (failed_with c.in_err-execute.field-0.0) c.args.sink.now c.execute.new.sink _ _ (ap (λ r. r.text) all)
     (stops_in g.W.Sink.written g.W.Sink.has_failed c.in_err-execute.field-0.0 c.args.sink.now c.loop-command.sink c.execute.new.sink whole (after_command nodes w command)
     (λ now. after_commands nodes now (drop (i + 1) items)) (subst Under (commands_next nodes w items i command there) c.loop-command.invariant.runs)
-    c.in_err-execute.ensures.prints))
+    c.in_err-execute.ensures.does.prints))
 
 pub returns-clause-prints : goal.returns-clause-prints
 unfolding script_text

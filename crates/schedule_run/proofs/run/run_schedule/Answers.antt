@@ -1,5 +1,5 @@
 -- The inputs were read, and the run goes on.
-use Rattle.std.proofs.Common.{rules, ◌≡◌, ◌∙◌, None, arith, sym}
+use Rattle.std.proofs.Common.{◌≡◌, ◌∙◌, None, arith, sym}
 use Rattle.lft_blocks.specs.Rules.{value_of}
 use Rattle.schedule_run.specs.Prints.{PrintsSome}
 use Rattle.schedule_run.proofs.Running.{has_printed, roots_refused, run_fails}

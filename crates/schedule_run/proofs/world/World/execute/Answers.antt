@@ -7,12 +7,19 @@ use Rattle.schedule_run.proofs.Printing.{prints_nothing}
 use Rattle.schedule_run.proofs.Seats.{quiet_at}
 use Rattle.schedule_run.proofs.world.World.execute.Goals as goal
 
-pub returns-in-Floor-clause-prints : goal.returns-in-Floor-clause-prints
+pub returns-in-Floor : goal.returns-in-Floor
 unfolding after_floor_line
-returns-in-Floor-clause-prints g c =
+returns-in-Floor g c =
     let w = value_of c.args.self.now in
-    let none : (after_command c.args.topology.now.nodes w c.args.command).text ≡ [] =
-    ap (λ k. (after_command c.args.topology.now.nodes w k).text) c.in-Floor.is
+    let nodes = c.args.topology.now.nodes in
+    let none : (after_command nodes w c.args.command).text ≡ [] =
+    ap (λ k. (after_command nodes w k).text) c.in-Floor.is
     ∙ quiet_at w c.in-Floor.seat (λ s. with_manager w c.in-Floor.seat s (after_raise_floor s.manager c.in-Floor.floor)) in
-    subst (λ (t : List ℕ). Prints g.W.Sink.written g.W.Sink.has_failed c.args.sink.now c.args.sink.now t) (sym none)
-    (prints_nothing g.W.Sink.written g.W.Sink.has_failed c.args.sink.now)
+    record {
+      does = record {
+        managers = c.raise_floor.ensures.managers;
+        leaves = c.raise_floor.ensures.leaves ∙ ap (λ k. (after_command nodes w k).now) (sym c.in-Floor.is);
+        prints = subst (λ (t : List ℕ). Prints g.W.Sink.written g.W.Sink.has_failed c.args.sink.now c.args.sink.now t) (sym none)
+            (prints_nothing g.W.Sink.written g.W.Sink.has_failed c.args.sink.now);
+      };
+    }

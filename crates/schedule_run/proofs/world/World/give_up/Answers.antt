@@ -1,36 +1,24 @@
-use Rattle.std.proofs.Common.{Ok, refl}
+use Rattle.std.proofs.Common.{refl}
 use Rattle.sm_manager.specs.Packets.{after_timeout}
 use Rattle.schedule_run.specs.Commands.{after_give_up}
 use Rattle.schedule_run.specs.World.{quiet}
-use Rattle.schedule_run.proofs.Printing.{prints_nothing}
-use Rattle.schedule_run.proofs.Seats.{but_for_memory, done_leaves, done_prints, refused_leaves, refused_prints}
+use Rattle.schedule_run.proofs.Seats.{but_for_memory, quiet_does, refused_does}
 use Rattle.schedule_run.proofs.world.World.give_up.Goals as goal
 
-pub returns-in-Ok-clause-leaves : goal.returns-in-Ok-clause-leaves
+pub returns-in-Ok : goal.returns-in-Ok
 unfolding after_give_up
-returns-in-Ok-clause-leaves g c =
-    done_leaves c.args.self.now.fabric c.args.self.now.managers.items c.args.seat c.index_mut.result.now c.requires c.index_mut.ensures.value
-    quiet (λ m. (after_timeout m c.args.transaction).fault) (λ m. (after_timeout m c.args.transaction).manager) c.on_timeout.new.self c.in-Ok.ensures.judged c.in-Ok.ensures.ok
-    (Ok tt) _ refl
+returns-in-Ok g c = record {
+  does = quiet_does c.args.self.now c.args.seat c.index_mut.result.now c.requires c.index_mut.ensures.value
+      (λ m. (after_timeout m c.args.transaction).fault) (λ m. (after_timeout m c.args.transaction).manager) g.W.Sink.written g.W.Sink.has_failed
+      c.on_timeout.new.self _ (record { fabric = refl; managers = refl }) c.in-Ok.ensures.judged c.in-Ok.ensures.ok c.args.sink.now;
+}
 
-pub returns-in-Ok-clause-prints : goal.returns-in-Ok-clause-prints
+pub returns-in-Err : goal.returns-in-Err
 unfolding after_give_up
-returns-in-Ok-clause-prints g c =
-    done_prints c.args.self.now.fabric c.args.self.now.managers.items c.args.seat c.index_mut.result.now c.requires c.index_mut.ensures.value
-    quiet (λ m. (after_timeout m c.args.transaction).fault) (λ m. (after_timeout m c.args.transaction).manager) g.W.Sink.written g.W.Sink.has_failed c.on_timeout.new.self c.in-Ok.ensures.judged
-    c.in-Ok.ensures.ok (Ok tt) _ _ (prints_nothing g.W.Sink.written g.W.Sink.has_failed _)
-
-pub returns-in-Err-clause-leaves : goal.returns-in-Err-clause-leaves
-unfolding after_give_up
-returns-in-Err-clause-leaves g c =
-    refused_leaves c.args.self.now.fabric c.args.self.now.managers.items c.args.seat c.index_mut.result.now c.requires c.index_mut.ensures.value
-    quiet (λ m. (after_timeout m c.args.transaction).fault) (λ m. (after_timeout m c.args.transaction).manager) c.on_timeout.new.self c.in-Err.fault c.in-Err.ensures.err
-    (but_for_memory c.in-Err.fault _ c.in-Err.ensures.judged) c.refuse_manager.result c.refuse_manager.ensures.memory
-
-pub returns-in-Err-clause-prints : goal.returns-in-Err-clause-prints
-unfolding after_give_up
-returns-in-Err-clause-prints g c =
-    refused_prints c.args.self.now.fabric c.args.self.now.managers.items c.args.seat c.index_mut.result.now c.requires c.index_mut.ensures.value
-    quiet (λ m. (after_timeout m c.args.transaction).fault) (λ m. (after_timeout m c.args.transaction).manager) g.W.Sink.written g.W.Sink.has_failed c.in-Err.fault
-    (but_for_memory c.in-Err.fault _ c.in-Err.ensures.judged) c.refuse_manager.result _ _ c.refuse_manager.ensures.memory
-    c.refuse_manager.ensures.prints c.refuse_manager.ensures.unprinted
+returns-in-Err g c = record {
+  does = refused_does c.args.self.now c.args.seat c.index_mut.result.now c.requires c.index_mut.ensures.value
+      quiet (λ m. (after_timeout m c.args.transaction).fault) (λ m. (after_timeout m c.args.transaction).manager) g.W.Sink.written g.W.Sink.has_failed
+      c.on_timeout.new.self _ (record { fabric = refl; managers = refl }) c.in-Err.fault c.in-Err.ensures.err
+      (but_for_memory c.in-Err.fault _ c.in-Err.ensures.judged) c.refuse_manager.result _ _ c.refuse_manager.ensures.memory
+      c.refuse_manager.ensures.prints c.refuse_manager.ensures.unprinted;
+}

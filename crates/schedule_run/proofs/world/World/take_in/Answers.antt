@@ -1,31 +1,23 @@
-use Rattle.std.proofs.Common.{Ok, Some, refl}
+use Rattle.std.proofs.Common.{Some, refl}
 use Rattle.sm_manager.specs.Packets.{after_packet}
 use Rattle.schedule_run.specs.World.{quiet}
-use Rattle.schedule_run.proofs.Printing.{prints_nothing}
-use Rattle.schedule_run.proofs.Seats.{but_for_memory, done_leaves, done_prints, refused_leaves, refused_prints}
+use Rattle.schedule_run.proofs.Seats.{but_for_memory, quiet_does, refused_does}
 use Rattle.schedule_run.proofs.world.World.take_in.Goals as goal
 
-pub returns-in-Ok-clause-leaves : goal.returns-in-Ok-clause-leaves
-returns-in-Ok-clause-leaves g c =
-    done_leaves c.args.self.now.fabric c.args.self.now.managers.items c.args.seat c.index_mut.result.now c.requires c.index_mut.ensures.value
-    quiet (λ m. (after_packet m c.args.packet.now.bytes (Some c.args.packet.now.slid)).fault) (λ m. (after_packet m c.args.packet.now.bytes (Some c.args.packet.now.slid)).manager) c.on_packet.new.self c.in-Ok.ensures.judged c.in-Ok.ensures.ok
-    (Ok tt) _ refl
+pub returns-in-Ok : goal.returns-in-Ok
+returns-in-Ok g c = record {
+  does = quiet_does c.args.self.now c.args.seat c.index_mut.result.now c.requires c.index_mut.ensures.value
+      (λ m. (after_packet m c.args.packet.now.bytes (Some c.args.packet.now.slid)).fault)
+      (λ m. (after_packet m c.args.packet.now.bytes (Some c.args.packet.now.slid)).manager) g.W.Sink.written g.W.Sink.has_failed
+      c.on_packet.new.self _ (record { fabric = refl; managers = refl }) c.in-Ok.ensures.judged c.in-Ok.ensures.ok c.args.sink.now;
+}
 
-pub returns-in-Ok-clause-prints : goal.returns-in-Ok-clause-prints
-returns-in-Ok-clause-prints g c =
-    done_prints c.args.self.now.fabric c.args.self.now.managers.items c.args.seat c.index_mut.result.now c.requires c.index_mut.ensures.value
-    quiet (λ m. (after_packet m c.args.packet.now.bytes (Some c.args.packet.now.slid)).fault) (λ m. (after_packet m c.args.packet.now.bytes (Some c.args.packet.now.slid)).manager) g.W.Sink.written g.W.Sink.has_failed c.on_packet.new.self c.in-Ok.ensures.judged
-    c.in-Ok.ensures.ok (Ok tt) _ _ (prints_nothing g.W.Sink.written g.W.Sink.has_failed _)
-
-pub returns-in-Err-clause-leaves : goal.returns-in-Err-clause-leaves
-returns-in-Err-clause-leaves g c =
-    refused_leaves c.args.self.now.fabric c.args.self.now.managers.items c.args.seat c.index_mut.result.now c.requires c.index_mut.ensures.value
-    quiet (λ m. (after_packet m c.args.packet.now.bytes (Some c.args.packet.now.slid)).fault) (λ m. (after_packet m c.args.packet.now.bytes (Some c.args.packet.now.slid)).manager) c.on_packet.new.self c.in-Err.fault c.in-Err.ensures.err
-    (but_for_memory c.in-Err.fault _ c.in-Err.ensures.judged) c.refuse_manager.result c.refuse_manager.ensures.memory
-
-pub returns-in-Err-clause-prints : goal.returns-in-Err-clause-prints
-returns-in-Err-clause-prints g c =
-    refused_prints c.args.self.now.fabric c.args.self.now.managers.items c.args.seat c.index_mut.result.now c.requires c.index_mut.ensures.value
-    quiet (λ m. (after_packet m c.args.packet.now.bytes (Some c.args.packet.now.slid)).fault) (λ m. (after_packet m c.args.packet.now.bytes (Some c.args.packet.now.slid)).manager) g.W.Sink.written g.W.Sink.has_failed c.in-Err.fault
-    (but_for_memory c.in-Err.fault _ c.in-Err.ensures.judged) c.refuse_manager.result _ _ c.refuse_manager.ensures.memory
-    c.refuse_manager.ensures.prints c.refuse_manager.ensures.unprinted
+pub returns-in-Err : goal.returns-in-Err
+returns-in-Err g c = record {
+  does = refused_does c.args.self.now c.args.seat c.index_mut.result.now c.requires c.index_mut.ensures.value
+      quiet (λ m. (after_packet m c.args.packet.now.bytes (Some c.args.packet.now.slid)).fault)
+      (λ m. (after_packet m c.args.packet.now.bytes (Some c.args.packet.now.slid)).manager) g.W.Sink.written g.W.Sink.has_failed
+      c.on_packet.new.self _ (record { fabric = refl; managers = refl }) c.in-Err.fault c.in-Err.ensures.err
+      (but_for_memory c.in-Err.fault _ c.in-Err.ensures.judged) c.refuse_manager.result _ _ c.refuse_manager.ensures.memory
+      c.refuse_manager.ensures.prints c.refuse_manager.ensures.unprinted;
+}

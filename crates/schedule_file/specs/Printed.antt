@@ -1,0 +1,49 @@
+-- The text of a schedule.
+use Rattle.std.specs.Prelude.{◌≡◌, ℕ, List, [], ◌∷◌, Ok, codes, decimal, map, slice_get}
+use Rattle.std.specs.Option.{option_map_or}
+use Rattle.fabric_model.specs.declared.cable.NodePort.{NodePort}
+use Rattle.text_words.specs.Printed.{lines_text}
+use Rattle.topo_file.specs.declared.node.Node.{Node}
+use Rattle.topo_file.specs.Printed.{name_at}
+use Rattle.schedule_file.specs.declared.command.Command.TheVariants as command
+use Rattle.schedule_file.specs.declared.named.PortName.{PortName}
+use Rattle.schedule_file.specs.declared.schedule.Seat.{Seat}
+use Rattle.schedule_file.specs.Command.{named_words, port_word}
+use Rattle.schedule_file.specs.Schedule.{Script, SeatCommand, schedule_of}
+
+-- the names that a command tells of managers and ports
+abbrev pub manager_at : List Seat → ℕ → List ℕ
+manager_at seats seat = option_map_or (λ s. s.name) (slice_get seats seat) []
+
+abbrev pub port_at : List Node → NodePort → PortName
+port_at nodes p = record { node = name_at nodes p.node; port = p.port }
+
+abbrev pub seat_words : List Node → Seat → List (List ℕ)
+seat_words nodes s = codes "manager" ∷ s.name ∷ port_word (port_at nodes s.at) ∷ decimal s.priority ∷ []
+
+-- the words of a command as it is run
+abbrev pub command_words : List Node → List Seat → SeatCommand → List (List ℕ)
+command_words nodes seats (command.Manager seat) = option_map_or (seat_words nodes) (slice_get seats seat) []
+command_words nodes seats (command.Ask seat what) = named_words (command.Ask (manager_at seats seat) what)
+command_words nodes seats (command.Timeout seat) = named_words (command.Timeout (manager_at seats seat))
+command_words nodes seats (command.Floor seat floor) = named_words (command.Floor (manager_at seats seat) floor)
+command_words nodes seats (command.Merge seat other) =
+    named_words (command.Merge (manager_at seats seat) (manager_at seats other))
+command_words nodes seats (command.Show seat what) = named_words (command.Show (manager_at seats seat) what)
+command_words nodes seats (command.Packet which fate) = named_words (command.Packet which fate)
+command_words nodes seats (command.Drain most) = named_words (command.Drain most)
+command_words nodes seats (command.Cut p) = named_words (command.Cut (port_at nodes p))
+command_words nodes seats (command.Plug p q) = named_words (command.Plug (port_at nodes p) (port_at nodes q))
+command_words nodes seats (command.Ping p lid) = named_words (command.Ping (port_at nodes p) lid)
+command_words nodes seats command.Tables = named_words command.Tables
+command_words nodes seats command.Flight = named_words command.Flight
+
+-- the text of a schedule: a line for each command
+abbrev pub schedule_text : List Node → Script → List ℕ
+schedule_text nodes script = lines_text (map (command_words nodes script.seats) script.commands)
+
+-- a schedule that is read from a text is read from its own text as it is
+abbrev pub PrintedSchedulesAreRead : Type 0
+PrintedSchedulesAreRead =
+    (nodes : List Node) (text : List ℕ) (script : Script) → schedule_of nodes text ≡ Ok script
+    → schedule_of nodes (schedule_text nodes script) ≡ Ok script

@@ -1,0 +1,225 @@
+//! Commands as their lines tell them. A table by the number of words behind a command's own has a line for each.
+ghost use Rattle.std.specs.Prelude.{◌≡◌, option_map};
+ghost use Rattle.text_words.specs.Text.{words};
+ghost use Rattle.schedule_file.specs.Command.{ask, bare_of, bracketed_number, command_in, floor, generation_of};
+ghost use Rattle.schedule_file.specs.Command.{merge, number_up_to, of_one, of_two, packet, pair, ping, plug, poll};
+ghost use Rattle.schedule_file.specs.Command.{port_name, show, to_manager, which_of};
+
+use crate::command::{Ask, Command, Fate, Shown, Which};
+use crate::manager_name::ManagerName;
+use crate::numbers::{number_up_to, serial};
+use smp_bytes::{Generation, Lid, PortNum};
+use text_words::{NodeName, enclosed, is_word, split_word};
+
+/// A port as a line tells it.
+#[derive(Drop)]
+pub(crate) struct PortName {
+    pub(crate) node: NodeName,
+    pub(crate) port: PortNum,
+}
+
+/// A command as its line tells it. A `manager` line tells more, and is no command before its seat is found.
+pub(crate) type NamedCommand = Command<ManagerName, PortName>;
+
+/// The command that a word and the rest of its line are.
+pub(crate) fn named_command(word: &[u8], line: &[u8]) -> Option<NamedCommand>
+    ensures { result ≡ command_in word.now (words line.now) }
+{
+    let Some((one, rest)) = split_word(line) else {
+        return bare(word);
+    };
+    let Some((other, rest)) = split_word(rest) else {
+        return of_one(word, one);
+    };
+    if split_word(rest).is_some() {
+        return None;
+    }
+    of_two(word, one, other)
+}
+
+/// A command of one word.
+fn bare(word: &[u8]) -> Option<NamedCommand>
+    ensures { result ≡ bare_of word.now }
+{
+    if is_word(word, "tables") {
+        Some(Command::Tables)
+    } else if is_word(word, "flight") {
+        Some(Command::Flight)
+    } else {
+        None
+    }
+}
+
+/// A command with one word behind its own.
+fn of_one(word: &[u8], arg: &[u8]) -> Option<NamedCommand>
+    ensures { result ≡ of_one word.now arg.now }
+{
+    if is_word(word, "deliver") {
+        packet(Fate::Deliver, arg)
+    } else if is_word(word, "lose") {
+        packet(Fate::Lose, arg)
+    } else if is_word(word, "repeat") {
+        packet(Fate::Repeat, arg)
+    } else if is_word(word, "drain") {
+        Some(Command::Drain(number_up_to(arg, 1_000_000)?))
+    } else if is_word(word, "cut") {
+        Some(Command::Cut(port_name(arg)?))
+    } else {
+        to_manager(word, arg)
+    }
+}
+
+/// A command to one manager.
+fn to_manager(word: &[u8], name: &[u8]) -> Option<NamedCommand>
+    ensures { result ≡ to_manager word.now name.now }
+{
+    if is_word(word, "sweep") {
+        ask(Ask::Sweep, name)
+    } else if is_word(word, "write") {
+        ask(Ask::Write, name)
+    } else if is_word(word, "handover") {
+        ask(Ask::Handover, name)
+    } else if is_word(word, "timeout") {
+        Some(Command::Timeout(ManagerName::new(name)?))
+    } else if is_word(word, "facts") {
+        show(Shown::Facts, name)
+    } else if is_word(word, "plan") {
+        show(Shown::Plan, name)
+    } else if is_word(word, "progress") {
+        show(Shown::Progress, name)
+    } else if is_word(word, "state") {
+        show(Shown::State, name)
+    } else {
+        None
+    }
+}
+
+/// A command with two words behind its own.
+fn of_two(word: &[u8], one: &[u8], other: &[u8]) -> Option<NamedCommand>
+    ensures { result ≡ of_two word.now one.now other.now }
+{
+    if is_word(word, "merge") {
+        merge(one, other)
+    } else if is_word(word, "poll") {
+        poll(one, other)
+    } else if is_word(word, "floor") {
+        floor(one, other)
+    } else if is_word(word, "plug") {
+        plug(one, other)
+    } else if is_word(word, "ping") {
+        ping(one, other)
+    } else {
+        None
+    }
+}
+
+fn ask(what: Ask, name: &[u8]) -> Option<NamedCommand>
+    ensures { result ≡ ask what name.now }
+{
+    Some(Command::Ask(ManagerName::new(name)?, what))
+}
+
+fn show(what: Shown, name: &[u8]) -> Option<NamedCommand>
+    ensures { result ≡ show what name.now }
+{
+    Some(Command::Show(ManagerName::new(name)?, what))
+}
+
+fn packet(fate: Fate, word: &[u8]) -> Option<NamedCommand>
+    ensures { result ≡ packet fate word.now }
+{
+    Some(Command::Packet(which(word)?, fate))
+}
+
+fn merge(one: &[u8], other: &[u8]) -> Option<NamedCommand>
+    ensures { result ≡ merge one.now other.now }
+{
+    let one = ManagerName::new(one)?;
+    Some(Command::Merge(one, ManagerName::new(other)?))
+}
+
+fn poll(name: &[u8], lid: &[u8]) -> Option<NamedCommand>
+    ensures { result ≡ poll name.now lid.now }
+{
+    let name = ManagerName::new(name)?;
+    Some(Command::Ask(name, Ask::Poll(lid_of(lid)?)))
+}
+
+fn floor(name: &[u8], generation: &[u8]) -> Option<NamedCommand>
+    ensures { result ≡ floor name.now generation.now }
+{
+    let name = ManagerName::new(name)?;
+    Some(Command::Floor(name, generation_of(generation)?))
+}
+
+fn plug(one: &[u8], other: &[u8]) -> Option<NamedCommand>
+    ensures { result ≡ plug one.now other.now }
+{
+    let one = port_name(one)?;
+    Some(Command::Plug(one, port_name(other)?))
+}
+
+fn ping(port: &[u8], lid: &[u8]) -> Option<NamedCommand>
+    ensures { result ≡ ping port.now lid.now }
+{
+    let port = port_name(port)?;
+    Some(Command::Ping(port, lid_of(lid)?))
+}
+
+/// The packet in flight that a word tells.
+fn which(word: &[u8]) -> Option<Which>
+    ensures { result ≡ which_of word.now }
+{
+    if is_word(word, "last") {
+        Some(Which::Last)
+    } else {
+        Some(Which::Serial(serial(word)?))
+    }
+}
+
+/// A LID up to 65,535 in decimal.
+fn lid_of(word: &[u8]) -> Option<Lid>
+    ensures { result ≡ number_up_to 0xFFFF word.now }
+{
+    Some(Lid::new(number_up_to(word, 0xFFFF)? as u16))
+}
+
+/// A generation from 1 to 4,294,967,295 in decimal.
+fn generation_of(word: &[u8]) -> Option<Generation>
+    ensures { result ≡ generation_of word.now }
+{
+    Generation::new(number_up_to(word, u32::MAX)?)
+}
+
+/// A node's name in quotes, and at once behind it a port up to 255 in brackets.
+pub(crate) fn port_name(word: &[u8]) -> Option<PortName>
+    ensures { result ≡ port_name word.now }
+{
+    let (node, port) = enclosed(word, b'"', b'"')?;
+    let node = NodeName::new(node)?;
+    let port = PortNum::new(bracketed_number(port)?);
+    Some(PortName { node, port })
+}
+
+/// A number up to 255 in brackets.
+fn bracketed_number(word: &[u8]) -> Option<u8>
+    ensures { result ≡ bracketed_number word.now }
+{
+    let (port, rest) = enclosed(word, b'[', b']')?;
+    if !rest.is_empty() {
+        return None;
+    }
+    Some(number_up_to(port, 255)? as u8)
+}
+
+/// Both words of a line of two.
+pub(crate) fn pair(line: &[u8]) -> Option<(&[u8], &[u8])>
+    ensures { option_map (λ x. (x.0.now, x.1.now)) result ≡ pair (words line.now) }
+{
+    let (one, rest) = split_word(line)?;
+    let (other, rest) = split_word(rest)?;
+    if split_word(rest).is_some() {
+        return None;
+    }
+    Some((one, other))
+}
