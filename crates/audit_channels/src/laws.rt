@@ -8,8 +8,7 @@ pub fn no_cycle_where_numbers_rise()
     ensures law { NoCycleWhereNumbersRise }
 {}
 
-/// Where numbers of channels rise there is no cycle of them: `channel_order` answers a cycle exactly where channels
-/// cannot be numbered so.
+/// Where numbers of channels rise along the ways of all packets, no channels wait for each other in a cycle.
 pub fn never_both()
     ensures law { NeverBoth }
 {}

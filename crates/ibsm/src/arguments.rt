@@ -140,7 +140,7 @@ fn audit<'a>(alloc: Global) -> Result<Command<'a>, AllocError> {
 fn next<'a>(alloc: Global) -> Result<Command<'a>, AllocError> {
     Command::new(alloc, NEXT)
         .about(
-            "Prints the tables to write next, from those that switches hold towards the plan of the facts of all the files, so that no packet which arrives is lost meanwhile",
+            "Prints the tables to write next, from those that switches hold towards the plan of the facts of all the files, so that no packet for a LID that stays is lost meanwhile",
         )
         .after_help(NEXT_END)
         .arg(text(

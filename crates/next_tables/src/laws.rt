@@ -6,13 +6,13 @@ ghost use Rattle.next_tables.specs.NextText.{NextTextsAreRead, StepTextsAreRead}
 ghost use Rattle.next_tables.specs.StepLaws.{StepsEndInThePlan, StepsHealInTwo};
 ghost use Rattle.next_tables.specs.StepLaws.{NextTablesAreSo, StepsFollowTheRule, StepsLoseNone, StepsSendNoneRound};
 
-/// A packet that the held tables deliver is delivered by whatever mixtures of these and the next ones, also where they change
-/// while it travels.
+/// A packet that the held tables deliver is delivered by whatever loose mixtures of these and the next ones, also where they
+/// change while it travels.
 pub fn none_is_lost()
     ensures law { NoneIsLost }
 {}
 
-/// A packet that the held tables deliver or drop goes round for ever by none of these mixtures.
+/// A packet that the held tables deliver or drop goes round for ever by no mixtures of these and the next ones.
 pub fn none_goes_round()
     ensures law { NoneGoesRound }
 {}
@@ -63,7 +63,7 @@ pub fn steps_lose_none()
     ensures law { StepsLoseNone }
 {}
 
-/// And it sends none round.
+/// And by no mixtures of both one goes round that they deliver or drop.
 pub fn steps_send_none_round()
     ensures law { StepsSendNoneRound }
 {}
