@@ -58,4 +58,5 @@ number_of_state Active = 4
 
 -- the state of that number; other numbers are reserved
 abbrev pub state_of_number : ℕ → Option PortState
-state_of_number number = find (λ state. number == number_of_state state) (NoChange ∷ Down ∷ Initialize ∷ Armed ∷ Active ∷ [])
+state_of_number number =
+    find (λ state. number == number_of_state state) (NoChange ∷ Down ∷ Initialize ∷ Armed ∷ Active ∷ [])

@@ -11,15 +11,19 @@ use Rattle.attr_codec.specs.SmInfo.{FitsSmInfo, guid, sm_key, act_count, priorit
 use Rattle.attr_codec.specs.NodeInfo.{FitsNodeInfo, node_info_in, node_info_bytes, entries_of}
 
 -- of numbers that all fit each one does
-fits_at : (entries : List Entry) (i : ℕ) (e : Entry) → AllFit entries → slice_get entries i ≡ Some e → e.number < 256 ^ e.field.len
+fits_at : (entries : List Entry) (i : ℕ) (e : Entry) → AllFit entries → slice_get entries i ≡ Some e → e.number
+    < 256 ^ e.field.len
 fits_at [] i e fits there = cc
-fits_at (x ∷ entries) zero e fits there = let same : x ≡ e = cc in subst (λ (y : Entry). y.number < 256 ^ y.field.len) same fits.0
+fits_at (x ∷ entries) zero e fits there = let same : x ≡ e =
+    cc in subst (λ (y : Entry). y.number < 256 ^ y.field.len) same fits.0
 fits_at (x ∷ entries) (suc i) e fits there = fits_at entries i e fits.1 there
 
 -- the i-th field of an image holds its number
-pub number_in-image : (entries : List Entry) → AllFit entries → (i : ℕ) (e : Entry) → are_all_apart 64 entries ≡ true → slice_get entries i ≡ Some e
+pub number_in-image : (entries : List Entry) → AllFit entries → (i : ℕ) (e : Entry) → are_all_apart 64 entries ≡ true
+    → slice_get entries i ≡ Some e
     → number_in e.field (image entries) ≡ e.number
-number_in-image entries fits i e apart there = number_in-with_numbers 64 entries (replicate 64 0) i e refl apart there (fits_at entries i e fits there)
+number_in-image entries fits i e apart there =
+    number_in-with_numbers 64 entries (replicate 64 0) i e refl apart there (fits_at entries i e fits there)
 
 pub node_info_reads_back : (info : NodeInfo) → FitsNodeInfo info → node_info_in (node_info_bytes info) ≡ info
 node_info_reads_back info fits =
@@ -48,17 +52,23 @@ sm_info_reads_back info fits =
     let whole = image (sm_info_entries info) in
     let long : length whole ≡ 64 = length-with_numbers 64 (sm_info_entries info) (replicate 64 0) refl refl in
     let first = with_bits priority info.priority whole in
-    let long1 : length first ≡ 64 = length-with_number (record { at = 20; len = 1 }) (replaced priority info.priority (get_or whole 20 0)) whole (omega arith)
+    let long1 : length first ≡ 64 =
+    length-with_number (record { at = 20; len = 1 }) (replaced priority info.priority (get_or whole 20 0)) whole
+    (omega arith)
     ∙ long in
     let zero_before = blank info in
     let small : replaced priority info.priority (get_or whole 20 0) < 256 =
     replaced_fits priority info.priority (get_or whole 20 0) (omega arith) fits.priority (omega arith) in
-    let byte : get_or first 20 0 < 256 = subst (λ (n : ℕ). n < 256) (sym (get_or-with_bits priority info.priority whole (omega arith) small)) small in
-    let keeps : (f : Field) → are_apart f (record { at = 20; len = 1 }) ≡ true → number_in f (sm_info_bytes info) ≡ number_in f whole =
+    let byte : get_or first 20 0 < 256 =
+    subst (λ (n : ℕ). n < 256) (sym (get_or-with_bits priority info.priority whole (omega arith) small)) small in
+    let keeps : (f : Field) → are_apart f (record { at = 20; len = 1 }) ≡ true → number_in f (sm_info_bytes info)
+    ≡ number_in f whole =
     λ f apart. number_in-with_number_apart f (record { at = 20; len = 1 }) _ first (omega arith) apart
     ∙ number_in-with_number_apart f (record { at = 20; len = 1 }) _ whole (omega arith) apart in
-    let at_guid : number_in guid (sm_info_bytes info) ≡ info.guid = keeps guid refl ∙ number_in-image (sm_info_entries info) fits.fields 0 _ refl refl in
-    let at_key : number_in sm_key (sm_info_bytes info) ≡ info.sm_key = keeps sm_key refl ∙ number_in-image (sm_info_entries info) fits.fields 1 _ refl refl in
+    let at_guid : number_in guid (sm_info_bytes info) ≡ info.guid =
+    keeps guid refl ∙ number_in-image (sm_info_entries info) fits.fields 0 _ refl refl in
+    let at_key : number_in sm_key (sm_info_bytes info) ≡ info.sm_key =
+    keeps sm_key refl ∙ number_in-image (sm_info_entries info) fits.fields 1 _ refl refl in
     let at_count : number_in act_count (sm_info_bytes info) ≡ info.act_count = keeps act_count refl
     ∙ number_in-image (sm_info_entries info) fits.fields 2 _ refl refl in
     let at_priority : bits_in priority (sm_info_bytes info) ≡ info.priority =
@@ -66,4 +76,11 @@ sm_info_reads_back info fits =
     ∙ bits_in-with_bits priority info.priority whole (omega arith) (omega arith) (omega arith) fits.priority in
     let at_state : bits_in sm_state (sm_info_bytes info) ≡ info.state =
     bits_in-with_bits sm_state info.state first (omega arith) byte (omega arith) fits.state in
-    λ j. record { guid = at_guid j; sm_key = at_key j; act_count = at_count j; priority = at_priority j; state = at_state j }
+    λ j. record {
+      guid = at_guid j;
+      sm_key = at_key j;
+      act_count = at_count j;
+      priority = at_priority j;
+      state =
+          at_state j;
+    }

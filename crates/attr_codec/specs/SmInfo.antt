@@ -34,7 +34,8 @@ sm_info_in bytes =
 -- each field of whole bytes with its number
 abbrev pub sm_info_entries : SmInfo → List Entry
 sm_info_entries info =
-    record { field = guid; number = info.guid } ∷ record { field = sm_key; number = info.sm_key } ∷ record { field = act_count; number = info.act_count } ∷ []
+    record { field = guid; number = info.guid } ∷ record { field = sm_key; number = info.sm_key }
+    ∷ record { field = act_count; number = info.act_count } ∷ []
 
 -- the 64 bytes that spell it; the bytes behind the last field are reserved and 0
 abbrev pub sm_info_bytes : SmInfo → List ℕ

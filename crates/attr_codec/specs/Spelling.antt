@@ -12,7 +12,8 @@ KeepsAllBytes value_in bytes_of = (bytes : List ℕ) → Are64Bytes bytes → by
 
 -- so are the first bytes of whatever is read; those behind are reserved, and are spelled as 0
 abbrev pub KeepsFirstBytes : {V : Type 0} → ℕ → (List ℕ → V) → (V → List ℕ) → Type 0
-KeepsFirstBytes count value_in bytes_of = (bytes : List ℕ) → Are64Bytes bytes → bytes_of (value_in bytes) ≡ take count bytes ++ replicate (64 - count) 0
+KeepsFirstBytes count value_in bytes_of =
+    (bytes : List ℕ) → Are64Bytes bytes → bytes_of (value_in bytes) ≡ take count bytes ++ replicate (64 - count) 0
 
 -- 64 bytes in which each field of a value stands with its number, and 0 behind the fields
 pub record Spells {V : Type 0} (count : ℕ) (value_in : List ℕ → V) (value : V) (bytes : List ℕ) : Type 0 where
@@ -22,4 +23,5 @@ pub record Spells {V : Type 0} (count : ℕ) (value_in : List ℕ → V) (value 
 
 -- each value is spelled so
 abbrev pub SpellsEachValue : {V : Type 0} → ℕ → (List ℕ → V) → (V → List ℕ) → (V → Type 0) → Type 0
-SpellsEachValue {V = V} count value_in bytes_of is_value = (value : V) → is_value value → Spells count value_in value (bytes_of value)
+SpellsEachValue {V = V} count value_in bytes_of is_value =
+    (value : V) → is_value value → Spells count value_in value (bytes_of value)

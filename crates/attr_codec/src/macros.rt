@@ -1,13 +1,15 @@
 /// The body of `decode` or `encode` of an attribute, from its list of fields: `name: Type at OFFSET` for whole bytes,
 /// and behind `bits` `name: Type at OFFSET, SHIFT, WIDTH` for some bits of one byte.
 macro_rules! fields {
-    (decode $bytes:ident, $attribute:ident { $($name:ident: $kind:ident at $at:literal),* $(,)? } $(bits { $($part:ident: $of:ident at $byte:literal, $shift:literal, $width:literal),* $(,)? })?) => {
+    (decode $bytes:ident, $attribute:ident { $($name:ident: $kind:ident at $at:literal),* $(,)? }
+            $(bits { $($part:ident: $of:ident at $byte:literal, $shift:literal, $width:literal),* $(,)? })?) => {
         $attribute {
             $($name: field_type::read::<$kind, $at>($bytes),)*
             $($($part: $of::from_bits(bits::<$byte, $shift, $width>($bytes)),)*)?
         }
     };
-    (encode $value:ident, $attribute:ident { $($name:ident: $kind:ident at $at:literal),* $(,)? } $(bits { $($part:ident: $of:ident at $byte:literal, $shift:literal, $width:literal),* $(,)? })?) => {{
+    (encode $value:ident, $attribute:ident { $($name:ident: $kind:ident at $at:literal),* $(,)? }
+            $(bits { $($part:ident: $of:ident at $byte:literal, $shift:literal, $width:literal),* $(,)? })?) => {{
         let mut bytes = [0u8; 64];
         $(field_type::write::<$kind, $at>($value.$name, &mut bytes);)*
         $($(with_bits::<$byte, $shift, $width>(&mut bytes, $value.$part.number());)*)?

@@ -43,7 +43,8 @@ sole_owner port e (x ∷ owners) sole is =
 
 module _ (port : EndPort) (owners : List EndPort) (walks : List NextHop) where
   -- a walk that comes to the port
-  walk_there : (ws : List NextHop) (index : ℕ) (d : NextHop) → slice_index_or (arrivals port ws) index false ≡ true → is_at port (end_of (slice_index_or ws index d)) ≡ true
+  walk_there : (ws : List NextHop) (index : ℕ) (d : NextHop) → slice_index_or (arrivals port ws) index false ≡ true
+      → is_at port (end_of (slice_index_or ws index d)) ≡ true
   walk_there [] index d h = absurd (cc)
   walk_there (w ∷ ws) zero d h = h
   walk_there (w ∷ ws) (suc index) d h = walk_there ws index d h
@@ -60,7 +61,8 @@ module _ (port : EndPort) (owners : List EndPort) (walks : List NextHop) where
         | false ↦ λ q. walk_there walks index (To index) h
       ] refl
 
-  source_there : (sources : List Sender) (index : ℕ) → is_sole port owners ≡ true → comes_by (slice_index_or (map first_switch sources) index None) (arrivals port walks) ≡ true
+  source_there : (sources : List Sender) (index : ℕ) → is_sole port owners ≡ true
+      → comes_by (slice_index_or (map first_switch sources) index None) (arrivals port walks) ≡ true
       → is_at port (slice_index_or (map (end_from owners walks) sources) index None) ≡ true
   source_there [] index sole h = absurd (cc)
   source_there (s ∷ sources) zero sole h = packet_there s.port s.switch s.far sole h
@@ -104,7 +106,8 @@ module _ {X : Type 0} (p : X → Bool) (xs : List X) (d : X) where
 
   pub nowhere : (i : ℕ) → length xs ≤ i → ((k : ℕ) → k < i → p (get_or xs k d) ≡ false) → None ≡ position p xs
   nowhere i past before =
-      let at : position_or_len p xs ≡ length xs = position_or_len_is p xs (length xs) d (omega arith) (λ k h. before k (omega arith)) (λ h. absurd (omega arith)) in
+      let at : position_or_len p xs ≡ length xs =
+      position_or_len_is p xs (length xs) d (omega arith) (λ k h. before k (omega arith)) (λ h. absurd (omega arith)) in
       sym (ap (λ n. cond (nat_lt n (length xs)) (Some n) None) at ∙ ap (λ t. cond t (Some (length xs)) None) (le-ltb (length xs) (length xs) (omega arith)))
 
 -- where no packet ends elsewhere

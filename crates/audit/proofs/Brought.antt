@@ -36,7 +36,8 @@ module _ (cells : Cells) (held : HeldPlan) (lid number : ℕ) (rows : List (List
   step_is g = ap (λ e. next_hop_by (owners_of held lid) lid (node_of cells held g) (counted lid (top_of held g) e)) (entry_is g (index_of held g) refl)
 
   steps_are : (guids : List ℕ) → map (next_hop_of (owners_of held lid) rows lid) (map (node_of cells held) guids)
-      ≡ map (λ g. by_entry (owners_of held lid) g (cause_of cells held lid g) (row_of cells g) (counted lid (top_of held g) (entry_at held (index_of held g) lid))) guids
+      ≡ map (λ g. by_entry (owners_of held lid) g (cause_of cells held lid g) (row_of cells g)
+      (counted lid (top_of held g) (entry_at held (index_of held g) lid))) guids
   steps_are [] = refl
   steps_are (g ∷ guids) = λ i. step_is g i ∷ steps_are guids i
 
@@ -51,7 +52,8 @@ module _ (cells : Cells) (held : HeldPlan) (lid number : ℕ) (rows : List (List
   each : (f : Sender → Option End) (ports : List EndPort) (k : ℕ) (e : EndPort) (end : Option End) → slice_get ports k ≡ Some e
       → slice_get (map f (map (sender_of cells) ports)) k ≡ Some end → f (sender_of cells e) ≡ end
   each f [] k e end at there = cc
-  each f (x ∷ ports) zero e end at there = let same : x ≡ e = cc in let that : f (sender_of cells x) ≡ end = cc in sym (ap (λ y. f (sender_of cells y)) same) ∙ that
+  each f (x ∷ ports) zero e end at there = let same : x ≡ e = cc in let that : f (sender_of cells x) ≡ end =
+      cc in sym (ap (λ y. f (sender_of cells y)) same) ∙ that
   each f (x ∷ ports) (suc k) e end at there = each f ports k e end at there
 
   are_brought : (ends : List NextHop) → HaveEnded (next_hops_of cells held lid) ends
@@ -64,11 +66,13 @@ module _ (cells : Cells) (held : HeldPlan) (lid number : ℕ) (rows : List (List
   }
 
   pub brought_is : (nodes : List AuditedSwitch) (sources : List Sender) (owners : List EndPort) (steps ends : List NextHop) (result : List (Option End))
-      (firsts : List (Option ℕ)) (begin : Bool) (numbers : List ℕ) (by_lid : List Owner) → IsNetwork cells held nodes sources firsts begin numbers by_lid → owners ≡ owners_of held lid → steps ≡ map (next_hop_of owners rows lid) nodes → HaveEnded steps ends
+      (firsts : List (Option ℕ)) (begin : Bool) (numbers : List ℕ) (by_lid : List Owner) → IsNetwork cells held nodes sources firsts begin numbers by_lid
+      → owners ≡ owners_of held lid → steps ≡ map (next_hop_of owners rows lid) nodes → HaveEnded steps ends
       → result ≡ map (λ source. end_of (onward ends (first_hop owners source))) sources → AreBrought cells held lid result
   brought_is nodes sources owners steps ends result firsts begin numbers by_lid network own are ended result_is =
       let all : steps ≡ next_hops_of cells held lid =
-      are ∙ ap (λ o. map (next_hop_of o rows lid) nodes) own ∙ ap (map (next_hop_of (owners_of held lid) rows lid)) network.nodes_are ∙ steps_are (switches cells) in
+      are ∙ ap (λ o. map (next_hop_of o rows lid) nodes) own ∙ ap (map (next_hop_of (owners_of held lid) rows lid)) network.nodes_are
+      ∙ steps_are (switches cells) in
       let found : result ≡ map (end_by ends) (map (sender_of cells) (end_ports cells)) =
       result_is ∙ ap (λ o. map (λ source. end_of (onward ends (first_hop o source))) sources) own ∙ ap (map (end_by ends)) network.sources_are in
       subst (AreBrought cells held lid) (sym found) (are_brought ends (subst (λ (xs : List NextHop). HaveEnded xs ends) all ended))

@@ -96,7 +96,8 @@ head_same (To i) (Ends k) e h = absurd (omega arith)
 head_same (Ends m) (Ends k) e h = cc
 
 -- where as many have not ended, they are the same
-pub same_left : (f : NextHop → NextHop) (xs : List NextHop) (i : ℕ) (d : NextHop) → ((x : NextHop) → is_to (f x) ≡ true → is_to x ≡ true) → tos (map f xs) ≡ tos xs
+pub same_left : (f : NextHop → NextHop) (xs : List NextHop) (i : ℕ) (d : NextHop) → ((x : NextHop) → is_to (f x) ≡ true → is_to x ≡ true) → tos (map f xs)
+    ≡ tos xs
     → i < length xs → is_to (slice_index_or xs i d) ≡ true → is_to (f (slice_index_or xs i d)) ≡ true
 same_left f [] i d h e less on = absurd (omega arith)
 same_left f (x ∷ xs) zero d h e less on = head_same x (f x) (omega (arith, e, head_less x (f x) (h x), tos_less f xs h)) on
@@ -145,7 +146,8 @@ on_twice jumps (To i) e h =
 over_same : (steps jumps : List NextHop) (m : ℕ) → 1 ≤ m → AreAfter steps jumps m → tos (map (onward jumps) jumps) ≡ tos jumps → GoOn steps jumps
 over_same steps jumps m some are e s h =
     let far : is_to (after (m + m) steps s) ≡ true =
-    ap is_to (after_add m m steps s) ∙ sym (ap is_to (are.onward_is (after m steps s))) ∙ sym (ap (λ r. is_to (onward jumps r)) (are.onward_is s)) ∙ on_twice jumps s e h in
+    ap is_to (after_add m m steps s) ∙ sym (ap is_to (are.onward_is (after m steps s))) ∙ sym (ap (λ r. is_to (onward jumps r)) (are.onward_is s))
+    ∙ on_twice jumps s e h in
     let count : m + m ≡ suc m + (m - 1) = omega arith in
     let near : is_to (after (suc m) steps s) ≡ true = earlier (suc m) (m - 1) steps s (sym (ap (λ k. is_to (after k steps s)) count) ∙ far) in
     ap is_to (are.onward_is (onward steps s)) ∙ near

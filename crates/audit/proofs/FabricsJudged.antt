@@ -47,10 +47,11 @@ owner_line [] lid e h = cc
 owner_line (x ∷ lids) lid e h =
     elim (x.lid == lid) as (λ t. (x.lid == lid) ≡ t
     → is_owner (map (λ y. y.port) (cond t (x ∷ filter (λ y. y.lid == lid) lids) (filter (λ y. y.lid == lid) lids))) e ≡ true → LineOf (x ∷ lids) lid e) [
-      | true ↦ λ q k. (elim (is_same_end e x.port) as (λ t. is_same_end e x.port ≡ t → (t || is_owner (owners_in lids lid) e) ≡ true → LineOf (x ∷ lids) lid e) [
-        | true ↦ λ s m. record { line = x; is_held = contains_here x lids; lid_is = eqb-true x.lid lid q; port_is = same_ends e x.port s }
-        | false ↦ λ s m. later_line x lids lid e (owner_line lids lid e m)
-      ] refl k)
+      | true ↦ λ q k. (elim (is_same_end e x.port) as (λ t. is_same_end e x.port ≡ t → (t || is_owner (owners_in lids lid) e) ≡ true
+          → LineOf (x ∷ lids) lid e) [
+            | true ↦ λ s m. record { line = x; is_held = contains_here x lids; lid_is = eqb-true x.lid lid q; port_is = same_ends e x.port s }
+            | false ↦ λ s m. later_line x lids lid e (owner_line lids lid e m)
+          ] refl k)
       | false ↦ λ q k. later_line x lids lid e (owner_line lids lid e k)
     ] refl h
 
@@ -59,13 +60,15 @@ line_owner [] line h = absurd (contains_none line h)
 line_owner (x ∷ lids) line h =
     elim (x.lid == line.lid) as (λ t. (x.lid == line.lid) ≡ t
     → is_owner (map (λ y. y.port) (cond t (x ∷ filter (λ y. y.lid == line.lid) lids) (filter (λ y. y.lid == line.lid) lids))) line.port ≡ true) [
-      | true ↦ λ q. (elim (is_same_end line.port x.port) as (λ t. is_same_end line.port x.port ≡ t → (t || is_owner (owners_in lids line.lid) line.port) ≡ true) [
-        | true ↦ λ s. refl
-        | false ↦ λ s. (elim (contains_cases x line lids h) [
-          | inl same ↦ let is : is_same_end line.port x.port ≡ true = ap (λ (y : HeldLid). is_same_end line.port y.port) same ∙ same_itself line.port in absurd (cc)
-          | inr later ↦ line_owner lids line later
-        ])
-      ] refl)
+      | true ↦ λ q. (elim (is_same_end line.port x.port) as (λ t. is_same_end line.port x.port ≡ t → (t || is_owner (owners_in lids line.lid) line.port)
+          ≡ true) [
+            | true ↦ λ s. refl
+            | false ↦ λ s. (elim (contains_cases x line lids h) [
+              | inl same ↦ let is : is_same_end line.port x.port ≡ true =
+                  ap (λ (y : HeldLid). is_same_end line.port y.port) same ∙ same_itself line.port in absurd (cc)
+              | inr later ↦ line_owner lids line later
+            ])
+          ] refl)
       | false ↦ λ q. (elim (contains_cases x line lids h) [
         | inl same ↦ let is : (x.lid == line.lid) ≡ true = eq-eqb x.lid line.lid (ap (λ (y : HeldLid). y.lid) same) in absurd (cc)
         | inr later ↦ line_owner lids line later
@@ -107,7 +110,8 @@ module _ (facts : Facts) (held : HeldPlan) (f : Fabric) (seen : IsSeen (cells_of
   -- one GUID, one id
   some_end : (id : ℕ) (node : Node) → IsNodeAt f id node → (p : NodePort) × (p.node ≡ id) × InFabric WholeFabric facts held f (seen_whole seen) p node
   some_end id node at =
-      elim (is_switch node.kind) as (λ t. is_switch node.kind ≡ t → (p : NodePort) × (p.node ≡ id) × InFabric WholeFabric facts held f (seen_whole seen) p node) [
+      elim (is_switch node.kind) as (λ t. is_switch node.kind ≡ t → (p : NodePort) × (p.node ≡ id)
+      × InFabric WholeFabric facts held f (seen_whole seen) p node) [
         | true ↦ λ k. (port_at id 0, refl, switch_end WholeFabric facts held f (seen_whole seen) id node at k tt)
         | false ↦ λ k.
             let some = (seen.is_fabric.counts id node at).0 in
@@ -133,7 +137,11 @@ module _ (facts : Facts) (held : HeldPlan) (f : Fabric) (seen : IsSeen (cells_of
       let (hops, found, named, delivered) =
       packets_end_as_told facts held f seen source s l.line.lid (Some (Taken l.line.port)) at_s is_source (lids l.line l.is_held) brought in
       let same : found ≡ target = one_port found target t l.line.port named at_t (sym l.port_is) in
-      record { hops = hops; delivered = subst (λ (n : ℕ). IsDelivered f n source hops target) l.lid_is (subst (IsDelivered f l.line.lid source hops) same delivered) }
+      record {
+        hops = hops;
+        delivered =
+            subst (λ (n : ℕ). IsDelivered f n source hops target) l.lid_is (subst (IsDelivered f l.line.lid source hops) same delivered);
+      }
 
   -- a packet that ends elsewhere is not delivered
   not_there : (source target : NodePort) (lid : ℕ) (e : EndPort) (end : Option End) → IsPortNamed f e.node e.port target → EndsAs f lid source end

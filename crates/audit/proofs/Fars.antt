@@ -16,7 +16,8 @@ told f p d [] k = refl
 told f p d (x ∷ xs) zero = refl
 told f p d (x ∷ xs) (suc k) = told f p d xs k
 
-pub far_there : (cells : Cells) (held : HeldPlan) (nodes : List AuditedSwitch) (k p : ℕ) (found : Option AuditedSwitch) → nodes ≡ map (node_of cells held) (switches cells)
+pub far_there : (cells : Cells) (held : HeldPlan) (nodes : List AuditedSwitch) (k p : ℕ) (found : Option AuditedSwitch) → nodes
+    ≡ map (node_of cells held) (switches cells)
     → slice_get nodes k ≡ found
     → option_map_or (λ node. slice_index_or node.row p Nothing) found Nothing
     ≡ option_map_or (λ g. slice_index_or (row_of cells g) p Nothing) (slice_get (switches cells) k) Nothing

@@ -133,7 +133,12 @@ later steps n h = let most = h.most in record { count = h.count; most = omega ar
 
 in_steps : (steps : List NextHop) (n : ℕ) → AreSettled steps n ⊎ AreFew steps n
 in_steps steps zero =
-    inr (record { jumps = each_from 0 (length steps); are = after_none steps; few = omega (arith, tos_most (each_from 0 (length steps)), each_long 0 (length steps)) })
+    inr (record {
+      jumps = each_from 0 (length steps);
+      are = after_none steps;
+      few =
+          omega (arith, tos_most (each_from 0 (length steps)), each_long 0 (length steps));
+    })
 in_steps steps (suc n) = elim (in_steps steps n) [ inl h ↦ inl (later steps n h) | inr h ↦ few_more steps n h ]
 
 settled : (steps : List NextHop) → AreSettled steps (length steps)
@@ -180,7 +185,8 @@ pub end_is : (cells : Cells) (held : HeldPlan) (lid : ℕ) (e : EndPort) → IsB
 end_is cells held lid e =
     let steps = next_hops_of cells held lid in
     let first = first_hop (owners_of held lid) (sender_of cells e) in
-    let long : length steps ≡ length (switches cells) = mapped (λ g. by_entry (owners_of held lid) g (cause_of cells held lid g) (row_of cells g) (entry_for held lid g)) (switches cells) in
+    let long : length steps ≡ length (switches cells) =
+    mapped (λ g. by_entry (owners_of held lid) g (cause_of cells held lid g) (row_of cells g) (entry_for held lid g)) (switches cells) in
     subst (λ (n : ℕ). IsEndOf steps first (end_of (after n steps first))) long (ends_in_time steps first)
 
 pub end_found : (cells : Cells) (held : HeldPlan) (lid : ℕ) (e : EndPort) (end : Option End) → IsBrought cells held lid e end → end ≡ end_for cells held lid e

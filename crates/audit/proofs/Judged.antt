@@ -50,7 +50,8 @@ listed facts e =
     let ports : List EndPort = end_ports (cells_of facts) in
     let law = end_port_law (cells_of facts) e.node e.port in
     let has = (end_ports_law facts).0 e in
-    same_tests (is_end_port (cells_of facts) e.node e.port) (is_owner ports e) (λ t. (owned ports e).1 (has.1 (law.0 t))) (λ t. law.1 (has.0 ((owned ports e).0 t)))
+    same_tests (is_end_port (cells_of facts) e.node e.port) (is_owner ports e) (λ t. (owned ports e).1 (has.1 (law.0 t)))
+    (λ t. law.1 (has.0 ((owned ports e).0 t)))
 
 -- where packets end that all end at a port
 pub at_is : (e : EndPort) (end : Option End) → is_at e end ≡ true → end ≡ Some (Taken e)

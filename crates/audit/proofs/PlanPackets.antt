@@ -149,7 +149,8 @@ module _ (by : RuleValue) (lmc : ℕ) (facts : Facts) (range : AreInRange facts)
       → onward steps (To i) ≡ by_entry owners g (why g) (row_of cells g) entry
   at_index i g entry at is =
       get_mapped (λ g. by_entry owners g (why g) (row_of cells g) (entry_for held lid g)) (switches cells) i g (To i) at
-      ∙ ap (by_entry owners g (why g) (row_of cells g)) (entry_counts by lmc facts has_room top top_is g lid owner (contains_at (switches cells) i g at) owned ∙ is)
+      ∙ ap (by_entry owners g (why g) (row_of cells g)) (entry_counts by lmc facts has_room top top_is g lid owner (contains_at (switches cells) i g at) owned
+      ∙ is)
 
   -- over a wire
   over_wire : (g p : ℕ) (q : ℕ × ℕ) → across cells g p ≡ Some q
@@ -159,7 +160,8 @@ module _ (by : RuleValue) (lmc : ℕ) (facts : Facts) (range : AreInRange facts)
       let small = (wire_small facts range g p q.0 q.1 wire).0 in
       ap (λ t. cond t (Ends (Taken (record { node = g; port = 0 }))) (over owners g (why g) (slice_index_or (row_of cells g) p Nothing)))
       (ne_eqb p 0 (λ z. omega (arith, z, from)))
-      ∙ ap (over owners g (why g)) (get_or-map-range_with_len (far_of cells g) 0 255 p p Nothing (omega arith) (omega arith) ∙ ap (far_to (switches cells)) wire)
+      ∙ ap (over owners g (why g)) (get_or-map-range_with_len (far_of cells g) 0 255 p p Nothing (omega arith) (omega arith)
+      ∙ ap (far_to (switches cells)) wire)
 
   -- to a port that is no usable switch's
   to_owner : (g : ℕ) (cause : Cause) (q : ℕ × ℕ) → q ≡ (owner.node, owner.port) → is_usable cells owner.node ≡ false
@@ -233,7 +235,8 @@ module _ (by : RuleValue) (lmc : ℕ) (facts : Facts) (range : AreInRange facts)
         along way.edges s i at way.by_rule way.passes
 
     -- of one root, of one component
-    one_root : (s r : ℕ) → Contains (switches cells) s → root_of graph s ≡ Some r → root_of graph attachment.0 ≡ Some r → in_one_component graph s attachment.0 ≡ true
+    one_root : (s r : ℕ) → Contains (switches cells) s → root_of graph s ≡ Some r → root_of graph attachment.0 ≡ Some r → in_one_component graph s attachment.0
+        ≡ true
     one_root s r listed its others =
         let good = graph_law facts in
         let there = is_in_graph s listed in
@@ -247,7 +250,8 @@ module _ (by : RuleValue) (lmc : ℕ) (facts : Facts) (range : AreInRange facts)
   own_attachment : (e : EndPort) → is_usable cells e.node ≡ true → attachment_of cells e ≡ Some (e.node, 0)
   own_attachment e u = ap (λ t. cond t (Some (e.node, 0)) (attached cells e.node e.port)) u
 
-  wired_attachment : (e : EndPort) (attachment : ℕ × ℕ) → is_usable cells e.node ≡ false → attachment_of cells e ≡ Some attachment → attached cells e.node e.port ≡ Some attachment
+  wired_attachment : (e : EndPort) (attachment : ℕ × ℕ) → is_usable cells e.node ≡ false → attachment_of cells e ≡ Some attachment
+      → attached cells e.node e.port ≡ Some attachment
   wired_attachment e attachment u h = sym (ap (λ t. cond t (Some (e.node, 0)) (attached cells e.node e.port)) u) ∙ h
 
   -- a packet of a usable switch
@@ -280,7 +284,8 @@ module _ (by : RuleValue) (lmc : ℕ) (facts : Facts) (range : AreInRange facts)
       let at = indexed cells from.attachment.0 there in
       comes_by (over owners e.node NoLink (far_of cells e.node e.port)) (To at.index)
       (ap (λ o. over owners e.node NoLink (far_to (switches cells) o)) wire ∙ ap (λ o. over owners e.node NoLink (far_at from.attachment o)) at.is)
-      (from_switch to.attachment to.attachment_is from.attachment.0 at.index at.at (one_root to.attachment to.attachment_is from.attachment.0 r there from.root_is to.root_is))
+      (from_switch to.attachment to.attachment_is from.attachment.0 at.index at.at
+      (one_root to.attachment to.attachment_is from.attachment.0 r there from.root_is to.root_is))
   by_adapter e apart other (by_wire w) =
       elim (is_usable cells owner.node) as (λ t. is_usable cells owner.node ≡ t → Comes (over owners e.node NoLink (far_of cells e.node e.port))) [
         | true ↦ λ u.

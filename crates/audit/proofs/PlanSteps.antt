@@ -118,7 +118,8 @@ module _ (rule : Routing) (lmc : ℕ) (facts : Facts) (unwired : (g : ℕ) (q : 
   cells = cells_of facts
 
   -- the wire in the home's port leads to the owner, which is no usable switch
-  at_attachment : (attachment end : ℕ × ℕ) → attachment_of cells e ≡ Some attachment → across cells attachment.0 attachment.1 ≡ Some end → Contains (switches cells) end.0 → ⊥
+  at_attachment : (attachment end : ℕ × ℕ) → attachment_of cells e ≡ Some attachment → across cells attachment.0 attachment.1 ≡ Some end
+      → Contains (switches cells) end.0 → ⊥
   at_attachment attachment end h wire there =
       elim (is_usable cells e.node) as (λ t. is_usable cells e.node ≡ t → cond t (Some (e.node, 0)) (attached cells e.node e.port) ≡ Some attachment → ⊥) [
         | true ↦ λ u k.

@@ -99,7 +99,8 @@ module _ (by : RuleValue) (lmc : ℕ) (facts : Facts) (has_room : ¬ (IsNoRoom l
       let e : EndPort = record { node = node.guid; port = port.port } in
       let listed = end_listed facts held f seen port node at is_end in
       let good = lids_law lmc facts has_room in
-      let (x, there, same) = contains-from_map (λ (y : EndPort × ℕ). y.0) given.ports e (subst (λ (xs : List EndPort). Contains xs e) (sym good.end_ports_in_order) listed) in
+      let (x, there, same) =
+      contains-from_map (λ (y : EndPort × ℕ). y.0) given.ports e (subst (λ (xs : List EndPort). Contains xs e) (sym good.end_ports_in_order) listed) in
       let is_given : Contains given.ports (e, x.1) = subst (λ (z : EndPort). Contains given.ports (z, x.1)) same there in
       record {
         lid = x.1;
@@ -122,7 +123,8 @@ module _ (by : RuleValue) (lmc : ℕ) (facts : Facts) (has_room : ¬ (IsNoRoom l
   top_held : (index : ℕ) (node : Node) → IsNodeAt f index node → is_switch node.kind ≡ true → f.top index ≡ top
   top_held index node at kind =
       let g = node.guid in
-      let there : Contains (switches cells) g = ((switches_law facts).0 g).1 ((usable_law cells g).0 (usable WholeFabric facts held f (seen_whole seen) index node at kind tt)) in
+      let there : Contains (switches cells) g =
+      ((switches_law facts).0 g).1 ((usable_law cells g).0 (usable WholeFabric facts held f (seen_whole seen) index node at kind tt)) in
       seen.holds.tops index node at kind ∙ top_of_switch by lmc facts has_room top top_is g there
 
   -- a block of the plan stands in the switch's table
@@ -149,7 +151,8 @@ module _ (by : RuleValue) (lmc : ℕ) (facts : Facts) (has_room : ¬ (IsNoRoom l
   blocks_held port node here b block there =
       let g = node.guid in
       let rule = routing_by by cells in
-      let of = subst (λ (o : Option (List ℕ)). MatchOption o (¬ (HasBlock lmc cells g b)) (λ x. HasBlock lmc cells g b × (x ≡ block_of rule lmc cells g b))) there
+      let of = subst (λ (o : Option (List ℕ)). MatchOption o (¬ (HasBlock lmc cells g b)) (λ x. HasBlock lmc cells g b × (x ≡ block_of rule lmc cells g b)))
+      there
       (blocks_are_of_switches rule lmc facts g b) in
       let test : is_usable cells g ≡ true = (usable_law cells g).1 of.0.0 in
       let kind : is_switch node.kind ≡ true =

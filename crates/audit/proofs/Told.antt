@@ -82,7 +82,8 @@ module _ (f : Fabric) (lid : ℕ) where
       let into = into_is (arrived_at p) p p h leaves wire g.0 g.1 in
       never_loops p leaves wire hops end target (subst (λ (x : NodePort). Goes f lid (arrived_at x) hops end) into g.2) d
 
-  delivered_on : (st : Standing) (p q : NodePort) (e : EndPort) → course f lid st ≡ LeavesBy p → f.across p ≡ Some q → Delivered (arrived_at q) e → Delivered st e
+  delivered_on : (st : Standing) (p q : NodePort) (e : EndPort) → course f lid st ≡ LeavesBy p → f.across p ≡ Some q → Delivered (arrived_at q) e
+      → Delivered st e
   delivered_on st p q e leaves wire d = record {
     hops = record { out = p; into = q } ∷ d.hops;
     end = d.end;
@@ -105,7 +106,8 @@ module _ (f : Fabric) (lid : ℕ) where
       course_at st node at
       ∙ ap (λ t. cond t (switch_course node.ports st.at.node (f.top st.at.node) lid (f.entry st.at.node lid)) (adapter_course (owns f st.at lid) st)) kind
 
-  takes_own : (q : NodePort) (node : Node) → IsNodeAt f q.node node → is_switch node.kind ≡ false → owns f q lid ≡ true → course f lid (arrived_at q) ≡ Delivers q
+  takes_own : (q : NodePort) (node : Node) → IsNodeAt f q.node node → is_switch node.kind ≡ false → owns f q lid ≡ true → course f lid (arrived_at q)
+      ≡ Delivers q
   takes_own q node at kind own = adapter_is (arrived_at q) node at kind ∙ ap (λ t. cond t (Delivers q) Drops) own
 
   drops_other : (q : NodePort) (node : Node) → IsNodeAt f q.node node → is_switch node.kind ≡ false → owns f q lid ≡ false → course f lid (arrived_at q) ≡ Drops
@@ -171,7 +173,8 @@ module _ (part : Part) (facts : Facts) (held : HeldPlan) (f : Fabric) (seen : Is
       never_on f lid st p q leaves wire (never_dropped f lid (arrived_at q) (drops_other f lid q node here.node_there kind other))
 
   -- over a wire to another port
-  crossing : (g : ℕ) (cause : Cause) (st : Standing) (p q : NodePort) (node : Node) → course f lid st ≡ LeavesBy p → f.across p ≡ Some q → IsNodeAt f q.node node → part (vertex_of f q)
+  crossing : (g : ℕ) (cause : Cause) (st : Standing) (p q : NodePort) (node : Node) → course f lid st ≡ LeavesBy p → f.across p ≡ Some q
+      → IsNodeAt f q.node node → part (vertex_of f q)
       → (found : Option ℕ) → index_in (switches cells) node.guid ≡ found → Leads st (over owners g cause (far_at (node.guid, q.port) found))
   crossing g cause st p q node leaves wire at within (Some j) e =
       let back : f.across q ≡ Some p = seen.is_fabric.both_ways p q wire in
@@ -195,7 +198,8 @@ module _ (part : Part) (facts : Facts) (held : HeldPlan) (f : Fabric) (seen : Is
             let vertex : vertex_of f q ≡ q = adapter_vertex f q (type_at f q.node node at ∙ k) in
             let number : EndNumber node.ports q.port (is_switch node.kind) =
             subst (EndNumber node.ports q.port) (sym k) (low, subst (λ (n : Node). q.port ≤ n.ports) same high) in
-            at_adapter st p q node leaves wire (as_part part facts held f seen q node at (node, at, number) (subst part vertex within)) k (is_owner owners (record { node = node.guid; port = q.port })) refl
+            at_adapter st p q node leaves wire (as_part part facts held f seen q node at (node, at, number) (subst part vertex within)) k
+            (is_owner owners (record { node = node.guid; port = q.port })) refl
       ] refl
 
   -- by a port of a node whose vertex is v
@@ -234,7 +238,8 @@ module _ (part : Part) (facts : Facts) (held : HeldPlan) (f : Fabric) (seen : Is
         let at : IsNodeAt f p.node node = sym (ap (slice_get f.nodes) at_node) ∙ here.node_there in
         let told : across cells g p.port ≡ Some (far.guid, q.port) = wire_told part facts held f seen p q node far wire apart at at_far within in
         subst (λ (o : Option (ℕ × ℕ)). Leads st (over owners g cause (far_to (switches cells) o))) (sym told)
-        (crossing g cause st p q far leaves wire at_far (closed p q within (record { cable = wire; different = apart })) (index_in (switches cells) far.guid) refl)
+        (crossing g cause st p q far leaves wire at_far (closed p q within (record { cable = wire; different = apart })) (index_in (switches cells) far.guid)
+        refl)
 
     leaving : Leads st (over owners g cause (far_of cells g p.port))
     leaving =
@@ -242,7 +247,8 @@ module _ (part : Part) (facts : Facts) (held : HeldPlan) (f : Fabric) (seen : Is
           | None ↦ no_cable
           | Some q ↦ λ wire. (elim (is_same_port p q) as (λ t. is_same_port p q ≡ t → Leads st (over owners g cause (far_of cells g p.port))) [
             | true ↦ λ e. looped q wire (same_port-is p q e)
-            | false ↦ λ e. wired q wire (λ same. let is : is_same_port p p ≡ true = same_port-refl p in let moved : is_same_port p p ≡ is_same_port p q = ap (is_same_port p) same in cc)
+            | false ↦ λ e. wired q wire (λ same. let is : is_same_port p p ≡ true = same_port-refl p in let moved : is_same_port p p ≡ is_same_port p q =
+                ap (is_same_port p) same in cc)
           ] refl)
         ] refl
 
@@ -322,7 +328,8 @@ module _ (part : Part) (facts : Facts) (held : HeldPlan) (f : Fabric) (seen : Is
       let here = switch_end part facts held f seen k node a.at a.kind a.within in
       let vertex : (p : ℕ) → vertex_of f (port_at k p) ≡ port_at k 0 = λ p. switch_vertex f (port_at k p) (type_at f k node a.at ∙ a.kind) in
       elim (n == 0) as (λ t. (n == 0) ≡ t
-      → Leads st (cond t (Ends (Taken (record { node = node.guid; port = 0 }))) (over owners node.guid (why node) (slice_index_or (row_of cells node.guid) n Nothing)))) [
+      → Leads st (cond t (Ends (Taken (record { node = node.guid; port = 0 })))
+      (over owners node.guid (why node) (slice_index_or (row_of cells node.guid) n Nothing)))) [
         | true ↦ λ z.
             let zero_is : n ≡ 0 = eqb-true n 0 z in
             let takes : course f lid st ≡ Delivers (port_at k 0) =
@@ -344,11 +351,13 @@ module _ (part : Part) (facts : Facts) (held : HeldPlan) (f : Fabric) (seen : Is
               | false ↦ λ e.
                   let within = has n node.ports e in
                   let leaves : (s : Standing) → s.at.node ≡ k → IsNodeAt f s.at.node node → course f lid s ≡ LeavesBy (port_at k n) =
-                  λ s same at. switch_goes s node at a.kind (subst (λ (m : ℕ). part (port_at m 0)) (sym same) a.within) ∙ ap (λ m. entry_course node.ports m n) same
+                  λ s same at. switch_goes s node at a.kind (subst (λ (m : ℕ). part (port_at m 0)) (sym same) a.within)
+                  ∙ ap (λ m. entry_course node.ports m n) same
                   ∙ ap (λ t. cond t Drops (cond (n == 0) (Delivers (port_at k 0)) (LeavesBy (port_at k n)))) e
                   ∙ ap (λ t. cond t (Delivers (port_at k 0)) (LeavesBy (port_at k n))) z in
                   subst (λ (far : Far). Leads st (over owners node.guid (why node) far)) (sym (row_at node.guid n (omega arith)))
-                  (leaving (why node) st (port_at k n) (port_at k 0) node here refl (subst part (sym (vertex n)) a.within) (leaves st refl a.at) (inl (leaves (arrived_at (port_at k n)) refl a.at)))
+                  (leaving (why node) st (port_at k n) (port_at k 0) node here refl (subst part (sym (vertex n)) a.within) (leaves st refl a.at)
+                  (inl (leaves (arrived_at (port_at k n)) refl a.at)))
             ] refl)
       ] refl
 
@@ -461,7 +470,8 @@ module _ (part : Part) (facts : Facts) (held : HeldPlan) (f : Fabric) (seen : Is
         let other : owns f source lid ≡ false = seen.holds.lids source node lid here some ∙ e in
         let leaves : course f lid st ≡ LeavesBy source = adapter_is f lid st node at kind ∙ ap (λ t. cond t (Delivers source) (LeavesBy source)) other in
         as_begun st (over owners node.guid NoLink (far_of cells node.guid source.port))
-        (leaving NoLink st source source node here refl (subst part (sym (adapter_vertex f source (type_at f source.node node at ∙ kind))) here.in_part) leaves (inr (drops_other f lid source node at kind other)))
+        (leaving NoLink st source source node here refl (subst part (sym (adapter_vertex f source (type_at f source.node node at ∙ kind))) here.in_part) leaves
+        (inr (drops_other f lid source node at kind other)))
 
     begins : Begins st (first_hop owners (sender_of cells this))
     begins =

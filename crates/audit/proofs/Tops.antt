@@ -30,7 +30,8 @@ less_is a b =
 pub greatest_more : (nodes : List AuditedSwitch) (i : ℕ) (node : AuditedSwitch) → i < length nodes → node ≡ get_or nodes i node
     → greatest (map (λ (n : AuditedSwitch). n.top) (take (i + 1) nodes)) ≡ max (greatest (map (λ (n : AuditedSwitch). n.top) (take i nodes))) node.top
 greatest_more nodes i node less is =
-    ap greatest (mapped_more (λ (n : AuditedSwitch). n.top) nodes i node less ∙ ap (λ (n : AuditedSwitch). map (λ (n : AuditedSwitch). n.top) (take i nodes) ++ n.top ∷ []) (sym is))
+    ap greatest (mapped_more (λ (n : AuditedSwitch). n.top) nodes i node less
+    ∙ ap (λ (n : AuditedSwitch). map (λ (n : AuditedSwitch). n.top) (take i nodes) ++ n.top ∷ []) (sym is))
     ∙ max_push greatest (λ (x : ℕ). x) refl (λ x xs. refl) (map (λ (n : AuditedSwitch). n.top) (take i nodes)) node.top
 
 -- the tops of the network's switches are those that are held

@@ -36,8 +36,10 @@ is_sole port owners = list_all (is_same_end port) owners
 abbrev pub all_come : Bool → List Bool → Bool → Bool
 all_come begin arrive sole = begin && sole && list_all (λ arrives. arrives) arrive
 
--- the switches to which packets come first, whether the walk from each switch comes to the port, and what is seen by these
-pub record AreEnds (port : EndPort) (sources : List Sender) (firsts : List (Option ℕ)) (owners : List EndPort) (walks : List NextHop) (arrive : List Bool)
+-- the switches to which packets come first, whether the walk from each switch comes to the port, and what is seen by
+-- these
+pub record AreEnds (port : EndPort) (sources : List Sender) (firsts : List (Option ℕ)) (owners : List EndPort)
+    (walks : List NextHop) (arrive : List Bool)
     (sole all : Bool) : Type 0 where
   pub firsts_are : firsts ≡ map first_switch sources
   pub arrive_is : arrive ≡ arrivals port walks

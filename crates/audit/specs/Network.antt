@@ -42,7 +42,9 @@ row_of cells g = map (far_of cells g) (range_with_len 0 255)
 
 -- where the wire leads in port n % 256 of the usable switch at index n / 256
 abbrev pub far_by : Cells → ℕ → Far
-far_by cells n = option_map_or (λ g. slice_index_or (row_of cells g) (n % 256) Nothing) (slice_get (switches cells) (n / 256)) Nothing
+far_by cells n =
+    option_map_or (λ g. slice_index_or (row_of cells g) (n % 256) Nothing) (slice_get (switches cells) (n / 256))
+    Nothing
 
 -- an end port as a source: the index of its switch, where it is one's, and where its wire leads
 abbrev pub sender_of : Cells → EndPort → Sender
@@ -71,9 +73,17 @@ is_among count (Some index) = nat_lt index count
 abbrev pub all_begin : ℕ → List (Option ℕ) → Bool
 all_begin count firsts = list_all (is_among count) firsts
 
--- a usable switch: where the wires in its ports lead, its index among the switches that are held, its top, and the number of its ports
+-- a usable switch: where the wires in its ports lead, its index among the switches that are held, its top, and the
+-- number of its ports
 abbrev pub node_of : Cells → HeldPlan → ℕ → AuditedSwitch
-node_of cells held g = record { guid = g; row = row_of cells g; index = index_of held g; top = top_of held g; ports = port_count_of cells g }
+node_of cells held g = record {
+  guid = g;
+  row = row_of cells g;
+  index = index_of held g;
+  top = top_of held g;
+  ports =
+      port_count_of cells g;
+}
 
 -- the facts of a subnet, and the tables that its switches hold
 pub record Seen : Type 0 where
@@ -82,10 +92,14 @@ pub record Seen : Type 0 where
 
 -- facts and tables are stored as a pair
 abbrev pub seen_code : Coded Seen
-seen_code = code_by (Facts × HeldPlan) (coded× facts_code (held.the_row).coded) (λ s. (s.facts, s.held)) (λ p. record { facts = p.0; held = p.1 }) (λ _. refl)
+seen_code = code_by (Facts
+    × HeldPlan) (coded× facts_code (held.the_row).coded) (λ s. (s.facts, s.held)) (λ p.
+    record { facts = p.0; held = p.1 }) (λ _. refl)
 
--- the usable switches by rising GUID, the end ports as sources, in their order, the switches to which their packets come first, whether each has one, the numbers of the blocks, and who holds each LID
-pub record IsNetwork (cells : Cells) (held : HeldPlan) (nodes : List AuditedSwitch) (sources : List Sender) (firsts : List (Option ℕ)) (begin : Bool) (numbers : List ℕ) (owners : List Owner) : Type 0 where
+-- the usable switches by rising GUID, the end ports as sources, in their order, the switches to which their packets
+-- come first, whether each has one, the numbers of the blocks, and who holds each LID
+pub record IsNetwork (cells : Cells) (held : HeldPlan) (nodes : List AuditedSwitch) (sources : List Sender)
+    (firsts : List (Option ℕ)) (begin : Bool) (numbers : List ℕ) (owners : List Owner) : Type 0 where
   pub nodes_are : nodes ≡ map (node_of cells held) (switches cells)
   pub sources_are : sources ≡ map (sender_of cells) (end_ports cells)
   pub firsts_are : firsts ≡ map first_switch sources

@@ -27,15 +27,19 @@ use Rattle.audit.specs.WalkEnds.{IsEndOf, after, end_of}
 abbrev pub at_port : List EndPort → EndPort → End
 at_port owners e = if is_owner owners e then Taken e else Lost e.node Foreign
 
--- by a port of the node g: to a switch; to a port, which takes it where it holds the LID; or nowhere, and it is lost for this cause
+-- by a port of the node g: to a switch; to a port, which takes it where it holds the LID; or nowhere, and it is lost
+-- for this cause
 abbrev pub over : List EndPort → ℕ → Cause → Far → NextHop
 over owners g cause Nothing = Ends (Lost g cause)
 over owners g cause (Switch index) = To index
 over owners g cause (Port e) = Ends (at_port owners e)
 
--- why a switch with so many ports and a top does not send a packet for a LID on, by the entry that counts: the first of these that is so
+-- why a switch with so many ports and a top does not send a packet for a LID on, by the entry that counts: the first of
+-- these that is so
 abbrev pub cause_by : ℕ → ℕ → ℕ → ℕ → Cause
-cause_by ports top lid entry = if nat_lt top lid then AboveTop else (if entry == 255 then NoEntry else (if nat_lt ports entry then NoPort else NoLink))
+cause_by ports top lid entry =
+    if nat_lt top lid then AboveTop else
+    (if entry == 255 then NoEntry else (if nat_lt ports entry then NoPort else NoLink))
 
 -- the same of a switch of the facts
 abbrev pub cause_of : Cells → HeldPlan → ℕ → ℕ → Cause
@@ -44,11 +48,14 @@ cause_of cells held lid g = cause_by (port_count_of cells g) (top_of held g) lid
 -- by its entry: 0 is the switch itself, and the ports of its row lead on
 abbrev pub by_entry : List EndPort → ℕ → Cause → List Far → ℕ → NextHop
 by_entry owners g cause row entry =
-    if entry == 0 then Ends (Taken (record { node = g; port = 0 })) else over owners g cause (slice_index_or row entry Nothing)
+    if entry == 0 then Ends (Taken (record { node = g; port = 0 })) else over owners g cause
+    (slice_index_or row entry Nothing)
 
 -- what each usable switch does with a packet for the LID
 abbrev pub next_hops_of : Cells → HeldPlan → ℕ → List NextHop
-next_hops_of cells held lid = map (λ g. by_entry (owners_of held lid) g (cause_of cells held lid g) (row_of cells g) (entry_for held lid g)) (switches cells)
+next_hops_of cells held lid =
+    map (λ g. by_entry (owners_of held lid) g (cause_of cells held lid g) (row_of cells g) (entry_for held lid g))
+    (switches cells)
 
 -- the same of a switch with its index, its top and its row, by the blocks of a number
 abbrev pub entry_among : List (List ℕ) → Option ℕ → ℕ → ℕ
@@ -70,10 +77,12 @@ switch_step cells held lid g = record {
 
 -- the same of a switch with its index, its top and its row, by the blocks of a number
 abbrev pub switch_step_by : List EndPort → ℕ → AuditedSwitch → ℕ → SwitchStep
-switch_step_by owners lid node entry = record { switch = node.guid; entry = entry; hop = next_hop_by owners lid node entry }
+switch_step_by owners lid node entry =
+    record { switch = node.guid; entry = entry; hop = next_hop_by owners lid node entry }
 
 abbrev pub switch_step_of : List EndPort → List (List ℕ) → ℕ → AuditedSwitch → SwitchStep
-switch_step_of owners rows lid node = switch_step_by owners lid node (counted lid node.top (entry_among rows node.index lid))
+switch_step_of owners rows lid node =
+    switch_step_by owners lid node (counted lid node.top (entry_among rows node.index lid))
 
 -- a switch's own packet begins there; an adapter port takes its own LID, and sends any other out by its own port
 abbrev pub sent : List EndPort → EndPort → Option ℕ → Far → NextHop
@@ -86,15 +95,19 @@ first_hop owners source = sent owners source.port source.switch source.far
 
 -- where forwarding brings a packet for the LID that an end port sends; None is that it goes round for ever
 abbrev pub IsBrought : Cells → HeldPlan → ℕ → EndPort → Option End → Type 0
-IsBrought cells held lid e end = IsEndOf (next_hops_of cells held lid) (first_hop (owners_of held lid) (sender_of cells e)) end
+IsBrought cells held lid e end =
+    IsEndOf (next_hops_of cells held lid) (first_hop (owners_of held lid) (sender_of cells e)) end
 
 -- after as many steps as there are switches a packet has ended, or goes round for ever
 abbrev pub end_for : Cells → HeldPlan → ℕ → EndPort → Option End
-end_for cells held lid e = end_of (after (length (switches cells)) (next_hops_of cells held lid) (first_hop (owners_of held lid) (sender_of cells e)))
+end_for cells held lid e =
+    end_of (after (length (switches cells)) (next_hops_of cells held lid)
+    (first_hop (owners_of held lid) (sender_of cells e)))
 
 -- that is where forwarding brings it, and nowhere else
 abbrev pub EndsAreFound : Type 0
-EndsAreFound = (cells : Cells) (held : HeldPlan) (lid : ℕ) (e : EndPort) (end : Option End) → IsBrought cells held lid e end ↔ (end ≡ end_for cells held lid e)
+EndsAreFound = (cells : Cells) (held : HeldPlan) (lid : ℕ) (e : EndPort) (end : Option End)
+    → IsBrought cells held lid e end ↔ (end ≡ end_for cells held lid e)
 
 -- the entry by which a usable switch forwards packets for the LID
 abbrev pub entry_by : Cells → HeldPlan → ℕ → ℕ → Option ℕ
@@ -103,7 +116,8 @@ entry_by cells held g lid = if is_usable cells g then Some (entry_for held lid g
 -- and each end port, in its order
 pub record AreBrought (cells : Cells) (held : HeldPlan) (lid : ℕ) (ends : List (Option End)) : Type 0 where
   pub as_many : length ends ≡ length (end_ports cells)
-  pub brought : (k : ℕ) (e : EndPort) (end : Option End) → slice_get (end_ports cells) k ≡ Some e → slice_get ends k ≡ Some end → IsBrought cells held lid e end
+  pub brought : (k : ℕ) (e : EndPort) (end : Option End) → slice_get (end_ports cells) k ≡ Some e → slice_get ends k
+      ≡ Some end → IsBrought cells held lid e end
 
 -- so many blocks with no entry
 pub record AreBlank (count : ℕ) (rows : List (List ℕ)) : Type 0 where
@@ -113,7 +127,8 @@ pub record AreBlank (count : ℕ) (rows : List (List ℕ)) : Type 0 where
 -- the blocks of a number, by the indices of their switches
 pub record AreBlocks (held : HeldPlan) (number : ℕ) (rows : List (List ℕ)) : Type 0 where
   pub as_many : length rows ≡ length held.switches
-  pub entry : (index i : ℕ) → index < length rows → slice_index_or (slice_index_or rows index []) i 255 ≡ entry_in (block_at held index number) i
+  pub entry : (index i : ℕ) → index < length rows → slice_index_or (slice_index_or rows index []) i 255
+      ≡ entry_in (block_at held index number) i
 
 -- with a block where that of its switch is
 abbrev pub with_row : List (List ℕ) → HeldBlock → List (List ℕ)
@@ -125,7 +140,8 @@ with_block rows block = option_map_or (with_row rows) block rows
 
 -- the packets of every end port for a LID come to an end port that holds it
 abbrev pub LineArrives : Cells → HeldPlan → HeldLid → Type 0
-LineArrives cells held line = (e : EndPort) → Contains (end_ports cells) e → IsBrought cells held line.lid e (Some (Taken line.port))
+LineArrives cells held line =
+    (e : EndPort) → Contains (end_ports cells) e → IsBrought cells held line.lid e (Some (Taken line.port))
 
 -- a packet ends at the port
 abbrev pub is_at : EndPort → Option End → Bool

@@ -94,9 +94,9 @@ impl<'a> Ends<'a> {
         is_at(&self.port, &self.at(index))
     }
 
-    /// The index of the first that does not end at the port; None where all do. Takes one step where all come first to a
-    /// switch, each walk from a switch comes to the port, and no other end port holds the LID; else what `arrives` does
-    /// for each.
+    /// The index of the first that does not end at the port; None where all do. Takes one step where all come first to
+    /// a switch, each walk from a switch comes to the port, and no other end port holds the LID; else what `arrives`
+    /// does for each.
     pub fn first_elsewhere(&self) -> Option<usize>
         ensures { result ≡ position (λ end. not (is_at self.now.port end)) self.now.ends }
     {

@@ -2,8 +2,8 @@
 ghost use Rattle.audit.specs.Fabrics.{FabricsAreJudged, PacketsEndAsTold, PacketsEndAsToldInParts, PlansPass};
 ghost use Rattle.audit.specs.NextHops.{EndsAreFound};
 
-/// After as many steps as there are usable switches a packet has ended, or goes round for ever: it has one end, and that
-/// is where it is then.
+/// After as many steps as there are usable switches a packet has ended, or goes round for ever: it has one end, and
+/// that is where it is then.
 pub fn ends_are_found()
     ensures law { EndsAreFound }
 {}
@@ -14,8 +14,8 @@ pub fn packets_end_as_told()
     ensures law { PacketsEndAsTold }
 {}
 
-/// The same of the end ports that are joined to one, where what is joined to it is as the facts say and holds the tables,
-/// whatever the rest of the fabric is.
+/// The same of the end ports that are joined to one, where what is joined to it is as the facts say and holds the
+/// tables, whatever the rest of the fabric is.
 pub fn packets_end_as_told_in_parts()
     ensures law { PacketsEndAsToldInParts }
 {}
@@ -26,8 +26,8 @@ pub fn fabrics_are_judged()
     ensures law { FabricsAreJudged }
 {}
 
-/// Where a connected fabric is as a view with room says, and holds the text of the view's plan, by whichever rule and under
-/// whichever LMC, no packet fails: then `first_failure` answers None.
+/// Where a connected fabric is as a view with room says, and holds the text of the view's plan, by whichever rule and
+/// under whichever LMC, no packet fails: then `first_failure` answers None.
 pub fn plans_pass()
     ensures law { PlansPass }
 {}

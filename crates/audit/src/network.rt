@@ -56,7 +56,8 @@ impl<'a> Model for Network<'a> {
 
     ghost view = { λ a. record { facts = a.store.now; held = a.held.now } };
 
-    ghost invariant = { λ a. IsNetwork (cells_of a.store.now) a.held.now a.nodes.items a.sources.items a.firsts.items a.begin a.numbers.items a.owners.items };
+    ghost invariant = { λ a. IsNetwork (cells_of a.store.now) a.held.now a.nodes.items a.sources.items a.firsts.items a.begin
+        a.numbers.items a.owners.items };
 }
 
 /// The blocks of a number that switches hold.
@@ -119,8 +120,8 @@ impl<'a> Network<'a> {
     }
 
     /// Where forwarding brings a packet for the LID of a line, for each end port that sends it, in their order; None is
-    /// that it goes round for ever. Takes for each switch some steps, by the number of digits of the longest way's length; and
-    /// where several end ports hold the LID, a walk over the LIDs that are held.
+    /// that it goes round for ever. Takes for each switch some steps, by the number of digits of the longest way's
+    /// length; and where several end ports hold the LID, a walk over the LIDs that are held.
     pub fn ends<'s>(
         &'s self,
         alloc: Global,
@@ -163,8 +164,8 @@ impl<'a> Network<'a> {
         switch_steps(alloc, &self.nodes, &owners, &blocks.rows, lid)
     }
 
-    /// The end ports that hold a LID. Takes a step or two where there are not several, and else a walk over the LIDs that
-    /// are held.
+    /// The end ports that hold a LID. Takes a step or two where there are not several, and else a walk over the LIDs
+    /// that are held.
     pub fn owners(&self, alloc: Global, lid: Lid) -> Result<Vec<EndPort>, AllocError>
         ensures { IfOk result (λ owners. owners.items ≡ owners_of self.now.held lid) }
     {
@@ -182,7 +183,8 @@ impl<'a> Network<'a> {
     /// The top of the usable switch at an index, by rising GUID, and 0 where there is none or it is not held. Takes one
     /// step.
     pub fn top(&self, index: usize) -> Lid
-        ensures { result ≡ option_map_or (top_of self.now.held) (slice_get (switches (cells_of self.now.facts)) index) 0 }
+        ensures { result
+            ≡ option_map_or (top_of self.now.held) (slice_get (switches (cells_of self.now.facts)) index) 0 }
     {
         match self.nodes.get(index) {
             Some(node) => node.top,
@@ -212,8 +214,8 @@ impl<'a> Network<'a> {
         self.nodes.len()
     }
 
-    /// The greatest of the tops of the usable switches, and 0 where there is none: for no LID above it does one send packets
-    /// on to another. Takes a step for each switch.
+    /// The greatest of the tops of the usable switches, and 0 where there is none: for no LID above it does one send
+    /// packets on to another. Takes a step for each switch.
     pub fn greatest_top(&self) -> Lid
         ensures { result ≡ greatest_top (cells_of self.now.facts) self.now.held }
     {
@@ -228,8 +230,8 @@ impl<'a> Network<'a> {
         Some(node.guid)
     }
 
-    /// Where the wire in a port of a usable switch leads: of the number 256 times the switch's index, and the port. Takes
-    /// one step.
+    /// Where the wire in a port of a usable switch leads: of the number 256 times the switch's index, and the port.
+    /// Takes one step.
     pub fn far(&self, number: usize) -> Far
         ensures { result ≡ far_by (cells_of self.now.facts) number }
     {

@@ -55,8 +55,8 @@ fn owner_more(owner: Owner, port: EndPort) -> Owner
     }
 }
 
-/// The end ports that hold a LID, by who holds each. Takes a step or two where there are not several, and else a walk over
-/// all LIDs that are held.
+/// The end ports that hold a LID, by who holds each. Takes a step or two where there are not several, and else a walk
+/// over all LIDs that are held.
 pub(crate) fn owners_of(
     alloc: Global,
     held: &Held,
@@ -103,8 +103,8 @@ fn all_owners_of(alloc: Global, held: &Held, lid: Lid) -> Result<Vec<EndPort>, A
         .collect(alloc)
 }
 
-/// Whether no other end port holds the LID of a line, by who holds each. Takes a step or two where there are not several,
-/// and else a walk over all LIDs that are held.
+/// Whether no other end port holds the LID of a line, by who holds each. Takes a step or two where there are not
+/// several, and else a walk over all LIDs that are held.
 pub(crate) fn is_sole_owner(held: &Held, owners: &[Owner], line: &HeldLid) -> bool
     requires { AreOwners held.now.lids owners.now }
     ensures { result ≡ is_sole line.now.port (owners_of held.now line.now.lid) }

@@ -37,7 +37,8 @@ module _ (edges : List (Option Edge)) (old : WayTally) (weights : List ℕ) wher
   one_added n tally new h less some w = record {
     as_many = w.loads.as_many ∙ h.as_many;
     counted = λ sums before.
-        counted_as channels (λ number. (sums number + from_first n number) + weight n * number (way_from edges n)) (λ number. sums number + from_first (n + 1) number) new
+        counted_as channels (λ number. (sums number + from_first n number) + weight n * number (way_from edges n)) (λ number. sums number
+        + from_first (n + 1) number) new
         (λ number. (let more = one_more n number less in omega (arith, more)))
         (counted_with channels (λ number. sums number + from_first n number) tally new (way_from edges n) (weight n) some (h.counted sums before) w);
   }
@@ -62,7 +63,8 @@ module _ (edges : List (Option Edge)) (old : WayTally) (weights : List ℕ) wher
   pub with_direct : (n : ℕ) (tally new : WayTally) (direct : ℕ) → AddedSoFar n tally → length weights ≤ n → 1 ≤ direct
       → IsCountedWith tally one_wire direct new → IsCountedMore channels old (grouped edges weights direct) new
   with_direct n tally new direct h past some w = λ sums before.
-      counted_as channels (λ number. (sums number + from_first n number) + direct * number one_wire) (λ number. sums number + grouped edges weights direct number) new
+      counted_as channels (λ number. (sums number + from_first n number) + direct * number one_wire) (λ number. sums number
+      + grouped edges weights direct number) new
       (λ number. (
       let all = all_from n number past in
       omega (arith, all)))

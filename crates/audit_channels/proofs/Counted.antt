@@ -45,7 +45,8 @@ both_within old number new times total bound some is h = (there, back)
 
 -- a way more ----------------------------------------------------------------------------
 
-pub counted_with : (channels : ℕ) (sums : Sum) (old new : WayTally) (way : Way) (times : ℕ) → 1 ≤ times → IsCounted channels sums old → IsCountedWith old way times new
+pub counted_with : (channels : ℕ) (sums : Sum) (old new : WayTally) (way : Way) (times : ℕ) → 1 ≤ times → IsCounted channels sums old
+    → IsCountedWith old way times new
     → IsCounted channels (λ number. sums number + times * number way) new
 counted_with channels sums old new way times some h w = record {
   as_many = w.loads.as_many ∙ h.as_many;

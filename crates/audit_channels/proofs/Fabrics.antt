@@ -63,7 +63,8 @@ module _ (f : Fabric) (lid : ℕ) where
   does st n =
       cond (is_switch n.kind) (switch_course n.ports st.at.node (f.top st.at.node) lid (f.entry st.at.node lid)) (adapter_course (owns f st.at lid) st)
 
-  of_switch : (st : Standing) (p : NodePort) (node : Node) → IsNodeAt f st.at.node node → is_switch node.kind ≡ true → p ≡ port_at st.at.node (f.entry st.at.node lid)
+  of_switch : (st : Standing) (p : NodePort) (node : Node) → IsNodeAt f st.at.node node → is_switch node.kind ≡ true → p
+      ≡ port_at st.at.node (f.entry st.at.node lid)
       → Leaves f st p
   of_switch st p node at kind out =
       let same : p.node ≡ st.at.node = ap (λ (q : NodePort). q.node) out in
@@ -121,7 +122,8 @@ module _ (part : Part) (facts : Facts) (held : HeldPlan) (f : Fabric) (seen : Is
         | None ↦ λ e. absurd (listed part facts held f seen q.node to at kind (subst part vertex within) e)
       ] refl
 
-  edges : (st : Standing) (hop : Hop) (channel : ℕ) (c : IsChannel cells f hop channel) → Within st → course f lid st ≡ LeavesBy hop.out → Edges c.index hop c.to
+  edges : (st : Standing) (hop : Hop) (channel : ℕ) (c : IsChannel cells f hop channel) → Within st → course f lid st ≡ LeavesBy hop.out
+      → Edges c.index hop c.to
   edges st hop channel c within on =
       let its = leaves f lid st hop.out on in
       let node = c.from in

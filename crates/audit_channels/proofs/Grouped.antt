@@ -35,14 +35,15 @@ pub far_within : (cells : Cells) (g p index : ℕ) → far_of cells g p ≡ Swit
 far_within cells g p index e =
     elim (across cells g p) as (λ q. far_to (switches cells) q ≡ Switch index → index < length (switches cells)) [
       | None ↦ λ h. absurd (cc)
-      | Some q ↦ λ h. (elim (index_in (switches cells) q.0) as (λ k. index_in (switches cells) q.0 ≡ k → far_at q k ≡ Switch index → index < length (switches cells)) [
-        | None ↦ λ is over. absurd (cc)
-        | Some k ↦ λ is over.
-            let same : k ≡ index = same_switch k index over in
-            let found = position-Some (λ x. x == q.0) (switches cells) k 0 is in
-            let less = found.0 in
-            omega (arith, same, less)
-      ] refl h)
+      | Some q ↦ λ h. (elim (index_in (switches cells) q.0) as (λ k. index_in (switches cells) q.0 ≡ k → far_at q k ≡ Switch index → index
+          < length (switches cells)) [
+            | None ↦ λ is over. absurd (cc)
+            | Some k ↦ λ is over.
+                let same : k ≡ index = same_switch k index over in
+                let found = position-Some (λ x. x == q.0) (switches cells) k 0 is in
+                let less = found.0 in
+                omega (arith, same, less)
+          ] refl h)
     ] e
   where
     same_switch : (k index : ℕ) → Switch k ≡ Switch index → k ≡ index
@@ -92,7 +93,8 @@ is_within cells groups ports far g p h leads index is =
     omega (arith, less, long)
 
 -- no packets
-pub none_grouped : (cells : Cells) (groups : Groups) (n : ℕ) → groups.weights.items ≡ replicate n 0 → groups.direct ≡ 0 → n ≡ length (switches cells) → AreGrouped cells [] groups
+pub none_grouped : (cells : Cells) (groups : Groups) (n : ℕ) → groups.weights.items ≡ replicate n 0 → groups.direct ≡ 0 → n ≡ length (switches cells)
+    → AreGrouped cells [] groups
 none_grouped cells groups n are none all = record {
   as_many = ap length are ∙ long n ∙ all;
   sums = λ number. (
@@ -139,7 +141,8 @@ in_list (w ∷ weights) zero some = omega arith
 in_list (w ∷ weights) (suc index) some = let rest = in_list weights index some in omega arith
 
 -- where a packet is
-pub at_switch : (groups : Groups) (far : Far) (index : ℕ) → far ≡ Switch index → 1 ≤ packets_at groups (switch_over far) → 1 ≤ get_or groups.weights.items index 0
+pub at_switch : (groups : Groups) (far : Far) (index : ℕ) → far ≡ Switch index → 1 ≤ packets_at groups (switch_over far) → 1
+    ≤ get_or groups.weights.items index 0
 at_switch groups far index is some = subst (λ (f : Far). 1 ≤ packets_at groups (switch_over f)) is some
 
 -- the first end ports that pass a test
@@ -147,12 +150,14 @@ module _ (cells : Cells) (test : EndPort → Bool) where
   abbrev pub first_of : ℕ → List EndPort
   first_of n = filter test (take n (end_ports cells))
 
-  first_more : (n : ℕ) (e : EndPort) → n < length (end_ports cells) → e ≡ get_or (end_ports cells) n e → first_of (n + 1) ≡ first_of n ++ cond (test e) (e ∷ []) []
+  first_more : (n : ℕ) (e : EndPort) → n < length (end_ports cells) → e ≡ get_or (end_ports cells) n e → first_of (n + 1) ≡ first_of n
+      ++ cond (test e) (e ∷ []) []
   first_more n e less is =
       ap (filter test) (take_more (end_ports cells) n e less ∙ ap (λ x. take n (end_ports cells) ++ x ∷ []) (sym is))
       ∙ filter-append test (take n (end_ports cells)) (e ∷ [])
 
-  pub one_more : (n : ℕ) (e : EndPort) (far : Far) (old new : Groups) → AreGrouped cells (first_of n) old → n < length (end_ports cells) → e ≡ get_or (end_ports cells) n e
+  pub one_more : (n : ℕ) (e : EndPort) (far : Far) (old new : Groups) → AreGrouped cells (first_of n) old → n < length (end_ports cells) → e
+      ≡ get_or (end_ports cells) n e
       → test e ≡ true → far ≡ far_of cells e.node e.port → IsGroupedWith old far new → AreGrouped cells (first_of (n + 1)) new
   one_more n e far old new h less is does leads w = record {
     as_many = w.as_many ∙ h.as_many;
@@ -165,16 +170,19 @@ module _ (cells : Cells) (test : EndPort → Bool) where
         omega (arith, more, own, before, with_it));
   }
 
-  pub none_more : (n : ℕ) (e : EndPort) (groups : Groups) → AreGrouped cells (first_of n) groups → n < length (end_ports cells) → e ≡ get_or (end_ports cells) n e
+  pub none_more : (n : ℕ) (e : EndPort) (groups : Groups) → AreGrouped cells (first_of n) groups → n < length (end_ports cells) → e
+      ≡ get_or (end_ports cells) n e
       → test e ≡ false → AreGrouped cells (first_of (n + 1)) groups
   none_more n e groups h less is does_not =
       subst (λ (ps : List EndPort). AreGrouped cells ps groups)
       (sym (first_more n e less is ∙ ap (λ t. first_of n ++ cond t (e ∷ []) []) does_not ∙ append-nil (first_of n))) h
 
-  pub all_more : (n : ℕ) (groups : Groups) → AreGrouped cells (first_of n) groups → length (end_ports cells) ≤ n → AreGrouped cells (filter test (end_ports cells)) groups
+  pub all_more : (n : ℕ) (groups : Groups) → AreGrouped cells (first_of n) groups → length (end_ports cells) ≤ n
+      → AreGrouped cells (filter test (end_ports cells)) groups
   all_more n groups h past = subst (λ (ps : List EndPort). AreGrouped cells (filter test ps) groups) (take_all n (end_ports cells) past) h
 
-pub past_all : (cells : Cells) (sources : List Sender) (n : ℕ) → sources ≡ map (sender_of cells) (end_ports cells) → length sources ≤ n → length (end_ports cells) ≤ n
+pub past_all : (cells : Cells) (sources : List Sender) (n : ℕ) → sources ≡ map (sender_of cells) (end_ports cells) → length sources ≤ n
+    → length (end_ports cells) ≤ n
 past_all cells sources n are past = let long = ap length are ∙ length_map (sender_of cells) (end_ports cells) in omega (arith, long, past)
 
 module _ (cells : Cells) (held : HeldPlan) (line : HeldLid) where
@@ -186,7 +194,8 @@ module _ (cells : Cells) (held : HeldPlan) (line : HeldLid) where
   delivered = filter (reaches cells held line) (end_ports cells)
 
   -- whether the packet of an end port arrives, by the end that is found
-  pub arrives_there : (port : EndPort) (ends : List (Option End)) (n : ℕ) (e : EndPort) (arrives : Bool) → AreBrought cells held line.lid ends → port ≡ line.port
+  pub arrives_there : (port : EndPort) (ends : List (Option End)) (n : ℕ) (e : EndPort) (arrives : Bool) → AreBrought cells held line.lid ends → port
+      ≡ line.port
       → n < length (end_ports cells) → e ≡ get_or (end_ports cells) n e → arrives ≡ is_at port (get_or ends n None)
       → reaches cells held line e ≡ reaches_if line e arrives
   arrives_there port ends n e arrives h own less is found =
@@ -203,7 +212,8 @@ module _ (cells : Cells) (held : HeldPlan) (line : HeldLid) where
   by_way number (Switch index) = refl
   by_way number (Port e) = refl
 
-  over_ports : (number : Way → ℕ) (ports : List EndPort) → sum_by number (map (way_of cells held line) ports) ≡ sum_by (by_switch cells (over_ways number)) ports
+  over_ports : (number : Way → ℕ) (ports : List EndPort) → sum_by number (map (way_of cells held line) ports)
+      ≡ sum_by (by_switch cells (over_ways number)) ports
   over_ports number [] = refl
   over_ports number (e ∷ ports) =
       let rest = over_ports number ports in

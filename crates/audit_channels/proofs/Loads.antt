@@ -54,14 +54,17 @@ module _ (cells : Cells) (loads : List ℕ) where
   loads_more : (n : ℕ) → map load (filter is_channel (range_with_len 0 (n + 1)))
       ≡ map load (filter is_channel (range_with_len 0 n)) ++ cond (is_channel n) (load n ∷ []) []
   loads_more n =
-      ap (λ xs. map load (filter is_channel xs)) (range_more 0 n ∙ ap (λ (k : ℕ). range_with_len 0 n ++ k ∷ []) (let e : 0 + n ≡ n = omega arith in e)) ∙ ap (map load) (filter-append is_channel (range_with_len 0 n) (n ∷ []))
+      ap (λ xs. map load (filter is_channel xs)) (range_more 0 n ∙ ap (λ (k : ℕ). range_with_len 0 n ++ k ∷ []) (let e : 0 + n ≡ n = omega arith in e))
+      ∙ ap (map load) (filter-append is_channel (range_with_len 0 n) (n ∷ []))
       ∙ map-append load (filter is_channel (range_with_len 0 n)) (cond (is_channel n) (n ∷ []) [])
-      ∙ ap (λ xs. map load (filter is_channel (range_with_len 0 n)) ++ xs) (elim (is_channel n) as (λ t. map load (cond t (n ∷ []) []) ≡ cond t (load n ∷ []) []) [
+      ∙ ap (λ xs. map load (filter is_channel (range_with_len 0 n))
+      ++ xs) (elim (is_channel n) as (λ t. map load (cond t (n ∷ []) []) ≡ cond t (load n ∷ []) []) [
         | true ↦ refl
         | false ↦ refl
       ])
 
-  pub one_more : (n number : ℕ) (total new : Total) → LoadsSoFar n total → is_channel n ≡ true → number ≡ load n → IsTotalWith total number 1 new → LoadsSoFar (n + 1) new
+  pub one_more : (n number : ℕ) (total new : Total) → LoadsSoFar n total → is_channel n ≡ true → number ≡ load n → IsTotalWith total number 1 new
+      → LoadsSoFar (n + 1) new
   one_more n number total new h does is w = record {
     counted =
         subst (λ xs. IsTotal xs new)
@@ -88,7 +91,8 @@ same_map : (f g : ℕ → ℕ) (ns : List ℕ) → ((n : ℕ) → f n ≡ g n) �
 same_map f g [] h = refl
 same_map f g (n ∷ ns) h = λ i. h n i ∷ same_map f g ns h i
 
-pub told : (cells : Cells) (held : HeldPlan) (tally : WayTally) (total : Total) (figures : WayFigures) → IsCounted (256 * length (switches cells)) (λ f. sum_by f (ways_of cells held)) tally
+pub told : (cells : Cells) (held : HeldPlan) (tally : WayTally) (total : Total) (figures : WayFigures)
+    → IsCounted (256 * length (switches cells)) (λ f. sum_by f (ways_of cells held)) tally
     → IsTotal (map (λ n. get_or tally.loads.items n 0) (channels_of cells)) total → figures.hops ≡ figures_by tally.hops.count tally.hops.sum tally.hops.most
     → figures.load ≡ figures_by total.count total.sum total.most → IsToldOfWays cells held figures
 told cells held tally total figures h t hops load = record {

@@ -112,7 +112,8 @@ module _ {V : Type 0} (items : V → List ℕ) where
       back : (a b : ℕ) → Follows (map items vs) a b ⊎ ((a ≡ channel) × (b ≡ next)) → Follows (map items (slice_set vs channel v)) a b
       back a b (inl old) =
           elim (either a) [
-            | inl same ↦ subst (λ (xs : List ℕ). Contains xs b) (sym (here a same)) ((with_it b).1 (inl (subst (λ (xs : List ℕ). Contains xs b) (was a same) old)))
+            | inl same ↦ subst (λ (xs : List ℕ). Contains xs b) (sym (here a same))
+                ((with_it b).1 (inl (subst (λ (xs : List ℕ). Contains xs b) (was a same) old)))
             | inr apart ↦ subst (λ (xs : List ℕ). Contains xs b) (sym (elsewhere vs channel a v apart)) old
           ]
       back a b (inr new) = subst (λ (xs : List ℕ). Contains xs b) (sym (here a new.0)) ((with_it b).1 (inr new.1))

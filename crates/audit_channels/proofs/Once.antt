@@ -35,7 +35,8 @@ module _ {X : Type 0} (e : X) (same : X → Bool) (exact : (x : X) → same x �
       ] refl
 
   -- an element that does not come before itself stands once where all come before each other
-  pub stands_once : (IsBefore : X → X → Type 0) → same e ≡ true → (IsBefore e e → ⊥) → (xs : List X) → AllPairs IsBefore xs → Contains xs e → count_by same xs ≡ 1
+  pub stands_once : (IsBefore : X → X → Type 0) → same e ≡ true → (IsBefore e e → ⊥) → (xs : List X) → AllPairs IsBefore xs → Contains xs e → count_by same xs
+      ≡ 1
   stands_once IsBefore itself never [] pairs h = absurd (contains_none e h)
   stands_once IsBefore itself never (x ∷ xs) pairs h =
       elim (same x) as (λ t. same x ≡ t → count_by same (x ∷ xs) ≡ 1) [

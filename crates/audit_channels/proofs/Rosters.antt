@@ -50,8 +50,10 @@ module _ (roster : List Sender) (e : EndPort) where
         far_is = refl;
       }
 
-  pub one_found : (r : Result ℕ ℕ) (i : ℕ) (d : Sender) → IsSearchInRange r (length roster) → IsSearched r → result_ok r ≡ Some i → LeadsTo roster e (get_or roster i d).far
-  one_found (Ok j) i d within found is = let same : j ≡ i = cc in subst (λ (k : ℕ). LeadsTo roster e (get_or roster k d).far) same (found_at j d within (found d))
+  pub one_found : (r : Result ℕ ℕ) (i : ℕ) (d : Sender) → IsSearchInRange r (length roster) → IsSearched r → result_ok r ≡ Some i
+      → LeadsTo roster e (get_or roster i d).far
+  one_found (Ok j) i d within found is = let same : j ≡ i =
+      cc in subst (λ (k : ℕ). LeadsTo roster e (get_or roster k d).far) same (found_at j d within (found d))
   one_found (Err j) i d within found is = absurd (cc)
 
   nowhere : (i : ℕ) → IsPartitionPoint (λ (s : Sender). port_cmp (port_of s) sought ≡ Less) (λ (s : Sender). port_cmp (port_of s) sought ≡ Greater) roster i
@@ -59,7 +61,8 @@ module _ (roster : List Sender) (e : EndPort) where
   nowhere i parts s h same =
       let at = get_or roster h.0 s in
       let tied : port_cmp (port_of at) sought ≡ Equal =
-      ap (λ (x : Sender). port_cmp (port_of x) sought) h.2 ∙ ap (λ (x : EndPort). port_cmp (x.node, x.port) sought) (same_ends e s.port same) ∙ tied_itself port_total sought in
+      ap (λ (x : Sender). port_cmp (port_of x) sought) h.2 ∙ ap (λ (x : EndPort). port_cmp (x.node, x.port) sought) (same_ends e s.port same)
+      ∙ tied_itself port_total sought in
       elim (cases_lt h.0 i) [
         | inl l ↦ let less : port_cmp (port_of at) sought ≡ Less = parts.0 h.0 s (omega arith) l in absurd (cc)
         | inr g ↦ let greater : port_cmp (port_of at) sought ≡ Greater = parts.1 h.0 s g h.1 in absurd (cc)
@@ -70,7 +73,8 @@ module _ (roster : List Sender) (e : EndPort) where
   none_found (Ok j) sorted found is = absurd (cc)
   none_found (Err j) sorted found is =
       let test : Sender → Bool = λ s. is_same_end e s.port in
-      let rising : IsNonDecreasingBy (λ (s : Sender). ordering_index (port_cmp (port_of s) sought)) roster = searchable_from_sorted port_total port_of roster sought sorted in
+      let rising : IsNonDecreasingBy (λ (s : Sender). ordering_index (port_cmp (port_of s) sought)) roster =
+      searchable_from_sorted port_total port_of roster sought sorted in
       elim (list_any test roster) as (λ t. list_any test roster ≡ t → t ≡ false) [
         | true ↦ λ any. let at = list_any_at test roster any in absurd (nowhere j (found rising) at.0 at.1 at.2)
         | false ↦ λ none. refl
@@ -91,7 +95,8 @@ module _ (cells : Cells) (roster : List Sender) (e : EndPort) (h : IsRoster cell
 
   any_listed : list_any (λ (s : Sender). is_same_end e s.port) roster ≡ is_owner (end_ports cells) e
   any_listed =
-      sym (list_any-IsPermutation (λ (s : Sender). is_same_end e s.port) (map (sender_of cells) (end_ports cells)) roster h.moved) ∙ any_source (end_ports cells)
+      sym (list_any-IsPermutation (λ (s : Sender). is_same_end e s.port) (map (sender_of cells) (end_ports cells)) roster h.moved)
+      ∙ any_source (end_ports cells)
 
   pub no_target : (far : Option Far) → IsTargetAmong roster e far → ((x : Far) → far ≡ Some x → ⊥) → is_target cells e ≡ false
   no_target None is none = sym (ap (λ t. is_adapter e && t) any_listed) ∙ is

@@ -64,7 +64,8 @@ abbrev pub IsPast : ℕ → List Visited → ℕ → Type 0
 IsPast index reached bound = (i : ℕ) → index ≤ i → i < length reached → bound ≤ (at_index reached i).count
 
 module _ (waits : List (List ℕ)) (numbers : List ℕ) (first least index bound : ℕ) (reached : List Visited) (marks : List ℕ) (given : AreGiven waits numbers)
-    (first_none : has_none numbers first ≡ true) (h : SoFar waits numbers first least index reached marks) (past : IsPast index reached bound) (most : bound ≤ least) where
+    (first_none : has_none numbers first ≡ true) (h : SoFar waits numbers first least index reached marks) (past : IsPast index reached bound) (most : bound
+    ≤ least) where
   before : (i : ℕ) → i < length reached → (at_index reached i).count < bound → i < index
   before i there less = elim (cases_lt i index) [ inl l ↦ l | inr m ↦ let b = past i m there in absurd (omega arith) ]
 
@@ -208,7 +209,8 @@ module _ (waits : List (List ℕ)) (first : ℕ) (reached : List Visited) (marks
           | inl l ↦ let same = marked_other marks next.channel c (first + 1) (λ e. omega arith) in let most = h.most c in omega arith
           | inr n ↦
               let e : c ≡ next.channel = omega arith in
-              let is = ap (λ (k : ℕ). slice_index_or (slice_set marks next.channel (first + 1)) k 0) e ∙ marked_same marks next.channel (first + 1) within in omega arith
+              let is = ap (λ (k : ℕ). slice_index_or (slice_set marks next.channel (first + 1)) k 0) e ∙ marked_same marks next.channel (first + 1) within in
+              omega arith
         ])
       ]
 

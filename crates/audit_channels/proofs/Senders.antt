@@ -93,7 +93,8 @@ module _ (facts : Facts) (e : EndPort) (is : is_owner (end_ports (cells_of facts
           cc (less, ap is_lt (tied_itself port_total (guid, e)))
 
   pub listed_once : count_by (is_same_end e) (end_ports cells) ≡ 1
-  listed_once = stands_once e (is_same_end e) (same_ends e) (ComesBefore cells) (same_itself e) not_before_itself (end_ports cells) (end_ports_law facts).1 listed
+  listed_once = stands_once e (is_same_end e) (same_ends e) (ComesBefore cells) (same_itself e) not_before_itself (end_ports cells) (end_ports_law facts).1
+      listed
 
 module _ (facts : Facts) (held : HeldPlan) (line : HeldLid) (far : Far) (target : is_target (cells_of facts) line.port ≡ true)
     (leads : far ≡ far_of (cells_of facts) line.port.node line.port.port) where
@@ -122,7 +123,8 @@ module _ (facts : Facts) (held : HeldPlan) (line : HeldLid) (far : Far) (target 
       → AreGrouped view (delivered view held line) new
   without_own old new port ends brought own none h w =
       let parts = and_parts (is_adapter line.port) (is_owner (end_ports view) line.port) target in
-      let same = filters_agree (reaches view held line) (λ e. is_adapter e && not (is_same_end line.port e)) (end_ports view) (all_reach port ends brought own none) in
+      let same = filters_agree (reaches view held line) (λ e. is_adapter e
+      && not (is_same_end line.port e)) (end_ports view) (all_reach port ends brought own none) in
       let once = listed_once facts line.port parts.1 in
       record {
         as_many = sym w.as_many ∙ h.as_many;
@@ -153,7 +155,8 @@ module _ (facts : Facts) (held : HeldPlan) (line : HeldLid) (far : Far) (target 
       omega (arith, least, at, all, alone)
 
   -- and all again
-  pub with_own : (old less new : Groups) → AreGrouped view (adapters view) old → IsGroupedWith less far old → IsGroupedWith less far new → AreGrouped view (adapters view) new
+  pub with_own : (old less new : Groups) → AreGrouped view (adapters view) old → IsGroupedWith less far old → IsGroupedWith less far new
+      → AreGrouped view (adapters view) new
   with_own old less new h left back = record {
     as_many = back.as_many ∙ sym left.as_many ∙ h.as_many;
     sums = λ number. h.sums number ∙ left.sums number ∙ sym (back.sums number);

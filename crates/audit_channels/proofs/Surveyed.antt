@@ -25,7 +25,8 @@ module _ (cells : Cells) (held : HeldPlan) (lines : List HeldLid) where
   abbrev first : ℕ → List Way
   first n = flat_map (ways_for cells held) (take n lines)
 
-  pub none_surveyed : (number : ℕ) (rows : List (List ℕ)) (count : ℕ) (tally : WayTally) → AreBlocks held number rows → IsCounted count (λ _. 0) tally → count ≡ channels
+  pub none_surveyed : (number : ℕ) (rows : List (List ℕ)) (count : ℕ) (tally : WayTally) → AreBlocks held number rows → IsCounted count (λ _. 0) tally → count
+      ≡ channels
       → AreSurveyed cells held lines number rows 0 tally
   none_surveyed number rows count tally b h e = record {
     blocks = b;
@@ -37,7 +38,8 @@ module _ (cells : Cells) (held : HeldPlan) (lines : List HeldLid) where
       ap (flat_map (ways_for cells held)) (take_more lines n line h ∙ ap (λ x. take n lines ++ x ∷ []) (sym is))
       ∙ flat_map-append (ways_for cells held) (take n lines) (line ∷ []) ∙ ap (λ ps. first n ++ ps) (append-nil (ways_for cells held line))
 
-  pub line_surveyed : (before number : ℕ) (old rows : List (List ℕ)) (n : ℕ) (line : HeldLid) (tally new : WayTally) → AreSurveyed cells held lines before old n tally
+  pub line_surveyed : (before number : ℕ) (old rows : List (List ℕ)) (n : ℕ) (line : HeldLid) (tally new : WayTally)
+      → AreSurveyed cells held lines before old n tally
       → AreBlocks held number rows → n < length lines → line ≡ get_or lines n line → is_target cells line.port ≡ true
       → IsCountedMore channels tally (λ f. sum_by f (ways_to cells held line)) new → AreSurveyed cells held lines number rows (n + 1) new
   line_surveyed before number old rows n line tally new h b less is there add = record {

@@ -51,7 +51,11 @@ none_so_far cells held number rows n waits blocks e all =
     (record {
       blocks = blocks;
       as_many = long n ∙ all;
-      follows = λ a b. (λ f. absurd (contains_none b (subst (λ (xs : List ℕ). Contains xs b) (blank n a) f)), λ t. (let low = t.low in let most = t.most in absurd (omega arith)));
+      follows = λ a b. (
+        λ f. absurd (contains_none b (subst (λ (xs : List ℕ). Contains xs b) (blank n a) f)),
+        λ t. (let low = t.low in let most = t.most in
+            absurd (omega arith)),
+      );
     })
 
 mapped : {X Y : Type 0} (f : X → Y) (xs : List X) → length (map f xs) ≡ length xs

@@ -1,4 +1,5 @@
--- The channels of edges, and those that packets for one LID take in turn: for each vertex there is the edge by which they leave it.
+-- The channels of edges, and those that packets for one LID take in turn: for each vertex there is the edge by which
+-- they leave it.
 use Rattle.std.specs.Prelude.{◌≡◌, ◌↔◌, ◌⊎◌, ◌<◌, ◌+◌, ◌*◌, ℕ, List, Option, None, Some, length, slice_index_or}
 use Rattle.port_graph.specs.declared.edge.Edge.{Edge}
 use Rattle.audit_channels.specs.declared.column.Turn.{Turn}
@@ -33,9 +34,10 @@ abbrev pub TakesAmong : ℕ → List (Option Edge) → List (Option Edge) → �
 TakesAmong count before now channel next = (vertex : ℕ) × (vertex < count) × TakesAcross before now vertex channel next
 
 -- the same, and that the channels that are taken so at the first vertices follow each other
-pub record IsWithSome (count : ℕ) (old : List (List ℕ)) (before now : List (Option Edge)) (new : List (List ℕ)) : Type 0 where
-  pub as_many : length new ≡ length old
-  pub follows : (a b : ℕ) → Follows new a b ↔ (Follows old a b ⊎ TakesAmong count before now a b)
+pub record IsWithSome (count : ℕ) (old : List (List ℕ)) (before now : List (Option Edge)) (new : List (List ℕ)) : Type 0
+  where
+    pub as_many : length new ≡ length old
+    pub follows : (a b : ℕ) → Follows new a b ↔ (Follows old a b ⊎ TakesAmong count before now a b)
 
 -- of all
 abbrev pub IsWithAcross : List (List ℕ) → List (Option Edge) → List (Option Edge) → List (List ℕ) → Type 0

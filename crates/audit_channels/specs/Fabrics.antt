@@ -1,5 +1,6 @@
 -- The channels that packets take in a fabric, and their numbers.
--- InfiniBand Architecture Specification, Volume 1: switches, unicast forwarding by the linear forwarding table; link layer, flow control by credits.
+-- InfiniBand Architecture Specification, Volume 1: switches, unicast forwarding by the linear forwarding table; link
+-- layer, flow control by credits.
 use Rattle.std.specs.Prelude.{◌≡◌, ◌<◌, ◌≤◌, ◌+◌, ◌*◌, ℕ, List, Some, IsTrue, slice_get, slice_index_or}
 use Rattle.fabric_model.specs.declared.cable.NodePort.{NodePort}
 use Rattle.smp_bytes.specs.NodeType.{is_switch}
@@ -14,7 +15,8 @@ use Rattle.audit.specs.Fabrics.{IsSeenIn}
 use Rattle.audit.specs.Network.{index_in}
 use Rattle.audit_channels.specs.Waiting.{RiseOnWays}
 
--- a wire from one switch to another, taken that way: its channel is that of the port by which it leaves the usable switch of an index
+-- a wire from one switch to another, taken that way: its channel is that of the port by which it leaves the usable
+-- switch of an index
 pub record IsChannel (cells : Cells) (f : Fabric) (hop : Hop) (channel : ℕ) : Type 0 where
   pub wire : IsWire f hop.out hop.into
   pub from : Node
@@ -47,10 +49,12 @@ pub record Travels (part : Part) (f : Fabric) (hops : List Hop) : Type 0 where
   pub end : Standing
   pub goes : Goes f lid (sent_from source) hops end
 
--- where what is joined to an end port is as the facts say and holds the tables, the numbers rise from each channel to the next
+-- where what is joined to an end port is as the facts say and holds the tables, the numbers rise from each channel to
+-- the next
 abbrev pub ChannelsRise : Type 0
 ChannelsRise =
     (facts : Facts) (held : HeldPlan) (f : Fabric) (origin : NodePort) (numbers : List ℕ) → IsEndPort f origin
     → IsSeenIn (IsJoinedTo f origin) (cells_of facts) held f → RiseOnWays (cells_of facts) held numbers
-    → (hops : List Hop) → Travels (IsJoinedTo f origin) f hops → (channel next : ℕ) → TakeInTurn (cells_of facts) f hops channel next
+    → (hops : List Hop) → Travels (IsJoinedTo f origin) f hops → (channel next : ℕ)
+    → TakeInTurn (cells_of facts) f hops channel next
     → slice_index_or numbers channel 0 < slice_index_or numbers next 0

@@ -1,4 +1,5 @@
--- Channels that follow each other: numbers that rise, and cycles. Of each channel there is a list of those that follow it.
+-- Channels that follow each other: numbers that rise, and cycles. Of each channel there is a list of those that follow
+-- it.
 use Rattle.std.specs.Prelude.{◌≡◌, ◌↔◌, ◌⊎◌, ◌<◌, ◌≤◌, ℕ, List, [], ◌∷◌, Contains, length, slice_index_or}
 use Rattle.audit_channels.specs.declared.order.ChannelOrder.{ChannelOrder}
 use Rattle.audit_channels.specs.declared.order.ChannelOrder.TheVariants.{Rises, Cycle}
@@ -23,7 +24,8 @@ pub record IsWith (old : List (List ℕ)) (channel next : ℕ) (new : List (List
 -- each channel has a number, and those that follow it have greater ones
 pub record Rise (waits : List (List ℕ)) (numbers : List ℕ) : Type 0 where
   pub as_many : length numbers ≡ length waits
-  pub rises : (channel next : ℕ) → Follows waits channel next → slice_index_or numbers channel 0 < slice_index_or numbers next 0
+  pub rises : (channel next : ℕ) → Follows waits channel next → slice_index_or numbers channel 0
+      < slice_index_or numbers next 0
 
 -- each of some channels follows the one before, and the last is followed by another
 abbrev pub GoesOn : List (List ℕ) → ℕ → List ℕ → ℕ → Type 0
@@ -51,4 +53,5 @@ IsShortest waits (Cycle channels) = NoneShorter waits channels.items
 
 -- where numbers rise there is no cycle
 abbrev pub NoCycleWhereNumbersRise : Type 0
-NoCycleWhereNumbersRise = (waits : List (List ℕ)) (numbers cycle : List ℕ) → Rise waits numbers → ¬ (IsCycle waits cycle)
+NoCycleWhereNumbersRise =
+    (waits : List (List ℕ)) (numbers cycle : List ℕ) → Rise waits numbers → ¬ (IsCycle waits cycle)

@@ -1,4 +1,5 @@
--- Searches in breadth from a channel over those without a number: what was reached, in its order, each marked with the channel's number and one.
+-- Searches in breadth from a channel over those without a number: what was reached, in its order, each marked with the
+-- channel's number and one.
 use Rattle.std.specs.Prelude.{◌≡◌, ◌<◌, ◌≤◌, ◌+◌, ℕ, List, [], ◌∷◌, length, slice_index_or}
 use Rattle.audit_channels.specs.declared.shortest.Visited.{Visited}
 use Rattle.audit_channels.specs.Orders.{Follows, GoesOn, IsCycle}
@@ -48,4 +49,5 @@ NoneBelow waits first count = (later : List ℕ) → GoesOn waits first later fi
 -- a shortest cycle from a channel on, or none, where none has fewer channels than this
 abbrev pub IsLeast : List (List ℕ) → ℕ → ℕ → List ℕ → Type 0
 IsLeast waits first least [] = NoneBelow waits first least
-IsLeast waits first least (c ∷ later) = IsCycle waits (c ∷ later) × (length later + 1 ≤ least) × NoneBelow waits first (length later + 1)
+IsLeast waits first least (c ∷ later) =
+    IsCycle waits (c ∷ later) × (length later + 1 ≤ least) × NoneBelow waits first (length later + 1)

@@ -1,5 +1,6 @@
--- Channels that packets take in turn by the tables held, and the order of channels.
--- InfiniBand Architecture Specification, Volume 1: switches, unicast forwarding by the linear forwarding table; link layer, flow control by credits.
+-- Channels that packets take in turn by the tables held, and the order of channels. InfiniBand Architecture
+-- Specification, Volume 1: switches, unicast forwarding by the linear forwarding table; link layer, flow control by
+-- credits.
 use Rattle.std.specs.Prelude.{◌≡◌, ◌↔◌, ◌<◌, ◌≤◌, ◌*◌, ℕ, List, [], ◌∷◌, Option, length, slice_index_or}
 use Rattle.port_graph.specs.declared.edge.Edge.{Edge}
 use Rattle.audit_channels.specs.Orders.{Follows}
@@ -10,7 +11,8 @@ use Rattle.subnet_view.specs.Reading.{Cells, switches}
 use Rattle.plan_file.specs.Held.{HeldPlan}
 use Rattle.audit.specs.Edges.{edges_of}
 
--- a packet for a LID leaves a switch by one channel, and the next switch by another; whether an end port holds the LID is nothing to the switches
+-- a packet for a LID leaves a switch by one channel, and the next switch by another; whether an end port holds the LID
+-- is nothing to the switches
 pub record WaitsFor (cells : Cells) (held : HeldPlan) (channel next : ℕ) : Type 0 where
   pub lid : ℕ
   pub is_lid : 1 ≤ lid
@@ -57,4 +59,5 @@ IsShortestOf cells held (Cycle channels) = NoneShorter cells held channels.items
 
 -- where numbers rise there is no cycle
 abbrev pub NeverBoth : Type 0
-NeverBoth = (cells : Cells) (held : HeldPlan) (numbers cycle : List ℕ) → RiseOnWays cells held numbers → ¬ (WaitInCycle cells held cycle)
+NeverBoth = (cells : Cells) (held : HeldPlan) (numbers cycle : List ℕ) → RiseOnWays cells held numbers
+    → ¬ (WaitInCycle cells held cycle)

@@ -23,7 +23,8 @@ pub record IsCounted (channels : ℕ) (sum : Sum) (tally : WayTally) : Type 0 wh
 -- some channels are taken some times more
 pub record IsLoadedWith (old channels : List ℕ) (times : ℕ) (new : List ℕ) : Type 0 where
   pub as_many : length new ≡ length old
-  pub load : (channel : ℕ) → slice_index new channel ≡ slice_index old channel + times * count_by (λ x. x == channel) channels
+  pub load : (channel : ℕ) → slice_index new channel ≡ slice_index old channel
+      + times * count_by (λ x. x == channel) channels
 
 -- a way is counted some times more
 pub record IsCountedWith (old : WayTally) (way : Way) (times : ℕ) (new : WayTally) : Type 0 where
@@ -43,4 +44,5 @@ grouped edges weights direct number = weighed (λ i. number (way_from edges i)) 
 
 -- more ways are counted
 abbrev pub IsCountedMore : ℕ → WayTally → Sum → WayTally → Type 0
-IsCountedMore channels old more new = (sum : Sum) → IsCounted channels sum old → IsCounted channels (λ number. sum number + more number) new
+IsCountedMore channels old more new =
+    (sum : Sum) → IsCounted channels sum old → IsCounted channels (λ number. sum number + more number) new

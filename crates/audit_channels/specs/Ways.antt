@@ -20,7 +20,8 @@ use Rattle.audit.specs.Tables.{is_owner, is_same_end}
 use Rattle.audit_channels.specs.declared.ways.WayFigures.{WayFigures}
 use Rattle.audit_channels.specs.Figures.{figures_of}
 
--- the way of a packet: how many wires it takes, those at the adapters counted, and the channels, which are wires between usable switches, taken one way
+-- the way of a packet: how many wires it takes, those at the adapters counted, and the channels, which are wires
+-- between usable switches, taken one way
 pub record Way : Type 0 where
   pub wires : ℕ
   pub channels : List ℕ
@@ -28,11 +29,17 @@ pub record Way : Type 0 where
 -- the channels from a switch on, in at most so many steps
 abbrev pub channels_from : ℕ → List (Option Edge) → ℕ → List ℕ
 channels_from zero edges switch = []
-channels_from (suc steps) edges switch = option_map_or (λ edge. number_of switch edge ∷ channels_from steps edges edge.to) (slice_index_or edges switch None) []
+channels_from (suc steps) edges switch =
+    option_map_or (λ edge. number_of switch edge
+    ∷ channels_from steps edges edge.to) (slice_index_or edges switch None) []
 
 -- from an adapter to a switch, from there by channels, and to an adapter
 abbrev pub way_from : List (Option Edge) → ℕ → Way
-way_from edges switch = record { wires = length (channels_from (length edges) edges switch) + 2; channels = channels_from (length edges) edges switch }
+way_from edges switch = record {
+  wires = length (channels_from (length edges) edges switch) + 2;
+  channels =
+      channels_from (length edges) edges switch;
+}
 
 -- from an adapter to an adapter
 abbrev pub one_wire : Way

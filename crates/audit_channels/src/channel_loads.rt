@@ -16,7 +16,8 @@ pub(crate) fn load_channels(
     times: u64,
 ) -> Result<usize, AllocError>
     requires channels { length loads.old ≡ 256 * length edges.now }
-    ensures loads { OnOk result (IsLoadedWith loads.old (channels_from (length edges.now) edges.now first) times loads.new) }
+    ensures loads { OnOk result (IsLoadedWith loads.old (channels_from (length edges.now) edges.now first) times
+        loads.new) }
     ensures count { IfOk result (λ count. count ≡ length (channels_from (length edges.now) edges.now first)) }
 {
     let mut switch = first;

@@ -7,8 +7,8 @@ use port_graph::Edge;
 use std::alloc::AllocError;
 
 /// That the channels by which packets for a LID leave follow each other, by the edge of each vertex for it. The channel
-/// of a vertex's edge has the number 256 times the vertex, and the edge's port. Takes a step for each vertex, and a walk
-/// over the channels that follow its own where the next is not known to.
+/// of a vertex's edge has the number 256 times the vertex, and the edge's port. Takes a step for each vertex, and a
+/// walk over the channels that follow its own where the next is not known to.
 pub fn add_column(waits: &mut Waits, column: &[Option<Edge>]) -> Result<(), AllocError>
     requires channels { length waits.old ≡ 256 * length column.now }
     requires room { 256 * length column.now < 2 ^ 64 }

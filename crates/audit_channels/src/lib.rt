@@ -1,5 +1,5 @@
-//! Channels by the forwarding tables that a subnet's switches hold, whoever wrote them: whether they can wait for each other in
-//! a cycle (a credit loop), how many wires packets between adapters take, and how often each channel is taken.
+//! Channels by the forwarding tables that a subnet's switches hold, whoever wrote them: whether they can wait for each
+//! other in a cycle (a credit loop), how many wires packets between adapters take, and how often each channel is taken.
 #![tactic(auto)]
 
 mod channel_loads;

@@ -88,8 +88,8 @@ pub(crate) fn senders(alloc: Global, network: &Network) -> Result<Groups, AllocE
     Ok(groups)
 }
 
-/// The packets for the LID of a line which adapter ports send and which are delivered at the line's port, another one, by
-/// where each end port's packet ends. Takes a step for each end port.
+/// The packets for the LID of a line which adapter ports send and which are delivered at the line's port, another one,
+/// by where each end port's packet ends. Takes a step for each end port.
 pub(crate) fn group_packets(
     alloc: Global,
     network: &Network,
@@ -99,7 +99,8 @@ pub(crate) fn group_packets(
     requires brought { AreBrought (cells_of network.now.facts) network.now.held line.now.lid ends.now.ends }
     requires port { ends.now.port ≡ line.now.port }
     ensures { IfOk result (AreGrouped (cells_of network.now.facts)
-        (filter (reaches (cells_of network.now.facts) network.now.held line.now) (end_ports (cells_of network.now.facts)))) }
+        (filter (reaches (cells_of network.now.facts) network.now.held line.now)
+        (end_ports (cells_of network.now.facts)))) }
 {
     let mut groups = Groups::none(alloc, network)?;
     for (index, source) in network.sources().iter().enumerate() {

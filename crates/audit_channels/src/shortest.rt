@@ -48,7 +48,8 @@ fn shorter_from(
     ensures marks { OnOk result ((c : ℕ) → slice_index_or marks.new c 0 ≤ first + 1) }
     ensures cycle { IfOk result (λ cycle. IsCycle waits.now cycle.items) }
     ensures no_longer { IfOk result (λ cycle. length cycle.items ≤ length known.items) }
-    ensures none { IfOk result (λ cycle. has_none numbers.now first ≡ true → NoneBelow waits.now first (length cycle.items)) }
+    ensures none { IfOk result (λ cycle. has_none numbers.now first ≡ true
+        → NoneBelow waits.now first (length cycle.items)) }
 {
     if !has_none(numbers, first) {
         return Ok(known);
@@ -121,7 +122,8 @@ fn cycle_of(
 
 /// What was reached at an index, where a cycle from there would be of fewer channels than this.
 fn in_turn(reached: &[Visited], index: usize, least: usize) -> Option<Visited>
-    ensures some { IfSome result (λ here. (index < length reached.now) × (here ≡ at_index reached.now index) × (here.count < least)) }
+    ensures some { IfSome result (λ here. (index < length reached.now) × (here ≡ at_index reached.now index)
+        × (here.count < least)) }
     ensures none { result ≡ None → index < length reached.now → least ≤ (at_index reached.now index).count }
 {
     let here = *reached.get(index)?;
@@ -148,7 +150,8 @@ fn reach_on(
     requires here { here ≡ at_index reached.old.items index }
     ensures search { OnOk result (IsSearch waits.now first (here.count + 1) reached.new.items marks.new) }
     ensures grows { OnOk result (Grows reached.old.items reached.new.items) }
-    ensures onward { OnOk result (here.count + 1 < least → (c : ℕ) → Follows waits.now here.channel c → has_none numbers.now c ≡ true
+    ensures onward { OnOk result (here.count + 1 < least → (c : ℕ) → Follows waits.now here.channel c
+        → has_none numbers.now c ≡ true
         → HasReached reached.new.items c (here.count + 1)) }
 {
     if here.count + 1 >= least {
@@ -180,7 +183,8 @@ fn reach(
     requires step { IsStep waits.now reached.old.items next (length reached.old.items) }
     ensures search { OnOk result (IsSearch waits.now first next.count reached.new.items marks.new) }
     ensures grows { OnOk result (Grows reached.old.items reached.new.items) }
-    ensures onward { OnOk result (has_none numbers.now next.channel ≡ true → HasReached reached.new.items next.channel next.count) }
+    ensures onward { OnOk result (has_none numbers.now next.channel ≡ true
+        → HasReached reached.new.items next.channel next.count) }
 {
     if has_none(numbers, next.channel) && marks[next.channel] != first + 1 {
         marks[next.channel] = first + 1;

@@ -38,7 +38,8 @@ impl WayTally {
     ) -> Result<(), AllocError>
         requires switches { length weights.now ≡ length edges.now }
         requires channels { length self.old.loads.items ≡ 256 * length edges.now }
-        ensures { OnOk result (IsCountedMore (256 * length edges.now) self.old (grouped edges.now weights.now direct) self.new) }
+        ensures { OnOk result (IsCountedMore (256 * length edges.now) self.old (grouped edges.now weights.now direct)
+            self.new) }
     {
         for (first, weight) in weights.iter().enumerate() {
             if *weight > 0 {

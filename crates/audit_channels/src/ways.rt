@@ -27,9 +27,9 @@ pub struct WayFigures {
 }
 
 /// How far packets go between adapter ports, and how evenly they load the channels. Takes what `Network::ends` and
-/// `Network::edges` do for each LID, a walk over all blocks for each 64, for each LID a walk from each switch at which an
-/// adapter lies, and a step for each end port where not all packets for the LID are delivered. Refused for lack of memory,
-/// and where 64 bits are too few.
+/// `Network::edges` do for each LID, a walk over all blocks for each 64, for each LID a walk from each switch at which
+/// an adapter lies, and a step for each end port where not all packets for the LID are delivered. Refused for lack of
+/// memory, and where 64 bits are too few.
 pub fn figures_of_ways(alloc: Global, network: &Network) -> Result<WayFigures, AllocError>
     ensures { IfOk result (IsToldOfWays (cells_of network.now.facts) network.now.held) }
 {
@@ -67,8 +67,8 @@ fn tally_of(alloc: Global, network: &Network) -> Result<WayTally, AllocError>
     Ok(tally)
 }
 
-/// Counts those for the LID of a line, the wire in whose port leads there. Takes the packets from all adapter ports, and
-/// leaves them as they were.
+/// Counts those for the LID of a line, the wire in whose port leads there. Takes the packets from all adapter ports,
+/// and leaves them as they were.
 fn add_ways(
     alloc: Global,
     tally: &mut WayTally,

@@ -24,11 +24,13 @@ use Rattle.audit_report.specs.FirstFew.{Listed, first_of, listed, listed_of}
 use Rattle.audit_report.proofs.Firsts.{listed_more}
 
 -- one more where it passes
-counted_more : {X : Type 0} (p : X → Bool) (xs : List X) (x : X) (old new : ℕ) → old ≡ count_by p xs → new ≡ old + cond (p x) 1 0 → new ≡ count_by p (xs ++ x ∷ [])
+counted_more : {X : Type 0} (p : X → Bool) (xs : List X) (x : X) (old new : ℕ) → old ≡ count_by p xs → new ≡ old + cond (p x) 1 0 → new
+    ≡ count_by p (xs ++ x ∷ [])
 counted_more {X} p xs x old new h e = e ∙ ap (λ n. n + cond (p x) 1 0) h ∙ sym (sum_by_push (λ (y : X). cond (p y) 1 0) xs x)
 
 -- a packet more of those that pass
-pairs_if : (p : SentPacket → Bool) (packets : List SentPacket) (packet : SentPacket) (old new : Pairs) (b : Bool) → p packet ≡ b → ArePairs (filter p packets) old
+pairs_if : (p : SentPacket → Bool) (packets : List SentPacket) (packet : SentPacket) (old new : Pairs) (b : Bool) → p packet ≡ b
+    → ArePairs (filter p packets) old
     → ArePairsIf old b (arrives packet) new → ArePairs (filter p (packets ++ packet ∷ [])) new
 pairs_if p packets packet old new true is h w =
     let more : filter p (packets ++ packet ∷ []) ≡ filter p packets ++ packet ∷ [] =
@@ -60,7 +62,8 @@ pairs_more packets packet old new h w =
     }
 
 -- one more by what it is lost for
-causes_more : (packets : List SentPacket) (packet : SentPacket) (old new : Causes) → old ≡ causes_of packets → AreCausesIf old (λ cause. is_lost_for cause packet) new
+causes_more : (packets : List SentPacket) (packet : SentPacket) (old new : Causes) → old ≡ causes_of packets
+    → AreCausesIf old (λ cause. is_lost_for cause packet) new
     → new ≡ causes_of (packets ++ packet ∷ [])
 causes_more packets packet old new h w =
     let above_top = counted_more (is_lost_for AboveTop) packets packet old.above_top new.above_top (ap (λ (c : Causes). c.above_top) h) w.above_top in
@@ -76,7 +79,8 @@ told_more : (p : SentPacket → Bool) (packets : List SentPacket) (packet : Sent
 told_more p packets packet old new h e = e ∙ ap (λ (o : Listed SentPacket). cond (p packet) (listed o packet) o) h ∙ sym (listed_more p packets packet)
 
 -- a packet more is counted
-pub tally_more : (packets : List SentPacket) (old new : PacketTally) (packet : SentPacket) → IsTally packets old → IsWith old packet new → IsTally (packets ++ packet ∷ []) new
+pub tally_more : (packets : List SentPacket) (old new : PacketTally) (packet : SentPacket) → IsTally packets old → IsWith old packet new
+    → IsTally (packets ++ packet ∷ []) new
 tally_more packets old new packet h w = record {
   all = pairs_more packets packet old.all new.all h.all w.all;
   between = pairs_if is_between packets packet old.between new.between (is_between packet) refl h.between w.between;
@@ -122,7 +126,8 @@ of_none packet h = record {
 
 -- packets that arrive -------------------------------------------------------------------
 
-none_told : (p : SentPacket → Bool) → ((packet : SentPacket) → arrives packet ≡ true → p packet ≡ false) → (packets : List SentPacket) → list_all arrives packets ≡ true
+none_told : (p : SentPacket → Bool) → ((packet : SentPacket) → arrives packet ≡ true → p packet ≡ false) → (packets : List SentPacket)
+    → list_all arrives packets ≡ true
     → filter p packets ≡ []
 none_told p h [] all = refl
 none_told p h (packet ∷ packets) all =
@@ -140,7 +145,8 @@ none_counted p h packets (x ∷ more) all =
     let zero_is : ◌≡◌ {A = ℕ} (cond (p x) 1 0) 0 = ap (λ t. cond t 1 0) (h x parts.0) in
     omega (arith, none, split, first, zero_is)
 
-same_listed : (p : SentPacket → Bool) → ((packet : SentPacket) → arrives packet ≡ true → p packet ≡ false) → (packets more : List SentPacket) → list_all arrives more ≡ true
+same_listed : (p : SentPacket → Bool) → ((packet : SentPacket) → arrives packet ≡ true → p packet ≡ false) → (packets more : List SentPacket)
+    → list_all arrives more ≡ true
     → listed_of p packets ≡ listed_of p (packets ++ more)
 same_listed p h packets more all =
     let first : first_of p packets ≡ first_of p (packets ++ more) =

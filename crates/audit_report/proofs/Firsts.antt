@@ -19,7 +19,8 @@ module _ {X : Type 0} where
         | inl h ↦
             let all : take n ys ≡ ys = take_all n ys (omega arith) in
             let few : nat_lt (length ys) n ≡ true = lt-ltb (length ys) n h in
-            take_all n (ys ++ x ∷ []) (omega (arith, length-append ys (x ∷ []))) ∙ sym (ap (λ t. cond t (ys ++ x ∷ []) ys) few) ∙ sym (ap (λ zs. noted_to n zs x) all)
+            take_all n (ys ++ x ∷ []) (omega (arith, length-append ys (x ∷ []))) ∙ sym (ap (λ t. cond t (ys ++ x ∷ []) ys) few)
+            ∙ sym (ap (λ zs. noted_to n zs x) all)
         | inr h ↦
             let many : nat_lt (length (take n ys)) n ≡ false = le-ltb (length (take n ys)) n (omega (arith, length-take-le n ys h)) in
             take-append-le n ys (x ∷ []) h ∙ sym (ap (λ t. cond t (take n ys ++ x ∷ []) (take n ys)) many)

@@ -35,7 +35,8 @@ use Rattle.audit_report.specs.Sites.{in_one_component}
 one_more : (x : SentPacket) (ps : List SentPacket) → count_by arrives (x ∷ ps) ≡ cond (arrives x) 1 0 + count_by arrives ps
 one_more x ps = sum_by-cons (λ (p : SentPacket). cond (arrives p) 1 0) x ps
 
-first_of_all : (x : SentPacket) (ps : List SentPacket) (b : Bool) → cond b 1 0 + count_by arrives ps ≡ length ps + 1 → (b ≡ true) × (count_by arrives ps ≡ length ps)
+first_of_all : (x : SentPacket) (ps : List SentPacket) (b : Bool) → cond b 1 0 + count_by arrives ps ≡ length ps + 1 → (b ≡ true)
+    × (count_by arrives ps ≡ length ps)
 first_of_all x ps true h = (refl, omega arith)
 first_of_all x ps false h = let most = count_by-le-length arrives ps in absurd (omega arith)
 
@@ -83,7 +84,8 @@ module _ (cells : Cells) (held : HeldPlan) where
 
   of_line : (line : HeldLid) (p : SentPacket) → Contains held.lids line → Contains (packets_for cells held line) p → IsSent p
   of_line line p is_held h =
-      elim (is_owner (end_ports cells) line.port) as (λ t. is_owner (end_ports cells) line.port ≡ t → Contains (cond t (sent_to cells held line) []) p → IsSent p) [
+      elim (is_owner (end_ports cells) line.port) as (λ t. is_owner (end_ports cells) line.port ≡ t → Contains (cond t (sent_to cells held line) []) p
+      → IsSent p) [
         | true ↦ λ q k.
             let m = contains-from_map (packet_of cells held line) (filter (λ x. in_one_component cells x line.port) (end_ports cells)) p k in
             let f = contains-from_filter (λ x. in_one_component cells x line.port) (end_ports cells) m.0 m.1 in

@@ -36,7 +36,8 @@ led owner (Some q) h = ap (λ x. Some x) (same_port owner.node owner.port q h)
 
 has_root : (cells : Cells) (e : EndPort) (r : ℕ) → root_at cells e ≡ Some r → HasRoot cells e r
 has_root cells e r h =
-    elim (attachment_of cells e) as (λ o. attachment_of cells e ≡ o → option_and_then (root_of (graph_of cells)) (option_map (λ h. h.0) o) ≡ Some r → HasRoot cells e r) [
+    elim (attachment_of cells e) as (λ o. attachment_of cells e ≡ o → option_and_then (root_of (graph_of cells)) (option_map (λ h. h.0) o) ≡ Some r
+    → HasRoot cells e r) [
       | None ↦ λ k m. absurd (cc)
       | Some attachment ↦ λ k m. record { attachment = attachment; attachment_is = k; root_is = m }
     ] refl h

@@ -18,7 +18,8 @@ module _ (cells : Cells) (port : EndPort) where
   at site = is_same_end port site.port
 
   -- the site that is found is that of the port, which is one of these
-  pub site_is : (ports : List EndPort) (site : Site) → find at (map (site_of cells) ports) ≡ Some site → (site ≡ site_of cells port) × (is_owner ports port ≡ true)
+  pub site_is : (ports : List EndPort) (site : Site) → find at (map (site_of cells) ports) ≡ Some site → (site ≡ site_of cells port)
+      × (is_owner ports port ≡ true)
   site_is [] site e = absurd (cc)
   site_is (x ∷ ports) site e =
       elim (is_same_end port x) as (λ t. is_same_end port x ≡ t → cond t (Some (site_of cells x)) (find at (map (site_of cells) ports)) ≡ Some site
@@ -79,7 +80,8 @@ each_joined sites owner whole listed site c =
     let rooted : (site : Site) → Contains sites site → is_one_root site.root (first_root sites) ≡ true =
     λ site c. list_all_at (λ (s : Site). is_one_root s.root (first_root sites)) sites whole site c in
     let one = one_root site.root owner.root (first_root sites) (rooted site c) (rooted owner listed) in
-    ap (λ t. (is_same_end site.port owner.port || t) || leads_to site.across owner.port) one ∙ or_true (is_same_end site.port owner.port) (leads_to site.across owner.port)
+    ap (λ t. (is_same_end site.port owner.port || t) || leads_to site.across owner.port) one
+    ∙ or_true (is_same_end site.port owner.port) (leads_to site.across owner.port)
 
 pub whole_joined : (sites : List Site) (owner : Site) → are_one_component sites ≡ true → Contains sites owner
     → length sites ≡ count_by (λ site. are_joined site owner) sites

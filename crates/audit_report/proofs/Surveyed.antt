@@ -44,7 +44,8 @@ module _ (cells : Cells) (held : HeldPlan) (line : HeldLid) where
       ap (λ xs. map (packet_of cells held line) (filter joined xs)) (take_more (end_ports cells) n e h ∙ ap (λ x. take n (end_ports cells) ++ x ∷ []) (sym is))
       ∙ ap (map (packet_of cells held line)) (filter-append joined (take n (end_ports cells)) (e ∷ []))
       ∙ map-append (packet_of cells held line) (filter joined (take n (end_ports cells))) (cond (joined e) (e ∷ []) [])
-      ∙ ap (λ xs. sent_by n ++ xs) (elim (joined e) as (λ t. map (packet_of cells held line) (cond t (e ∷ []) []) ≡ cond t (packet_of cells held line e ∷ []) []) [
+      ∙ ap (λ xs. sent_by n ++ xs) (elim (joined e) as (λ t. map (packet_of cells held line) (cond t (e ∷ []) [])
+      ≡ cond t (packet_of cells held line e ∷ []) []) [
         | true ↦ refl
         | false ↦ refl
       ])
@@ -54,7 +55,8 @@ module _ (cells : Cells) (held : HeldPlan) (line : HeldLid) where
       → AreCounted old (n + 1) new
   one_counted old tally new n e packet h less is joined packet_is w = record {
     counted = λ packets before.
-        let more = sent_more n e less is ∙ ap (λ t. sent_by n ++ cond t (packet_of cells held line e ∷ []) []) joined ∙ ap (λ p. sent_by n ++ p ∷ []) (sym packet_is) in
+        let more = sent_more n e less is ∙ ap (λ t. sent_by n ++ cond t (packet_of cells held line e ∷ []) []) joined
+        ∙ ap (λ p. sent_by n ++ p ∷ []) (sym packet_is) in
         subst (λ (ps : List SentPacket). IsTally ps new) (append_assoc packets (sent_by n) (packet ∷ []) ∙ ap (λ ps. packets ++ ps) (sym more))
         (tally_more (packets ++ sent_by n) tally new packet (h.counted packets before) w);
   }
@@ -177,7 +179,8 @@ module _ (cells : Cells) (held : HeldPlan) (lines : List HeldLid) where
   pub line_surveyed : (before number : ℕ) (old rows : List (List ℕ)) (n : ℕ) (line : HeldLid) (tally new : PacketTally)
       → AreSurveyed cells held lines before old n tally → AreBlocks held number rows → n < length lines → line ≡ get_or lines n line
       → is_owner (end_ports cells) line.port ≡ true
-      → ((packets : List SentPacket) → IsTally packets tally → IsTally (packets ++ sent_to cells held line) new) → AreSurveyed cells held lines number rows (n + 1) new
+      → ((packets : List SentPacket) → IsTally packets tally → IsTally (packets ++ sent_to cells held line) new)
+      → AreSurveyed cells held lines number rows (n + 1) new
   line_surveyed before number old rows n line tally new h b less is there add = record {
     blocks = b;
     counted =

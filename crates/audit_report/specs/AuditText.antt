@@ -30,7 +30,8 @@ use Rattle.audit_report.specs.Unmatched.{lidless, tableless, twice, unknown, uno
 
 -- of some packets, which words tell, how many there are, and how many arrive
 abbrev pub counts_line : List ℕ → ℕ → ℕ → List ℕ
-counts_line words sent arrived = words ++ codes "pairs " ++ decimal sent ++ codes " arrive " ++ decimal arrived ++ codes "\n"
+counts_line words sent arrived =
+    words ++ codes "pairs " ++ decimal sent ++ codes " arrive " ++ decimal arrived ++ codes "\n"
 
 -- of all, of those between adapter ports, and of the others
 abbrev pub pairs_text : Pairs → Pairs → List ℕ
@@ -45,7 +46,8 @@ count_text word count = codes " " ++ word ++ codes " " ++ decimal count
 -- how many are lost for each cause
 abbrev pub causes_text : Causes → List ℕ
 causes_text causes =
-    count_text (codes "above-top") causes.above_top ++ count_text (codes "no-entry") causes.no_entry ++ count_text (codes "no-port") causes.no_port
+    count_text (codes "above-top") causes.above_top ++ count_text (codes "no-entry") causes.no_entry
+    ++ count_text (codes "no-port") causes.no_port
     ++ count_text (codes "no-link") causes.no_link ++ count_text (codes "foreign") causes.foreign
 
 -- how many are delivered elsewhere, and go round
@@ -54,7 +56,8 @@ others_text misdelivered round = count_text (codes "misdelivered") misdelivered 
 
 -- how many do not arrive, by what becomes of them
 abbrev pub missed_line : Causes → ℕ → ℕ → List ℕ
-missed_line causes misdelivered round = codes "missed" ++ causes_text causes ++ others_text misdelivered round ++ codes "\n"
+missed_line causes misdelivered round =
+    codes "missed" ++ causes_text causes ++ others_text misdelivered round ++ codes "\n"
 
 -- the entry by which a switch does not send a packet on; none is told of another node
 abbrev pub entry_text : Option ℕ → List ℕ
@@ -73,7 +76,8 @@ cause_text Foreign = codes ": foreign port"
 
 -- the node at which a packet for a LID is lost, and why
 abbrev pub lost_text : Cells → HeldPlan → ℕ → ℕ → Cause → List ℕ
-lost_text cells held lid g cause = codes " at " ++ guid_text g ++ entry_text (entry_by cells held g lid) ++ cause_text cause
+lost_text cells held lid g cause =
+    codes " at " ++ guid_text g ++ entry_text (entry_by cells held g lid) ++ cause_text cause
 
 -- where a packet for a LID ends
 abbrev pub end_text : Cells → HeldPlan → ℕ → Option End → List ℕ
@@ -83,11 +87,13 @@ end_text cells held lid (Some (Lost g cause)) = lost_text cells held lid g cause
 
 -- a word, the end port that sends a packet, and its LID
 abbrev pub sent_text : List ℕ → SentPacket → List ℕ
-sent_text word packet = word ++ codes " " ++ port_text packet.source.node packet.source.port ++ codes " " ++ decimal packet.line.lid
+sent_text word packet =
+    word ++ codes " " ++ port_text packet.source.node packet.source.port ++ codes " " ++ decimal packet.line.lid
 
 -- and where it ends
 abbrev pub packet_line : Cells → HeldPlan → List ℕ → SentPacket → List ℕ
-packet_line cells held word packet = sent_text word packet ++ end_text cells held packet.line.lid packet.end ++ codes "\n"
+packet_line cells held word packet =
+    sent_text word packet ++ end_text cells held packet.line.lid packet.end ++ codes "\n"
 
 abbrev pub packets_text : Cells → HeldPlan → List ℕ → List SentPacket → List ℕ
 packets_text cells held word packets = flat_map (packet_line cells held word) packets
@@ -106,7 +112,8 @@ listed_text cells held word listed = kind_text (packet_line cells held) word lis
 
 -- a word, a LID, and the end port that holds it
 abbrev pub lid_line : List ℕ → HeldLid → List ℕ
-lid_line word line = word ++ codes " " ++ decimal line.lid ++ codes " " ++ port_text line.port.node line.port.port ++ codes "\n"
+lid_line word line =
+    word ++ codes " " ++ decimal line.lid ++ codes " " ++ port_text line.port.node line.port.port ++ codes "\n"
 
 -- a word, and a switch
 abbrev pub switch_line : List ℕ → ℕ → List ℕ
@@ -123,7 +130,8 @@ hundredths_text n = decimal (n / 100) ++ codes "." ++ decimal (n / 10 % 10) ++ d
 -- the greatest of some numbers, and their mean
 abbrev pub figures_text : Option Figures → List ℕ
 figures_text None = codes " none"
-figures_text (Some figures) = codes " max " ++ decimal figures.most ++ codes " mean " ++ hundredths_text figures.hundredths
+figures_text (Some figures) =
+    codes " max " ++ decimal figures.most ++ codes " mean " ++ hundredths_text figures.hundredths
 
 abbrev pub figures_line : List ℕ → Option Figures → List ℕ
 figures_line word figures = word ++ figures_text figures ++ codes "\n"
@@ -148,7 +156,8 @@ cycle_line cells cycle = codes "credit loop" ++ channels_text cells cycle ++ cod
 -- packets that do not arrive
 abbrev pub missed_text : Cells → HeldPlan → Listed SentPacket → Listed SentPacket → Listed SentPacket → List ℕ
 missed_text cells held lost misdelivered round =
-    listed_text cells held (codes "lost") lost ++ listed_text cells held (codes "misdelivered") misdelivered ++ listed_text cells held (codes "round") round
+    listed_text cells held (codes "lost") lost ++ listed_text cells held (codes "misdelivered") misdelivered
+    ++ listed_text cells held (codes "round") round
 
 -- what is counted of packets, and the first of each kind that do not arrive
 abbrev pub tally_text : Cells → HeldPlan → PacketTally → List ℕ
@@ -160,7 +169,8 @@ tally_text cells held tally =
 abbrev pub unmatched_text : Unmatched → List ℕ
 unmatched_text found =
     kind_text lid_line (codes "unowned") found.unowned ++ kind_text lid_line (codes "twice") found.twice
-    ++ kind_text switch_line (codes "unknown") found.unknown ++ kind_text switch_line (codes "tableless") found.tableless
+    ++ kind_text switch_line (codes "unknown") found.unknown
+    ++ kind_text switch_line (codes "tableless") found.tableless
     ++ kind_text port_line (codes "lidless") found.lidless
 
 -- how many facts are disputed, where some are
@@ -180,14 +190,17 @@ pairs_told packets =
 -- how many of some packets arrive, how many of each kind do not, and the first of these
 abbrev pub packets_told : Cells → HeldPlan → List SentPacket → List ℕ
 packets_told cells held packets =
-    pairs_told packets ++ missed_line (causes_of packets) (count_by is_misdelivered packets) (count_by goes_round packets)
-    ++ missed_text cells held (listed_of is_lost packets) (listed_of is_misdelivered packets) (listed_of goes_round packets)
+    pairs_told packets
+    ++ missed_line (causes_of packets) (count_by is_misdelivered packets) (count_by goes_round packets)
+    ++ missed_text cells held (listed_of is_lost packets) (listed_of is_misdelivered packets)
+    (listed_of goes_round packets)
 
 -- the first of each kind in which tables and facts differ
 abbrev pub unmatched_told : Cells → HeldPlan → List ℕ
 unmatched_told cells held =
     kind_text lid_line (codes "unowned") (unowned cells held) ++ kind_text lid_line (codes "twice") (twice held)
-    ++ kind_text switch_line (codes "unknown") (unknown cells held) ++ kind_text switch_line (codes "tableless") (tableless cells held)
+    ++ kind_text switch_line (codes "unknown") (unknown cells held)
+    ++ kind_text switch_line (codes "tableless") (tableless cells held)
     ++ kind_text port_line (codes "lidless") (lidless cells held)
 
 -- how far packets go between adapter ports, and how evenly they load the channels
@@ -197,7 +210,8 @@ ways_told cells held = ways_text (figures_of (hops_of cells held)) (figures_of (
 -- the packets, where tables and facts differ, disputed facts, ways and loads, and the cycle
 abbrev pub text_of : Cells → HeldPlan → List ℕ → List ℕ
 text_of cells held cycle =
-    packets_told cells held (packets_of cells held) ++ unmatched_told cells held ++ disputed_line (disputed cells) ++ ways_told cells held
+    packets_told cells held (packets_of cells held) ++ unmatched_told cells held ++ disputed_line (disputed cells)
+    ++ ways_told cells held
     ++ cycle_line cells cycle
 
 unfoldable pub audit_text : Audited → List ℕ

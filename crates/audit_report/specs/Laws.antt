@@ -14,7 +14,8 @@ use Rattle.plan_file.specs.Printed.{held_plan}
 use Rattle.audit.specs.Fabrics.{ArrivesAt, IsSeenIn}
 use Rattle.audit_report.specs.Passing.{Passes}
 
--- the tables that the text of a view's plan tells pass by that view, by each rule and under each LMC, where its facts are in range and there is room
+-- the tables that the text of a view's plan tells pass by that view, by each rule and under each LMC, where its facts
+-- are in range and there is room
 abbrev pub PlansPass : Type 0
 PlansPass =
     (rule : RuleValue) (lmc : ℕ) (facts : Facts) → AreInRange facts → ¬ (IsNoRoom lmc (cells_of facts))
@@ -22,11 +23,14 @@ PlansPass =
 
 -- each packet from an end port of a part of a fabric to a LID of an end port of the part is delivered there
 abbrev pub EachArrivesIn : Part → Fabric → Type 0
-EachArrivesIn part f = (source target : NodePort) (from into : Node) (lid : ℕ) → IsEndPortIn part f source from → IsEndPortIn part f target into → 1 ≤ lid
+EachArrivesIn part f = (source target : NodePort) (from into : Node) (lid : ℕ) → IsEndPortIn part f source from
+    → IsEndPortIn part f target into → 1 ≤ lid
     → IsTrue (owns f target lid) → ArrivesAt f source target lid
 
--- where tables pass by facts, that is so in each fabric of what is joined to an end port, if that is as the facts say and holds the tables
+-- where tables pass by facts, that is so in each fabric of what is joined to an end port, if that is as the facts say
+-- and holds the tables
 abbrev pub PassingAuditsDeliver : Type 0
 PassingAuditsDeliver =
-    (facts : Facts) (held : HeldPlan) (f : Fabric) (origin : NodePort) → IsEndPort f origin → IsSeenIn (IsJoinedTo f origin) (cells_of facts) held f
+    (facts : Facts) (held : HeldPlan) (f : Fabric) (origin : NodePort) → IsEndPort f origin
+    → IsSeenIn (IsJoinedTo f origin) (cells_of facts) held f
     → Passes (cells_of facts) held → EachArrivesIn (IsJoinedTo f origin) f

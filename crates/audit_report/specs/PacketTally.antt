@@ -7,7 +7,8 @@ use Rattle.audit_report.specs.Packets.{arrives, goes_round, is_between, is_lost,
 use Rattle.audit_report.specs.Pairs.{ArePairs, ArePairsIf, ArePairsWithArrived}
 use Rattle.audit_report.specs.FirstFew.{listed, listed_of}
 
--- how many packets there are, how many of them and of those between adapter ports arrive, for what others are lost, and how many of each kind do not, with the first
+-- how many packets there are, how many of them and of those between adapter ports arrive, for what others are lost, and
+-- how many of each kind do not, with the first
 pub record IsTally (packets : List SentPacket) (tally : PacketTally) : Type 0 where
   pub all : ArePairs packets tally.all
   pub between : ArePairs (filter is_between packets) tally.between
@@ -20,7 +21,8 @@ pub record IsTally (packets : List SentPacket) (tally : PacketTally) : Type 0 wh
 pub record IsTold (old : PacketTally) (packet : SentPacket) (new : PacketTally) : Type 0 where
   pub causes : AreCausesIf old.causes (λ cause. is_lost_for cause packet) new.causes
   pub lost : new.lost ≡ (if is_lost packet then listed old.lost packet else old.lost)
-  pub misdelivered : new.misdelivered ≡ (if is_misdelivered packet then listed old.misdelivered packet else old.misdelivered)
+  pub misdelivered : new.misdelivered
+      ≡ (if is_misdelivered packet then listed old.misdelivered packet else old.misdelivered)
   pub round : new.round ≡ (if goes_round packet then listed old.round packet else old.round)
 
 -- told, and not counted

@@ -19,7 +19,8 @@ packet_of cells held line e = record { line = line; source = e; end = end_for ce
 
 -- one from each end port of the component in which the LID's end port lies
 abbrev pub sent_to : Cells → HeldPlan → HeldLid → List SentPacket
-sent_to cells held line = map (packet_of cells held line) (filter (λ e. in_one_component cells e line.port) (end_ports cells))
+sent_to cells held line =
+    map (packet_of cells held line) (filter (λ e. in_one_component cells e line.port) (end_ports cells))
 
 -- where that is an end port of the facts
 abbrev pub packets_for : Cells → HeldPlan → HeldLid → List SentPacket

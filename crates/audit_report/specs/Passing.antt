@@ -26,12 +26,15 @@ use Rattle.audit_report.specs.Sites.{in_one_component}
 use Rattle.audit_report.specs.PacketTally.{IsTally}
 use Rattle.audit_report.specs.Unmatched.{IsUnmatched}
 
--- an end port of the facts holds the LID, and each packet for it that an end port of its component sends is delivered there
+-- an end port of the facts holds the LID, and each packet for it that an end port of its component sends is delivered
+-- there
 abbrev pub ArriveAt : Cells → HeldPlan → HeldLid → Type 0
-ArriveAt cells held line = (e : EndPort) → Contains (end_ports cells) line.port → Contains (end_ports cells) e → in_one_component cells e line.port ≡ true
+ArriveAt cells held line = (e : EndPort) → Contains (end_ports cells) line.port → Contains (end_ports cells) e
+    → in_one_component cells e line.port ≡ true
     → IsBrought cells held line.lid e (Some (Taken line.port))
 
--- each packet from every end port of a component for every LID that an end port there holds is delivered at that end port
+-- each packet from every end port of a component for every LID that an end port there holds is delivered at that end
+-- port
 abbrev pub EachArrives : Cells → HeldPlan → Type 0
 EachArrives cells held = (line : HeldLid) → Contains held.lids line → ArriveAt cells held line
 
@@ -57,7 +60,8 @@ EachHoldsLid cells held = (e : EndPort) → Contains (end_ports cells) e → Hol
 
 -- where there is an end port each usable switch has tables
 abbrev pub EachHasTables : Cells → HeldPlan → Type 0
-EachHasTables cells held = (e : EndPort) (g : ℕ) → Contains (end_ports cells) e → Contains (switches cells) g → HoldsTables held g
+EachHasTables cells held =
+    (e : EndPort) (g : ℕ) → Contains (end_ports cells) e → Contains (switches cells) g → HoldsTables held g
 
 -- nothing is missing
 pub record IsWholeFor (cells : Cells) (held : HeldPlan) : Type 0 where
@@ -88,11 +92,13 @@ pub record Audited : Type 0 where
 -- stored as pairs
 abbrev pub audited_code : Coded Audited
 audited_code =
-    code_by (Facts × (HeldPlan × List ℕ)) (coded× facts_code (coded× (held_plan.the_row).coded (coded_list coded_ℕ))) (λ a. (a.facts, (a.held, a.cycle)))
+    code_by (Facts × (HeldPlan × List ℕ)) (coded× facts_code (coded× (held_plan.the_row).coded (coded_list coded_ℕ)))
+    (λ a. (a.facts, (a.held, a.cycle)))
     (λ p. record { facts = p.0; held = p.1.0; cycle = p.1.1 }) (λ _. refl)
 
 -- what is found of facts and tables
-pub record IsFound (seen : Seen) (tally : PacketTally) (unmatched : Unmatched) (count : ℕ) (ways : WayFigures) (cycle : List ℕ) : Type 0 where
+pub record IsFound (seen : Seen) (tally : PacketTally) (unmatched : Unmatched) (count : ℕ) (ways : WayFigures)
+    (cycle : List ℕ) : Type 0 where
   pub counted : IsTally (packets_of (cells_of seen.facts) seen.held) tally
   pub differ : IsUnmatched (cells_of seen.facts) seen.held unmatched
   pub count_is : count ≡ disputed (cells_of seen.facts)

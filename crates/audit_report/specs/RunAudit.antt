@@ -1,4 +1,5 @@
--- What an audit of tables and files does: it reads all of them, and writes how packets fare, or says which one it refuses.
+-- What an audit of tables and files does: it reads all of them, and writes how packets fare, or says which one it
+-- refuses.
 use Rattle.std.specs.Prelude.{◌≡◌, ◌↔◌, ◌⊎◌, ℕ, Bool, List, ◌++◌, Option, IsTrue}
 use Rattle.fact_store.specs.View.{Facts, cells_of}
 use Rattle.plan_file.specs.Held.{HeldPlan}
@@ -43,7 +44,8 @@ IsAnswerFault sink_failed Memory = Unit {0}
 IsAnswerFault sink_failed fault = ⊥
 
 -- the tables are refused, and no other input was touched
-pub record RefusesTables {S : Type 0} (left : S → Option (List ℕ)) (has_failed : S → Bool) (interruptions : S → ℕ) (olds news : List S)
+pub record RefusesTables {S : Type 0} (left : S → Option (List ℕ)) (has_failed : S → Bool) (interruptions : S
+    → ℕ) (olds news : List S)
     (fault : Fault) : Type 0 where
   pub tables : List S
   pub tables' : List S
@@ -53,7 +55,8 @@ pub record RefusesTables {S : Type 0} (left : S → Option (List ℕ)) (has_fail
   pub why : AreNoTables left has_failed interruptions 0 tables tables' fault
 
 -- the tables were read, and a file is refused
-pub record RefusesFiles {S : Type 0} (left : S → Option (List ℕ)) (has_failed : S → Bool) (interruptions : S → ℕ) (olds news : List S)
+pub record RefusesFiles {S : Type 0} (left : S → Option (List ℕ)) (has_failed : S → Bool) (interruptions : S
+    → ℕ) (olds news : List S)
     (fault : Fault) : Type 0 where
   pub tables : List S
   pub tables' : List S
@@ -66,7 +69,8 @@ pub record RefusesFiles {S : Type 0} (left : S → Option (List ℕ)) (has_faile
   pub why : IsRefusedFile left has_failed interruptions 1 files files' fault
 
 -- all were read, and what they say is not answered
-pub record FailsToAudit {S : Type 0} (left : S → Option (List ℕ)) (has_failed : S → Bool) (floor : ℕ) (olds news : List S)
+pub record FailsToAudit {S : Type 0} (left : S → Option (List ℕ)) (has_failed : S
+    → Bool) (floor : ℕ) (olds news : List S)
     (sink_failed : Bool) (fault : Fault) : Type 0 where
   pub held : HeldPlan
   pub facts : Facts
@@ -74,7 +78,8 @@ pub record FailsToAudit {S : Type 0} (left : S → Option (List ℕ)) (has_faile
   pub why : IsAnswerFault sink_failed fault
 
 -- why an audit over open inputs ends early
-abbrev pub IsAuditFault : {S : Type 0} → (S → Option (List ℕ)) → (S → Bool) → (S → ℕ) → ℕ → List S → List S → Bool → Fault → Type 0
+abbrev pub IsAuditFault : {S : Type 0} → (S → Option (List ℕ)) → (S → Bool) → (S → ℕ) → ℕ → List S → List S → Bool
+    → Fault → Type 0
 IsAuditFault left has_failed interruptions floor olds news sink_failed fault =
     RefusesTables left has_failed interruptions olds news fault
     ⊎ (RefusesFiles left has_failed interruptions olds news fault

@@ -11,9 +11,9 @@ use sm_cli::{Fault, read_files, read_tables};
 use smp_bytes::Generation;
 use std::alloc::Global;
 
-/// Reads the text of tables, which is the first input, and then the files in order, and writes how packets fare by these
-/// tables in the subnet that the files describe together; answers whether they pass. The first fault counts. Where an
-/// input is refused, or memory is, nothing is written; how much went out before a write failed is not said.
+/// Reads the text of tables, which is the first input, and then the files in order, and writes how packets fare by
+/// these tables in the subnet that the files describe together; answers whether they pass. The first fault counts.
+/// Where an input is refused, or memory is, nothing is written; how much went out before a write failed is not said.
 pub fn run_audit<S: Source, W: Sink>(
     alloc: Global,
     inputs: &mut [S],

@@ -118,8 +118,8 @@ pub(crate) fn joined_count(sites: &[Site], owner: &Site, census: Census) -> usiz
     sites.iter().filter(|site| site.is_joined_to(owner)).count()
 }
 
-/// Where this is an adapter's, how many adapter ports lie in its component; none where it is a switch's. Takes a step or two
-/// where all lie in one component, or else one for each.
+/// Where this is an adapter's, how many adapter ports lie in its component; none where it is a switch's. Takes a step
+/// or two where all lie in one component, or else one for each.
 pub(crate) fn joined_adapters(sites: &[Site], owner: &Site, census: Census) -> usize
     requires census { IsCensus sites.now census }
     requires listed { Contains sites.now owner.now }
@@ -151,7 +151,8 @@ pub(crate) fn are_adapters(port: &EndPort, other: &EndPort) -> bool
     is_adapter(port) && is_adapter(other)
 }
 
-/// The end ports of the view, in their order. Takes what a graph of the switches takes, and some seven searches for each.
+/// The end ports of the view, in their order. Takes what a graph of the switches takes, and some seven searches for
+/// each.
 pub(crate) fn sites(alloc: Global, store: &Store) -> Result<Vec<Site>, Refused>
     ensures { IfOk result (λ sites. sites.items
         ≡ map (site_of (cells_of store.now)) (end_ports (cells_of store.now))) }

@@ -15,8 +15,8 @@ use audit::{Blocks, Network};
 use plan_file::HeldLid;
 use std::alloc::{AllocError, Global};
 
-/// Counts the packets that end ports send to the LIDs of their components. Takes what `Network::ends` does for each LID,
-/// a walk over all blocks for each 64, and a step for each two end ports.
+/// Counts the packets that end ports send to the LIDs of their components. Takes what `Network::ends` does for each
+/// LID, a walk over all blocks for each 64, and a step for each two end ports.
 pub(crate) fn survey(
     alloc: Global,
     network: &Network,

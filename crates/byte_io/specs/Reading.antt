@@ -69,6 +69,7 @@ GivesAt (Err Read) old new room = FailsToGive old new
 GivesAt (Err TooLong) old new room = IsSpentBefore old new
 
 -- what a reading gives in this room, and what becomes of it
-abbrev pub Gives : {S : Type 0} → (S → Option (List ℕ)) → (S → Bool) → (S → ℕ) → Result ℕ PieceFault → Reading S → Reading S → List ℕ → Type 0
+abbrev pub Gives : {S : Type 0} → (S → Option (List ℕ)) → (S → Bool) → (S → ℕ) → Result ℕ PieceFault → Reading S
+    → Reading S → List ℕ → Type 0
 Gives left has_failed interruptions result old new room =
     GivesAt result (state_of left has_failed interruptions old) (state_of left has_failed interruptions new) room

@@ -23,7 +23,13 @@ impl Model for ToRoom {
 
     ghost Value = { Room };
 
-    ghost view = { λ s. record { written = s.written.items; room = s.room; has_failed = s.has_failed; is_flushed = s.is_flushed } };
+    ghost view = { λ s. record {
+      written = s.written.items;
+      room = s.room;
+      has_failed = s.has_failed;
+      is_flushed =
+          s.is_flushed;
+    } };
 
     ghost invariant = { λ s. (vec_len s.written ≤ s.room) × (s.room ≤ vec_capacity s.written) };
 }

@@ -43,7 +43,8 @@ module _ (P : Stepped → Type 0) (here : Here) (packet : List ℕ) (all : Holds
       either P (at == 0 || here.is_switch) _ _
       (leaves (number_in (initial_path (at + 1)) packet) (moved_on here packet) (all.on (number_in (initial_path (at + 1)) packet)))
       (all.off Transit) in
-      let behind : P (goes_back here packet) = leaves (number_in (return_path (at - 1)) packet) (pointed (at - 1) packet) (all.back (number_in (return_path (at - 1)) packet) (at - 1)) in
+      let behind : P (goes_back here packet) =
+      leaves (number_in (return_path (at - 1)) packet) (pointed (at - 1) packet) (all.back (number_in (return_path (at - 1)) packet) (at - 1)) in
       let out : P (outgoing here packet) = either P (nat_lt at hops) _ _ ahead (either P (at == hops) _ _ all.end (all.off Course)) in
       let home : P (returning here packet) =
       either P (at == 0) _ _ (all.off Course) (either P (at == 1) _ _ all.home (either P (nat_lt hops at || here.is_switch) _ _ behind (all.off Transit))) in
@@ -86,17 +87,20 @@ module _ (packet : List ℕ) (field : Field) (size : length packet ≡ 256) (apa
   pointed_stays : (pointer : ℕ) → number_in field (pointed pointer packet) ≡ number_in field packet
   pointed_stays pointer = number_in-with_number_apart field hop_pointer pointer packet (omega (arith, size)) apart
 
-  noted_stays : (at pointer : ℕ) (here : Here) → at < 64 → field.at + field.len ≤ 192 → number_in field (noted at here (pointed pointer packet)) ≡ number_in field packet
+  noted_stays : (at pointer : ℕ) (here : Here) → at < 64 → field.at + field.len ≤ 192 → number_in field (noted at here (pointed pointer packet))
+      ≡ number_in field packet
   noted_stays at pointer here path below =
       number_in-with_number_apart field (return_path at) here.arrival (pointed pointer packet)
       (omega (arith, size, path, length-with_number hop_pointer pointer packet (omega (arith, size))))
       (grind (arith, nat_tests))
       ∙ pointed_stays pointer
 
-  moved_on_stays : (here : Here) → number_in hop_pointer packet < 64 → field.at + field.len ≤ 192 → number_in field (moved_on here packet) ≡ number_in field packet
+  moved_on_stays : (here : Here) → number_in hop_pointer packet < 64 → field.at + field.len ≤ 192 → number_in field (moved_on here packet)
+      ≡ number_in field packet
   moved_on_stays here path below =
       elim (number_in hop_pointer packet == 0) as
-      (λ t. number_in field (if t then pointed 1 packet else noted (number_in hop_pointer packet) here (pointed (number_in hop_pointer packet + 1) packet)) ≡ number_in field packet) [
+      (λ t. number_in field (if t then pointed 1 packet else noted (number_in hop_pointer packet) here (pointed (number_in hop_pointer packet + 1) packet))
+      ≡ number_in field packet) [
         | true ↦ pointed_stays 1
         | false ↦ noted_stays (number_in hop_pointer packet) (number_in hop_pointer packet + 1) here path below
       ]

@@ -1,6 +1,6 @@
--- One step of a packet on a directed route. Its hop pointer says how far it has come: on its way out each node notes the
--- port by which the packet came, and on its way back it leaves by the ports that were noted.
--- InfiniBand Architecture Specification, Volume 1: directed route SMPs, outgoing and returning.
+-- One step of a packet on a directed route. Its hop pointer says how far it has come: on its way out each node notes
+-- the port by which the packet came, and on its way back it leaves by the ports that were noted. InfiniBand
+-- Architecture Specification, Volume 1: directed route SMPs, outgoing and returning.
 use Rattle.std.specs.Prelude.{ℕ, ◌+◌, ◌-◌, Bool, ◌&&◌, ◌||◌, List, nat_lt, nat_le, ◌==◌, if◌then◌else◌}
 use Rattle.smp_bytes.specs.Field.{number_in, with_number}
 use Rattle.smp_bytes.specs.Packet.{hop_pointer, hop_count, initial_path, return_path, is_returning}
@@ -33,7 +33,8 @@ is_port here port = nat_le 1 port && nat_le port here.ports
 
 -- the packet leaves by the port so changed, where the node has such a port
 abbrev pub leaves_by : Here → ℕ → List ℕ → List ℕ → Stepped
-leaves_by here port packet after = if is_port here port then record { packet = after; verdict = Out port } else discarded packet OutPort
+leaves_by here port packet after =
+    if is_port here port then record { packet = after; verdict = Out port } else discarded packet OutPort
 
 -- the packet with its pointer moved on, and the port by which it came noted; it came by none where it was sent
 abbrev pub moved_on : Here → List ℕ → List ℕ
@@ -45,7 +46,8 @@ moved_on here packet =
 abbrev pub goes_on : Here → List ℕ → Stepped
 goes_on here packet =
     let at = number_in hop_pointer packet in
-    if at == 0 || here.is_switch then leaves_by here (number_in (initial_path (at + 1)) packet) packet (moved_on here packet)
+    if at == 0 || here.is_switch then leaves_by here (number_in (initial_path (at + 1)) packet) packet
+    (moved_on here packet)
     else discarded packet Transit
 
 -- on its way out

@@ -9,11 +9,13 @@ use Rattle.dr_forward.specs.Step.{step}
 
 -- a packet that is discarded is as it was
 abbrev pub DiscardedIsUnchanged : Type 0
-DiscardedIsUnchanged = (here : Here) (packet : List ℕ) (reason : DiscardReason) → (step here packet).verdict ≡ Discard reason → (step here packet).packet ≡ packet
+DiscardedIsUnchanged = (here : Here) (packet : List ℕ) (reason : DiscardReason) → (step here packet).verdict
+    ≡ Discard reason → (step here packet).packet ≡ packet
 
 -- a packet leaves by a port that the node has
 abbrev pub LeavesByAPort : Type 0
-LeavesByAPort = (here : Here) (packet : List ℕ) (port : ℕ) → (step here packet).verdict ≡ Out port → (1 ≤ port) × (port ≤ here.ports)
+LeavesByAPort = (here : Here) (packet : List ℕ) (port : ℕ) → (step here packet).verdict ≡ Out port → (1 ≤ port)
+    × (port ≤ here.ports)
 
 -- a step writes the hop pointer and the path back, and no other field
 abbrev pub OtherFieldsStay : Type 0

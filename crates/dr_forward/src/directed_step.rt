@@ -7,9 +7,9 @@ use crate::here::Here;
 use crate::verdict::{DiscardReason, Verdict};
 use smp_bytes::{PortNum, Smp};
 
-/// One step of a packet on a directed route at a node. On its way out the packet leaves by the next port of its path, and
-/// the port by which it came is noted; at the end of the path the node's agent takes it. On its way back it leaves by the
-/// port that was noted, until it is where it was sent. (Subnet management chapter, directed route.)
+/// One step of a packet on a directed route at a node. On its way out the packet leaves by the next port of its path,
+/// and the port by which it came is noted; at the end of the path the node's agent takes it. On its way back it leaves
+/// by the port that was noted, until it is where it was sent. (Subnet management chapter, directed route.)
 #[tactic(auto, unfolding(crate::specs::Step::step))]
 pub fn step(smp: &mut Smp, here: &Here) -> Verdict
     requires { is_directed smp.old ≡ true }

@@ -62,8 +62,8 @@ fn each_kind_of_step(rt: HostRuntime) -> Result<(), Fail> {
     let course = Verdict::Discard(DiscardReason::Course);
     let transit = Verdict::Discard(DiscardReason::Transit);
     let out_port = Verdict::Discard(DiscardReason::OutPort);
-    // How many hops the path has and its first two, the pointer, whether the packet is on its way back, whether the node is a
-    // switch, and what becomes of it.
+    // How many hops the path has and its first two, the pointer, whether the packet is on its way back, whether the
+    // node is a switch, and what becomes of it.
     for (hops, path, pointer, is_returning, is_switch, verdict, then, noted) in [
         (0, [0, 0], 0, false, false, Verdict::ToAgent, 1, 0),
         (0, [0, 0], 1, false, false, course, 1, 0),

@@ -28,4 +28,5 @@ IsOneCableAPort cables = (p : NodePort) → cables_in p cables ≤ 1
 
 -- a cable leads back to where it leads from
 abbrev pub CablesLeadBack : Type 0
-CablesLeadBack = (cables : List Cable) (p q : NodePort) → IsOneCableAPort cables → other_end cables p ≡ Some q → other_end cables q ≡ Some p
+CablesLeadBack = (cables : List Cable) (p q : NodePort) → IsOneCableAPort cables → other_end cables p ≡ Some q
+    → other_end cables q ≡ Some p

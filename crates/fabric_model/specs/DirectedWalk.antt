@@ -13,7 +13,9 @@ abbrev pub walk_on : Fabric → NodePort → List ℕ → Option NodePort
 walk_on f p [] = Some p
 walk_on f p (out ∷ path) = option_and_then (λ q. walk_on f q path) (on_by f out p)
 
--- the port of arrival after the cables out of the path's ports, the origin for the empty path; none where the walk breaks off
+-- the port of arrival after the cables out of the path's ports, the origin for the empty path; none where the walk
+-- breaks off
 abbrev pub directed_end : Fabric → NodePort → List ℕ → Option NodePort
 directed_end f origin [] = Some origin
-directed_end f origin (out ∷ path) = option_and_then (λ q. walk_on f q path) (f.across (record { node = origin.node; port = out }))
+directed_end f origin (out ∷ path) =
+    option_and_then (λ q. walk_on f q path) (f.across (record { node = origin.node; port = out }))

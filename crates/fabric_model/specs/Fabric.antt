@@ -6,8 +6,9 @@ use Rattle.fabric_model.specs.declared.cable.NodePort.{NodePort}
 use Rattle.smp_bytes.specs.NodeType.{is_switch}
 use Rattle.smp_bytes.specs.LidRange.{has_lid}
 
--- a node as it was built: its GUID, its type, its ports from 1 on, the entries that its linear forwarding table has room
--- for, and its ports' GUIDs, of which those of end ports are read (subnet management chapter, NodeInfo and SwitchInfo)
+-- a node as it was built: its GUID, its type, its ports from 1 on, the entries that its linear forwarding table has
+-- room for, and its ports' GUIDs, of which those of end ports are read (subnet management chapter, NodeInfo and
+-- SwitchInfo)
 pub record Node : Type 0 where
   pub guid : ℕ
   pub kind : NodeType
@@ -15,7 +16,8 @@ pub record Node : Type 0 where
   pub cap : ℕ
   pub port_guid : ℕ → ℕ
 
--- the nodes by number, the other end of the cable in a port, each end port's LID and LMC, and each switch's forwarding table and its top
+-- the nodes by number, the other end of the cable in a port, each end port's LID and LMC, and each switch's forwarding
+-- table and its top
 pub record Fabric : Type 0 where
   pub nodes : List Node
   pub across : NodePort → Option NodePort

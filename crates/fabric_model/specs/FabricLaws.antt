@@ -8,10 +8,13 @@ use Rattle.fabric_model.specs.DirectedWalk.{on_by, directed_end}
 -- each packet for a LID is delivered at a port over some way, or lost, and never both
 abbrev pub PacketsEndOnce : Type 0
 PacketsEndOnce = (f : Fabric) (lid : ℕ) (source : NodePort)
-    → (((hops : List Hop) × (target : NodePort) × IsDelivered f lid source hops target) ⊎ ((hops : List Hop) × (node : ℕ) × IsLost f lid source hops node))
-    × ((hops others : List Hop) (target : NodePort) (node : ℕ) → IsDelivered f lid source hops target → IsLost f lid source others node → ⊥)
+    → (((hops : List Hop) × (target : NodePort) × IsDelivered f lid source hops target)
+    ⊎ ((hops : List Hop) × (node : ℕ) × IsLost f lid source hops node))
+    × ((hops others : List Hop) (target : NodePort) (node : ℕ) → IsDelivered f lid source hops target
+    → IsLost f lid source others node → ⊥)
 
 -- a walk of at least one port, and one port more: on from its end, if a switch is there
 abbrev pub WalksGoOn : Type 0
 WalksGoOn = (f : Fabric) (origin : NodePort) (first : ℕ) (path : List ℕ) (out : ℕ)
-    → directed_end f origin ((first ∷ path) ++ out ∷ []) ≡ option_and_then (on_by f out) (directed_end f origin (first ∷ path))
+    → directed_end f origin ((first ∷ path) ++ out ∷ [])
+    ≡ option_and_then (on_by f out) (directed_end f origin (first ∷ path))

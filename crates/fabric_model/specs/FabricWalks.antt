@@ -1,5 +1,5 @@
--- Which ports of a fabric are joined: the wires between them, and walks over wires.
--- InfiniBand Architecture Specification, Volume 1: architectural overview, topology: channel adapters and switches joined by links.
+-- Which ports of a fabric are joined: the wires between them, and walks over wires. InfiniBand Architecture
+-- Specification, Volume 1: architectural overview, topology: channel adapters and switches joined by links.
 use Rattle.std.specs.Prelude.{◌≡◌, ◌≢◌, ◌⊎◌, ℕ, zero, suc, Some, IsTrue, if◌then◌else◌}
 use Rattle.fabric_model.specs.declared.cable.NodePort.{NodePort}
 use Rattle.fabric_model.specs.Fabric.{Fabric, IsEndPort, is_switch_at}

@@ -39,7 +39,8 @@ abbrev pub course : Fabric → ℕ → Standing → Course
 course f lid s =
     let number = s.at.node in
     option_map_or
-    (λ node. if is_switch node.kind then switch_course node.ports number (f.top number) lid (f.entry number lid) else adapter_course (owns f s.at lid) s)
+    (λ node. if is_switch node.kind then switch_course node.ports number (f.top number) lid (f.entry number lid) else
+    adapter_course (owns f s.at lid) s)
     (slice_get f.nodes number)
     Drops
 
@@ -51,11 +52,13 @@ pub record Hop : Type 0 where
 -- from one standing to another over these wires in turn
 abbrev pub Goes : Fabric → ℕ → Standing → List Hop → Standing → Type 0
 Goes f lid s [] end = s ≡ end
-Goes f lid s (h ∷ hops) end = (course f lid s ≡ LeavesBy h.out) × (f.across h.out ≡ Some h.into) × Goes f lid (arrived_at h.into) hops end
+Goes f lid s (h ∷ hops) end =
+    (course f lid s ≡ LeavesBy h.out) × (f.across h.out ≡ Some h.into) × Goes f lid (arrived_at h.into) hops end
 
 -- a packet for the LID, sent from a port, is delivered at another over these wires
 abbrev pub IsDelivered : Fabric → ℕ → NodePort → List Hop → NodePort → Type 0
-IsDelivered f lid source hops target = (end : Standing) × Goes f lid (sent_from source) hops end × (course f lid end ≡ Delivers target)
+IsDelivered f lid source hops target =
+    (end : Standing) × Goes f lid (sent_from source) hops end × (course f lid end ≡ Delivers target)
 
 -- it is dropped, or leaves by a port without a cable
 abbrev pub IsStuck : Fabric → ℕ → Standing → Type 0
@@ -68,4 +71,5 @@ wire_bound f = 2 * switch_count f + 2
 -- it is lost at a node, or goes round for ever and is given up there
 abbrev pub IsLost : Fabric → ℕ → NodePort → List Hop → ℕ → Type 0
 IsLost f lid source hops node =
-    (end : Standing) × Goes f lid (sent_from source) hops end × (end.at.node ≡ node) × (IsStuck f lid end ⊎ (length hops ≡ wire_bound f))
+    (end : Standing) × Goes f lid (sent_from source) hops end × (end.at.node ≡ node)
+    × (IsStuck f lid end ⊎ (length hops ≡ wire_bound f))

@@ -36,7 +36,8 @@ module _ (R : Agent → Agent → Type 0) (same : (a : Agent) → R a a) where
   related-set (x ∷ xs) (suc at) new h (suc id) = related-set xs at new h id
 
   -- one agent changed within the relation
-  pub related_changed : (xs : List Agent) (at : ℕ) (change : Agent → Agent) → ((a : Agent) → slice_get xs at ≡ Some a → R a (change a)) → AllRelated R xs (with_changed xs at change)
+  pub related_changed : (xs : List Agent) (at : ℕ) (change : Agent → Agent) → ((a : Agent) → slice_get xs at ≡ Some a → R a (change a))
+      → AllRelated R xs (with_changed xs at change)
   related_changed xs at change h = by (slice_get xs at) refl
     where
       by : (m : Option Agent) → slice_get xs at ≡ m → AllRelated R xs (option_map_or (λ a. slice_set xs at (change a)) m xs)
@@ -55,7 +56,8 @@ pub all_at : (P : Agent → Type 0) (xs : List Agent) (id : ℕ) (a : Agent) →
 all_at P xs id a all at = subst P (get_or_from_slice_get xs id a a at) (All-get_or P xs id a (slice_get_within xs id a at) all)
 
 -- what holds of each agent
-pub all_changed : (P : Agent → Type 0) (xs : List Agent) (at : ℕ) (change : Agent → Agent) → All P xs → ((a : Agent) → slice_get xs at ≡ Some a → P a → P (change a)) → All P (with_changed xs at change)
+pub all_changed : (P : Agent → Type 0) (xs : List Agent) (at : ℕ) (change : Agent → Agent) → All P xs
+    → ((a : Agent) → slice_get xs at ≡ Some a → P a → P (change a)) → All P (with_changed xs at change)
 all_changed P xs at change all h = by (slice_get xs at) refl
   where
     by : (m : Option Agent) → slice_get xs at ≡ m → All P (option_map_or (λ a. slice_set xs at (change a)) m xs)
@@ -63,7 +65,8 @@ all_changed P xs at change all h = by (slice_get xs at) refl
     by (Some a) e = All-set P xs at (change a) (h a e (all_at P xs at a all e)) all
 
 -- the agent put where one was
-pub changed_at_id : (xs : List Agent) (at : ℕ) (a : Agent) (change : Agent → Agent) → slice_get xs at ≡ Some a → slice_get (with_changed xs at change) at ≡ Some (change a)
+pub changed_at_id : (xs : List Agent) (at : ℕ) (a : Agent) (change : Agent → Agent) → slice_get xs at ≡ Some a → slice_get (with_changed xs at change) at
+    ≡ Some (change a)
 changed_at_id xs at a change e = ap (λ m. slice_get (option_map_or (λ b. slice_set xs at (change b)) m xs) at) e ∙ set-there xs at a (change a) e
   where
     set-there : (xs : List Agent) (at : ℕ) (a new : Agent) → slice_get xs at ≡ Some a → slice_get (slice_set xs at new) at ≡ Some new
@@ -107,7 +110,8 @@ keeps_down_same a = record { seats = keeps_seats_same a; to = λ port h. h; from
 
 -- as an answer keeps it
 pub keeps_down_from_shape : (a b : Agent) → KeepsShape a b → KeepsDown a b
-keeps_down_from_shape a b k = record { seats = record { node = k.node; seats = λ port h. k.seats port ∙ h }; to = λ port. (k.down port).0; from = λ port. (k.down port).1 }
+keeps_down_from_shape a b k =
+    record { seats = record { node = k.node; seats = λ port h. k.seats port ∙ h }; to = λ port. (k.down port).0; from = λ port. (k.down port).1 }
 
 -- the ports into which a cable can go
 pub cable_ports_stay : (xs ys : List Agent) → AllRelated KeepsSeats xs ys → (p : NodePort) → has_cable_port ys p ≡ has_cable_port xs p
@@ -120,10 +124,12 @@ cable_ports_stay xs ys k p = ap (λ n. nat_le 1 p.port && nat_le p.port n) (by (
     by (Some a) (Some b) h = ap (λ n. n.ports) h.node
 
 -- a seat that is there stays
-pub seats_stay : (xs ys : List Agent) → AllRelated KeepsSeats xs ys → (p : NodePort) → option_map_or (λ a. has_seat a p.port) (slice_get xs p.node) false ≡ true → option_map_or (λ a. has_seat a p.port) (slice_get ys p.node) false ≡ true
+pub seats_stay : (xs ys : List Agent) → AllRelated KeepsSeats xs ys → (p : NodePort) → option_map_or (λ a. has_seat a p.port) (slice_get xs p.node) false ≡ true
+    → option_map_or (λ a. has_seat a p.port) (slice_get ys p.node) false ≡ true
 seats_stay xs ys k p = by (slice_get xs p.node) (slice_get ys p.node) (k p.node)
   where
-    by : (m n : Option Agent) → Related KeepsSeats m n → option_map_or (λ a. has_seat a p.port) m false ≡ true → option_map_or (λ a. has_seat a p.port) n false ≡ true
+    by : (m n : Option Agent) → Related KeepsSeats m n → option_map_or (λ a. has_seat a p.port) m false ≡ true → option_map_or (λ a. has_seat a p.port) n false
+        ≡ true
     by None None h e = cc
     by None (Some b) h e = absurd h
     by (Some a) None h e = absurd h
@@ -136,10 +142,12 @@ pub record NoNewSeats (a b : Agent) : Type 0 where
 pub no_new_seats_same : (a : Agent) → NoNewSeats a a
 no_new_seats_same a = record { seats = λ port h. h }
 
-pub seats_before : (xs ys : List Agent) → AllRelated NoNewSeats xs ys → (p : NodePort) → option_map_or (λ a. has_seat a p.port) (slice_get ys p.node) false ≡ true → option_map_or (λ a. has_seat a p.port) (slice_get xs p.node) false ≡ true
+pub seats_before : (xs ys : List Agent) → AllRelated NoNewSeats xs ys → (p : NodePort) → option_map_or (λ a. has_seat a p.port) (slice_get ys p.node) false
+    ≡ true → option_map_or (λ a. has_seat a p.port) (slice_get xs p.node) false ≡ true
 seats_before xs ys k p = by (slice_get xs p.node) (slice_get ys p.node) (k p.node)
   where
-    by : (m n : Option Agent) → Related NoNewSeats m n → option_map_or (λ a. has_seat a p.port) n false ≡ true → option_map_or (λ a. has_seat a p.port) m false ≡ true
+    by : (m n : Option Agent) → Related NoNewSeats m n → option_map_or (λ a. has_seat a p.port) n false ≡ true → option_map_or (λ a. has_seat a p.port) m false
+        ≡ true
     by None None h e = cc
     by None (Some b) h e = absurd h
     by (Some a) None h e = absurd h

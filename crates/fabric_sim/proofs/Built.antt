@@ -27,7 +27,8 @@ use Rattle.fabric_sim.proofs.Recabled.{Ends, joined_ends, across_q, across_p, ac
 
 -- one node -----------------------------------------------------------------------------
 
-of_kind : (kind : NodeType) (ports guid cap : ℕ) → IsOfKind kind ports guid cap → (cap ≤ 49152) × (types.is_switch kind ≡ false → cap ≡ 0) × (types.is_switch kind ≡ false → guid + ports < 2 ^ 64)
+of_kind : (kind : NodeType) (ports guid cap : ℕ) → IsOfKind kind ports guid cap → (cap ≤ 49152) × (types.is_switch kind ≡ false → cap ≡ 0)
+    × (types.is_switch kind ≡ false → guid + ports < 2 ^ 64)
 of_kind Switch ports guid cap h = (h.1, λ e. cc, λ e. cc)
 of_kind ChannelAdapter ports guid cap h = (let n = h.0 in omega arith, λ e. h.0, λ e. h.1)
 of_kind Router ports guid cap h = absurd h
@@ -118,9 +119,11 @@ uncabled_is nodes first few all fits =
   where
     sits : (p : NodePort) (m : Option Agent) → slice_get (map new_agent nodes) p.node ≡ m → option_map_or (λ a. has_seat a p.port) m false ≡ true → ⊥
     sits p None e h = cc
-    sits p (Some a) e h = let of = of_node nodes p.node a e in let no : has_seat a p.port ≡ false = sym (ap (λ a. has_seat a p.port) of.agent) ∙ nobody of.node p.port in cc
+    sits p (Some a) e h = let of = of_node nodes p.node a e in let no : has_seat a p.port ≡ false =
+        sym (ap (λ a. has_seat a p.port) of.agent) ∙ nobody of.node p.port in cc
 
-    nobody-sits : (p : NodePort) → option_map_or (λ a. has_seat a p.port) (slice_get (map new_agent nodes) p.node) false ≡ true → has_cable_port (map new_agent nodes) p ≡ true
+    nobody-sits : (p : NodePort) → option_map_or (λ a. has_seat a p.port) (slice_get (map new_agent nodes) p.node) false ≡ true
+        → has_cable_port (map new_agent nodes) p ≡ true
     nobody-sits p h = absurd (sits p (slice_get (map new_agent nodes) p.node) refl h)
 
 -- a port of a link is a cable port
@@ -152,13 +155,16 @@ free (l ∷ links) p apart =
         by false e = refl
 
 -- with one more the earlier ones come first
-pub other_end-append : (links : List Cable) (link : Cable) (p : NodePort) (m : Option NodePort) → other_end links p ≡ m → other_end (links ++ link ∷ []) p ≡ (if is_none m then other_end (link ∷ []) p else m)
+pub other_end-append : (links : List Cable) (link : Cable) (p : NodePort) (m : Option NodePort) → other_end links p ≡ m → other_end (links ++ link ∷ []) p
+    ≡ (if is_none m then other_end (link ∷ []) p else m)
 other_end-append [] link p m e = subst (λ m. other_end (link ∷ []) p ≡ (if is_none m then other_end (link ∷ []) p else m)) e refl
 other_end-append (l ∷ links) link p m e = by (λ m e. other_end-append links link p m e) (is_same_port l.one p) refl (is_same_port l.other p) refl e
   where
     by : ((m : Option NodePort) → other_end links p ≡ m → other_end (links ++ link ∷ []) p ≡ (if is_none m then other_end (link ∷ []) p else m))
-        → (b : Bool) → is_same_port l.one p ≡ b → (c : Bool) → is_same_port l.other p ≡ c → (if b then Some l.other else if c then Some l.one else other_end links p) ≡ m
-        → (if is_same_port l.one p then Some l.other else if is_same_port l.other p then Some l.one else other_end (links ++ link ∷ []) p) ≡ (if is_none m then other_end (link ∷ []) p else m)
+        → (b : Bool) → is_same_port l.one p ≡ b → (c : Bool) → is_same_port l.other p ≡ c
+        → (if b then Some l.other else if c then Some l.one else other_end links p) ≡ m
+        → (if is_same_port l.one p then Some l.other else if is_same_port l.other p then Some l.one else other_end (links ++ link ∷ []) p)
+        ≡ (if is_none m then other_end (link ∷ []) p else m)
     by rest true f c g h = cond-true _ _ _ f ∙ subst (λ m. Some l.other ≡ (if is_none m then other_end (link ∷ []) p else m)) h refl
     by rest false f true g h = cond-false _ _ _ f ∙ (cond-true _ _ _ g ∙ subst (λ m. Some l.one ≡ (if is_none m then other_end (link ∷ []) p else m)) h refl)
     by rest false f false g h = cond-false _ _ _ f ∙ (cond-false _ _ _ g ∙ rest m h)
@@ -175,9 +181,11 @@ keep None = refl
 keep (Some q) = refl
 
 -- the cables with a link more
-pub link_added : (links : List Cable) (link : Cable) (s : Simulation) → IsSimulation s → has_cable_port s.agents link.one ≡ true → has_cable_port s.agents link.other ≡ true
+pub link_added : (links : List Cable) (link : Cable) (s : Simulation) → IsSimulation s → has_cable_port s.agents link.one ≡ true
+    → has_cable_port s.agents link.other ≡ true
     → other_end links link.one ≡ None → other_end links link.other ≡ None
-    → ((r : NodePort) → across s.peers r ≡ other_end links r) → (r : NodePort) → across (cabled_at s link.one link.other).peers r ≡ other_end (links ++ link ∷ []) r
+    → ((r : NodePort) → across s.peers r ≡ other_end links r) → (r : NodePort) → across (cabled_at s link.one link.other).peers r
+    ≡ other_end (links ++ link ∷ []) r
 unfolding cabled_at
 link_added links link s is hp hq free_p free_q cables r =
     let p : NodePort = link.one in
@@ -193,12 +201,14 @@ link_added links link s is hp hq free_p free_q cables r =
             ∙ sym (other_end-append links link q None free_q ∙ (cond-false _ _ _ (not_port p q np) ∙ cond-true _ _ _ (same_port-refl q)))) np
         | inr nq ↦ across_other s is p q true (Some q) (Some p) ends r np nq
             ∙ (cables r ∙ sym (other_end-append links link r (other_end links r) refl
-            ∙ (ap (λ none. if is_none (other_end links r) then none else other_end links r) (cond-false _ _ _ (not_port p r np) ∙ cond-false _ _ _ (not_port q r nq)) ∙ keep (other_end links r))))
+            ∙ (ap (λ none. if is_none (other_end links r) then none else other_end links r) (cond-false _ _ _ (not_port p r np)
+            ∙ cond-false _ _ _ (not_port q r nq)) ∙ keep (other_end links r))))
       ]
     ]
 
 -- the ports into which a cable can go stay
-pub joined_ports : (s : Simulation) (p q : NodePort) → IsSimulation s → has_cable_port s.agents p ≡ true → has_cable_port s.agents q ≡ true → (r : NodePort) → has_cable_port (cabled_at s p q).agents r ≡ has_cable_port s.agents r
+pub joined_ports : (s : Simulation) (p q : NodePort) → IsSimulation s → has_cable_port s.agents p ≡ true → has_cable_port s.agents q ≡ true → (r : NodePort)
+    → has_cable_port (cabled_at s p q).agents r ≡ has_cable_port s.agents r
 unfolding cabled_at
 joined_ports s p q is hp hq r = cable_ports_stay s.agents _ (keeps_both s is p q true (Some q) (Some p) (joined_ends s p q hp hq)) r
 
@@ -227,7 +237,8 @@ next_link t i link is at =
     }
 
 -- a link of a walk over the links
-pub link_at : (t : Layout) (links : List Cable) (i : ℕ) (link : Cable) → links ≡ t.links → i < length links → link ≡ get_or links i link → Some link ≡ slice_get t.links i
+pub link_at : (t : Layout) (links : List Cable) (i : ℕ) (link : Cable) → links ≡ t.links → i < length links → link ≡ get_or links i link → Some link
+    ≡ slice_get t.links i
 link_at t links i link same within is = sym (ap (λ ls. slice_get ls i) (sym same) ∙ slice_get_read links (length links) i link refl within is)
 
 -- the links so far are in
@@ -278,9 +289,11 @@ module _ (t : Layout) (first i : ℕ) (s : Simulation) (link : Cable) (so_far : 
         valid = subst IsSimulation (sym e) (joined_is s link.one link.other so_far.valid one_port other_port one_free other_free);
         built = e ∙ (ap (λ w. cabled_at w link.one link.other) so_far.built
             ∙ (sym (cabled-append (take i t.links) link (uncabled t.nodes first)) ∙ ap (λ ls. cabled ls (uncabled t.nodes first)) (sym next.more)));
-        ports = λ p. ap (λ (w : Simulation). has_cable_port w.agents p) e ∙ (joined_ports s link.one link.other so_far.valid one_port other_port p ∙ so_far.ports p);
+        ports = λ p. ap (λ (w : Simulation). has_cable_port w.agents p) e
+            ∙ (joined_ports s link.one link.other so_far.valid one_port other_port p ∙ so_far.ports p);
         cables = λ p. ap (λ (w : Simulation). across w.peers p) e
-            ∙ (link_added (take i t.links) link s so_far.valid one_port other_port next.one_free next.other_free so_far.cables p ∙ ap (λ ls. other_end ls p) (sym next.more));
+            ∙ (link_added (take i t.links) link s so_far.valid one_port other_port next.one_free next.other_free so_far.cables p
+            ∙ ap (λ ls. other_end ls p) (sym next.more));
       }
 
 -- the nodes so far have their agents and their lists
@@ -290,8 +303,10 @@ pub record NodesIn (t : Layout) (agents : List Agent) (peers : List (List (Optio
   pub made : agents ≡ map new_agent (take (length agents) t.nodes)
   pub listed : peers ≡ map no_peers (take (length agents) t.nodes)
 
-pub nodes_in_more : (t : Layout) (agents now : List Agent) (peers listed : List (List (Option NodePort))) (node : Node) (agent : Agent) (row : List (Option NodePort)) → NodesIn t agents peers
-    → slice_get t.nodes (length agents) ≡ Some node → agent ≡ new_agent node → row ≡ no_peers node → now ≡ agents ++ agent ∷ [] → listed ≡ peers ++ row ∷ [] → NodesIn t now listed
+pub nodes_in_more : (t : Layout) (agents now : List Agent) (peers listed : List (List (Option NodePort))) (node : Node) (agent : Agent)
+    (row : List (Option NodePort)) → NodesIn t agents peers
+    → slice_get t.nodes (length agents) ≡ Some node → agent ≡ new_agent node → row ≡ no_peers node → now ≡ agents ++ agent ∷ [] → listed ≡ peers ++ row ∷ []
+    → NodesIn t now listed
 nodes_in_more t agents now peers listed node agent row so_far at is_agent is_row more_agents more_peers =
     let within : length agents < length t.nodes = slice_get_within t.nodes (length agents) node at in
     let count : length now ≡ length agents + 1 = ap length more_agents ∙ length_push agents agent in
@@ -308,7 +323,8 @@ nodes_in_more t agents now peers listed node agent row so_far at is_agent is_row
     }
 
 -- all nodes are in
-pub all_nodes : (t : Layout) (agents : List Agent) (peers : List (List (Option NodePort))) (first : ℕ) → NodesIn t agents peers → slice_get t.nodes (length agents) ≡ None
+pub all_nodes : (t : Layout) (agents : List Agent) (peers : List (List (Option NodePort))) (first : ℕ) → NodesIn t agents peers
+    → slice_get t.nodes (length agents) ≡ None
     → ◌≡◌ {A = Simulation} (record { agents = agents; peers = peers; flights = []; next = first }) (uncabled t.nodes first)
 all_nodes t agents peers first so_far none =
     let past : length t.nodes ≤ length agents = by t.nodes (length agents) none in
@@ -321,7 +337,8 @@ all_nodes t agents peers first so_far none =
     by (x ∷ xs) zero e = cc
     by (x ∷ xs) (suc i) e = let h = by xs i e in omega arith
 
-pub all_nodes_are : (t : Layout) (agents : List Agent) (peers : List (List (Option NodePort))) (first : ℕ) → NodesIn t agents peers → slice_get t.nodes (length agents) ≡ None → first < 2 ^ 64
+pub all_nodes_are : (t : Layout) (agents : List Agent) (peers : List (List (Option NodePort))) (first : ℕ) → NodesIn t agents peers
+    → slice_get t.nodes (length agents) ≡ None → first < 2 ^ 64
     → IsSimulation (record { agents = agents; peers = peers; flights = []; next = first })
 all_nodes_are t agents peers first so_far none fits =
     subst IsSimulation (sym (all_nodes t agents peers first so_far none)) (uncabled_is t.nodes first so_far.topology.few so_far.topology.nodes fits)

@@ -106,7 +106,8 @@ module _ {start s : Simulation} (along : IsAlong start s) (is : IsSimulation s) 
 
   module _ (answer : List ℕ) (says : agents.Says a p.port answer) where
     port_said : number_in attribute_id answer ≡ port_info
-        → SaysPort (fabric_of start) p.node (node_of a) (port_asked (node_of a) (number_in attribute_modifier answer) p.port) (bits_in port_state (bytes_in attribute_data answer))
+        → SaysPort (fabric_of start) p.node (node_of a) (port_asked (node_of a) (number_in attribute_modifier answer) p.port)
+        (bits_in port_state (bytes_in attribute_data answer))
     port_said e =
         let said = says.port e in
         let port_is = meant_is a (number_in attribute_modifier answer) p.port said.port said.meant in

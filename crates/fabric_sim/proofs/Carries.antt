@@ -41,7 +41,8 @@ module _ {start : Simulation} (cables : AreCables start) (counts : (id : ℕ) �
   pub deliveries_hand_up : (n : ℕ) → HandsUpOnCourse start (after_deliver s n).result
   deliveries_hand_up n = deliveries_hand_up_traced AnySends (SaysSo start) cables counts c.along c.is c.flights n
 
-  pub injections_carry : (p : NodePort) (packet : Packet) → (is_seat_at s p ≡ true → IsOnCourse start p packet.bytes) → Carries start (after_inject s p packet).fabric
+  pub injections_carry : (p : NodePort) (packet : Packet) → (is_seat_at s p ≡ true → IsOnCourse start p packet.bytes)
+      → Carries start (after_inject s p packet).fabric
   injections_carry p packet on =
       record {
         along = along_call keep s (Inject p packet) c.along;

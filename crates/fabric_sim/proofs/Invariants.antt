@@ -36,10 +36,15 @@ can_wait_after s t whereabouts keeps can =
       seat = λ h. seats_stay s.agents t.agents keeps _ (can.seat h);
     }
 
-waiting-after : (s t : Simulation) → AllRelated KeepsSeats s.agents t.agents → t.flights ≡ s.flights → t.next ≡ s.next → All (IsWaiting s) s.flights → All (IsWaiting t) t.flights
+waiting-after : (s t : Simulation) → AllRelated KeepsSeats s.agents t.agents → t.flights ≡ s.flights → t.next ≡ s.next → All (IsWaiting s) s.flights
+    → All (IsWaiting t) t.flights
 waiting-after s t keeps same next waiting =
     subst (All (IsWaiting t)) (sym same)
-    (All-weaker (IsWaiting s) (IsWaiting t) (λ f w. record { whereabouts = can_wait_after s t f.whereabouts keeps w.whereabouts; given = subst (λ n. f.serial < n) (sym next) w.given }) s.flights waiting)
+    (All-weaker (IsWaiting s) (IsWaiting t) (λ f w. record {
+      whereabouts = can_wait_after s t f.whereabouts keeps w.whereabouts;
+      given =
+          subst (λ n. f.serial < n) (sym next) w.given;
+    }) s.flights waiting)
 
 -- with other agents and other cables, whose ends stand in the same ports
 pub recabled : (s : Simulation) (agents : List Agent) (peers : List (List (Option NodePort))) → IsSimulation s
@@ -79,8 +84,10 @@ seats-of xs ys keeps id = by (slice_get xs id) (slice_get ys id) (keeps id)
     by (Some a) (Some b) h = h.seats
 
 -- with other agents, of which the same ports are down
-pub with_agents : (s : Simulation) (agents : List Agent) → IsSimulation s → length agents ≡ length s.agents → All IsAgent agents → AllRelated KeepsDown s.agents agents
-    → ((p : NodePort) → option_map_or (λ a. has_seat a p.port) (slice_get agents p.node) false ≡ true → has_cable_port s.agents p ≡ true) → IsSimulation (record s { agents = agents })
+pub with_agents : (s : Simulation) (agents : List Agent) → IsSimulation s → length agents ≡ length s.agents → All IsAgent agents
+    → AllRelated KeepsDown s.agents agents
+    → ((p : NodePort) → option_map_or (λ a. has_seat a p.port) (slice_get agents p.node) false ≡ true → has_cable_port s.agents p ≡ true)
+    → IsSimulation (record s { agents = agents })
 with_agents s agents is count all keeps sits =
     recabled s agents s.peers is count all (seats-of s.agents agents keeps) sits refl (λ id. refl) is.cables.ends is.cables.lead_back
     (λ p b e port.
@@ -92,7 +99,8 @@ with_agents s agents is count all keeps sits =
 -- where packets change ---------------------------------------------------------------------
 
 -- one packet more
-pub with_flight_is : (s : Simulation) (whereabouts : Whereabouts) (packet : Packet) → IsSimulation s → CanWait s whereabouts → s.next < 2 ^ 64 → IsSimulation (with_flight s whereabouts packet)
+pub with_flight_is : (s : Simulation) (whereabouts : Whereabouts) (packet : Packet) → IsSimulation s → CanWait s whereabouts → s.next < 2 ^ 64
+    → IsSimulation (with_flight s whereabouts packet)
 with_flight_is s whereabouts packet is can left =
     let flight : Flight = record { serial = s.next; whereabouts = whereabouts; packet = packet } in
     let t : Simulation = with_flight s whereabouts packet in
@@ -102,7 +110,11 @@ with_flight_is s whereabouts packet is can left =
       seats = is.seats;
       cables = record { lists = is.cables.lists; fit = is.cables.fit; ends = is.cables.ends; lead_back = is.cables.lead_back; down = is.cables.down };
       waiting = All-push (IsWaiting t) s.flights flight
-          (All-weaker (IsWaiting s) (IsWaiting t) (λ f w. record { whereabouts = record { port = w.whereabouts.port; seat = w.whereabouts.seat }; given = let g = w.given in omega arith }) s.flights is.waiting)
+          (All-weaker (IsWaiting s) (IsWaiting t) (λ f w. record {
+            whereabouts = record { port = w.whereabouts.port; seat = w.whereabouts.seat };
+            given =
+                let g = w.given in omega arith;
+          }) s.flights is.waiting)
           (record { whereabouts = record { port = can.port; seat = can.seat }; given = omega arith });
       rising = all_pairs_push (λ x y. x.serial < y.serial) s.flights flight is.rising (λ k d h. (is.waiting k d h).given);
       next = omega arith;
@@ -118,7 +130,11 @@ without_is s serial is =
       seats = is.seats;
       cables = record { lists = is.cables.lists; fit = is.cables.fit; ends = is.cables.ends; lead_back = is.cables.lead_back; down = is.cables.down };
       waiting = All-filter (λ f. not (is_numbered serial f)) (IsWaiting t) s.flights
-          (All-weaker (IsWaiting s) (IsWaiting t) (λ f w. record { whereabouts = record { port = w.whereabouts.port; seat = w.whereabouts.seat }; given = w.given }) s.flights is.waiting);
+          (All-weaker (IsWaiting s) (IsWaiting t) (λ f w. record {
+            whereabouts = record { port = w.whereabouts.port; seat = w.whereabouts.seat };
+            given =
+                w.given;
+          }) s.flights is.waiting);
       rising = AllPairs-filter (λ x y. x.serial < y.serial) (λ f. not (is_numbered serial f)) s.flights is.rising;
       next = is.next;
     }
@@ -159,7 +175,8 @@ rising-moved new (f ∷ fs) rising =
     (subst (λ n. All (λ g. n < g.serial) (with_moved fs new)) (sym (moved-serial new f)) (above-moved f.serial new fs (rising-head f fs rising)))
     (rising-moved new fs (rising-tail f fs rising))
 
-pub moved_to_is : (s : Simulation) (serial : ℕ) (whereabouts : Whereabouts) (packet : Packet) → IsSimulation s → CanWait s whereabouts → IsSimulation (moved_to s serial whereabouts packet)
+pub moved_to_is : (s : Simulation) (serial : ℕ) (whereabouts : Whereabouts) (packet : Packet) → IsSimulation s → CanWait s whereabouts
+    → IsSimulation (moved_to s serial whereabouts packet)
 moved_to_is s serial whereabouts packet is can =
     let new : Flight = record { serial = serial; whereabouts = whereabouts; packet = packet } in
     let t : Simulation = moved_to s serial whereabouts packet in
@@ -168,7 +185,11 @@ moved_to_is s serial whereabouts packet is can =
       agents = is.agents;
       seats = is.seats;
       cables = record { lists = is.cables.lists; fit = is.cables.fit; ends = is.cables.ends; lead_back = is.cables.lead_back; down = is.cables.down };
-      waiting = All-weaker (IsWaiting s) (IsWaiting t) (λ f w. record { whereabouts = record { port = w.whereabouts.port; seat = w.whereabouts.seat }; given = w.given }) (with_moved s.flights new)
+      waiting = All-weaker (IsWaiting s) (IsWaiting t) (λ f w. record {
+        whereabouts = record { port = w.whereabouts.port; seat = w.whereabouts.seat };
+        given =
+            w.given;
+      }) (with_moved s.flights new)
           (waiting-moved s new s.flights can is.waiting);
       rising = rising-moved new s.flights is.rising;
       next = is.next;
@@ -189,7 +210,8 @@ adapter_at s id a e h =
 -- the calls ----------------------------------------------------------------------------
 
 -- a request is answered
-pub asked_is : (s : Simulation) (flight : Flight) (request : List ℕ) (slid dlid : ℕ) → IsSimulation s → CanWait s flight.whereabouts → s.next < 2 ^ 64 → IsSimulation (asked s flight request slid dlid)
+pub asked_is : (s : Simulation) (flight : Flight) (request : List ℕ) (slid dlid : ℕ) → IsSimulation s → CanWait s flight.whereabouts → s.next < 2 ^ 64
+    → IsSimulation (asked s flight request slid dlid)
 asked_is s flight request slid dlid is can left =
     let p : NodePort = port_of flight.whereabouts in
     let change : Agent → Agent = λ a. (after_answer a request p.port).agent in
@@ -206,25 +228,33 @@ asked_is s flight request slid dlid is can left =
     (can_wait_after s told (answer_whereabouts flight.whereabouts) (seats-of s.agents agents keeps) (answer-can-wait s flight.whereabouts can)) left
 
 -- who sits at another port than one that is taken
-seat-before : (agents : List Agent) (p q : NodePort) → p ≢ q → option_map_or (λ a. has_seat a q.port) (slice_get (with_changed agents p.node (λ a. after_set_seat a p.port)) q.node) false ≡ true → option_map_or (λ a. has_seat a q.port) (slice_get agents q.node) false ≡ true
+seat-before : (agents : List Agent) (p q : NodePort) → p ≢ q
+    → option_map_or (λ a. has_seat a q.port) (slice_get (with_changed agents p.node (λ a. after_set_seat a p.port)) q.node) false ≡ true
+    → option_map_or (λ a. has_seat a q.port) (slice_get agents q.node) false ≡ true
 seat-before agents p q ne h =
     elim (cases_eq p.node q.node) [
       | inr n ↦ sym (ap (λ m. option_map_or (λ a. has_seat a q.port) m false) (others_stay agents p.node q.node (λ a. after_set_seat a p.port) n)) ∙ h
       | inl n ↦ subst (λ k. option_map_or (λ a. has_seat a q.port) (slice_get agents k) false ≡ true) n
           (by n (slice_get agents p.node) refl
-          (subst (λ k. option_map_or (λ a. has_seat a q.port) (slice_get (with_changed agents p.node (λ a. after_set_seat a p.port)) k) false ≡ true) (sym n) h))
+          (subst (λ k. option_map_or (λ a. has_seat a q.port) (slice_get (with_changed agents p.node (λ a. after_set_seat a p.port)) k) false
+          ≡ true) (sym n) h))
     ]
   where
-    by : p.node ≡ q.node → (m : Option Agent) → slice_get agents p.node ≡ m → option_map_or (λ a. has_seat a q.port) (slice_get (with_changed agents p.node (λ a. after_set_seat a p.port)) p.node) false ≡ true → option_map_or (λ a. has_seat a q.port) (slice_get agents p.node) false ≡ true
+    by : p.node ≡ q.node → (m : Option Agent) → slice_get agents p.node ≡ m
+        → option_map_or (λ a. has_seat a q.port) (slice_get (with_changed agents p.node (λ a. after_set_seat a p.port)) p.node) false ≡ true
+        → option_map_or (λ a. has_seat a q.port) (slice_get agents p.node) false ≡ true
     by n None e k =
-        let unchanged : with_changed agents p.node (λ a. after_set_seat a p.port) ≡ agents = ap (λ m. option_map_or (λ a. slice_set agents p.node (after_set_seat a p.port)) m agents) e in
+        let unchanged : with_changed agents p.node (λ a. after_set_seat a p.port) ≡ agents =
+        ap (λ m. option_map_or (λ a. slice_set agents p.node (after_set_seat a p.port)) m agents) e in
         sym (ap (λ xs. option_map_or (λ a. has_seat a q.port) (slice_get xs p.node) false) unchanged) ∙ k
     by n (Some a) e k =
-        let now : has_seat (after_set_seat a p.port) q.port ≡ true = sym (ap (λ m. option_map_or (λ a. has_seat a q.port) m false) (changed_at_id agents p.node a (λ a. after_set_seat a p.port) e)) ∙ k in
+        let now : has_seat (after_set_seat a p.port) q.port ≡ true =
+        sym (ap (λ m. option_map_or (λ a. has_seat a q.port) m false) (changed_at_id agents p.node a (λ a. after_set_seat a p.port) e)) ∙ k in
         ap (λ m. option_map_or (λ a. has_seat a q.port) m false) e ∙ (sym (seat-seated_other a p.port q.port (λ m. ports_differ p q ne n (sym m))) ∙ now)
 
 -- a manager sits at a port of an adapter
-pub seated_is : (s : Simulation) (p : NodePort) → IsSimulation s → has_cable_port s.agents p ≡ true → is_switch_at (fabric_of s) p.node ≡ false → IsSimulation (changed_at s p after_set_seat)
+pub seated_is : (s : Simulation) (p : NodePort) → IsSimulation s → has_cable_port s.agents p ≡ true → is_switch_at (fabric_of s) p.node ≡ false
+    → IsSimulation (changed_at s p after_set_seat)
 seated_is s p is port adapter =
     let change : Agent → Agent = λ a. after_set_seat a p.port in
     with_agents s (with_changed s.agents p.node change) is (length-changed s.agents p.node change)

@@ -37,21 +37,24 @@ has_list peers p slot =
     ]
 
 -- what was written is read
-pub across_here : (peers : List (List (Option NodePort))) (p : NodePort) (other : Option NodePort) → HasPeerSlot peers p → across (with_peer peers p other) p ≡ other
+pub across_here : (peers : List (List (Option NodePort))) (p : NodePort) (other : Option NodePort) → HasPeerSlot peers p → across (with_peer peers p other) p
+    ≡ other
 across_here peers p other slot =
     let row : List (Option NodePort) = set (get_or peers p.node []) p.port other in
     ap (λ xs. get_or xs p.port None) (get_or-set_same peers p.node row [] (has_list peers p slot))
     ∙ get_or-set_same (get_or peers p.node []) p.port other None slot
 
 -- at any other port it is as it was
-pub across_apart : (peers : List (List (Option NodePort))) (p q : NodePort) (other : Option NodePort) → p ≢ q → across (with_peer peers p other) q ≡ across peers q
+pub across_apart : (peers : List (List (Option NodePort))) (p q : NodePort) (other : Option NodePort) → p ≢ q → across (with_peer peers p other) q
+    ≡ across peers q
 across_apart peers p q other ne =
     let row : List (Option NodePort) = set (get_or peers p.node []) p.port other in
     elim (cases_eq p.node q.node) [
       | inr n ↦ ap (λ xs. get_or xs q.port None) (get_or-set_other peers p.node q.node row [] (λ e. n (sym e)))
       | inl n ↦ elim (cases_lt p.node (length peers)) [
         | inr past ↦ ap (λ all. get_or (get_or all q.node []) q.port None) (set_past peers p.node row past)
-        | inl lt ↦ let here : get_or (set peers p.node row) q.node [] ≡ row = subst (λ k. get_or (set peers p.node row) k [] ≡ row) n (get_or-set_same peers p.node row [] lt) in
+        | inl lt ↦ let here : get_or (set peers p.node row) q.node [] ≡ row =
+            subst (λ k. get_or (set peers p.node row) k [] ≡ row) n (get_or-set_same peers p.node row [] lt) in
             let old : get_or peers p.node [] ≡ get_or peers q.node [] = ap (λ k. get_or peers k []) n in
             ap (λ xs. get_or xs q.port None) here
             ∙ (get_or-set_other (get_or peers p.node []) p.port q.port other None (λ e. ports_differ p q ne n (sym e)) ∙ ap (λ xs. get_or xs q.port None) old)
@@ -59,14 +62,16 @@ across_apart peers p q other ne =
     ]
 
 -- each list is as long as it was
-pub length-row : (peers : List (List (Option NodePort))) (p : NodePort) (other : Option NodePort) (node : ℕ) → length (get_or (with_peer peers p other) node []) ≡ length (get_or peers node [])
+pub length-row : (peers : List (List (Option NodePort))) (p : NodePort) (other : Option NodePort) (node : ℕ) → length (get_or (with_peer peers p other) node [])
+    ≡ length (get_or peers node [])
 length-row peers p other node =
     let row : List (Option NodePort) = set (get_or peers p.node []) p.port other in
     elim (cases_eq p.node node) [
       | inr n ↦ ap length (get_or-set_other peers p.node node row [] (λ e. n (sym e)))
       | inl n ↦ elim (cases_lt p.node (length peers)) [
         | inr past ↦ ap (λ all. length (get_or all node [])) (set_past peers p.node row past)
-        | inl lt ↦ let here : get_or (set peers p.node row) node [] ≡ row = subst (λ k. get_or (set peers p.node row) k [] ≡ row) n (get_or-set_same peers p.node row [] lt) in
+        | inl lt ↦ let here : get_or (set peers p.node row) node [] ≡ row =
+            subst (λ k. get_or (set peers p.node row) k [] ≡ row) n (get_or-set_same peers p.node row [] lt) in
             ap length here ∙ (length-set (get_or peers p.node []) p.port other ∙ ap (λ k. length (get_or peers k [])) n)
       ]
     ]
@@ -76,5 +81,6 @@ pub length-with_peer : (peers : List (List (Option NodePort))) (p : NodePort) (o
 length-with_peer peers p other = length-set peers p.node (set (get_or peers p.node []) p.port other)
 
 -- a slot stays
-pub has_slot_after : (peers : List (List (Option NodePort))) (p q : NodePort) (other : Option NodePort) → HasPeerSlot peers q → HasPeerSlot (with_peer peers p other) q
+pub has_slot_after : (peers : List (List (Option NodePort))) (p q : NodePort) (other : Option NodePort) → HasPeerSlot peers q
+    → HasPeerSlot (with_peer peers p other) q
 has_slot_after peers p q other slot = let n = length-row peers p other q.node in omega arith

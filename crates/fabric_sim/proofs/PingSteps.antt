@@ -33,7 +33,8 @@ module _ (f : Fabric) (lid hops bound : ℕ) (s : Standing) (result : Ping) (goe
       let next : NodePort → Ping = λ into. ping_on f lid left.0 (hops + 1) (arrived_at into) in
       ap (λ m. option_map_or next m (Lost s.at.node)) k ∙ (ap (ping_by f s hops next) e ∙ goes (suc left.0) left.1)
 
-  pub goes_on : (out into : NodePort) → LeavesBy out ≡ course f lid s → Some into ≡ f.across out → (left : ℕ) → hops + 1 + left ≡ bound → ping_on f lid left (hops + 1) (arrived_at into) ≡ result
+  pub goes_on : (out into : NodePort) → LeavesBy out ≡ course f lid s → Some into ≡ f.across out → (left : ℕ) → hops + 1 + left ≡ bound
+      → ping_on f lid left (hops + 1) (arrived_at into) ≡ result
   goes_on out into e k left n =
       let next : NodePort → Ping = λ into. ping_on f lid left (hops + 1) (arrived_at into) in
       ap (λ m. option_map_or next m (Lost s.at.node)) k ∙ (ap (ping_by f s hops next) e ∙ goes (suc left) (omega arith))
@@ -66,8 +67,10 @@ pub record Counted (f : Fabric) (lid hops count : ℕ) (s : Standing) (target : 
   pub way : WayOn f lid more s target
 
 module _ (f : Fabric) (lid : ℕ) where
-  way_by : (left hops : ℕ) (s : Standing) (target : NodePort) (count : ℕ) → ((into : NodePort) → ping_on f lid left (hops + 1) (arrived_at into) ≡ Reached target count → Counted f lid (hops + 1) count (arrived_at into) target)
-      → (c : Course) → course f lid s ≡ c → ping_by f s hops (λ into. ping_on f lid left (hops + 1) (arrived_at into)) c ≡ Reached target count → Counted f lid hops count s target
+  way_by : (left hops : ℕ) (s : Standing) (target : NodePort) (count : ℕ)
+      → ((into : NodePort) → ping_on f lid left (hops + 1) (arrived_at into) ≡ Reached target count → Counted f lid (hops + 1) count (arrived_at into) target)
+      → (c : Course) → course f lid s ≡ c → ping_by f s hops (λ into. ping_on f lid left (hops + 1) (arrived_at into)) c ≡ Reached target count
+      → Counted f lid hops count s target
   way_by left hops s target count rest Drops e k = cc
   way_by left hops s target count rest (Delivers p) e k =
       let same : p ≡ target = cc in
@@ -75,33 +78,58 @@ module _ (f : Fabric) (lid : ℕ) where
       record { more = 0; count_is = omega arith; way = record { hops = []; long = refl; end = s; goes = refl; delivers = e ∙ ap (λ q. Delivers q) same } }
   way_by left hops s target count rest (LeavesBy out) e k = on (f.across out) refl k
     where
-      on : (m : Option NodePort) → f.across out ≡ m → option_map_or (λ into. ping_on f lid left (hops + 1) (arrived_at into)) m (Lost s.at.node) ≡ Reached target count → Counted f lid hops count s target
+      on : (m : Option NodePort) → f.across out ≡ m → option_map_or (λ into. ping_on f lid left (hops + 1) (arrived_at into)) m (Lost s.at.node)
+          ≡ Reached target count → Counted f lid hops count s target
       on None g k = cc
       on (Some into) g k =
           let later = rest into k in
           let n : count ≡ hops + 1 + later.more = later.count_is in
           let way = later.way in
-          record { more = suc later.more; count_is = omega arith; way = record { hops = record { out = out; into = into } ∷ way.hops; long = ap suc way.long; end = way.end; goes = (e, g, way.goes); delivers = way.delivers } }
+          record {
+            more = suc later.more;
+            count_is = omega arith;
+            way =
+                record {
+                  hops = record { out = out; into = into } ∷ way.hops;
+                  long = ap suc way.long;
+                  end = way.end;
+                  goes = (e, g, way.goes);
+                  delivers =
+                      way.delivers;
+                };
+          }
 
-  pub way_on : (left hops : ℕ) (s : Standing) (target : NodePort) (count : ℕ) → ping_on f lid left hops s ≡ Reached target count → Counted f lid hops count s target
+  pub way_on : (left hops : ℕ) (s : Standing) (target : NodePort) (count : ℕ) → ping_on f lid left hops s ≡ Reached target count
+      → Counted f lid hops count s target
   way_on zero hops s target count h = cc
-  way_on (suc left) hops s target count h = way_by left hops s target count (λ into k. way_on left (hops + 1) (arrived_at into) target count k) (course f lid s) refl h
+  way_on (suc left) hops s target count h =
+      way_by left hops s target count (λ into k. way_on left (hops + 1) (arrived_at into) target count k) (course f lid s) refl h
 
   longer : (P : Type 0) (n m : ℕ) → P ⊎ (n ≡ m) → P ⊎ (suc n ≡ suc m)
   longer P n m (inl p) = inl p
   longer P n m (inr e) = inr (ap suc e)
 
-  lost_by : (left hops : ℕ) (s : Standing) (id : ℕ) → ((into : NodePort) → ping_on f lid left (hops + 1) (arrived_at into) ≡ Lost id → WayLost f lid left (arrived_at into) id)
-      → (c : Course) → course f lid s ≡ c → ping_by f s hops (λ into. ping_on f lid left (hops + 1) (arrived_at into)) c ≡ Lost id → WayLost f lid (suc left) s id
+  lost_by : (left hops : ℕ) (s : Standing) (id : ℕ) → ((into : NodePort) → ping_on f lid left (hops + 1) (arrived_at into) ≡ Lost id
+      → WayLost f lid left (arrived_at into) id)
+      → (c : Course) → course f lid s ≡ c → ping_by f s hops (λ into. ping_on f lid left (hops + 1) (arrived_at into)) c ≡ Lost id
+      → WayLost f lid (suc left) s id
   lost_by left hops s id rest Drops e k = record { hops = []; end = s; goes = refl; there = cc; lost = inl (inl e) }
   lost_by left hops s id rest (Delivers p) e k = cc
   lost_by left hops s id rest (LeavesBy out) e k = on (f.across out) refl k
     where
-      on : (m : Option NodePort) → f.across out ≡ m → option_map_or (λ into. ping_on f lid left (hops + 1) (arrived_at into)) m (Lost s.at.node) ≡ Lost id → WayLost f lid (suc left) s id
+      on : (m : Option NodePort) → f.across out ≡ m → option_map_or (λ into. ping_on f lid left (hops + 1) (arrived_at into)) m (Lost s.at.node) ≡ Lost id
+          → WayLost f lid (suc left) s id
       on None g k = record { hops = []; end = s; goes = refl; there = cc; lost = inl (inr (out, e, g)) }
       on (Some into) g k =
           let way = rest into k in
-          record { hops = record { out = out; into = into } ∷ way.hops; end = way.end; goes = (e, g, way.goes); there = way.there; lost = longer (IsStuck f lid way.end) (length way.hops) left way.lost }
+          record {
+            hops = record { out = out; into = into } ∷ way.hops;
+            end = way.end;
+            goes = (e, g, way.goes);
+            there = way.there;
+            lost =
+                longer (IsStuck f lid way.end) (length way.hops) left way.lost;
+          }
 
   pub way_lost : (left hops : ℕ) (s : Standing) (id : ℕ) → ping_on f lid left hops s ≡ Lost id → WayLost f lid left s id
   way_lost zero hops s id h = record { hops = []; end = s; goes = refl; there = cc; lost = inr refl }

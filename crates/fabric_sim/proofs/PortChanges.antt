@@ -13,7 +13,8 @@ abbrev pub state_by : Bool → PortState
 state_by is_wired = if is_wired then Initialize else Down
 
 -- who sits, where what is written at a port says the same
-seats-set : (ports : List Port) (at q : ℕ) (new absent : Port) → new.is_sm ≡ (get_or ports at absent).is_sm → (get_or (set ports at new) q absent).is_sm ≡ (get_or ports q absent).is_sm
+seats-set : (ports : List Port) (at q : ℕ) (new absent : Port) → new.is_sm ≡ (get_or ports at absent).is_sm → (get_or (set ports at new) q absent).is_sm
+    ≡ (get_or ports q absent).is_sm
 seats-set [] at q new absent e = refl
 seats-set (x ∷ xs) zero zero new absent e = e
 seats-set (x ∷ xs) zero (suc q) new absent e = refl
@@ -21,7 +22,8 @@ seats-set (x ∷ xs) (suc at) zero new absent e = refl
 seats-set (x ∷ xs) (suc at) (suc q) new absent e = seats-set xs at q new absent e
 
 -- the states, likewise
-states-set : (ports : List Port) (at q : ℕ) (new absent : Port) → new.state ≡ (get_or ports at absent).state → (get_or (set ports at new) q absent).state ≡ (get_or ports q absent).state
+states-set : (ports : List Port) (at q : ℕ) (new absent : Port) → new.state ≡ (get_or ports at absent).state → (get_or (set ports at new) q absent).state
+    ≡ (get_or ports q absent).state
 states-set [] at q new absent e = refl
 states-set (x ∷ xs) zero zero new absent e = e
 states-set (x ∷ xs) zero (suc q) new absent e = refl
@@ -29,7 +31,8 @@ states-set (x ∷ xs) (suc at) zero new absent e = refl
 states-set (x ∷ xs) (suc at) (suc q) new absent e = states-set xs at q new absent e
 
 -- a manager more
-seats-more : (ports : List Port) (at q : ℕ) (new absent : Port) → new.is_sm ≡ true → (get_or ports q absent).is_sm ≡ true → (get_or (set ports at new) q absent).is_sm ≡ true
+seats-more : (ports : List Port) (at q : ℕ) (new absent : Port) → new.is_sm ≡ true → (get_or ports q absent).is_sm ≡ true
+    → (get_or (set ports at new) q absent).is_sm ≡ true
 seats-more [] at q new absent e h = h
 seats-more (x ∷ xs) zero zero new absent e h = e
 seats-more (x ∷ xs) zero (suc q) new absent e h = h
@@ -47,10 +50,12 @@ no_new_seats-wired a port is_wired =
     record { seats = λ q h. sym (seats-set a.ports port q (record (port_at a port) { state = state_by is_wired }) (port_in Down) refl) ∙ h }
 
 pub state-wired : (a : Agent) (port : ℕ) (is_wired : Bool) → port < length a.ports → state_at (after_set_wired a port is_wired) port ≡ state_by is_wired
-state-wired a port is_wired within = ap (λ p. p.state) (get_or-set_same a.ports port (record (port_at a port) { state = state_by is_wired }) (port_in Down) within)
+state-wired a port is_wired within =
+    ap (λ p. p.state) (get_or-set_same a.ports port (record (port_at a port) { state = state_by is_wired }) (port_in Down) within)
 
 pub state-wired_other : (a : Agent) (port q : ℕ) (is_wired : Bool) → q ≢ port → state_at (after_set_wired a port is_wired) q ≡ state_at a q
-state-wired_other a port q is_wired ne = ap (λ p. p.state) (get_or-set_other a.ports port q (record (port_at a port) { state = state_by is_wired }) (port_in Down) ne)
+state-wired_other a port q is_wired ne =
+    ap (λ p. p.state) (get_or-set_other a.ports port q (record (port_at a port) { state = state_by is_wired }) (port_in Down) ne)
 
 pub is_agent-wired : (a : Agent) (port : ℕ) (is_wired : Bool) → 1 ≤ port → IsAgent a → IsAgent (after_set_wired a port is_wired)
 is_agent-wired a port is_wired least is = agents_are_made.wired a port is_wired is least

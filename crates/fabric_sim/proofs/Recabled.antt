@@ -36,7 +36,8 @@ all-wired agents p b port all =
     let at = at_agent agents p port in
     all_changed IsAgent agents p.node (λ a. after_set_wired a p.port b) all (λ a e h. is_agent-wired a p.port b at.least h)
 
-state-here : (agents : List Agent) (p : NodePort) (b : Bool) → All IsAgent agents → has_cable_port agents p ≡ true → state_of (wired_at agents p b) p ≡ state_by b
+state-here : (agents : List Agent) (p : NodePort) (b : Bool) → All IsAgent agents → has_cable_port agents p ≡ true → state_of (wired_at agents p b) p
+    ≡ state_by b
 state-here agents p b all port =
     let at = at_agent agents p port in
     let is : IsAgent at.agent = all_at IsAgent agents p.node at.agent all at.there in
@@ -46,10 +47,12 @@ state-here agents p b all port =
     ∙ state-wired at.agent p.port b (omega arith)
 
 -- at another port of the node
-state-beside : (agents : List Agent) (p : NodePort) (port : ℕ) (b : Bool) → port ≢ p.port → state_of (wired_at agents p b) (record { node = p.node; port = port }) ≡ state_of agents (record { node = p.node; port = port })
+state-beside : (agents : List Agent) (p : NodePort) (port : ℕ) (b : Bool) → port ≢ p.port
+    → state_of (wired_at agents p b) (record { node = p.node; port = port }) ≡ state_of agents (record { node = p.node; port = port })
 state-beside agents p port b ne = by (slice_get agents p.node) refl
   where
-    by : (m : Option Agent) → slice_get agents p.node ≡ m → state_of (wired_at agents p b) (record { node = p.node; port = port }) ≡ state_of agents (record { node = p.node; port = port })
+    by : (m : Option Agent) → slice_get agents p.node ≡ m → state_of (wired_at agents p b) (record { node = p.node; port = port })
+        ≡ state_of agents (record { node = p.node; port = port })
     by None e =
         let unchanged : wired_at agents p b ≡ agents = ap (λ m. option_map_or (λ a. slice_set agents p.node (after_set_wired a p.port b)) m agents) e in
         ap (λ xs. state_of xs (record { node = p.node; port = port })) unchanged
@@ -120,7 +123,8 @@ module _ (s : Simulation) (is : IsSimulation s) (p q : NodePort) (b : Bool) (at_
   state-other r np nq = state-apart (wired_at s.agents p b) q r b nq ∙ state-apart s.agents p r b np
 
   pub keeps_both : AllRelated KeepsSeats s.agents agents_now
-  keeps_both id = by (slice_get s.agents id) (slice_get (wired_at s.agents p b) id) (slice_get agents_now id) (keeps_wired s.agents p b id) (keeps_wired (wired_at s.agents p b) q b id)
+  keeps_both id = by (slice_get s.agents id) (slice_get (wired_at s.agents p b) id) (slice_get agents_now id) (keeps_wired s.agents p b id)
+      (keeps_wired (wired_at s.agents p b) q b id)
     where
       by : (l m n : Option Agent) → Related KeepsSeats l m → Related KeepsSeats m n → Related KeepsSeats l n
       by None None None h k = tt
@@ -160,13 +164,16 @@ module _ (s : Simulation) (is : IsSimulation s) (p q : NodePort) (b : Bool) (at_
         ]
       ]
 
-  pub ends_written : ((r t : NodePort) → across peers_now r ≡ Some t → across peers_now t ≡ Some r) → IsSimulation (record s { agents = agents_now; peers = peers_now })
+  pub ends_written : ((r t : NodePort) → across peers_now r ≡ Some t → across peers_now t ≡ Some r)
+      → IsSimulation (record s { agents = agents_now; peers = peers_now })
   ends_written back =
       recabled s agents_now peers_now is
       (length-changed (wired_at s.agents p b) q.node (λ a. after_set_wired a q.port b) ∙ length-changed s.agents p.node (λ a. after_set_wired a p.port b))
       (all-wired (wired_at s.agents p b) q b q_port_then (all-wired s.agents p b ends.p_port is.agents))
       keeps_both
-      (λ r h. is.seats r (seats_before s.agents (wired_at s.agents p b) (no-new s.agents p b) r (seats_before (wired_at s.agents p b) agents_now (no-new (wired_at s.agents p b) q b) r h)))
+      (λ r h. is.seats r
+      (seats_before s.agents (wired_at s.agents p b) (no-new s.agents p b) r
+      (seats_before (wired_at s.agents p b) agents_now (no-new (wired_at s.agents p b) q b) r h)))
       (length-with_peer (with_peer s.peers p at_p) q at_q ∙ length-with_peer s.peers p at_p)
       (λ id. length-row (with_peer s.peers p at_p) q at_q id ∙ length-row s.peers p at_p id)
       cabled-now back
@@ -183,7 +190,8 @@ pub joined_ends : (s : Simulation) (p q : NodePort) → has_cable_port s.agents 
 joined_ends s p q hp hq =
     record { p_port = hp; q_port = hq; loop = λ e. cc; down_p = (λ d. cc, λ d. cc); down_q = (λ d. cc, λ d. cc) }
 
-pub joined_is : (s : Simulation) (p q : NodePort) → IsSimulation s → has_cable_port s.agents p ≡ true → has_cable_port s.agents q ≡ true → across s.peers p ≡ None → across s.peers q ≡ None → IsSimulation (cabled_at s p q)
+pub joined_is : (s : Simulation) (p q : NodePort) → IsSimulation s → has_cable_port s.agents p ≡ true → has_cable_port s.agents q ≡ true → across s.peers p
+    ≡ None → across s.peers q ≡ None → IsSimulation (cabled_at s p q)
 unfolding cabled_at
 joined_is s p q is hp hq free_p free_q =
     let ends : Ends s p q true (Some q) (Some p) = joined_ends s p q hp hq in

@@ -73,7 +73,8 @@ without-above serial (x ∷ xs) above =
     cond-true _ _ _ (not_from_false _ (numbered-other x serial (λ e. omega arith)))
     ∙ ap (λ rest. x ∷ rest) (without-above serial xs (above-tail serial x xs above))
 
-pub without_at : (flights : List Flight) (i : ℕ) (f : Flight) → AreRising flights → slice_get flights i ≡ Some f → without_flight flights f.serial ≡ remove flights i
+pub without_at : (flights : List Flight) (i : ℕ) (f : Flight) → AreRising flights → slice_get flights i ≡ Some f → without_flight flights f.serial
+    ≡ remove flights i
 without_at [] i f rising at = cc
 without_at (x ∷ xs) zero f rising at =
     let e : x ≡ f = cc in
@@ -94,7 +95,8 @@ moved-above moved (x ∷ xs) above =
     let here : (if is_numbered moved.serial x then moved else x) ≡ x = cond-false _ _ _ (numbered-other x moved.serial (λ e. omega arith)) in
     let rest : with_moved xs moved ≡ xs = moved-above moved xs (above-tail moved.serial x xs above) in cc
 
-pub moved_at : (flights : List Flight) (i : ℕ) (moved f : Flight) → AreRising flights → slice_get flights i ≡ Some f → f.serial ≡ moved.serial → with_moved flights moved ≡ slice_set flights i moved
+pub moved_at : (flights : List Flight) (i : ℕ) (moved f : Flight) → AreRising flights → slice_get flights i ≡ Some f → f.serial ≡ moved.serial
+    → with_moved flights moved ≡ slice_set flights i moved
 moved_at [] i moved f rising at same = cc
 moved_at (x ∷ xs) zero moved f rising at same =
     let e : x ≡ f = cc in
@@ -157,7 +159,8 @@ level a b e = by (nat_cmp a b) e (ranked a b _ refl)
 ranks_rise : (a b serial : ℕ) → a ≤ b → ordering_index (nat_cmp a serial) ≤ ordering_index (nat_cmp b serial)
 ranks_rise a b serial le = by (nat_cmp a serial) (nat_cmp b serial) (ranked a serial _ refl) (ranked b serial _ refl)
   where
-    by : (r t : Ordering) → MatchOrdering r (a < serial) (a ≡ serial) (serial < a) → MatchOrdering t (b < serial) (b ≡ serial) (serial < b) → ordering_index r ≤ ordering_index t
+    by : (r t : Ordering) → MatchOrdering r (a < serial) (a ≡ serial) (serial < a) → MatchOrdering t (b < serial) (b ≡ serial) (serial < b) → ordering_index r
+        ≤ ordering_index t
     by Less Less h k = omega arith
     by Less Equal h k = omega arith
     by Less Greater h k = omega arith
@@ -174,7 +177,8 @@ rising-ranks flights serial rising i j d le within =
       | inl lt ↦ let below : (get_or flights i d).serial < (get_or flights j d).serial = rising i j d lt within in
           ranks_rise (get_or flights i d).serial (get_or flights j d).serial serial (omega arith)
       | inr ge ↦ let same : i ≡ j = omega arith in
-          subst (λ k. ordering_index (nat_cmp (get_or flights i d).serial serial) ≤ ordering_index (nat_cmp (get_or flights k d).serial serial)) same (omega arith)
+          subst (λ k. ordering_index (nat_cmp (get_or flights i d).serial serial)
+          ≤ ordering_index (nat_cmp (get_or flights k d).serial serial)) same (omega arith)
     ]
 
 -- what a search by serial number answers

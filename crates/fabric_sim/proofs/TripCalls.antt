@@ -67,7 +67,8 @@ module _ (keep : KeepAgents) {start : Simulation} where
         next = along.next;
       })
 
-  pub along_brought : (s : Simulation) (flight : Flight) (o : Outcome) → flight.serial < s.next → IsAlong start s → IsAlong start (after_outcome s flight o).fabric
+  pub along_brought : (s : Simulation) (flight : Flight) (o : Outcome) → flight.serial < s.next → IsAlong start s
+      → IsAlong start (after_outcome s flight o).fabric
   along_brought s flight (Moves whereabouts packet) given along =
       record {
         nodes = along.nodes;
@@ -121,7 +122,8 @@ module _ (keep : KeepAgents) {start : Simulation} where
           record {
             nodes = nodes_changed s.agents p.node (λ a. after_set_seat a p.port) (λ a. refl) ∙ along.nodes;
             peers = along.peers;
-            agents = agents_changed s.agents p.node (λ a. after_set_seat a p.port) along.agents (λ a there is. keep.seated_is a p.port is (no_switch a e there));
+            agents = agents_changed s.agents p.node (λ a. after_set_seat a p.port) along.agents
+                (λ a there is. keep.seated_is a p.port is (no_switch a e there));
             given = along.given;
             next = along.next;
           }

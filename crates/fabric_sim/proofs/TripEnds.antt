@@ -178,7 +178,11 @@ module _ {start : Simulation} {origin end : NodePort} {path request : List ℕ} 
       (passed (number_in field.attribute_id bytes == sm_info && is_seat_at s (port_of o.flight.whereabouts)) _ _ _
       (ap (λ b. b && is_seat_at s (port_of o.flight.whereabouts)) no_business) refl)
 
-  turned_is : after_deliver s n ≡ record { fabric = asked s o.flight bytes o.flight.packet.slid o.flight.packet.dlid; result = Ok (delivered_is.Answered s.next) }
+  turned_is : after_deliver s n ≡ record {
+    fabric = asked s o.flight bytes o.flight.packet.slid o.flight.packet.dlid;
+    result =
+        Ok (delivered_is.Answered s.next);
+  }
   unfolding after_deliver
   turned_is =
       ap (delivered_flight s) o.there
@@ -259,7 +263,8 @@ module _ {start : Simulation} {origin end : NodePort} {path request : List ℕ} 
     told : ToldSame (after_answer agent bytes end.port).packet (after_answer agent request end.port).packet
     told = told_same agent bytes request end.port is_agent whole_bytes whole asks_the_same
 
-    answer_holds : HoldsAnswer bytes answer (status_told (after_request agent bytes end.port).told) (payload_told (after_request agent bytes end.port).told bytes)
+    answer_holds : HoldsAnswer bytes answer (status_told (after_request agent bytes end.port).told)
+        (payload_told (after_request agent bytes end.port).told bytes)
     unfolding answer
     answer_holds = answers_hold agent bytes end.port is_agent whole_bytes
 

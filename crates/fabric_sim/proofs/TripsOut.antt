@@ -36,7 +36,8 @@ may_go_over s whereabouts q wire = by_seat (not (is_at_seat whereabouts))
     by_seat false = refl
 
 -- a directed packet makes one step
-pub outcome_directed : (s : Simulation) (whereabouts : Whereabouts) (packet : Packet) → fault_of packet.bytes ≡ None → MayGo s whereabouts → is_directed packet.bytes ≡ true
+pub outcome_directed : (s : Simulation) (whereabouts : Whereabouts) (packet : Packet) → fault_of packet.bytes ≡ None → MayGo s whereabouts
+    → is_directed packet.bytes ≡ true
     → outcome_of s whereabouts packet ≡ directed_outcome s (port_of whereabouts) packet
 unfolding outcome_of
 outcome_directed s whereabouts packet parses up directed =

@@ -67,13 +67,15 @@ module _ (f : Fabric) (origin : NodePort) (path : List ℕ) where
 
   from_walk : (k : ℕ) (q : NodePort) (front : List ℕ) (out : ℕ) → length front ≡ k
       → directed_end f origin (front ++ out ∷ []) ≡ Some q
-      → (p : NodePort) × (directed_end f origin front ≡ Some p) × (f.across (record { node = p.node; port = out }) ≡ Some q) × (0 < k → is_switch_at f p.node ≡ true)
+      → (p : NodePort) × (directed_end f origin front ≡ Some p) × (f.across (record { node = p.node; port = out }) ≡ Some q)
+      × (0 < k → is_switch_at f p.node ≡ true)
   from_walk k q [] out long walk =
       (origin, refl, sym (on_from_end f origin [] out origin refl (λ some. absurd (omega arith))) ∙ walk, λ some. absurd (omega (arith, long, some)))
   from_walk k q (first ∷ front) out long walk = by_end (directed_end f origin (first ∷ front)) refl
     where
       by_end : (m : Option NodePort) → directed_end f origin (first ∷ front) ≡ m
-          → (p : NodePort) × (directed_end f origin (first ∷ front) ≡ Some p) × (f.across (record { node = p.node; port = out }) ≡ Some q) × (0 < k → is_switch_at f p.node ≡ true)
+          → (p : NodePort) × (directed_end f origin (first ∷ front) ≡ Some p) × (f.across (record { node = p.node; port = out }) ≡ Some q)
+          × (0 < k → is_switch_at f p.node ≡ true)
       by_end None e =
           absurd (cc (sym (walks_go_on f origin first front out ∙ ap (option_and_then (on_by f out)) e) ∙ walk))
       by_end (Some p) e =
@@ -81,7 +83,8 @@ module _ (f : Fabric) (origin : NodePort) (path : List ℕ) where
           by_switch (is_switch_at f p.node) refl crossed
         where
           by_switch : (b : Bool) → is_switch_at f p.node ≡ b → on_by f out p ≡ Some q
-              → (p : NodePort) × (directed_end f origin (first ∷ front) ≡ Some p) × (f.across (record { node = p.node; port = out }) ≡ Some q) × (0 < k → is_switch_at f p.node ≡ true)
+              → (p : NodePort) × (directed_end f origin (first ∷ front) ≡ Some p) × (f.across (record { node = p.node; port = out }) ≡ Some q)
+              × (0 < k → is_switch_at f p.node ≡ true)
           by_switch true s crossed = (p, e, sym (ap (λ b. cond b (f.across (record { node = p.node; port = out })) None) s) ∙ crossed, λ some. s)
           by_switch false s crossed = absurd (cc (sym (ap (λ b. cond b (f.across (record { node = p.node; port = out })) None) s) ∙ crossed))
 

@@ -11,7 +11,14 @@ use Rattle.fabric_sim.specs.Changes.{cabled_at}
 
 -- its description is the node's name, with zeros after it
 abbrev pub agent_node : Node → AgentNode
-agent_node node = record { guid = node.guid; kind = node.kind; ports = node.ports; cap = node.cap; description = node.name ++ replicate (64 - length node.name) 0 }
+agent_node node = record {
+  guid = node.guid;
+  kind = node.kind;
+  ports = node.ports;
+  cap = node.cap;
+  description =
+      node.name ++ replicate (64 - length node.name) 0;
+}
 
 abbrev pub new_agent : Node → Agent
 new_agent node = fresh_agent (agent_node node)

@@ -55,7 +55,8 @@ with_peer peers p other = slice_set peers p.node (slice_set (slice_index_or peer
 
 -- a port with a cable put into it or taken out
 abbrev pub with_end : Simulation → NodePort → Option NodePort → Simulation
-with_end s p other = record (changed_at s p (λ a port. after_set_wired a port (is_some other))) { peers = with_peer s.peers p other }
+with_end s p other =
+    record (changed_at s p (λ a port. after_set_wired a port (is_some other))) { peers = with_peer s.peers p other }
 
 -- with a cable between two ports, or a loop in one
 unfoldable pub cabled_at : Simulation → NodePort → NodePort → Simulation

@@ -81,7 +81,8 @@ directed_outcome s p packet =
 -- at the port that it is for it is handed up or answered; the answer's addresses are those of the request exchanged
 abbrev pub arrived : Simulation → NodePort → Packet → Outcome
 arrived s p packet =
-    if is_response packet.bytes || is_for_manager s p packet.bytes then HandsUp packet else Asks packet.bytes packet.dlid packet.slid
+    if is_response packet.bytes
+    || is_for_manager s p packet.bytes then HandsUp packet else Asks packet.bytes packet.dlid packet.slid
 
 abbrev pub by_course : Simulation → NodePort → Packet → Course → Outcome
 by_course s p packet (course_is.Delivers q) = arrived s p packet
@@ -90,7 +91,8 @@ by_course s p packet course_is.Drops = Drops NoRoute
 
 abbrev pub lid_routed_outcome : Simulation → Whereabouts → Packet → Outcome
 lid_routed_outcome s whereabouts packet =
-    by_course s (port_of whereabouts) packet (course (fabric_of s) packet.dlid (record { at = port_of whereabouts; by_wire = is_by_wire whereabouts }))
+    by_course s (port_of whereabouts) packet
+    (course (fabric_of s) packet.dlid (record { at = port_of whereabouts; by_wire = is_by_wire whereabouts }))
 
 -- any packet: it has to parse, and where it came by a wire or is an answer that was made there, its port has to be up
 unfoldable pub outcome_of : Simulation → Whereabouts → Packet → Outcome
@@ -131,11 +133,20 @@ with_changed agents id change = option_map_or (λ a. slice_set agents id (change
 -- one packet more, under the next serial number
 abbrev pub with_flight : Simulation → Whereabouts → Packet → Simulation
 with_flight s whereabouts packet =
-    record s { flights = s.flights ++ record { serial = s.next; whereabouts = whereabouts; packet = packet } ∷ []; next = s.next + 1 }
+    record s {
+      flights = s.flights ++ record { serial = s.next; whereabouts = whereabouts; packet = packet }
+          ∷ [];
+      next = s.next + 1;
+    }
 
 -- the same as a call, where a serial number is left
 abbrev pub after_enqueue : Simulation → Whereabouts → Packet → Called ℕ
-after_enqueue s whereabouts packet = if s.next == 2 ^ 64 then refused s SerialsSpent else record { fabric = with_flight s whereabouts packet; result = Ok s.next }
+after_enqueue s whereabouts packet =
+    if s.next == 2 ^ 64 then refused s SerialsSpent else record {
+      fabric = with_flight s whereabouts packet;
+      result =
+          Ok s.next;
+    }
 
 -- without the packet of a number
 abbrev pub without : Simulation → ℕ → Simulation
@@ -143,7 +154,8 @@ without s serial = record s { flights = without_flight s.flights serial }
 
 -- the packet at other whereabouts
 abbrev pub moved_to : Simulation → ℕ → Whereabouts → Packet → Simulation
-moved_to s serial whereabouts packet = record s { flights = with_moved s.flights (record { serial = serial; whereabouts = whereabouts; packet = packet }) }
+moved_to s serial whereabouts packet =
+    record s { flights = with_moved s.flights (record { serial = serial; whereabouts = whereabouts; packet = packet }) }
 
 -- what the agent at a port answers to a request
 abbrev pub answer_at : Simulation → NodePort → List ℕ → List ℕ
@@ -153,17 +165,32 @@ answer_at s p bytes = option_map_or (λ a. (after_answer a bytes p.port).packet)
 abbrev pub asked : Simulation → Flight → List ℕ → ℕ → ℕ → Simulation
 asked s flight request slid dlid =
     let p = port_of flight.whereabouts in
-    let told = record (without s flight.serial) { agents = with_changed s.agents p.node (λ a. (after_answer a request p.port).agent) } in
-    with_flight told (answer_whereabouts flight.whereabouts) (record { bytes = answer_at s p request; slid = slid; dlid = dlid })
+    let told = record (without s flight.serial) {
+      agents =
+          with_changed s.agents p.node (λ a. (after_answer a request p.port).agent);
+    } in
+    with_flight told (answer_whereabouts flight.whereabouts) (record {
+      bytes = answer_at s p request;
+      slid =
+          slid;
+      dlid = dlid;
+    })
 
 -- the packet fares so; an answer needs a serial number of its own
 abbrev pub after_outcome : Simulation → Flight → Outcome → Called Delivered
-after_outcome s flight (Moves whereabouts packet) = record { fabric = moved_to s flight.serial whereabouts packet; result = Ok (delivered_is.Moved flight.serial) }
+after_outcome s flight (Moves whereabouts packet) =
+    record { fabric = moved_to s flight.serial whereabouts packet; result = Ok (delivered_is.Moved flight.serial) }
 after_outcome s flight (Asks request slid dlid) =
     if s.next == 2 ^ 64 then refused s SerialsSpent
     else record { fabric = asked s flight request slid dlid; result = Ok (delivered_is.Answered s.next) }
-after_outcome s flight (HandsUp packet) = record { fabric = without s flight.serial; result = Ok (delivered_is.ToManager (port_of flight.whereabouts) packet) }
-after_outcome s flight (Drops reason) = record { fabric = without s flight.serial; result = Ok (delivered_is.Discarded reason) }
+after_outcome s flight (HandsUp packet) =
+    record {
+      fabric = without s flight.serial;
+      result =
+          Ok (delivered_is.ToManager (port_of flight.whereabouts) packet);
+    }
+after_outcome s flight (Drops reason) =
+    record { fabric = without s flight.serial; result = Ok (delivered_is.Discarded reason) }
 
 abbrev pub delivered_flight : Simulation → Option Flight → Called Delivered
 delivered_flight s None = refused s NoSuchPacket

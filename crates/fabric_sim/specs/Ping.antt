@@ -22,7 +22,8 @@ ping_by f s hops on Drops = Lost s.at.node
 -- the same, where it may take so many wires more, after which it is lost where it is
 abbrev pub ping_on : Fabric → ℕ → ℕ → ℕ → Standing → Ping
 ping_on f lid zero hops s = Lost s.at.node
-ping_on f lid (suc left) hops s = ping_by f s hops (λ into. ping_on f lid left (hops + 1) (arrived_at into)) (course f lid s)
+ping_on f lid (suc left) hops s =
+    ping_by f s hops (λ into. ping_on f lid left (hops + 1) (arrived_at into)) (course f lid s)
 
 -- a packet for a LID, sent from a port
 abbrev pub ping : Fabric → ℕ → NodePort → Ping
@@ -38,11 +39,12 @@ pub record DeliversOver (f : Fabric) (lid : ℕ) (source target : NodePort) (cou
   pub length : length hops ≡ count
   pub delivered : IsDelivered f lid source hops target
 
--- what a ping tells is so: a packet that reaches a port is delivered there over so many wires, and one that is lost at a
--- node is lost there
+-- what a ping tells is so: a packet that reaches a port is delivered there over so many wires, and one that is lost at
+-- a node is lost there
 abbrev pub PingsTell : Type 0
 PingsTell = (f : Fabric) (lid : ℕ) (source : NodePort)
-    → ((target : NodePort) (count : ℕ) → ping f lid source ≡ Reached target count → DeliversOver f lid source target count)
+    → ((target : NodePort) (count : ℕ) → ping f lid source ≡ Reached target count
+    → DeliversOver f lid source target count)
     × ((id : ℕ) → ping f lid source ≡ Lost id → (hops : List Hop) × IsLost f lid source hops id)
 
 -- and what is so a ping finds: a packet that is delivered, at that port and over that many wires

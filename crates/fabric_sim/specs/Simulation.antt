@@ -10,8 +10,8 @@ use Rattle.fabric_sim.specs.declared.flight.Whereabouts.TheVariants.{Seat, Arriv
 use Rattle.fabric_sim.specs.declared.flight.Flight.{Flight}
 
 -- The agents by the ids of their nodes; for each node the other ends of the cables in its ports, from port 0 on, in
--- which no cable can be; the packets in flight, by rising serial number; and the serial number that is given next, 2 ^ 64
--- where none is left.
+-- which no cable can be; the packets in flight, by rising serial number; and the serial number that is given next, 2 ^
+-- 64 where none is left.
 pub record Simulation : Type 0 where
   pub agents : List Agent
   pub peers : List (List (Option NodePort))
@@ -34,7 +34,8 @@ port_count s id = option_map_or (λ a. a.node.ports) (agent_at s id) 0
 
 -- a port from 1 to its node's count, into which a cable can go
 abbrev pub has_cable_port : List Agent → NodePort → Bool
-has_cable_port agents p = nat_le 1 p.port && nat_le p.port (option_map_or (λ a. a.node.ports) (slice_get agents p.node) 0)
+has_cable_port agents p =
+    nat_le 1 p.port && nat_le p.port (option_map_or (λ a. a.node.ports) (slice_get agents p.node) 0)
 
 abbrev pub is_cable_port : Simulation → NodePort → Bool
 is_cable_port s p = has_cable_port s.agents p
@@ -128,7 +129,8 @@ FitsPorts s = (id : ℕ) (a : Agent) → agent_at s id ≡ Some a → length (sl
 -- a port from 1 on is down exactly where no cable is in it
 abbrev pub AreUncabledDown : Simulation → Type 0
 AreUncabledDown s =
-    (p : NodePort) (a : Agent) → agent_at s p.node ≡ Some a → is_cable_port s p ≡ true → (state_at a p.port ≡ Down) ↔ (across s.peers p ≡ None)
+    (p : NodePort) (a : Agent) → agent_at s p.node ≡ Some a → is_cable_port s p ≡ true → (state_at a p.port ≡ Down)
+    ↔ (across s.peers p ≡ None)
 
 -- the cables in ports
 pub record AreCables (s : Simulation) : Type 0 where

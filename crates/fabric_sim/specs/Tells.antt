@@ -1,5 +1,5 @@
--- What a packet that came back over a directed route says of the node at the end of its path.
--- InfiniBand Architecture Specification, Volume 1: subnet management, NodeInfo, PortInfo and SwitchInfo; directed route SMPs.
+-- What a packet that came back over a directed route says of the node at the end of its path. InfiniBand Architecture
+-- Specification, Volume 1: subnet management, NodeInfo, PortInfo and SwitchInfo; directed route SMPs.
 use Rattle.std.specs.Prelude.{◌≡◌, ◌↔◌, ◌⊎◌, ℕ, ◌≤◌, true, List, Some, if◌then◌else◌}
 use Rattle.fabric_model.specs.declared.cable.NodePort.{NodePort}
 use Rattle.smp_bytes.specs.Header.{node_info, switch_info, port_info, done}
@@ -28,7 +28,8 @@ pub record SaysNode (node : Node) (port : ℕ) (info : NodeInfo) : Type 0 where
 
 -- a port is up where a cable is in it; a switch's port 0 always is
 abbrev pub IsUp : Fabric → ℕ → Node → ℕ → Type 0
-IsUp f id node port = ((is_switch node.kind ≡ true) × (port ≡ 0)) ⊎ ((far : NodePort) × (f.across (record { node = id; port = port }) ≡ Some far))
+IsUp f id node port = ((is_switch node.kind ≡ true) × (port ≡ 0))
+    ⊎ ((far : NodePort) × (f.across (record { node = id; port = port }) ≡ Some far))
 
 -- the number of a port state that is up: Initialize, Armed or Active
 abbrev pub IsUpState : ℕ → Type 0
@@ -53,10 +54,13 @@ pub record SaysSwitch (node : Node) (entries : ℕ) : Type 0 where
 pub record SaysOf (f : Fabric) (at : NodePort) (packet : List ℕ) : Type 0 where
   pub node : Node
   pub there : IsNodeAt f at.node node
-  pub node_info : number_in attribute_id packet ≡ node_info → SaysNode node at.port (node_info_in (bytes_in attribute_data packet))
+  pub node_info : number_in attribute_id packet ≡ node_info
+      → SaysNode node at.port (node_info_in (bytes_in attribute_data packet))
   pub port_info : number_in attribute_id packet ≡ port_info
-      → SaysPort f at.node node (port_asked node (number_in attribute_modifier packet) at.port) (bits_in port_state (bytes_in attribute_data packet))
-  pub switch_info : number_in attribute_id packet ≡ switch_info → SaysSwitch node (number_in linear_fdb_cap (bytes_in attribute_data packet))
+      → SaysPort f at.node node (port_asked node (number_in attribute_modifier packet) at.port)
+      (bits_in port_state (bytes_in attribute_data packet))
+  pub switch_info : number_in attribute_id packet ≡ switch_info
+      → SaysSwitch node (number_in linear_fdb_cap (bytes_in attribute_data packet))
 
 -- handed up at a port: its path leads somewhere from there, and what it says with status 0 is so at the end of it
 pub record TellsOfEnd (f : Fabric) (at : NodePort) (packet : List ℕ) : Type 0 where

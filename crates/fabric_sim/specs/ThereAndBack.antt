@@ -59,15 +59,17 @@ pub record ComesHome (s : Simulation) (serial : ℕ) (at : NodePort) (path reque
   pub result : (after_deliver s serial).result ≡ Ok (delivered_is.ToManager at packet)
   pub answer : IsAnswerOver path request told packet.bytes
 
--- Whatever else is called, as long as no cable changes and the packet is not lost: the delivery after as many as the path
--- has ports is the one that the agent at the path's end answers; and the answer, if it is not lost, is handed up by the
--- delivery after as many again, at the port that the request was sent from.
+-- Whatever else is called, as long as no cable changes and the packet is not lost: the delivery after as many as the
+-- path has ports is the one that the agent at the path's end answers; and the answer, if it is not lost, is handed up
+-- by the delivery after as many again, at the port that the request was sent from.
 abbrev pub ThereAndBack : Type 0
 ThereAndBack =
     (s : Simulation) (origin end : NodePort) (method attribute modifier tid : ℕ) (path payload : List ℕ)
     → IsSimulation s → is_seat_at s origin ≡ true → s.next < 2 ^ 64
-    → FitsRequest method attribute modifier tid payload → method < 2 ^ 7 → attribute ≢ sm_info → All (λ byte. byte < 2 ^ 8) payload
-    → length path ≤ max_hops → All (λ port. port < 2 ^ 8) path → BeginsWith origin.port path → directed_end (fabric_of s) origin path ≡ Some end
+    → FitsRequest method attribute modifier tid payload → method < 2 ^ 7 → attribute ≢ sm_info
+    → All (λ byte. byte < 2 ^ 8) payload
+    → length path ≤ max_hops → All (λ port. port < 2 ^ 8) path → BeginsWith origin.port path
+    → directed_end (fabric_of s) origin path ≡ Some end
     → (there back : List Call) →
     let request = directed method attribute modifier tid path payload in
     let sent = (after_inject s origin (directed_packet request)).fabric in
@@ -75,4 +77,5 @@ ThereAndBack =
     let turned = (after_deliver arrived s.next).fabric in
     Deliver there s.next (length path) → arrived.next < 2 ^ 64
     → (agent : Agent) × IsAnsweredAt arrived s.next request end agent
-    × (Deliver back arrived.next (length path) → ComesHome (after_calls back turned) arrived.next origin path request (after_answer agent request end.port).packet)
+    × (Deliver back arrived.next (length path)
+    → ComesHome (after_calls back turned) arrived.next origin path request (after_answer agent request end.port).packet)

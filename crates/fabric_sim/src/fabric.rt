@@ -28,9 +28,21 @@ impl Model for Fabric {
 
     ghost Value = { Simulation };
 
-    ghost view = { λ f. record { agents = f.agents.items; peers = f.peers.items; flights = f.flights.items; next = next_serial f.next } };
+    ghost view = { λ f. record {
+      agents = f.agents.items;
+      peers = f.peers.items;
+      flights = f.flights.items;
+      next =
+          next_serial f.next;
+    } };
 
-    ghost invariant = { λ f. IsSimulation (record { agents = f.agents.items; peers = f.peers.items; flights = f.flights.items; next = next_serial f.next }) };
+    ghost invariant = { λ f. IsSimulation (record {
+      agents = f.agents.items;
+      peers = f.peers.items;
+      flights = f.flights.items;
+      next =
+          next_serial f.next;
+    }) };
 }
 
 impl Fabric {

@@ -98,8 +98,8 @@ impl Fabric {
         Ok(())
     }
 
-    /// Copies the packet in flight that has the serial number: the copy waits at the same whereabouts, and its own serial
-    /// number is given.
+    /// Copies the packet in flight that has the serial number: the copy waits at the same whereabouts, and its own
+    /// serial number is given.
     ///
     /// # Errors
     ///

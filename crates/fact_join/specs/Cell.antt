@@ -25,4 +25,6 @@ joined_alike same (Disputed generation) b = Disputed generation
 
 -- the newer of the two, and at one generation what both say
 abbrev pub joined_by : {V : Type 0} → (V → V → Bool) → Cell V → Cell V → Cell V
-joined_by same a b = if nat_lt (generation_of b) (generation_of a) then a else (if nat_lt (generation_of a) (generation_of b) then b else joined_alike same a b)
+joined_by same a b =
+    if nat_lt (generation_of b) (generation_of a) then a else
+    (if nat_lt (generation_of a) (generation_of b) then b else joined_alike same a b)

@@ -55,21 +55,28 @@ pub data JoinCase {V : Type 0} (same : V → V → Bool) (a b : Cell V) : Type 0
 -- one of the three cases holds
 pub join_case : {V : Type 0} (same : V → V → Bool) (a b : Cell V) → JoinCase same a b
 join_case same a b =
-    elim (nat_lt (generation_of b) (generation_of a)) as (λ t. nat_lt (generation_of b) (generation_of a) ≡ t → JoinCase same a b) [
-      | true ↦ λ p. first_newer (ltb-true _ _ p) (ap (λ t. cond t a (cond (nat_lt (generation_of a) (generation_of b)) b (joined_alike same a b))) p)
-      | false ↦ λ p. (elim (nat_lt (generation_of a) (generation_of b)) as (λ t. nat_lt (generation_of a) (generation_of b) ≡ t → JoinCase same a b) [
-        | true ↦ λ q. second_newer (ltb-true _ _ q) (ap (λ t. cond t a (cond (nat_lt (generation_of a) (generation_of b)) b (joined_alike same a b))) p
-            ∙ ap (λ t. cond t b (joined_alike same a b)) q)
-        | false ↦ λ q. alike (omega (arith, ltb-false _ _ p, ltb-false _ _ q))
-            (ap (λ t. cond t a (cond (nat_lt (generation_of a) (generation_of b)) b (joined_alike same a b))) p ∙ ap (λ t. cond t b (joined_alike same a b)) q)
-      ] refl)
+    elim (nat_lt (generation_of b) (generation_of a)) as (λ t. nat_lt (generation_of b) (generation_of a) ≡ t
+    → JoinCase same a b) [
+      | true ↦ λ p. first_newer (ltb-true _ _ p)
+          (ap (λ t. cond t a (cond (nat_lt (generation_of a) (generation_of b)) b (joined_alike same a b))) p)
+      | false ↦ λ p. (elim (nat_lt (generation_of a) (generation_of b)) as
+          (λ t. nat_lt (generation_of a) (generation_of b) ≡ t → JoinCase same a b) [
+            | true ↦ λ q. second_newer (ltb-true _ _ q)
+                (ap (λ t. cond t a (cond (nat_lt (generation_of a) (generation_of b)) b (joined_alike same a b))) p
+                ∙ ap (λ t. cond t b (joined_alike same a b)) q)
+            | false ↦ λ q. alike (omega (arith, ltb-false _ _ p, ltb-false _ _ q))
+                (ap (λ t. cond t a (cond (nat_lt (generation_of a) (generation_of b)) b (joined_alike same a b))) p
+                ∙ ap (λ t. cond t b (joined_alike same a b)) q)
+          ] refl)
     ] refl
 
-module _ {V : Type 0} (same : V → V → Bool) (exact : (x y : V) → same x y ≡ true → x ≡ y) (itself : (x : V) → same x x ≡ true) where
+module _ {V : Type 0} (same : V → V → Bool) (exact : (x y : V) → same x y ≡ true → x ≡ y) (itself : (x : V) → same x x
+    ≡ true) where
   -- at one generation the join is above the first
   alike_above_first : (a b : Cell V) → IsBelow a (joined_alike same a b)
   alike_above_first (Known g x) (Known h y) =
-      elim (same x y) as (λ t. IsBelow (Known g x) (cond t (Known g x) (Disputed g))) [ true ↦ inr (inl refl) | false ↦ inr (inr (refl, tt)) ]
+      elim (same x y) as (λ t. IsBelow (Known g x) (cond t (Known g x) (Disputed g)))
+      [ true ↦ inr (inl refl) | false ↦ inr (inr (refl, tt)) ]
   alike_above_first (Known g x) (Disputed h) = inr (inr (refl, tt))
   alike_above_first (Disputed g) b = inr (inl refl)
 
@@ -90,17 +97,20 @@ module _ {V : Type 0} (same : V → V → Bool) (exact : (x y : V) → same x y 
 
   -- the join keeps the generation
   generation-alike : (a b : Cell V) → generation_of (joined_alike same a b) ≡ generation_of a
-  generation-alike (Known g x) (Known h y) = elim (same x y) as (λ t. generation_of (cond t (Known g x) (Disputed g)) ≡ g) [ true ↦ refl | false ↦ refl ]
+  generation-alike (Known g x) (Known h y) =
+      elim (same x y) as (λ t. generation_of (cond t (Known g x) (Disputed g)) ≡ g) [ true ↦ refl | false ↦ refl ]
   generation-alike (Known g x) (Disputed h) = refl
   generation-alike (Disputed g) b = refl
 
   -- at one generation the join is below all that is above both
-  alike_least : (a b z : Cell V) → generation_of a ≡ generation_of b → IsBelow a z → IsBelow b z → IsBelow (joined_alike same a b) z
+  alike_least : (a b z : Cell V) → generation_of a ≡ generation_of b → IsBelow a z → IsBelow b z
+      → IsBelow (joined_alike same a b) z
   alike_least a b z e (inl h) k = inl (omega (arith, generation-alike a b))
   alike_least a b z e (inr (inr h)) k = inr (inr (generation-alike a b ∙ h.0, h.1))
   alike_least a b z e (inr (inl p)) (inl k) = absurd (omega (arith, ap generation_of p))
   alike_least a b z e (inr (inl p)) (inr (inr k)) = inr (inr (generation-alike a b ∙ e ∙ k.0, k.1))
-  alike_least a b z e (inr (inl p)) (inr (inl q)) = inr (inl (ap (λ x. joined_alike same x b) p ∙ ap (joined_alike same z) q ∙ alike_itself z))
+  alike_least a b z e (inr (inl p)) (inr (inl q)) =
+      inr (inl (ap (λ x. joined_alike same x b) p ∙ ap (joined_alike same z) q ∙ alike_itself z))
 
   -- the join is above the first
   pub joined_above_first : (a b : Cell V) → IsBelow a (joined_by same a b)

@@ -20,5 +20,6 @@ pub fn join_is_idempotent<T: Join>()
 
 /// The join is the one least value above both.
 pub fn join_is_unique<T: Join>()
-    ensures { (x y z : T) → T.below x z → T.below y z → ((w : T) → T.below x w → T.below y w → T.below z w) → z ≡ T.joined x y }
+    ensures { (x y z : T) → T.below x z → T.below y z → ((w : T) → T.below x w → T.below y w → T.below z w) → z
+        ≡ T.joined x y }
 {}

@@ -10,7 +10,8 @@ use Rattle.ibsm.specs.declared.opener.OpenFault.{OpenFault}
 use Rattle.ibsm.specs.declared.opener.OpenFault.TheVariants.{Memory}
 
 -- so many files were opened by the first names
-pub record FirstAreOpened {S : Type 0} (answers : List ℕ → Result S OpenFault → Type 0) (names : List (Bor (List ℕ))) (input : ℕ) (files : List S) : Type 0 where
+pub record FirstAreOpened {S : Type 0} (answers : List ℕ → Result S OpenFault
+    → Type 0) (names : List (Bor (List ℕ))) (input : ℕ) (files : List S) : Type 0 where
   pub one_each : length files ≡ input
   pub opened : (k : ℕ) (name : Bor (List ℕ)) (file : S) → slice_get names k ≡ Some name → slice_get files k ≡ Some file → answers name.now (Ok file)
 
@@ -20,7 +21,8 @@ AreHeld answers names true input files = FirstAreOpened answers names input file
 AreHeld answers names false input files = WasRefusedMemory answers names
 
 -- the first names were asked for
-pub record HaveAsked {S : Type 0} (answers : List ℕ → Result S OpenFault → Type 0) (names : List (Bor (List ℕ))) (has_memory : Bool) (input : ℕ) (files : List S) : Type 0 where
+pub record HaveAsked {S : Type 0} (answers : List ℕ → Result S OpenFault
+    → Type 0) (names : List (Bor (List ℕ))) (has_memory : Bool) (input : ℕ) (files : List S) : Type 0 where
   pub there : AreThere answers names input
   pub held : AreHeld answers names has_memory input files
 
@@ -56,7 +58,8 @@ held_more {S} answers names true input files name file at opened held = record {
 }
 
 -- one more was opened
-pub opened_more : {S : Type 0} (answers : List ℕ → Result S OpenFault → Type 0) (names : List (Bor (List ℕ))) (has_memory has_memory' : Bool) (input : ℕ) (files files' : List S)
+pub opened_more : {S : Type 0} (answers : List ℕ → Result S OpenFault
+    → Type 0) (names : List (Bor (List ℕ))) (has_memory has_memory' : Bool) (input : ℕ) (files files' : List S)
     (d : Bor (List ℕ)) (file : S) → input < length names → has_memory' ≡ has_memory → answers (get_or names input d).now (Ok file) → files' ≡ files ++ file ∷ []
     → HaveAsked answers names has_memory input files → HaveAsked answers names has_memory' (input + 1) files'
 opened_more {S} answers names has_memory has_memory' input files files' d file within e opened f h =
@@ -69,7 +72,8 @@ opened_more {S} answers names has_memory has_memory' input files files' d file w
     }
 
 -- or memory was refused for one more
-pub refused_more : {S : Type 0} (answers : List ℕ → Result S OpenFault → Type 0) (names : List (Bor (List ℕ))) (has_memory has_memory' : Bool) (input : ℕ) (files files' : List S)
+pub refused_more : {S : Type 0} (answers : List ℕ → Result S OpenFault
+    → Type 0) (names : List (Bor (List ℕ))) (has_memory has_memory' : Bool) (input : ℕ) (files files' : List S)
     (d : Bor (List ℕ)) (fault : OpenFault) → input < length names → has_memory' ≡ false → fault ≡ Memory → answers (get_or names input d).now (Err fault)
     → HaveAsked answers names has_memory input files → HaveAsked answers names has_memory' (input + 1) files'
 refused_more {S} answers names has_memory has_memory' input files files' d fault within e f refused h =
@@ -87,6 +91,7 @@ pub all_opened : {S : Type 0} (answers : List ℕ → Result S OpenFault → Typ
 all_opened answers names files h = record { one_each = h.held.one_each; opened = h.held.opened }
 
 -- an element was pushed
-pub pushed : {X E : Type 0} (r : Result (Unit {0}) E) (xs ys : List X) (x : X) → ys ≡ (if is_ok r then xs ++ x ∷ [] else xs) → is_err r ≡ false → ys ≡ xs ++ x ∷ []
+pub pushed : {X E : Type 0} (r : Result (Unit {0}) E) (xs ys : List X) (x : X) → ys ≡ (if is_ok r then xs ++ x ∷ [] else xs) → is_err r ≡ false → ys ≡ xs ++ x
+    ∷ []
 pushed (Ok u) xs ys x e h = e
 pushed (Err fault) xs ys x e h = absurd (cc)

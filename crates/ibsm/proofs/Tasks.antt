@@ -72,14 +72,16 @@ module _ (word : List ℕ → Option (List ℕ)) where
   no_next none (Run lmc rule) asks = words_differ (codes "next") (codes "run") refl refl asks.0
 
   -- what is none of these writes something of files, from a floor on
-  pub no_output : (command : List ℕ) → command ≢ codes "audit" → command ≢ codes "next" → command ≢ codes "run" → ((output : Output) → AsksOutput word command output → ⊥)
+  pub no_output : (command : List ℕ) → command ≢ codes "audit" → command ≢ codes "next" → command ≢ codes "run"
+      → ((output : Output) → AsksOutput word command output → ⊥)
       → (task : Task) → AsksTask word command task → ⊥
   no_output command audit next run none (Answer request) asks = none request.output asks.0
   no_output command audit next run none (Audit floor) asks = audit asks.0
   no_output command audit next run none (Next step) asks = next asks.0
   no_output command audit next run none (Run lmc rule) asks = run asks.0
 
-  pub no_floor : (command : List ℕ) → command ≢ codes "audit" → command ≢ codes "next" → command ≢ codes "run" → ((floor : ℕ) → IsFloor (word (codes "floor")) floor → ⊥)
+  pub no_floor : (command : List ℕ) → command ≢ codes "audit" → command ≢ codes "next" → command ≢ codes "run"
+      → ((floor : ℕ) → IsFloor (word (codes "floor")) floor → ⊥)
       → (task : Task) → AsksTask word command task → ⊥
   no_floor command audit next run none (Answer request) asks = none request.floor asks.1
   no_floor command audit next run none (Audit floor) asks = audit asks.0

@@ -17,7 +17,8 @@ found_values : (name : List ℕ) (es : List Entry)
     → option_map raw_values (option_map (λ e. e.1) (find (λ e. bytes_eq e.0.now name) es)) ≡ values_in name (map row_of es)
 found_values name [] = refl
 found_values name (e ∷ es) =
-    elim (bytes_eq e.0.now name) as (λ b. option_map raw_values (option_map (λ x. x.1) (if b then Some e else find (λ x. bytes_eq x.0.now name) es)) ≡ option_map (λ r. r.values) (if b then Some (row_of e) else find (λ r. bytes_eq r.id name) (map row_of es))) [
+    elim (bytes_eq e.0.now name) as (λ b. option_map raw_values (option_map (λ x. x.1) (if b then Some e else find (λ x. bytes_eq x.0.now name) es))
+    ≡ option_map (λ r. r.values) (if b then Some (row_of e) else find (λ r. bytes_eq r.id name) (map row_of es))) [
       | true ↦ refl
       | false ↦ found_values name es
     ]

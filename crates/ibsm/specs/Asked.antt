@@ -27,7 +27,9 @@ files_named matches = option_and_then (λ s. values_in (codes "FILE") s.1) (subc
 
 -- the word that is the argument with this name behind the subcommand
 abbrev pub word_named : ArgMatches → List ℕ → Option (List ℕ)
-word_named matches name = option_and_then (λ s. option_and_then (λ values. slice_get values 0) (values_in name s.1)) (subcommand_rows_of matches)
+word_named matches name =
+    option_and_then (λ s. option_and_then (λ values. slice_get values 0) (values_in name s.1))
+    (subcommand_rows_of matches)
 
 -- tasks -----------------------------------------------------------------------------------------
 
@@ -53,7 +55,8 @@ abbrev pub IsUpDown : Option (List ℕ) → Type 0
 IsUpDown None = Unit {0}
 IsUpDown (Some word) = word ≡ codes "updown"
 
--- the rule is the one that a word names, with the roots of a text where that is named, which the rule that spreads alone takes
+-- the rule is the one that a word names, with the roots of a text where that is named, which the rule that spreads
+-- alone takes
 abbrev pub IsRule : Option (List ℕ) → Option (List ℕ) → RuleAsked → Type 0
 IsRule routing roots UpDown = IsUpDown routing × (roots ≡ None)
 IsRule routing roots Spread = (routing ≡ Some (codes "spread")) × (roots ≡ None)
@@ -81,7 +84,8 @@ pub record AsksStep (word : List ℕ → Option (List ℕ)) (step : StepAsked) :
 
 -- and so for a task
 abbrev pub AsksTask : (List ℕ → Option (List ℕ)) → List ℕ → Task → Type 0
-AsksTask word command (Answer request) = AsksOutput word command request.output × IsFloor (word (codes "floor")) request.floor
+AsksTask word command (Answer request) =
+    AsksOutput word command request.output × IsFloor (word (codes "floor")) request.floor
 AsksTask word command (Audit floor) = (command ≡ codes "audit") × IsFloor (word (codes "floor")) floor
 AsksTask word command (Next asked) = (command ≡ codes "next") × AsksStep word asked
 AsksTask word command (Run lmc rule) = (command ≡ codes "run") × PlansBy word lmc rule
@@ -113,7 +117,8 @@ texts_asked word (Answer request) = Some []
 texts_asked word (Audit floor) = option_map (λ tables. tables ∷ []) (word (codes "TABLES"))
 texts_asked word (Next asked) = option_map (λ tables. tables ∷ []) (word (codes "TABLES"))
 texts_asked word (Run lmc rule) =
-    option_and_then (λ topology. option_map (λ schedule. topology ∷ schedule ∷ []) (word (codes "SCHEDULE"))) (word (codes "TOPOLOGY"))
+    option_and_then (λ topology. option_map (λ schedule. topology ∷ schedule ∷ []) (word (codes "SCHEDULE")))
+    (word (codes "TOPOLOGY"))
 
 -- whether it takes files
 abbrev pub takes_files : Task → Bool
@@ -132,7 +137,8 @@ followed_by first later = option_and_then (λ names. option_map (λ others. name
 
 -- the names of the inputs of a task, in the order in which they are read
 abbrev pub names_in : (List ℕ → Option (List ℕ)) → Option (List (List ℕ)) → Task → Option (List (List ℕ))
-names_in word files task = followed_by (roots_asked word (rule_of_task task)) (followed_by (texts_asked word task) (files_asked files task))
+names_in word files task =
+    followed_by (roots_asked word (rule_of_task task)) (followed_by (texts_asked word task) (files_asked files task))
 
 abbrev pub names_asked : ArgMatches → Task → Option (List (List ℕ))
 names_asked matches task = names_in (word_named matches) (files_named matches) task

@@ -7,14 +7,17 @@ use Rattle.ibsm.specs.declared.opener.OpenFault.{OpenFault}
 use Rattle.ibsm.specs.declared.opener.OpenFault.TheVariants.{Missing, Memory}
 
 -- a file was opened, and stands behind the others; or none was, and they are as they were
-abbrev pub OpensBehind : {S : Type 0} → (Result S OpenFault → Type 0) → Result (Unit {0}) OpenFault → List S → List S → Type 0
+abbrev pub OpensBehind : {S : Type 0} → (Result S OpenFault → Type 0) → Result (Unit {0}) OpenFault → List S → List S
+    → Type 0
 OpensBehind {S} answers (Ok u) old new = (file : S) × answers (Ok file) × (new ≡ old ++ file ∷ [])
 OpensBehind answers (Err fault) old new = answers (Err fault) × (new ≡ old)
 
 -- these files were opened by these names, one by each, in their order
-pub record AreOpened {S : Type 0} (answers : List ℕ → Result S OpenFault → Type 0) (names : List (Bor (List ℕ))) (files : List S) : Type 0 where
+pub record AreOpened {S : Type 0} (answers : List ℕ → Result S OpenFault
+    → Type 0) (names : List (Bor (List ℕ))) (files : List S) : Type 0 where
   pub one_each : length files ≡ length names
-  pub opened : (input : ℕ) (name : Bor (List ℕ)) (file : S) → slice_get names input ≡ Some name → slice_get files input ≡ Some file
+  pub opened : (input : ℕ) (name : Bor (List ℕ)) (file : S) → slice_get names input ≡ Some name → slice_get files input
+      ≡ Some file
       → answers name.now (Ok file)
 
 -- a name was asked for, and is not missing: its file was opened, or memory was refused for that
@@ -23,24 +26,28 @@ IsThere {S} answers = ((file : S) × answers (Ok file)) ⊎ answers (Err Memory)
 
 -- the names before an input are there
 abbrev pub AreThere : {S : Type 0} → (List ℕ → Result S OpenFault → Type 0) → List (Bor (List ℕ)) → ℕ → Type 0
-AreThere answers names input = (k : ℕ) (name : Bor (List ℕ)) → k < input → slice_get names k ≡ Some name → IsThere (answers name.now)
+AreThere answers names input =
+    (k : ℕ) (name : Bor (List ℕ)) → k < input → slice_get names k ≡ Some name → IsThere (answers name.now)
 
 -- the name at an input is missing, and none before it
-pub record IsFirstMissing {S : Type 0} (answers : List ℕ → Result S OpenFault → Type 0) (names : List (Bor (List ℕ))) (input : ℕ) : Type 0 where
+pub record IsFirstMissing {S : Type 0} (answers : List ℕ → Result S OpenFault
+    → Type 0) (names : List (Bor (List ℕ))) (input : ℕ) : Type 0 where
   pub name : Bor (List ℕ)
   pub there : slice_get names input ≡ Some name
   pub missing : answers name.now (Err Missing)
   pub before : AreThere answers names input
 
 -- memory was refused as a name was asked for
-pub record WasRefusedMemory {S : Type 0} (answers : List ℕ → Result S OpenFault → Type 0) (names : List (Bor (List ℕ))) : Type 0 where
+pub record WasRefusedMemory {S : Type 0} (answers : List ℕ → Result S OpenFault
+    → Type 0) (names : List (Bor (List ℕ))) : Type 0 where
   pub input : ℕ
   pub name : Bor (List ℕ)
   pub there : slice_get names input ≡ Some name
   pub refused : answers name.now (Err Memory)
 
 -- so it was, and none of the names is missing
-pub record LacksMemory {S : Type 0} (answers : List ℕ → Result S OpenFault → Type 0) (names : List (Bor (List ℕ))) : Type 0 where
+pub record LacksMemory {S : Type 0} (answers : List ℕ → Result S OpenFault
+    → Type 0) (names : List (Bor (List ℕ))) : Type 0 where
   pub refused : WasRefusedMemory answers names
   pub there : AreThere answers names (length names)
 

@@ -80,7 +80,8 @@ where
         (IsSaid (⟦<ToWrite<E> as Sink>⟧.written errors.old) (⟦<ToWrite<E> as Sink>⟧.written errors.new)
         (⟦<ToWrite<E> as Sink>⟧.has_failed errors.new)) passed) }
     ensures flushed { OnOk result (IsTrue (⟦<ToWrite<O> as Sink>⟧.is_flushed output.new)) }
-    ensures refused { IfErr result (IsTaskFault (R.answers rt.now) R.Opened.left R.Opened.has_failed R.Opened.interruptions
+    ensures refused { IfErr result
+        (IsTaskFault (R.answers rt.now) R.Opened.left R.Opened.has_failed R.Opened.interruptions
         task names.now
         (PrintsSome ⟦<ToWrite<O> as Sink>⟧.written ⟦<ToWrite<O> as Sink>⟧.has_failed output.old output.new)
         (⟦<ToWrite<O> as Sink>⟧.has_failed output.new)) }

@@ -66,7 +66,8 @@ fn words<R: Env + Eprint + AllocGlobal>(rt: &R) -> Result<Option<Vec<String>>, A
     }
 }
 
-/// Does what the words ask for, and says on `errors` why it cannot; an `Err` says that memory ran out before it was begun.
+/// Does what the words ask for, and says on `errors` why it cannot; an `Err` says that memory ran out before it was
+/// begun.
 fn dispatch<R, O, E>(
     rt: &R,
     matches: &ArgMatches<'_>,

@@ -29,7 +29,8 @@ pub(crate) enum Task {
     Audit(Generation),
     /// To write the tables to write next.
     Next(StepAsked),
-    /// To run a schedule in the fabric of a topology, with managers that plan 2^LMC LIDs for each adapter port, by a rule.
+    /// To run a schedule in the fabric of a topology, with managers that plan 2^LMC LIDs for each adapter port, by a
+    /// rule.
     Run(Lmc, RuleAsked),
 }
 

@@ -12,8 +12,10 @@ use Rattle.lft_blocks.specs.Entries.{attachment_of}
 module _ (facts : Facts) (e : EndPort) (attachment : ℕ × ℕ) where
   attachment_usable : attachment_of (cells_of facts) e ≡ Some attachment → IsUsable (cells_of facts) attachment.0
   attachment_usable h =
-      elim (is_usable (cells_of facts) e.node) as (λ t. is_usable (cells_of facts) e.node ≡ t → cond t (Some (e.node, 0)) (attached (cells_of facts) e.node e.port) ≡ Some attachment → IsUsable (cells_of facts) attachment.0) [
-        | true ↦ λ u k. let same : (e.node, 0) ≡ attachment = cc in subst (λ (x : ℕ × ℕ). IsUsable (cells_of facts) x.0) same ((usable_law (cells_of facts) e.node).0 u)
+      elim (is_usable (cells_of facts) e.node) as (λ t. is_usable (cells_of facts) e.node ≡ t
+      → cond t (Some (e.node, 0)) (attached (cells_of facts) e.node e.port) ≡ Some attachment → IsUsable (cells_of facts) attachment.0) [
+        | true ↦ λ u k. let same : (e.node, 0) ≡ attachment =
+            cc in subst (λ (x : ℕ × ℕ). IsUsable (cells_of facts) x.0) same ((usable_law (cells_of facts) e.node).0 u)
         | false ↦ λ u k. ((attached_law (cells_of facts) e.node e.port attachment.0 attachment.1).0 k).to_switch
       ] refl h
 

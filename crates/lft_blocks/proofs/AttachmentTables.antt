@@ -58,18 +58,22 @@ module _ (graph : List SwitchEdges) (guids : List ℕ) (theirs : guids ≡ guids
         → cond (h.switch == own) h.port (slice_index row h.switch) ≡ port_to next lid s (meant guids h)
     port_same h lid w =
         let at : slice_index row h.switch ≡ unwrap_or (next lid s (slice_index guids h.switch)) 255
-        = get_or-map-range_with_len (λ to. unwrap_or (next_port_at graph own to) 255) 0 (length guids) h.switch h.switch 0 w (omega arith) ∙ ap (λ o. unwrap_or o 255) (port_at h.switch w lid) in
+        = get_or-map-range_with_len (λ to. unwrap_or (next_port_at graph own to) 255) 0 (length guids) h.switch h.switch 0 w (omega arith)
+        ∙ ap (λ o. unwrap_or o 255) (port_at h.switch w lid) in
         λ i. cond (same_test h.switch own w there i) h.port (at i)
 
-    entry_same : (attachments : ℕ → Option (ℕ × ℕ)) (indexed : List (Option Attachment)) → AreIndexed guids attachments indexed → (lid : ℕ) → entry_in indexed row own lid ≡ entry attachments next s lid
+    entry_same : (attachments : ℕ → Option (ℕ × ℕ)) (indexed : List (Option Attachment)) → AreIndexed guids attachments indexed → (lid : ℕ)
+        → entry_in indexed row own lid ≡ entry attachments next s lid
     entry_same attachments indexed are lid = go (slice_index_or indexed lid None) (are lid)
       where
-        go : (o : Option Attachment) → IsIndexed guids (attachments lid) o → option_map_or (λ h. cond (h.switch == own) h.port (slice_index row h.switch)) o 255 ≡ option_map_or (port_to next lid s) (attachments lid) 255
+        go : (o : Option Attachment) → IsIndexed guids (attachments lid) o → option_map_or (λ h. cond (h.switch == own) h.port (slice_index row h.switch)) o 255
+            ≡ option_map_or (port_to next lid s) (attachments lid) 255
         go None is = ap (λ attachment. option_map_or (port_to next lid s) attachment 255) is.same
         go (Some h) is = port_same h lid is.within ∙ ap (λ attachment. option_map_or (port_to next lid s) attachment 255) is.same
 
 -- they are the same
-pub tables_same : (graph : List SwitchEdges) (guids : List ℕ) (attachments : ℕ → Option (ℕ × ℕ)) (indexed : List (Option Attachment)) (count : ℕ) → guids ≡ guids_of graph → IsStrictlyIncreasing guids → AreIndexed guids attachments indexed
+pub tables_same : (graph : List SwitchEdges) (guids : List ℕ) (attachments : ℕ → Option (ℕ × ℕ)) (indexed : List (Option Attachment)) (count : ℕ) → guids
+    ≡ guids_of graph → IsStrictlyIncreasing guids → AreIndexed guids attachments indexed
     → tables_of attachments (updown graph).next count guids ≡ map (table_in indexed graph guids count) (range_with_len 0 (length guids))
 tables_same graph guids attachments indexed count theirs rising are =
     fill_by_all (table_in indexed graph guids count) (tables_of attachments (updown graph).next count guids) (length guids) none (length-map guids by_guid)
@@ -81,17 +85,20 @@ tables_same graph guids attachments indexed count theirs rising are =
     by_guid : ℕ → SwitchTable
     by_guid g = record { guid = g; blocks = blocks attachments (updown graph).next count g }
 
-    at : (own : ℕ) → own < length guids → table_in indexed graph guids count own ≡ record { guid = slice_index guids own; blocks = blocks attachments (updown graph).next count (slice_index guids own) }
+    at : (own : ℕ) → own < length guids → table_in indexed graph guids count own
+        ≡ record { guid = slice_index guids own; blocks = blocks attachments (updown graph).next count (slice_index guids own) }
     at own h =
         let same = entry_same graph guids theirs rising own h attachments indexed are in
         λ i. record { guid = slice_index guids own; blocks = map (λ b. map (λ j. same (64 * b + j) i) (range_with_len 0 64)) (range_with_len 0 count) }
 
 -- an attachment that has an index has a switch
-pub indexed_within : (guids : List ℕ) (attachments : ℕ → Option (ℕ × ℕ)) (indexed : List (Option Attachment)) → AreIndexed guids attachments indexed → AreWithin (length guids) indexed
+pub indexed_within : (guids : List ℕ) (attachments : ℕ → Option (ℕ × ℕ)) (indexed : List (Option Attachment)) → AreIndexed guids attachments indexed
+    → AreWithin (length guids) indexed
 indexed_within guids attachments indexed are lid = (are lid).within
 
 -- the switches of the tables are the switches
-their_guids : (attachments : ℕ → Option (ℕ × ℕ)) (next : Next) (count : ℕ) (guids : List ℕ) → guids ≡ map (λ table. table.guid) (tables_of attachments next count guids)
+their_guids : (attachments : ℕ → Option (ℕ × ℕ)) (next : Next) (count : ℕ) (guids : List ℕ) → guids
+    ≡ map (λ table. table.guid) (tables_of attachments next count guids)
 their_guids attachments next count [] = refl
 their_guids attachments next count (g ∷ guids) = ap (λ gs. g ∷ gs) (their_guids attachments next count guids)
 
@@ -108,6 +115,9 @@ pub switches_rise : (facts : Facts) (guids : List ℕ) → guids ≡ switches (c
 switches_rise facts guids e = subst IsStrictlyIncreasing (sym e) (switches_increase facts)
 
 -- the table that is made of a switch's GUID, row and blocks
-pub table_made : (indexed : List (Option Attachment)) (graph : List SwitchEdges) (guids : List ℕ) (count own guid : ℕ) (ports : List ℕ) (blocks : List (List ℕ)) → guid ≡ slice_index guids own
-    → ports ≡ row_of graph own (length guids) → blocks ≡ map (block_in indexed ports own) (range_with_len 0 count) → record { guid = guid; blocks = blocks } ≡ table_in indexed graph guids count own
-table_made indexed graph guids count own guid ports blocks e f h = λ i. record { guid = e i; blocks = (h ∙ ap (λ r. map (block_in indexed r own) (range_with_len 0 count)) f) i }
+pub table_made : (indexed : List (Option Attachment)) (graph : List SwitchEdges) (guids : List ℕ) (count own guid : ℕ) (ports : List ℕ) (blocks : List (List ℕ))
+    → guid ≡ slice_index guids own
+    → ports ≡ row_of graph own (length guids) → blocks ≡ map (block_in indexed ports own) (range_with_len 0 count) → record { guid = guid; blocks = blocks }
+    ≡ table_in indexed graph guids count own
+table_made indexed graph guids count own guid ports blocks e f h =
+    λ i. record { guid = e i; blocks = (h ∙ ap (λ r. map (block_in indexed r own) (range_with_len 0 count)) f) i }

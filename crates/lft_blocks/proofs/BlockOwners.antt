@@ -65,7 +65,8 @@ blocks_are_of_switches rule lmc facts g b =
                 let is = it ∙ made_at (block attachments next g) 0 count b l ∙ ap (λ j. Some (block attachments next g j)) index in
                 subst P (sym is) ((usable, l), refl)
             | inr m ↦
-                let past = slice_get_past (blocks attachments next count g) b (omega (arith, m, length-map-range_with_len (block attachments next g) 0 count)) in
+                let past = slice_get_past (blocks attachments next count g) b (omega (arith, m, length-map-range_with_len (block attachments next g) 0 count))
+                in
                 subst P (sym (it ∙ past)) (λ h. absurd (omega (arith, m, h.1)))
           ]
       | false ↦ λ u.

@@ -27,7 +27,8 @@ entry_of rule lmc cells s lid = entry (attachment_of_lid cells (lids lmc cells))
 
 -- a switch's entry for an owned LID goes by the owner's attachment
 pub entry_by_attachment : (rule : Routing) (lmc : ℕ) (cells : Cells) (s lid : ℕ) (e : EndPort) (attachment : ℕ × ℕ) → owner_of (lids lmc cells) lid ≡ Some e
-    → attachment_of cells e ≡ Some attachment → entry_of rule lmc cells s lid ≡ cond (attachment.0 == s) attachment.1 (unwrap_or (rule.next lid s attachment.0) 255)
+    → attachment_of cells e ≡ Some attachment → entry_of rule lmc cells s lid
+    ≡ cond (attachment.0 == s) attachment.1 (unwrap_or (rule.next lid s attachment.0) 255)
 entry_by_attachment rule lmc cells s lid e attachment h k =
     ap (λ o. option_map_or (port_to rule.next lid s) o 255) (ap (option_and_then (attachment_of cells)) h ∙ k)
 
@@ -37,7 +38,8 @@ pub owned_to_top : (given : Given) (e : EndPort) (lid : ℕ) → owner_of given 
 owned_to_top given e lid h = let its = given-from_owner given e lid h in at_most_top given e its.0 lid its.1 its.2
 
 -- a LID that is owned is at least 1
-pub owned_from_one : (lmc : ℕ) (cells : Cells) → AreLids lmc cells (lids lmc cells).ports → (lid : ℕ) (e : EndPort) → owner_of (lids lmc cells) lid ≡ Some e → 1 ≤ lid
+pub owned_from_one : (lmc : ℕ) (cells : Cells) → AreLids lmc cells (lids lmc cells).ports → (lid : ℕ) (e : EndPort) → owner_of (lids lmc cells) lid ≡ Some e → 1
+    ≤ lid
 owned_from_one lmc cells good lid e h =
     let its = given-from_owner (lids lmc cells) e lid h in omega (arith, (good.each_fits e its.0 its.1).not_0, its.2.0)
 
@@ -49,7 +51,8 @@ pub planned_block : (rule : Routing) (lmc : ℕ) (facts : Facts) → HasBlocks r
 planned_block rule lmc facts g b has =
     let cells = cells_of facts in
     elim (block_at (plan_by rule lmc cells) g b) as
-    (λ o. MatchOption o (¬ (HasBlock lmc cells g b)) (λ x. HasBlock lmc cells g b × (x ≡ block_of rule lmc cells g b)) → o ≡ Some (block_of rule lmc cells g b)) [
+    (λ o. MatchOption o (¬ (HasBlock lmc cells g b)) (λ x. HasBlock lmc cells g b × (x ≡ block_of rule lmc cells g b)) → o
+    ≡ Some (block_of rule lmc cells g b)) [
       | None ↦ λ m. absurd (m has)
       | Some x ↦ λ m. ap (λ (y : List ℕ). Some y) m.1
     ] (blocks_are_of_switches rule lmc facts g b)

@@ -30,7 +30,8 @@ abbrev pub AreIndexedBelow : List ℕ → (ℕ → Option (ℕ × ℕ)) → ℕ 
 AreIndexedBelow guids attachments n indexed = (length indexed ≡ n) × ((k : ℕ) → k < n → IsIndexed guids (attachments k) (slice_index_or indexed k None))
 
 -- one more
-pub indexed_more : (guids : List ℕ) (attachments : ℕ → Option (ℕ × ℕ)) (n : ℕ) (indexed : List (Option Attachment)) (attachment : Option Attachment) → AreIndexedBelow guids attachments n indexed → IsIndexed guids (attachments n) attachment
+pub indexed_more : (guids : List ℕ) (attachments : ℕ → Option (ℕ × ℕ)) (n : ℕ) (indexed : List (Option Attachment)) (attachment : Option Attachment)
+    → AreIndexedBelow guids attachments n indexed → IsIndexed guids (attachments n) attachment
     → AreIndexedBelow guids attachments (n + 1) (indexed ++ attachment ∷ [])
 indexed_more guids attachments n indexed attachment below next =
     let Is : ℕ → Option Attachment → Type 0 = λ k h. IsIndexed guids (attachments k) h in (
@@ -39,7 +40,8 @@ indexed_more guids attachments n indexed attachment below next =
         | inl l ↦ subst (Is k) (sym (get_or_append_left indexed (attachment ∷ []) None k (omega (arith, below.0)))) (below.1 k l)
         | inr m ↦
             let last : n ≡ k = omega arith in
-            let at : slice_index_or (indexed ++ attachment ∷ []) k None ≡ attachment = ap (λ j. slice_index_or (indexed ++ attachment ∷ []) j None) (sym last ∙ sym below.0) ∙ get_or-append_seam indexed attachment [] None in
+            let at : slice_index_or (indexed ++ attachment ∷ []) k None ≡ attachment =
+            ap (λ j. slice_index_or (indexed ++ attachment ∷ []) j None) (sym last ∙ sym below.0) ∙ get_or-append_seam indexed attachment [] None in
             subst (Is k) (sym at) (subst (λ (j : ℕ). Is j attachment) last next)
       ]),
     )

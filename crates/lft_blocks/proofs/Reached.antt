@@ -225,7 +225,8 @@ module _ {rule : Routing} {lmc : ℕ} {cells : Cells} {f : Fabric} {origin : Nod
 
 -- the LID has its owner in the plan that is held
 plan_there : (rule : Routing) (lmc : ℕ) (facts : Facts) → ¬ (IsNoRoom lmc (cells_of facts)) → (f : Fabric) (origin : NodePort)
-    → HoldsPlan (IsJoinedTo f origin) (plan_by rule lmc (cells_of facts)) f → (lid : ℕ) (owner : EndPort) → owner_of (lids lmc (cells_of facts)) lid ≡ Some owner
+    → HoldsPlan (IsJoinedTo f origin) (plan_by rule lmc (cells_of facts)) f → (lid : ℕ) (owner : EndPort) → owner_of (lids lmc (cells_of facts)) lid
+    ≡ Some owner
     → IsPlanned rule lmc (cells_of facts) f origin lid owner
 plan_there rule lmc facts has_room f origin holds lid owner owned =
     record {

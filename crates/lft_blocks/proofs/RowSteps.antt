@@ -81,7 +81,8 @@ module _ (next : Next) (guids : List ℕ) (attachments : List (Option Attachment
   abbrev f : ℕ → Option ℕ
   f lid = next lid (slice_index guids own) (slice_index guids t)
 
-  entry_more : (row : List ℕ) → IsRow next guids attachments t own row → (lid : ℕ) → lid < length attachments → (attachment : Option Attachment) → slice_index_or attachments lid None ≡ attachment
+  entry_more : (row : List ℕ) → IsRow next guids attachments t own row → (lid : ℕ) → lid < length attachments → (attachment : Option Attachment)
+      → slice_index_or attachments lid None ≡ attachment
       → get_or (after attachments (own == t) f row (lids_at attachments t)) lid 0 ≡ entry_before next guids (t + 1) own lid attachment
   entry_more row is lid h None e =
       elsewhere attachments (own == t) f (lids_at attachments t) row lid
@@ -92,7 +93,8 @@ module _ (next : Next) (guids : List ℕ) (attachments : List (Option Attachment
       elim (cases_eq x.switch t) [
         | inl same ↦
             let among : Contains (lids_at attachments t) lid =
-            contains_filter (λ l. is_attachment_at t (slice_index_or attachments l None)) (numbers_from 0 (length attachments)) lid (numbers_there (length attachments) 0 lid (omega arith) (omega arith))
+            contains_filter (λ l. is_attachment_at t (slice_index_or attachments l None)) (numbers_from 0 (length attachments)) lid
+            (numbers_there (length attachments) 0 lid (omega arith) (omega arith))
             (ap (is_attachment_at t) e ∙ eq-eqb x.switch t same) in
             let below : nat_lt x.switch (t + 1) ≡ true = lt-ltb x.switch (t + 1) (omega (arith, same)) in
             there attachments (own == t) f (lids_at attachments t) row lid (omega (arith, is.all)) among
@@ -115,7 +117,8 @@ module _ (next : Next) (guids : List ℕ) (attachments : List (Option Attachment
             | inr m ↦ let above : b < a = grind arith in le-ltb a b m ∙ sym (le-ltb a (b + 1) (omega arith))
           ]
 
-  pub row_more : (row : List ℕ) → IsRow next guids attachments t own row → IsRow next guids attachments (t + 1) own (written attachments (own == t) row (lids_at attachments t) (ports_of (lids_at attachments t)))
+  pub row_more : (row : List ℕ) → IsRow next guids attachments t own row
+      → IsRow next guids attachments (t + 1) own (written attachments (own == t) row (lids_at attachments t) (ports_of (lids_at attachments t)))
   row_more row is = record {
     all = as_long attachments (own == t) f (lids_at attachments t) row ∙ is.all;
     entries = λ lid h. entry_more row is lid h (slice_index_or attachments lid None) refl;
@@ -130,7 +133,8 @@ rows_more next guids attachments t ports old new are to rows = record {
       let row = slice_index_or old own [] in
       let port : slice_index_or ports own [] ≡ map (λ lid. next lid (slice_index guids own) (slice_index guids t)) (lids_at attachments t) =
       ap (λ xs. get_or xs own []) are ∙ get_or-map (λ s. map (λ lid. next lid s (slice_index guids t)) (lids_at attachments t)) guids own 0 [] h in
-      subst (IsRow next guids attachments (t + 1) own) (sym (to.1 own (omega (arith, rows.all)) ∙ ap (written attachments (own == t) row (lids_at attachments t)) port))
+      subst (IsRow next guids attachments (t + 1) own) (sym (to.1 own (omega (arith, rows.all))
+      ∙ ap (written attachments (own == t) row (lids_at attachments t)) port))
       (row_more next guids attachments t own row (rows.each own h));
 }
 
@@ -139,9 +143,11 @@ rows_more next guids attachments t ports old new are to rows = record {
 none_before : (next : Next) (guids : List ℕ) (own lid : ℕ) (attachment : Option Attachment) → 255 ≡ entry_before next guids 0 own lid attachment
 none_before next guids own lid None = refl
 none_before next guids own lid (Some h) =
-    sym (ap (λ b. cond b (cond (h.switch == own) h.port (unwrap_or (next lid (slice_index guids own) (slice_index guids h.switch)) 255)) 255) (le-ltb h.switch 0 (omega arith)))
+    sym (ap (λ b. cond b (cond (h.switch == own) h.port (unwrap_or (next lid (slice_index guids own) (slice_index guids h.switch)) 255)) 255)
+    (le-ltb h.switch 0 (omega arith)))
 
-pub no_rows : (next : Next) (guids : List ℕ) (attachments : List (Option Attachment)) (n : ℕ) (rows : List (List ℕ)) → n ≡ length guids → rows ≡ replicate n (replicate (length attachments) 255)
+pub no_rows : (next : Next) (guids : List ℕ) (attachments : List (Option Attachment)) (n : ℕ) (rows : List (List ℕ)) → n ≡ length guids → rows
+    ≡ replicate n (replicate (length attachments) 255)
     → AreRows next guids attachments 0 rows
 no_rows next guids attachments n rows many are = record {
   all = ap length are ∙ length-replicate n (replicate (length attachments) 255) ∙ many;
@@ -156,14 +162,19 @@ no_rows next guids attachments n rows many are = record {
 
 -- and at last each entry is there ----------------------------------------------------------------
 
-module _ (graph : List SwitchEdges) (guids : List ℕ) (theirs : guids ≡ guids_of graph) (rising : IsStrictlyIncreasing guids) (next : Next) (attachments : List (Option Attachment)) (within : AreWithin (length guids) attachments) where
+module _ (graph : List SwitchEdges) (guids : List ℕ) (theirs : guids
+    ≡ guids_of graph) (rising : IsStrictlyIncreasing guids) (next : Next) (attachments : List (Option Attachment))
+    (within : AreWithin (length guids) attachments) where
   entry_at_last : (own lid : ℕ) → own < length guids → (attachment : Option Attachment) → slice_index_or attachments lid None ≡ attachment
-      → entry_before next guids (length guids) own lid attachment ≡ option_map_or (port_to next lid (slice_index guids own)) (option_map (meant guids) attachment) 255
+      → entry_before next guids (length guids) own lid attachment
+      ≡ option_map_or (port_to next lid (slice_index guids own)) (option_map (meant guids) attachment) 255
   entry_at_last own lid h None e = refl
   entry_at_last own lid h (Some x) e =
       let below : x.switch < length guids = subst (λ (o : Option Attachment). MatchOption o (Unit {0}) (λ y. y.switch < length guids)) e (within lid) in
-      ap (λ b. cond b (cond (x.switch == own) x.port (unwrap_or (next lid (slice_index guids own) (slice_index guids x.switch)) 255)) 255) (lt-ltb x.switch (length guids) below)
-      ∙ ap (λ b. cond b x.port (unwrap_or (next lid (slice_index guids own) (slice_index guids x.switch)) 255)) (same_test graph guids theirs rising x.switch own below h)
+      ap (λ b. cond b (cond (x.switch == own) x.port (unwrap_or (next lid (slice_index guids own) (slice_index guids x.switch)) 255)) 255)
+      (lt-ltb x.switch (length guids) below)
+      ∙ ap (λ b. cond b x.port (unwrap_or (next lid (slice_index guids own) (slice_index guids x.switch)) 255))
+      (same_test graph guids theirs rising x.switch own below h)
 
   module _ (count : ℕ) (long : length attachments ≡ 64 * count) where
     row_blocks : (own : ℕ) (row : List ℕ) → own < length guids → IsRow next guids attachments (length guids) own row
@@ -182,7 +193,8 @@ module _ (graph : List SwitchEdges) (guids : List ℕ) (theirs : guids ≡ guids
     pub tables_are : (rows : List (List ℕ)) → AreRows next guids attachments (length guids) rows
         → map (table_of_row guids rows count) (range_with_len 0 (length guids)) ≡ tables_of (attachment_by_index guids attachments) next count guids
     tables_are rows are =
-        sym (fill_by_all (table_of_row guids rows count) (tables_of (attachment_by_index guids attachments) next count guids) (length guids) none (length-map guids by_guid)
+        sym (fill_by_all (table_of_row guids rows count) (tables_of (attachment_by_index guids attachments) next count guids) (length guids) none
+        (length-map guids by_guid)
         (λ own h. get_or-map by_guid guids own 0 none h
         ∙ (λ i. record { guid = slice_index guids own; blocks = sym (row_blocks own (slice_index_or rows own []) h (are.each own h)) i })))
       where
@@ -193,10 +205,12 @@ module _ (graph : List SwitchEdges) (guids : List ℕ) (theirs : guids ≡ guids
         by_guid g = record { guid = g; blocks = blocks (attachment_by_index guids attachments) next count g }
 
 -- attachments that have indices, by their indices
-pub indexed_itself : (guids : List ℕ) (attachments : List (Option Attachment)) → AreWithin (length guids) attachments → AreIndexed guids (attachment_by_index guids attachments) attachments
+pub indexed_itself : (guids : List ℕ) (attachments : List (Option Attachment)) → AreWithin (length guids) attachments
+    → AreIndexed guids (attachment_by_index guids attachments) attachments
 indexed_itself guids attachments within lid = record { same = refl; within = within lid }
 
-pub same_attachments : (guids : List ℕ) (attachments : ℕ → Option (ℕ × ℕ)) (indexed : List (Option Attachment)) → AreIndexed guids attachments indexed → attachment_by_index guids indexed ≡ attachments
+pub same_attachments : (guids : List ℕ) (attachments : ℕ → Option (ℕ × ℕ)) (indexed : List (Option Attachment)) → AreIndexed guids attachments indexed
+    → attachment_by_index guids indexed ≡ attachments
 same_attachments guids attachments indexed are = λ i lid. (are lid).same i
 
 -- what the code is handed ------------------------------------------------------------------------
@@ -209,8 +223,10 @@ lids_more test n b is =
     ∙ filter_more test (numbers_from 0 n) n ∙ ap (λ c. filter test (numbers_from 0 n) ++ cond c (n ∷ []) []) is
 
 -- it is a LID at the switch of its attachment alone
-pub lid_added : (attachments : List (Option Attachment)) (n switches : ℕ) (attachment : Attachment) (old new : List (List ℕ)) → slice_index_or attachments n None ≡ Some attachment → attachment.switch < switches
-    → new ≡ slice_set old attachment.switch (get_or old attachment.switch [] ++ n ∷ []) → AreLidsAt attachments n switches old → AreLidsAt attachments (n + 1) switches new
+pub lid_added : (attachments : List (Option Attachment)) (n switches : ℕ) (attachment : Attachment) (old new : List (List ℕ))
+    → slice_index_or attachments n None ≡ Some attachment → attachment.switch < switches
+    → new ≡ slice_set old attachment.switch (get_or old attachment.switch [] ++ n ∷ []) → AreLidsAt attachments n switches old
+    → AreLidsAt attachments (n + 1) switches new
 lid_added attachments n switches attachment old new is below set are = subst (AreLidsAt attachments (n + 1) switches) (sym set) (record {
   all = length-set old attachment.switch (get_or old attachment.switch [] ++ n ∷ []) ∙ are.all;
   each = λ t h. elim (cases_eq attachment.switch t) [
@@ -218,7 +234,8 @@ lid_added attachments n switches attachment old new is below set are = subst (Ar
         subst (λ (x : ℕ). get_or (slice_set old attachment.switch (get_or old attachment.switch [] ++ n ∷ [])) x [] ≡ lids_before attachments (n + 1) x) same
         (get_or-set_same old attachment.switch (get_or old attachment.switch [] ++ n ∷ []) [] (omega (arith, are.all))
         ∙ ap (λ xs. xs ++ n ∷ []) (are.each attachment.switch below)
-        ∙ sym (lids_more (λ lid. is_attachment_at attachment.switch (slice_index_or attachments lid None)) n true (ap (is_attachment_at attachment.switch) is ∙ eq-eqb attachment.switch attachment.switch refl)))
+        ∙ sym (lids_more (λ lid. is_attachment_at attachment.switch (slice_index_or attachments lid None)) n true (ap (is_attachment_at attachment.switch) is
+        ∙ eq-eqb attachment.switch attachment.switch refl)))
     | inr other ↦
         let none = ap (is_attachment_at t) is ∙ ne_eqb attachment.switch t other in
         get_or-set_other old attachment.switch t (get_or old attachment.switch [] ++ n ∷ []) [] (λ e. other (sym e)) ∙ are.each t h
@@ -238,15 +255,21 @@ lid_passed attachments n switches lists is are = record {
 pub lids_within : (attachments : List (Option Attachment)) (t : ℕ) → All (λ lid. lid < length attachments) (lids_at attachments t)
 lids_within attachments t =
     all_from_contained (λ lid. lid < length attachments) (lids_at attachments t)
-    (λ lid h. omega (arith, numbers_below (length attachments) 0 lid (contains-from_filter (λ l. is_attachment_at t (slice_index_or attachments l None)) (numbers_from 0 (length attachments)) lid h).0))
+    (λ lid h. omega (
+      arith,
+      numbers_below (length attachments) 0 lid (contains-from_filter (λ l. is_attachment_at t (slice_index_or attachments l None))
+          (numbers_from 0 (length attachments)) lid h).0,
+    ))
 
 -- rows are as long as there are attachments
-pub rows_long : (next : Next) (guids : List ℕ) (attachments : List (Option Attachment)) (t : ℕ) (rows : List (List ℕ)) → AreRows next guids attachments t rows → All (λ row. length row ≡ length attachments) rows
+pub rows_long : (next : Next) (guids : List ℕ) (attachments : List (Option Attachment)) (t : ℕ) (rows : List (List ℕ)) → AreRows next guids attachments t rows
+    → All (λ row. length row ≡ length attachments) rows
 rows_long next guids attachments t rows are k d h =
     subst (λ (row : List ℕ). length row ≡ length attachments) (get_or_default rows k [] d h) (are.each k (omega (arith, are.all))).all
 
 -- lists that are made of numbers, each as long
-pub each_long : {V X : Type 0} (f : V → List X) (g : ℕ → List X) (vs : List V) (ys : List ℕ) (n : ℕ) → map f vs ≡ map g ys → ((y : ℕ) → length (g y) ≡ n) → All (λ v. length (f v) ≡ n) vs
+pub each_long : {V X : Type 0} (f : V → List X) (g : ℕ → List X) (vs : List V) (ys : List ℕ) (n : ℕ) → map f vs ≡ map g ys → ((y : ℕ) → length (g y) ≡ n)
+    → All (λ v. length (f v) ≡ n) vs
 each_long f g vs ys n same long k d h =
     let within : k < length ys = omega (arith, length-map vs f, length-map ys g, ap length same) in
     ap length (sym (get_or-map f vs k d [] h) ∙ ap (λ xs. get_or xs k []) same ∙ get_or-map g ys k 0 [] within) ∙ long (get_or ys k 0)

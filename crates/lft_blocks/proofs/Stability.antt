@@ -22,7 +22,8 @@ module _ (x y : Facts) (same : (key : Key) → is_claim key ≡ false → cell_f
   edge_same g p = λ i. option_and_then (λ q. cond (switch_same x y same q.0 i) (Some (record { port = p; to = q.0 })) None) (across_same x y same g p i)
 
   graph_same : graph_of (cells_of x) ≡ graph_of (cells_of y)
-  graph_same = λ i. map (λ g. record { guid = g; edges = filter_map (λ p. edge_same g p i) (range_with_len 1 (count_same x y same g i)) }) (switches_same x y same i)
+  graph_same = λ i.
+      map (λ g. record { guid = g; edges = filter_map (λ p. edge_same g p i) (range_with_len 1 (count_same x y same g i)) }) (switches_same x y same i)
 
   attachment_same : (e : EndPort) → attachment_of (cells_of x) e ≡ attachment_of (cells_of y) e
   attachment_same e = λ i. cond (usable_same x y same e.node i) (Some (e.node, 0)) (attached_same x y same e.node e.port i)
@@ -40,7 +41,8 @@ module _ (x y : Facts) (same : (key : Key) → is_claim key ≡ false → cell_f
   plan_same rule lmc given =
       λ i. record {
         given = given i;
-        tables = tables_of (λ lid. option_and_then (λ e. attachment_same e i) (owner_of (given i) lid)) (rules_stay rule x y graph_same leaf_switches_same i).next
+        tables = tables_of (λ lid. option_and_then (λ e. attachment_same e i) (owner_of (given i) lid))
+            (rules_stay rule x y graph_same leaf_switches_same i).next
             (block_count (top_of (given i))) (switches_same x y same i);
       }
 

@@ -20,7 +20,8 @@ module _ (guids : List ℕ) (tables : List SwitchTable) (are : AreTables guids t
   guid_at i t h = ap (λ (xs : List ℕ). get_or xs i 0) are.theirs ∙ get_or-map (λ (table : SwitchTable). table.guid) tables i t 0 h
 
   -- the table at the index of a GUID is found
-  table_found : (guid i : ℕ) (t : SwitchTable) → i < length guids → get_or guids i 0 ≡ guid → t ≡ get_or tables i t → find (λ table. table.guid == guid) tables ≡ Some t
+  table_found : (guid i : ℕ) (t : SwitchTable) → i < length guids → get_or guids i 0 ≡ guid → t ≡ get_or tables i t → find (λ table. table.guid == guid) tables
+      ≡ Some t
   table_found guid i t h e there =
       let within : i < length tables = omega (arith, as_many) in
       let its : t.guid ≡ guid = ap (λ (table : SwitchTable). table.guid) there ∙ sym (guid_at i t within) ∙ e in
@@ -47,7 +48,8 @@ module _ (guids : List ℕ) (tables : List SwitchTable) (are : AreTables guids t
       ] refl
 
 -- a block of the switch at an index
-pub block_found : (plan : PlanValue) (guids : List ℕ) (guid b i : ℕ) (t : SwitchTable) → AreTables guids plan.tables → i < length guids → slice_index guids i ≡ guid → t ≡ get_or plan.tables i t
+pub block_found : (plan : PlanValue) (guids : List ℕ) (guid b i : ℕ) (t : SwitchTable) → AreTables guids plan.tables → i < length guids → slice_index guids i
+    ≡ guid → t ≡ get_or plan.tables i t
     → block_at plan guid b ≡ slice_get t.blocks b
 block_found plan guids guid b i t are h e there =
     ap (option_and_then (λ (table : SwitchTable). slice_get table.blocks b)) (table_found guids plan.tables are guid i t h e there)

@@ -217,7 +217,8 @@ entry_past g lid past =
     ] refl
 
 -- up to LID 7 by computing, and 255 from there on
-entries_are : (k g : ℕ) → planned_entry 1 cells g 0 ≡ triangle.entry k 0 → planned_entry 1 cells g 1 ≡ triangle.entry k 1 → planned_entry 1 cells g 2 ≡ triangle.entry k 2
+entries_are : (k g : ℕ) → planned_entry 1 cells g 0 ≡ triangle.entry k 0 → planned_entry 1 cells g 1 ≡ triangle.entry k 1 → planned_entry 1 cells g 2
+    ≡ triangle.entry k 2
     → planned_entry 1 cells g 3 ≡ triangle.entry k 3 → planned_entry 1 cells g 4 ≡ triangle.entry k 4 → planned_entry 1 cells g 5 ≡ triangle.entry k 5
     → planned_entry 1 cells g 6 ≡ triangle.entry k 6 → planned_entry 1 cells g 7 ≡ triangle.entry k 7
     → length (slice_index_or tables k []) ≤ 8

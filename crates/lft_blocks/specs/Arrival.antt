@@ -1,5 +1,5 @@
--- When a fabric holds a plan, and how each packet for a LID of the plan then arrives.
--- InfiniBand Architecture Specification, Volume 1: subnet management, PortInfo (LID), SwitchInfo (LinearFDBTop) and LinearForwardingTable;
+-- When a fabric holds a plan, and how each packet for a LID of the plan then arrives. InfiniBand Architecture
+-- Specification, Volume 1: subnet management, PortInfo (LID), SwitchInfo (LinearFDBTop) and LinearForwardingTable;
 -- switches, unicast forwarding by the linear forwarding table.
 use Rattle.std.specs.Prelude.{◌≡◌, ◌≢◌, ◌<◌, ◌≤◌, ℕ, ◌+◌, ◌*◌, Bool, not, ◌&&◌, List, [], ◌∷◌, map, filter, length, count_by, AllPairs, Some, IsTrue, slice_get}
 use Rattle.std.specs.Option.{option_map_or}
@@ -23,7 +23,8 @@ use Rattle.lft_blocks.specs.Plan.{PlanValue, plan_by, plan_of, block_at}
 abbrev pub HoldsBlock : Fabric → ℕ → ℕ → List ℕ → Type 0
 HoldsBlock f node b block = (i : ℕ) → i < 64 → slice_get block i ≡ Some (f.entry node (64 * b + i))
 
--- an end port has its LID and its LMC of the plan; a switch has the plan's greatest LID or a greater one as its top, and its blocks of the plan
+-- an end port has its LID and its LMC of the plan; a switch has the plan's greatest LID or a greater one as its top,
+-- and its blocks of the plan
 pub record HoldsPlanAt (plan : PlanValue) (f : Fabric) (port : NodePort) (node : Node) : Type 0 where
   pub lids : range_of plan.given (record { node = node.guid; port = port.port }) ≡ Some (range_at f port)
   pub top : IsTrue (is_switch node.kind) → (top : ℕ) → top_of plan.given ≡ Some top → top ≤ f.top port.node
@@ -75,8 +76,8 @@ abbrev pub IsCostAlong : Routing → List ℕ → ℕ → Type 0
 IsCostAlong rule [] n = Unit {0}
 IsCostAlong rule (s ∷ switches) n = rule.cost s (last_or s switches) ≡ Some n
 
--- what the way of a packet is like: from its first switch to its last it takes as many wires as routing costs, it meets no switch twice, it takes at
--- most two wires to or from adapter ports, and its channels rise
+-- what the way of a packet is like: from its first switch to its last it takes as many wires as routing costs, it meets
+-- no switch twice, it takes at most two wires to or from adapter ports, and its channels rise
 pub record IsRoutedWay (rule : Routing) (f : Fabric) (source : NodePort) (hops : List Hop) : Type 0 where
   pub at_cost : IsCostAlong rule (switches_met f source hops) (length (switch_hops f hops))
   pub no_switch_twice : AllPairs (λ a b. a ≢ b) (switches_met f source hops)
@@ -84,7 +85,8 @@ pub record IsRoutedWay (rule : Routing) (f : Fabric) (source : NodePort) (hops :
   pub channels_rise : IsStrictlyIncreasing (channels_taken rule f hops)
 
 -- a packet for a LID is delivered at the end port that owns it, over a way of the rule
-pub record ArrivesBy (rule : Routing) (part : Part) (f : Fabric) (lid : ℕ) (source : NodePort) (owner : EndPort) : Type 0 where
+pub record ArrivesBy (rule : Routing) (part : Part) (f : Fabric) (lid : ℕ) (source : NodePort) (owner : EndPort) : Type
+    0 where
   pub target : NodePort
   pub is_owner : IsPortNamed f owner.node owner.port target
   pub in_part : part target
@@ -96,35 +98,45 @@ pub record ArrivesBy (rule : Routing) (part : Part) (f : Fabric) (lid : ℕ) (so
 abbrev pub Arrives : RuleValue → Part → Cells → Fabric → ℕ → NodePort → EndPort → Type 0
 Arrives rule part cells f lid source owner = ArrivesBy (routing_by rule cells) part f lid source owner
 
--- where the plan is in force in what an end port is joined to, a packet from each end port there for each LID of the plan arrives
+-- where the plan is in force in what an end port is joined to, a packet from each end port there for each LID of the
+-- plan arrives
 abbrev pub EveryPacketArrivesBy : Routing → Cells → PlanValue → Type 0
-EveryPacketArrivesBy rule cells plan = (f : Fabric) (origin : NodePort) → IsEndPort f origin → IsInForce (IsJoinedTo f origin) cells plan f
+EveryPacketArrivesBy rule cells plan =
+    (f : Fabric) (origin : NodePort) → IsEndPort f origin → IsInForce (IsJoinedTo f origin) cells plan f
     → (source : NodePort) → IsEndPort f source → IsJoinedTo f origin source
-    → (lid : ℕ) (owner : EndPort) → owner_of plan.given lid ≡ Some owner → ArrivesBy rule (IsJoinedTo f origin) f lid source owner
+    → (lid : ℕ) (owner : EndPort) → owner_of plan.given lid ≡ Some owner
+    → ArrivesBy rule (IsJoinedTo f origin) f lid source owner
 
 -- so it is with the plan of each view that has one, by whatever rule of routing
 abbrev pub PacketsArriveByEachRouting : Type 0
-PacketsArriveByEachRouting = (lmc : ℕ) (facts : Facts) (rule : Routing) → IsRouting (graph_of (cells_of facts)) rule → ¬ (IsNoRoom lmc (cells_of facts))
+PacketsArriveByEachRouting = (lmc : ℕ) (facts : Facts) (rule : Routing) → IsRouting (graph_of (cells_of facts)) rule
+    → ¬ (IsNoRoom lmc (cells_of facts))
     → EveryPacketArrivesBy rule (cells_of facts) (plan_by rule lmc (cells_of facts))
 
--- and where the facts cover what an end port is joined to, whatever else they tell, so does a packet for each LID of the plan that an end port there owns
+-- and where the facts cover what an end port is joined to, whatever else they tell, so does a packet for each LID of
+-- the plan that an end port there owns
 abbrev pub PacketsArriveWhereCovered : Type 0
 PacketsArriveWhereCovered =
-    (lmc : ℕ) (facts : Facts) (rule : Routing) → IsRouting (graph_of (cells_of facts)) rule → ¬ (IsNoRoom lmc (cells_of facts))
-    → (f : Fabric) (origin : NodePort) → IsEndPort f origin → IsInForceWithin (IsJoinedTo f origin) (cells_of facts) (plan_by rule lmc (cells_of facts)) f
+    (lmc : ℕ) (facts : Facts) (rule : Routing) → IsRouting (graph_of (cells_of facts)) rule
+    → ¬ (IsNoRoom lmc (cells_of facts))
+    → (f : Fabric) (origin : NodePort) → IsEndPort f origin
+    → IsInForceWithin (IsJoinedTo f origin) (cells_of facts) (plan_by rule lmc (cells_of facts)) f
     → (source : NodePort) → IsEndPort f source → IsJoinedTo f origin source
-    → (lid : ℕ) (owner : EndPort) → owner_of (plan_by rule lmc (cells_of facts)).given lid ≡ Some owner → HasEndPort (IsJoinedTo f origin) f owner.node owner.port
+    → (lid : ℕ) (owner : EndPort) → owner_of (plan_by rule lmc (cells_of facts)).given lid ≡ Some owner
+    → HasEndPort (IsJoinedTo f origin) f owner.node owner.port
     → ArrivesBy rule (IsJoinedTo f origin) f lid source owner
 
 -- by a rule that can be asked for
 abbrev pub EveryPacketArrives : RuleValue → Cells → PlanValue → Type 0
 EveryPacketArrives rule cells plan = EveryPacketArrivesBy (routing_by rule cells) cells plan
 
--- where the plan is in force in the whole of a connected fabric, a packet from each end port for each LID of the plan arrives
+-- where the plan is in force in the whole of a connected fabric, a packet from each end port for each LID of the plan
+-- arrives
 abbrev pub EveryPacketArrivesIfConnected : RuleValue → Cells → PlanValue → Type 0
 EveryPacketArrivesIfConnected rule cells plan = (f : Fabric) → IsConnected f → IsInForce WholeFabric cells plan f
     → (source : NodePort) → IsEndPort f source
-    → (lid : ℕ) (owner : EndPort) → owner_of plan.given lid ≡ Some owner → Arrives rule WholeFabric cells f lid source owner
+    → (lid : ℕ) (owner : EndPort) → owner_of plan.given lid ≡ Some owner
+    → Arrives rule WholeFabric cells f lid source owner
 
 -- so it is with the plan of each view that has one
 abbrev pub PacketsArriveIfConnected : Type 0

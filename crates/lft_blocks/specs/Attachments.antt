@@ -30,7 +30,9 @@ row_of graph own n = map (λ to. unwrap_or (next_port_at graph own to) 255) (ran
 
 -- the entry for a LID of the switch at the index own, by its row
 abbrev pub entry_in : List (Option Attachment) → List ℕ → ℕ → ℕ → ℕ
-entry_in indexed row own lid = option_map_or (λ h. if h.switch == own then h.port else slice_index row h.switch) (slice_index_or indexed lid None) 255
+entry_in indexed row own lid =
+    option_map_or (λ h. if h.switch == own then h.port else slice_index row h.switch) (slice_index_or indexed lid None)
+    255
 
 -- its block b
 abbrev pub block_in : List (Option Attachment) → List ℕ → ℕ → ℕ → List ℕ
@@ -38,4 +40,9 @@ block_in indexed row own b = map (λ i. entry_in indexed row own (64 * b + i)) (
 
 -- the table of the switch at an index
 abbrev pub table_in : List (Option Attachment) → List SwitchEdges → List ℕ → ℕ → ℕ → SwitchTable
-table_in indexed graph guids count own = record { guid = slice_index guids own; blocks = map (block_in indexed (row_of graph own (length guids)) own) (range_with_len 0 count) }
+table_in indexed graph guids count own =
+    record {
+      guid = slice_index guids own;
+      blocks =
+          map (block_in indexed (row_of graph own (length guids)) own) (range_with_len 0 count);
+    }

@@ -7,7 +7,8 @@ use Rattle.subnet_view.specs.Reading.{Cells, is_usable}
 use Rattle.subnet_view.specs.Wires.{attached}
 use Rattle.lid_assign.specs.Lids.{Given, owner_of}
 
--- the usable switch and the port of it at which an end port lies: a switch's own port 0, or the port that an adapter port is wired to
+-- the usable switch and the port of it at which an end port lies: a switch's own port 0, or the port that an adapter
+-- port is wired to
 abbrev pub attachment_of : Cells → EndPort → Option (ℕ × ℕ)
 attachment_of cells e = if is_usable cells e.node then Some (e.node, 0) else attached cells e.node e.port
 

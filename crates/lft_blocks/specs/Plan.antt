@@ -24,13 +24,18 @@ tables_of attachments next count guids = map (λ s. record { guid = s; blocks = 
 
 -- the tables of a view by a rule of routing, where end ports have these LIDs
 abbrev pub tables_by : Routing → Cells → Given → List SwitchTable
-tables_by rule cells given = tables_of (attachment_of_lid cells given) rule.next (block_count (top_of given)) (switches cells)
+tables_by rule cells given =
+    tables_of (attachment_of_lid cells given) rule.next (block_count (top_of given)) (switches cells)
 
 -- the plan of a view by a rule of routing and under an LMC
 abbrev pub plan_by : Routing → ℕ → Cells → PlanValue
 plan_by rule lmc cells =
     let given = lids lmc cells in
-    record { given = given; tables = tables_of (attachment_of_lid cells given) rule.next (block_count (top_of given)) (switches cells) }
+    record {
+      given = given;
+      tables =
+          tables_of (attachment_of_lid cells given) rule.next (block_count (top_of given)) (switches cells);
+    }
 
 -- the plan of a view by a rule that can be asked for
 abbrev pub plan_of : RuleValue → ℕ → Cells → PlanValue
@@ -38,7 +43,8 @@ plan_of rule lmc cells = plan_by (routing_by rule cells) lmc cells
 
 -- a block of a switch; none where the GUID is no usable switch's, or there is no such block
 abbrev pub block_at : PlanValue → ℕ → ℕ → Option (List ℕ)
-block_at plan guid b = option_and_then (λ table. slice_get table.blocks b) (find (λ table. table.guid == guid) plan.tables)
+block_at plan guid b =
+    option_and_then (λ table. slice_get table.blocks b) (find (λ table. table.guid == guid) plan.tables)
 
 -- the usable switches
 abbrev pub switches_of : PlanValue → List ℕ

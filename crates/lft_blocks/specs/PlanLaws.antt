@@ -17,13 +17,16 @@ PlansStay = (rule : RuleValue) (lmc : ℕ) (x y : Facts) → ¬ (IsNoRoom lmc (c
 
 -- LIDs that are claimed stay in plans, whatever end ports come
 abbrev pub LidsStayInPlans : Type 0
-LidsStayInPlans = (rule : RuleValue) (lmc : ℕ) (x z : Facts) → ¬ (IsNoRoom lmc (cells_of x)) → ¬ (IsNoRoom lmc (cells_of z)) → GrowsFrom lmc (cells_of x) (cells_of z)
-    → (e : EndPort) (lid : ℕ) → lid_of (plan_of rule lmc (cells_of x)).given e ≡ Some lid → lid_of (plan_of rule lmc (cells_of z)).given e ≡ Some lid
+LidsStayInPlans = (rule : RuleValue) (lmc : ℕ) (x z : Facts) → ¬ (IsNoRoom lmc (cells_of x))
+    → ¬ (IsNoRoom lmc (cells_of z)) → GrowsFrom lmc (cells_of x) (cells_of z)
+    → (e : EndPort) (lid : ℕ) → lid_of (plan_of rule lmc (cells_of x)).given e ≡ Some lid
+    → lid_of (plan_of rule lmc (cells_of z)).given e ≡ Some lid
 
 -- block b has the entry for the LID 64 b + i at the index i
 abbrev pub BlocksHoldEntries : Type 0
 BlocksHoldEntries = (attachments : ℕ → Option (ℕ × ℕ)) (next : Next) (count s b i : ℕ) (ports : List ℕ)
-    → slice_get (blocks attachments next count s) b ≡ Some ports → i < 64 → slice_get ports i ≡ Some (entry attachments next s (64 * b + i))
+    → slice_get (blocks attachments next count s) b ≡ Some ports → i < 64 → slice_get ports i
+    ≡ Some (entry attachments next s (64 * b + i))
 
 -- the GUID is a usable switch's, and the greatest LID is in this block or a later one
 abbrev pub HasBlock : ℕ → Cells → ℕ → ℕ → Type 0

@@ -32,9 +32,11 @@ rule_of rule cells = routing_by (value_of rule) cells
 
 -- each is a rule of routing
 abbrev pub RulesAreRoutings : Type 0
-RulesAreRoutings = (rule : RuleValue) (facts : Facts) → IsRouting (graph_of (cells_of facts)) (routing_by rule (cells_of facts))
+RulesAreRoutings =
+    (rule : RuleValue) (facts : Facts) → IsRouting (graph_of (cells_of facts)) (routing_by rule (cells_of facts))
 
 -- of a view they hang on the wires between switches, and on the leaf switches
 abbrev pub RulesStay : Type 0
-RulesStay = (rule : RuleValue) (x y : Facts) → graph_of (cells_of x) ≡ graph_of (cells_of y) → leaf_switches_of (cells_of x) ≡ leaf_switches_of (cells_of y)
+RulesStay = (rule : RuleValue) (x y : Facts) → graph_of (cells_of x) ≡ graph_of (cells_of y)
+    → leaf_switches_of (cells_of x) ≡ leaf_switches_of (cells_of y)
     → routing_by rule (cells_of x) ≡ routing_by rule (cells_of y)

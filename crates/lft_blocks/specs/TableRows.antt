@@ -18,11 +18,13 @@ is_attachment_at t (Some h) = h.switch == t
 
 -- the LIDs whose attachments lie there
 abbrev pub lids_at : List (Option Attachment) → ℕ → List ℕ
-lids_at attachments t = filter (λ lid. is_attachment_at t (slice_index_or attachments lid None)) (numbers_from 0 (length attachments))
+lids_at attachments t =
+    filter (λ lid. is_attachment_at t (slice_index_or attachments lid None)) (numbers_from 0 (length attachments))
 
 -- those of them less than n
 abbrev pub lids_before : List (Option Attachment) → ℕ → ℕ → List ℕ
-lids_before attachments n t = filter (λ lid. is_attachment_at t (slice_index_or attachments lid None)) (numbers_from 0 n)
+lids_before attachments n t =
+    filter (λ lid. is_attachment_at t (slice_index_or attachments lid None)) (numbers_from 0 n)
 
 -- at each of so many switches
 pub record AreLidsAt (attachments : List (Option Attachment)) (n switches : ℕ) (lists : List (List ℕ)) : Type 0 where
@@ -34,34 +36,44 @@ abbrev pub attachment_port : Option Attachment → ℕ
 attachment_port None = 255
 attachment_port (Some h) = h.port
 
--- the entry for a LID: at its attachment's switch the attachment's port, elsewhere this port, and 255 where there is none
+-- the entry for a LID: at its attachment's switch the attachment's port, elsewhere this port, and 255 where there is
+-- none
 abbrev pub entry_by : List (Option Attachment) → Bool → ℕ → Option ℕ → ℕ
-entry_by attachments is_own lid port = if is_own then attachment_port (slice_index_or attachments lid None) else unwrap_or port 255
+entry_by attachments is_own lid port =
+    if is_own then attachment_port (slice_index_or attachments lid None) else unwrap_or port 255
 
 -- a row with such entries for these LIDs
 abbrev pub written : List (Option Attachment) → Bool → List ℕ → List ℕ → List (Option ℕ) → List ℕ
 written attachments is_own row [] ports = row
 written attachments is_own row (lid ∷ lids) [] = row
-written attachments is_own row (lid ∷ lids) (port ∷ ports) = written attachments is_own (slice_set row lid (entry_by attachments is_own lid port)) lids ports
+written attachments is_own row (lid ∷ lids) (port ∷ ports) =
+    written attachments is_own (slice_set row lid (entry_by attachments is_own lid port)) lids ports
 
 -- the rows of all switches, towards the one at an index
-abbrev pub AreWritten : List (Option Attachment) → ℕ → List ℕ → List (List (Option ℕ)) → List (List ℕ) → List (List ℕ) → Type 0
+abbrev pub AreWritten : List (Option Attachment) → ℕ → List ℕ → List (List (Option ℕ)) → List (List ℕ) → List (List ℕ)
+    → Type 0
 AreWritten attachments target lids ports old new = (length new ≡ length old)
-    × ((own : ℕ) → own < length old → slice_index_or new own [] ≡ written attachments (own == target) (slice_index_or old own []) lids (slice_index_or ports own []))
+    × ((own : ℕ) → own < length old → slice_index_or new own []
+    ≡ written attachments (own == target) (slice_index_or old own []) lids (slice_index_or ports own []))
 
 -- the entry for a LID of the switch at an index, where its attachment's switch has an index less than t, and else 255
 abbrev pub entry_before : Next → List ℕ → ℕ → ℕ → ℕ → Option Attachment → ℕ
 entry_before next guids t own lid None = 255
 entry_before next guids t own lid (Some h) =
-    if nat_lt h.switch t then (if h.switch == own then h.port else unwrap_or (next lid (slice_index guids own) (slice_index guids h.switch)) 255) else 255
+    if nat_lt h.switch t then
+    (if h.switch == own then h.port else unwrap_or (next lid (slice_index guids own) (slice_index guids h.switch))
+    255) else 255
 
 -- a row of such entries
-pub record IsRow (next : Next) (guids : List ℕ) (attachments : List (Option Attachment)) (t own : ℕ) (row : List ℕ) : Type 0 where
+pub record IsRow (next : Next) (guids : List ℕ) (attachments : List (Option Attachment)) (t own : ℕ) (row : List ℕ) :
+    Type 0 where
   pub all : length row ≡ length attachments
-  pub entries : (lid : ℕ) → lid < length attachments → slice_index row lid ≡ entry_before next guids t own lid (slice_index_or attachments lid None)
+  pub entries : (lid : ℕ) → lid < length attachments → slice_index row lid
+      ≡ entry_before next guids t own lid (slice_index_or attachments lid None)
 
 -- the rows of all switches
-pub record AreRows (next : Next) (guids : List ℕ) (attachments : List (Option Attachment)) (t : ℕ) (rows : List (List ℕ)) : Type 0 where
+pub record AreRows (next : Next) (guids : List ℕ) (attachments : List (Option Attachment)) (t : ℕ)
+    (rows : List (List ℕ)) : Type 0 where
   pub all : length rows ≡ length guids
   pub each : (own : ℕ) → own < length guids → IsRow next guids attachments t own (slice_index_or rows own [])
 
@@ -75,4 +87,5 @@ blocks_of_row row count = map (block_of_row row) (range_with_len 0 count)
 
 -- the table of the switch at an index, by its row
 abbrev pub table_of_row : List ℕ → List (List ℕ) → ℕ → ℕ → SwitchTable
-table_of_row guids rows count own = record { guid = slice_index guids own; blocks = blocks_of_row (slice_index_or rows own []) count }
+table_of_row guids rows count own =
+    record { guid = slice_index guids own; blocks = blocks_of_row (slice_index_or rows own []) count }

@@ -4,7 +4,8 @@ use Rattle.std.specs.Io.KnownBytes.{Appends}
 use Rattle.byte_io.specs.declared.sink.WriteFault.{WriteFault}
 
 -- at Ok what the sink holds has grown by the part, and at Err the sink has failed
-pub record WritesPart {W : Type 0} (written : W → Option (List ℕ)) (has_failed : W → Bool) (result : Result (Unit {0}) WriteFault) (old new : W)
+pub record WritesPart {W : Type 0} (written : W → Option (List ℕ)) (has_failed : W
+    → Bool) (result : Result (Unit {0}) WriteFault) (old new : W)
     (text : List ℕ) : Type 0 where
   pub ok : OnOk result (Appends (written old) (written new) text)
   pub err : OnErr result (IsTrue (has_failed new))

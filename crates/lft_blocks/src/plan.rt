@@ -51,9 +51,10 @@ impl Model for Plan {
 }
 
 impl Plan {
-    /// The plan of a view by a rule of routing, with 2^LMC LIDs for each adapter port. It is refused where there is no room for the LIDs. Takes what LIDs and routes take,
-    /// some six searches for each LID, and two steps for each entry. It holds 64 bytes for each block of
-    /// each switch, and beside them while it is made 2 for each two switches.
+    /// The plan of a view by a rule of routing, with 2^LMC LIDs for each adapter port. It is refused where there is no
+    /// room for the LIDs. Takes what LIDs and routes take, some six searches for each LID, and two steps for each
+    /// entry. It holds 64 bytes for each block of each switch, and beside them while it is made 2 for each two
+    /// switches.
     ///
     /// # Errors
     ///

@@ -41,8 +41,8 @@ impl TableRow {
         }
     }
 
-    /// Writes the entries for these LIDs, whose attachments lie at one switch: the attachments' ports where it is this one, and else the ports
-    /// by which the packets leave for it.
+    /// Writes the entries for these LIDs, whose attachments lie at one switch: the attachments' ports where it is this
+    /// one, and else the ports by which the packets leave for it.
     fn write(
         &mut self,
         attachments: &[Option<Attachment>],
@@ -129,7 +129,9 @@ pub(crate) fn lids_by_switch(
 ) -> Result<Vec<Vec<Lid>>, AllocError>
     requires few { length attachments.now ≤ 65536 }
     requires within { AreWithin switches attachments.now }
-    ensures { IfOk result (λ lists. AreLidsAt attachments.now (length attachments.now) switches (map (λ lids. lids.items) lists.items)) }
+    ensures { IfOk result
+        (λ lists. AreLidsAt attachments.now (length attachments.now) switches
+        (map (λ lids. lids.items) lists.items)) }
 {
     let mut lists = no_lids(alloc, switches)?;
     for lid in 0..attachments.len() {

@@ -60,7 +60,8 @@ module _ (lmc : ℕ) where
       ap (λ m. m % 2 ^ lmc) is ∙ mod-mul-add q (2 ^ lmc) 0 (omega (arith, pow_pos lmc))
 
   -- a range of an end port that has a number of a block begins there
-  begins_in : (room : ℕ) (e : EndPort) (n q k : ℕ) → Fits room (range_at lmc e n) → IsIn (range_at lmc e n) k → q * 2 ^ lmc ≤ k → k < q * 2 ^ lmc + 2 ^ lmc → n / 2 ^ lmc ≡ q
+  begins_in : (room : ℕ) (e : EndPort) (n q k : ℕ) → Fits room (range_at lmc e n) → IsIn (range_at lmc e n) k → q * 2 ^ lmc ≤ k → k < q * 2 ^ lmc + 2 ^ lmc
+      → n / 2 ^ lmc ≡ q
   begins_in room e n q k f i l h =
       elim (one_or_block lmc e) [
         | inl w ↦ let same : n ≡ k = omega (arith, i.0, i.1, w) in ap (λ m. m / 2 ^ lmc) same ∙ block_of q k k l h
@@ -90,13 +91,15 @@ module _ (room lmc : ℕ) where
   no_rest x None e = refl
   no_rest x (Some given) e = absurd (cc)
 
-  stuck : (taken : List Range) (ports : Ports) → ((r : Range) → Contains taken r → IsOwn room lmc r) → hand_out room lmc taken ports ≡ None → IsStuck (length taken + others ports)
+  stuck : (taken : List Range) (ports : Ports) → ((r : Range) → Contains taken r → IsOwn room lmc r) → hand_out room lmc taken ports ≡ None
+      → IsStuck (length taken + others ports)
   unfolding others
   stuck taken [] own e = absurd (cc)
   stuck taken ((x, Some c) ∷ ports) own e = stuck taken ports own (no_rest (x, c) (hand_out room lmc taken ports) e)
   stuck taken ((x, None) ∷ ports) own e =
       elim (least_open room taken (width_of lmc x)) as (λ o. least_open room taken (width_of lmc x) ≡ o →
-      option_and_then (λ c. option_map (λ given. (x, c) ∷ given) (hand_out room lmc (range_at lmc x c ∷ taken) ports)) o ≡ None → IsStuck (length taken + suc (others ports))) [
+      option_and_then (λ c. option_map (λ given. (x, c) ∷ given) (hand_out room lmc (range_at lmc x c ∷ taken) ports)) o ≡ None
+      → IsStuck (length taken + suc (others ports))) [
         | None ↦ λ q k. record { port = x; taken = taken; finds_none = q; few = omega arith; own = own }
         | Some c ↦ λ q k.
             let least = least_open_is room taken (width_of lmc x) (some_width lmc x) c q in
@@ -117,12 +120,15 @@ module _ (room lmc : ℕ) where
         | inr e ↦ ap (λ v. (q * 2 ^ lmc) % v) e ∙ begins_at lmc q
       ] in
       let start : 2 ^ lmc ≤ q * 2 ^ lmc = omega (arith, mul-le-mul_left {m = 1} {n = q} (2 ^ lmc) low) in
-      let fit : Fits room (so_many w (q * 2 ^ lmc)) = record { not_0 = omega (arith, pow_pos lmc, start); aligned = aligned; in_room = omega (arith, least, high) } in
+      let fit : Fits room (so_many w (q * 2 ^ lmc)) =
+      record { not_0 = omega (arith, pow_pos lmc, start); aligned = aligned; in_room = omega (arith, least, high) } in
       let b = none_is_open room s.taken w (some_width lmc s.port) s.finds_none (q * 2 ^ lmc) fit in
       let o = s.own b.0 b.1 in
-      let k = common_number (so_many w (q * 2 ^ lmc)) (range_at lmc o.of o.lid) (some_width lmc s.port) (some_width lmc o.of) (ap (meets (so_many w (q * 2 ^ lmc))) (sym o.is_its) ∙ b.2) in
+      let k = common_number (so_many w (q * 2 ^ lmc)) (range_at lmc o.of o.lid) (some_width lmc s.port) (some_width lmc o.of)
+      (ap (meets (so_many w (q * 2 ^ lmc))) (sym o.is_its) ∙ b.2) in
       let at = begins_in lmc room o.of o.lid q k.0 o.it_fits k.1.1 k.1.0.0 (omega (arith, k.1.0.1, least)) in
-      contains_as (map (λ r. r.first / 2 ^ lmc) s.taken) (ap (λ (r : Range). r.first / 2 ^ lmc) o.is_its ∙ at) (contains_map (λ (r : Range). r.first / 2 ^ lmc) s.taken b.0 b.1)
+      contains_as (map (λ r. r.first / 2 ^ lmc) s.taken) (ap (λ (r : Range). r.first / 2 ^ lmc) o.is_its
+      ∙ at) (contains_map (λ (r : Range). r.first / 2 ^ lmc) s.taken b.0 b.1)
     where
       mod_1 : (n : ℕ) → n % 1 ≡ 0
       mod_1 n = omega arith
@@ -136,7 +142,14 @@ module _ (lmc : ℕ) (cells : Cells) where
       let e : handed_out lmc cells ≡ None = nothing (handed_out lmc cells) none in
       let s = stuck (room cells) lmc (ranges_of lmc (kept lmc cells)) (kept lmc cells) (λ r h.
       let x = among_ranges lmc (kept lmc cells) r h in record { of = x.0; lid = x.1; is_its = x.3; it_fits = kept_fits lmc cells x.0 x.1 x.2 }) e in
-      record { port = s.port; taken = s.taken; finds_none = s.finds_none; few = omega (arith, s.few, keepers_and_others lmc (kept lmc cells), count-end_ports); own = s.own }
+      record {
+        port = s.port;
+        taken = s.taken;
+        finds_none = s.finds_none;
+        few =
+            omega (arith, s.few, keepers_and_others lmc (kept lmc cells), count-end_ports);
+        own = s.own;
+      }
     where
       nothing : (o : Option GivenLids) → not (is_some o) ≡ true → o ≡ None
       nothing None h = refl
@@ -192,7 +205,8 @@ module _ (lmc : ℕ) (cells : Cells) where
       lids_apart (x ∷ given) p = (
         λ h.
             let y = contains-from_map (λ (z : EndPort × ℕ). z.1) given x.1 h in
-            both_ways _ (p.0 y.0 y.1) (meets_at (numbers_of lmc x) (numbers_of lmc y.0) x.1 (omega arith, omega (arith, some_width lmc x.0)) (omega (arith, y.2), omega (arith, y.2, some_width lmc y.0.0))),
+            both_ways _ (p.0 y.0 y.1) (meets_at (numbers_of lmc x) (numbers_of lmc y.0) x.1 (omega arith, omega (arith, some_width lmc x.0))
+            (omega (arith, y.2), omega (arith, y.2, some_width lmc y.0.0))),
         lids_apart given p.1,
       )
 

@@ -31,7 +31,8 @@ module _ (room : ℕ) (ranges : List Range) (marks : List Bool) (are : AreTaken 
   none_met r w h e t there =
       false_from_ne_true _ (λ m.
       let n = common_number r t w (some t there) m in
-      both_ways _ (not_marked marks r e n.0 n.1.0) (are.each n.0 (omega (arith, n.1.0.1, h)) ∙ list_any_true (λ (s : Range). is_in s n.0) ranges t there (test_from_in t n.0 n.1.1)))
+      both_ways _ (not_marked marks r e n.0 n.1.0) (are.each n.0 (omega (arith, n.1.0.1, h))
+      ∙ list_any_true (λ (s : Range). is_in s n.0) ranges t there (test_from_in t n.0 n.1.1)))
 
   module _ (width : ℕ) (w : 1 ≤ width) where
     fits_marks : (c : ℕ) → Fits room (so_many width c) → any_marked marks (from_on width c) ≡ false → IsUnmarked marks width c
@@ -58,7 +59,8 @@ module _ (room : ℕ) (ranges : List Range) (marks : List Bool) (are : AreTaken 
         open_is_none room ranges width w (λ m f. blocked_before (length marks) none m (omega (arith, f.in_room, are.all, w)) f)
 
 -- one range more
-pub taken_more : (room : ℕ) (ranges : List Range) (old new : List Bool) (r : Range) → AreTaken room ranges old → AreMarkedMore (Some r) old new → AreTaken room (r ∷ ranges) new
+pub taken_more : (room : ℕ) (ranges : List Range) (old new : List Bool) (r : Range) → AreTaken room ranges old → AreMarkedMore (Some r) old new
+    → AreTaken room (r ∷ ranges) new
 taken_more room ranges old new r are m =
     record {
       all = m.all ∙ are.all;
@@ -75,7 +77,8 @@ pub record IsGiving (room lmc : ℕ) (handed : Option GivenLids) (given : GivenL
   pub passed : ArePassed lmc marks next
   pub some : (r : Range) → Contains ranges r → 1 ≤ r.width
 
-after : (given : GivenLids) (x : EndPort × ℕ) (o : Option GivenLids) → option_map (λ more. (given ++ x ∷ []) ++ more) o ≡ option_map (λ more. given ++ more) (option_map (λ more. x ∷ more) o)
+after : (given : GivenLids) (x : EndPort × ℕ) (o : Option GivenLids) → option_map (λ more. (given ++ x ∷ []) ++ more) o
+    ≡ option_map (λ more. given ++ more) (option_map (λ more. x ∷ more) o)
 after given x None = refl
 after given x (Some more) = ap (λ xs. Some xs) (append_assoc given (x ∷ []) more)
 
@@ -92,14 +95,16 @@ module _ (room lmc : ℕ) (handed : Option GivenLids) (given : GivenLids) (e : E
       }
 
   -- one that takes the least open number
-  pub given_open : (n : ℕ) (new : List Bool) (then : Next) → IsLeastUnmarked marks (width_of lmc e) 0 n → AreMarkedMore (Some (from_on (width_of lmc e) n)) marks new
+  pub given_open : (n : ℕ) (new : List Bool) (then : Next) → IsLeastUnmarked marks (width_of lmc e) 0 n
+      → AreMarkedMore (Some (from_on (width_of lmc e) n)) marks new
       → ArePassed lmc new then → IsGiving room lmc handed given ((e, None) ∷ rest) marks next → IsGiving room lmc handed (given ++ (e, n) ∷ []) rest new then
   given_open n new then l m p g =
       let least = least_by_marks room g.ranges marks g.taken g.some (width_of lmc e) (some_width lmc e) n l in
       record {
         ranges = range_at lmc e n ∷ g.ranges;
         follows = after given (e, n) (hand_out room lmc (range_at lmc e n ∷ g.ranges) rest)
-            ∙ sym (ap (λ o. option_map (λ more. given ++ more) (option_and_then (λ c. option_map (λ more. (e, c) ∷ more) (hand_out room lmc (range_at lmc e c ∷ g.ranges) rest)) o)) least)
+            ∙ sym (ap (λ o. option_map (λ more. given
+            ++ more) (option_and_then (λ c. option_map (λ more. (e, c) ∷ more) (hand_out room lmc (range_at lmc e c ∷ g.ranges) rest)) o)) least)
             ∙ g.follows;
         taken = taken_more room g.ranges marks new (range_at lmc e n) g.taken m;
         passed = p;
@@ -113,10 +118,12 @@ module _ (room lmc : ℕ) (handed : Option GivenLids) (given : GivenLids) (e : E
   pub given_none : NoneUnmarked marks (width_of lmc e) 0 (length marks) → IsGiving room lmc handed given ((e, None) ∷ rest) marks next → None ≡ handed
   given_none none g =
       let least = none_by_marks room g.ranges marks g.taken g.some (width_of lmc e) (some_width lmc e) none in
-      sym (ap (λ o. option_map (λ more. given ++ more) (option_and_then (λ c. option_map (λ more. (e, c) ∷ more) (hand_out room lmc (range_at lmc e c ∷ g.ranges) rest)) o)) least) ∙ g.follows
+      sym (ap (λ o. option_map (λ more. given
+      ++ more) (option_and_then (λ c. option_map (λ more. (e, c) ∷ more) (hand_out room lmc (range_at lmc e c ∷ g.ranges) rest)) o)) least) ∙ g.follows
 
 -- all are given
-pub given_all : (room lmc : ℕ) (handed : Option GivenLids) (given : GivenLids) (rest : Ports) (marks : List Bool) (next : Next) → rest ≡ [] → IsGiving room lmc handed given rest marks next
+pub given_all : (room lmc : ℕ) (handed : Option GivenLids) (given : GivenLids) (rest : Ports) (marks : List Bool) (next : Next) → rest ≡ []
+    → IsGiving room lmc handed given rest marks next
     → Some given ≡ handed
 given_all room lmc handed given rest marks next none g =
     ap (λ xs. Some xs) (sym (append-nil given)) ∙ ap (λ ports. option_map (λ more. given ++ more) (hand_out room lmc g.ranges ports)) (sym none) ∙ g.follows
@@ -130,12 +137,14 @@ same_handed : (o : Option GivenLids) → option_map (λ more. [] ++ more) o ≡ 
 same_handed None = refl
 same_handed (Some more) = refl
 
-pub giving_start : (room lmc : ℕ) (keepers : Ports) (given : GivenLids) (marks : List Bool) (next : Next) → given ≡ [] → AreTaken room (ranges_of lmc keepers) marks → ArePassed lmc marks next
+pub giving_start : (room lmc : ℕ) (keepers : Ports) (given : GivenLids) (marks : List Bool) (next : Next) → given ≡ []
+    → AreTaken room (ranges_of lmc keepers) marks → ArePassed lmc marks next
     → IsGiving room lmc (hand_out room lmc (ranges_of lmc keepers) keepers) given keepers marks next
 giving_start room lmc keepers given marks next none are p =
     record {
       ranges = ranges_of lmc keepers;
-      follows = ap (λ g. option_map (λ more. g ++ more) (hand_out room lmc (ranges_of lmc keepers) keepers)) none ∙ same_handed (hand_out room lmc (ranges_of lmc keepers) keepers);
+      follows = ap (λ g. option_map (λ more. g ++ more) (hand_out room lmc (ranges_of lmc keepers) keepers)) none
+          ∙ same_handed (hand_out room lmc (ranges_of lmc keepers) keepers);
       taken = are;
       passed = p;
       some = some_ranges lmc keepers;

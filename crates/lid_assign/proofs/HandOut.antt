@@ -73,7 +73,8 @@ module _ (room : ℕ) (taken : List Range) where
         least_is_found (λ c. is_open room taken (so_many width c)) 1 (room - 1) n (omega (arith, l.it_fits.not_0, l.it_fits.in_room)) (record {
           passes = test_from_open (so_many width n) l.it_fits l.free;
           from_start = l.it_fits.not_0;
-          none_before = λ m a b. false_from_ne_true _ (λ e. let o = open_from_test (so_many width m) e in let t = l.none_before m b o.0 in both_ways _ (o.1 t.0 t.1) t.2);
+          none_before = λ m a b. false_from_ne_true _ (λ e. let o = open_from_test (so_many width m) e in let t = l.none_before m b o.0 in
+              both_ways _ (o.1 t.0 t.1) t.2);
         })
 
     pub open_is_none : ((m : ℕ) → Fits room (so_many width m) → IsBlocked taken (so_many width m)) → least_open room taken width ≡ None
@@ -83,7 +84,8 @@ module _ (room : ℕ) (taken : List Range) where
 
     pub none_is_open : least_open room taken width ≡ None → (m : ℕ) → Fits room (so_many width m) → IsBlocked taken (so_many width m)
     none_is_open e m f =
-        blocked_from_test (so_many width m) f (found_none (λ c. is_open room taken (so_many width c)) 1 (room - 1) e m f.not_0 (omega (arith, f.not_0, f.in_room)))
+        blocked_from_test (so_many width m) f (found_none (λ c. is_open room taken (so_many width c)) 1 (room - 1) e m f.not_0
+        (omega (arith, f.not_0, f.in_room)))
 
 -- step by step ----------------------------------------------------------------------
 
@@ -93,14 +95,16 @@ Hands room lmc taken [] [] = Unit {0}
 Hands room lmc taken [] (x ∷ given) = ⊥
 Hands room lmc taken ((e, o) ∷ ports) [] = ⊥
 Hands room lmc taken ((e, Some c) ∷ ports) ((f, n) ∷ given) = (e ≡ f) × (c ≡ n) × Hands room lmc taken ports given
-Hands room lmc taken ((e, None) ∷ ports) ((f, n) ∷ given) = (e ≡ f) × (least_open room taken (width_of lmc e) ≡ Some n) × Hands room lmc (range_at lmc e n ∷ taken) ports given
+Hands room lmc taken ((e, None) ∷ ports) ((f, n) ∷ given) =
+    (e ≡ f) × (least_open room taken (width_of lmc e) ≡ Some n) × Hands room lmc (range_at lmc e n ∷ taken) ports given
 
 module _ (room lmc : ℕ) where
   not_some_none : (x : EndPort × ℕ) (o : Option GivenLids) → option_map (λ given. x ∷ given) o ≡ Some [] → ⊥
   not_some_none x None e = cc
   not_some_none x (Some given) e = cc
 
-  first_and_rest : (x y : EndPort × ℕ) (o : Option GivenLids) (given : GivenLids) → option_map (λ given. x ∷ given) o ≡ Some (y ∷ given) → (x ≡ y) × (o ≡ Some given)
+  first_and_rest : (x y : EndPort × ℕ) (o : Option GivenLids) (given : GivenLids) → option_map (λ given. x ∷ given) o ≡ Some (y ∷ given) → (x ≡ y)
+      × (o ≡ Some given)
   first_and_rest x y None given e = absurd (cc)
   first_and_rest x y (Some rest) given e = (cc, cc)
 
@@ -125,7 +129,8 @@ module _ (room lmc : ℕ) where
         | Some c ↦ λ p q.
             let r = first_and_rest (x, c) (f, n) (hand_out room lmc (range_at lmc x c ∷ taken) ports) given q in
             let i : c ≡ n = ap (λ z. z.1) r.0 in
-            let rest : hand_out room lmc (range_at lmc x n ∷ taken) ports ≡ Some given = ap (λ m. hand_out room lmc (range_at lmc x m ∷ taken) ports) (sym i) ∙ r.1 in
+            let rest : hand_out room lmc (range_at lmc x n ∷ taken) ports ≡ Some given =
+            ap (λ m. hand_out room lmc (range_at lmc x m ∷ taken) ports) (sym i) ∙ r.1 in
             (ap (λ z. z.0) r.0, p ∙ ap (λ m. Some m) i, hands_from (range_at lmc x n ∷ taken) ports given rest)
       ] refl e
 
@@ -203,7 +208,8 @@ module _ (room lmc : ℕ) where
         | inr k ↦ k
       ]
 
-  pub kept_given : (taken : List Range) (ports : Ports) (given : GivenLids) → Hands room lmc taken ports given → (e : EndPort) (n : ℕ) → Contains ports (e, Some n) → Contains given (e, n)
+  pub kept_given : (taken : List Range) (ports : Ports) (given : GivenLids) → Hands room lmc taken ports given → (e : EndPort) (n : ℕ)
+      → Contains ports (e, Some n) → Contains given (e, n)
   kept_given taken [] given h e n k = absurd (contains_none (e, Some n) k)
   kept_given taken ((x, Some c) ∷ ports) [] h e n k = absurd h
   kept_given taken ((x, None) ∷ ports) [] h e n k = absurd h
@@ -231,30 +237,35 @@ module _ (room lmc : ℕ) where
   abbrev AreAmong : Ports → List Range → Type 0
   AreAmong ports taken = (e : EndPort) (c : ℕ) → Contains ports (e, Some c) → Contains taken (range_at lmc e c)
 
-  pub given_apart : (taken : List Range) (ports : Ports) (given : GivenLids) → Hands room lmc taken ports given → KeptApart lmc ports → AreAmong ports taken → PairsApart lmc given
+  pub given_apart : (taken : List Range) (ports : Ports) (given : GivenLids) → Hands room lmc taken ports given → KeptApart lmc ports → AreAmong ports taken
+      → PairsApart lmc given
   given_apart taken [] [] h a s = tt
   given_apart taken [] (x ∷ given) h a s = absurd h
   given_apart taken ((x, Some c) ∷ ports) [] h a s = absurd h
   given_apart taken ((x, None) ∷ ports) [] h a s = absurd h
   given_apart taken ((x, Some c) ∷ ports) ((f, m) ∷ given) h a s =
       let same : ◌≡◌ {A = EndPort × ℕ} (x, c) (f, m) = λ l. (h.0 l, h.1 l) in (
-        λ y k. subst (λ (z : EndPort × ℕ). meets (numbers_of lmc z) (numbers_of lmc y) ≡ false) same (elim (given_from room lmc taken ports given h.2 y.0 y.1 k) [
-          | inl j ↦ a.0 y.0 y.1 j
-          | inr j ↦ turned (numbers_of lmc y) (range_at lmc x c) (j.is_free (range_at lmc x c) (s x c (contains_here (x, Some c) ports)))
-        ]),
+        λ y k. subst (λ (z : EndPort × ℕ). meets (numbers_of lmc z) (numbers_of lmc y)
+            ≡ false) same (elim (given_from room lmc taken ports given h.2 y.0 y.1 k) [
+              | inl j ↦ a.0 y.0 y.1 j
+              | inr j ↦ turned (numbers_of lmc y) (range_at lmc x c) (j.is_free (range_at lmc x c) (s x c (contains_here (x, Some c) ports)))
+            ]),
         given_apart taken ports given h.2 a.1 (λ e d k. s e d (contains_later (x, Some c) (e, Some d) ports k)),
       )
   given_apart taken ((x, None) ∷ ports) ((f, m) ∷ given) h a s =
       let same : ◌≡◌ {A = EndPort × ℕ} (x, m) (f, m) = λ l. (h.0 l, m) in
       let least = least_open_is room taken (width_of lmc x) (some_width lmc x) m h.1 in (
-        λ y k. subst (λ (z : EndPort × ℕ). meets (numbers_of lmc z) (numbers_of lmc y) ≡ false) same (elim (given_from room lmc (range_at lmc x m ∷ taken) ports given h.2 y.0 y.1 k) [
-          | inl j ↦ least.free (numbers_of lmc y) (s y.0 y.1 (contains_later (x, None) (y.0, Some y.1) ports j))
-          | inr j ↦ turned (numbers_of lmc y) (range_at lmc x m) (j.is_free (range_at lmc x m) (contains_here (range_at lmc x m) taken))
-        ]),
-        given_apart (range_at lmc x m ∷ taken) ports given h.2 a (λ e d k. contains_later (range_at lmc x m) (range_at lmc e d) taken (s e d (contains_later (x, None) (e, Some d) ports k))),
+        λ y k. subst (λ (z : EndPort × ℕ). meets (numbers_of lmc z) (numbers_of lmc y)
+            ≡ false) same (elim (given_from room lmc (range_at lmc x m ∷ taken) ports given h.2 y.0 y.1 k) [
+              | inl j ↦ least.free (numbers_of lmc y) (s y.0 y.1 (contains_later (x, None) (y.0, Some y.1) ports j))
+              | inr j ↦ turned (numbers_of lmc y) (range_at lmc x m) (j.is_free (range_at lmc x m) (contains_here (range_at lmc x m) taken))
+            ]),
+        given_apart (range_at lmc x m
+            ∷ taken) ports given h.2 a (λ e d k. contains_later (range_at lmc x m) (range_at lmc e d) taken (s e d (contains_later (x, None) (e, Some d) ports k))),
       )
 
-  pub same_from_pairs : (given : GivenLids) → PairsApart lmc given → (x y : EndPort × ℕ) → Contains given x → Contains given y → meets (numbers_of lmc x) (numbers_of lmc y) ≡ true → x ≡ y
+  pub same_from_pairs : (given : GivenLids) → PairsApart lmc given → (x y : EndPort × ℕ) → Contains given x → Contains given y
+      → meets (numbers_of lmc x) (numbers_of lmc y) ≡ true → x ≡ y
   same_from_pairs [] a x y h k e = absurd (contains_none x h)
   same_from_pairs (z ∷ given) a x y h k e =
       elim (contains_cases z x given h) [
@@ -263,7 +274,9 @@ module _ (room lmc : ℕ) where
           | inr l ↦ absurd (both_ways _ (a.0 y l) (ap (λ (w : EndPort × ℕ). meets (numbers_of lmc w) (numbers_of lmc y)) i ∙ e))
         ])
         | inr l ↦ (elim (contains_cases z y given k) [
-          | inl j ↦ absurd (both_ways _ (a.0 x l) (meets_turned (numbers_of lmc x) (numbers_of lmc z) (ap (λ (w : EndPort × ℕ). meets (numbers_of lmc x) (numbers_of lmc w)) j ∙ e)))
+          | inl j ↦ absurd
+              (both_ways _ (a.0 x l)
+              (meets_turned (numbers_of lmc x) (numbers_of lmc z) (ap (λ (w : EndPort × ℕ). meets (numbers_of lmc x) (numbers_of lmc w)) j ∙ e)))
           | inr m ↦ same_from_pairs given a.1 x y l m e
         ])
       ]
@@ -286,7 +299,8 @@ module _ (room lmc : ℕ) where
   later_met taken y earlier r (t, e, inl h) = (t, e, inl h)
   later_met taken y earlier r (t, e, inr h) = (t, e, inr (h.0, contains_later y h.0 earlier h.1, h.2))
 
-  first_met : (taken : List Range) (y : EndPort × ℕ) (s : Range) (earlier : GivenLids) (r : Range) → s ≡ numbers_of lmc y → IsMetBefore (s ∷ taken) earlier r → IsMetBefore taken (y ∷ earlier) r
+  first_met : (taken : List Range) (y : EndPort × ℕ) (s : Range) (earlier : GivenLids) (r : Range) → s ≡ numbers_of lmc y → IsMetBefore (s ∷ taken) earlier r
+      → IsMetBefore taken (y ∷ earlier) r
   first_met taken y s earlier r q (t, e, inl h) =
       elim (contains_cases s t taken h) [
         | inl i ↦ (t, e, inr (y, contains_here y earlier, sym i ∙ q))
@@ -294,7 +308,8 @@ module _ (room lmc : ℕ) where
       ]
   first_met taken y s earlier r q (t, e, inr h) = (t, e, inr (h.0, contains_later y h.0 earlier h.1, h.2))
 
-  pub lesser_met : (taken : List Range) (ports : Ports) (given : GivenLids) → Hands room lmc taken ports given → (earlier later : GivenLids) (e : EndPort) (n m : ℕ)
+  pub lesser_met : (taken : List Range) (ports : Ports) (given : GivenLids) → Hands room lmc taken ports given
+      → (earlier later : GivenLids) (e : EndPort) (n m : ℕ)
       → given ≡ earlier ++ (e, n) ∷ later → IsOther ports e → Fits room (range_at lmc e m) → m < n → IsMetBefore taken earlier (range_at lmc e m)
   lesser_met taken [] [] h earlier later e n m q o f l = absurd (no_split earlier (e, n) later q)
   lesser_met taken [] (x ∷ given) h earlier later e n m q o f l = absurd h

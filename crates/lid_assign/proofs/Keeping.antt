@@ -31,7 +31,8 @@ module _ (lmc : ℕ) (cells : Cells) where
   number_claimed : (n d : ℕ) (x : EndPort) → fitting_claim lmc cells x ≡ Some d → is_in (range_at lmc x d) n ≡ true → claims_number lmc cells n x ≡ true
   number_claimed n d x f e = ap (λ o. is_in_some (option_map (range_at lmc x) o) n) f ∙ e
 
-  claimed_number : (n : ℕ) (x : EndPort) → claims_number lmc cells n x ≡ true → (d : ℕ) × (fitting_claim lmc cells x ≡ Some d) × (is_in (range_at lmc x d) n ≡ true)
+  claimed_number : (n : ℕ) (x : EndPort) → claims_number lmc cells n x ≡ true → (d : ℕ) × (fitting_claim lmc cells x ≡ Some d)
+      × (is_in (range_at lmc x d) n ≡ true)
   claimed_number n x h =
       elim (fitting_claim lmc cells x) as (λ o. fitting_claim lmc cells x ≡ o → is_in_some (option_map (range_at lmc x) o) n ≡ true
       → (d : ℕ) × (fitting_claim lmc cells x ≡ Some d) × (is_in (range_at lmc x d) n ≡ true)) [
@@ -70,13 +71,15 @@ module _ (lmc : ℕ) (cells : Cells) where
     pub unmarked_is : unmarked marks (width_of lmc e) (claim_of cells e.node e.port) ≡ kept_claim lmc cells prior e
     unmarked_is =
         ap (option_and_then (if_unmarked marks (width_of lmc e))) fitting_is
-        ∙ (elim (fitting_claim lmc cells e) as (λ o. fitting_claim lmc cells e ≡ o → option_and_then (if_unmarked marks (width_of lmc e)) o ≡ option_and_then (if_first lmc cells prior e) o) [
+        ∙ (elim (fitting_claim lmc cells e) as (λ o. fitting_claim lmc cells e ≡ o → option_and_then (if_unmarked marks (width_of lmc e)) o
+        ≡ option_and_then (if_first lmc cells prior e) o) [
           | None ↦ λ p. refl
           | Some c ↦ λ p. ap (λ t. cond t None (Some c)) (first_by_marks c p)
         ] refl)
 
     -- and then its own claim is marked too
-    pub claimed_more : (new : List Bool) → AreMarkedMore (option_map (from_on (width_of lmc e)) (fitting (length marks) (width_of lmc e) (claim_of cells e.node e.port))) marks new
+    pub claimed_more : (new : List Bool)
+        → AreMarkedMore (option_map (from_on (width_of lmc e)) (fitting (length marks) (width_of lmc e) (claim_of cells e.node e.port))) marks new
         → AreClaimed lmc cells (e ∷ prior) new
     claimed_more new m =
         record {
@@ -105,7 +108,8 @@ taken_pushed most lmc done e o old new are m =
       all = m.all ∙ are.all;
       each = λ n h.
           m.each n (omega (arith, h, are.all)) ∙ ap (λ t. is_in_some (option_map (range_at lmc e) o) n || t) (are.each n h)
-          ∙ sym (ap (list_any (λ r. is_in r n)) (filter_map-append (kept_range lmc) done ((e, o) ∷ [])) ∙ any_pushed (λ r. is_in r n) (ranges_of lmc done) (option_map (range_at lmc e) o));
+          ∙ sym (ap (list_any (λ r. is_in r n)) (filter_map-append (kept_range lmc) done ((e, o) ∷ []))
+          ∙ any_pushed (λ r. is_in r n) (ranges_of lmc done) (option_map (range_at lmc e) o));
     }
 
 -- end port by end port ---------------------------------------------------------------------
@@ -136,23 +140,28 @@ keeping_start lmc cells done rest claimed taken d r m k =
       };
     }
 
-pub keeping_more : (lmc : ℕ) (cells : Cells) (done : Ports) (e : EndPort) (rest : List EndPort) (claimed taken new_claimed new_taken : List Bool) (width : ℕ) (claim lid : Option ℕ)
+pub keeping_more : (lmc : ℕ) (cells : Cells) (done : Ports) (e : EndPort) (rest : List EndPort) (claimed taken new_claimed new_taken : List Bool) (width : ℕ)
+    (claim lid : Option ℕ)
     → width ≡ width_of lmc e → claim ≡ claim_of cells e.node e.port → lid ≡ unmarked claimed width claim
-    → AreMarkedMore (option_map (from_on width) (fitting (length claimed) width claim)) claimed new_claimed → AreMarkedMore (option_map (from_on width) lid) taken new_taken
+    → AreMarkedMore (option_map (from_on width) (fitting (length claimed) width claim)) claimed new_claimed
+    → AreMarkedMore (option_map (from_on width) lid) taken new_taken
     → IsKeeping lmc cells done (e ∷ rest) claimed taken → IsKeeping lmc cells (done ++ (e, lid) ∷ []) rest new_claimed new_taken
 keeping_more lmc cells done e rest claimed taken new_claimed new_taken width claim lid w a b m t k =
     let is : lid ≡ kept_claim lmc cells k.prior e = b ∙ (λ i. unmarked claimed (w i) (a i)) ∙ unmarked_is lmc cells k.prior claimed k.claims e in
     record {
       prior = e ∷ k.prior;
-      follows = append_assoc done ((e, lid) ∷ []) (with_kept lmc cells (e ∷ k.prior) rest) ∙ ap (λ o. done ++ (e, o) ∷ with_kept lmc cells (e ∷ k.prior) rest) is ∙ k.follows;
+      follows = append_assoc done ((e, lid) ∷ []) (with_kept lmc cells (e ∷ k.prior) rest)
+          ∙ ap (λ o. done ++ (e, o) ∷ with_kept lmc cells (e ∷ k.prior) rest) is ∙ k.follows;
       claims = claimed_more lmc cells k.prior claimed k.claims e new_claimed
           (subst (λ (x : ℕ × Option ℕ). AreMarkedMore (option_map (from_on x.0) (fitting (length claimed) x.0 x.1)) claimed new_claimed) (λ i. (w i, a i)) m);
-      takes = taken_pushed (room cells) lmc done e lid taken new_taken k.takes (subst (λ (v : ℕ). AreMarkedMore (option_map (from_on v) lid) taken new_taken) w t);
+      takes = taken_pushed (room cells) lmc done e lid taken new_taken k.takes (subst (λ (v : ℕ). AreMarkedMore (option_map (from_on v) lid) taken new_taken) w
+          t);
     }
 
 -- the end ------------------------------------------------------------------------------------
 
-module _ (lmc : ℕ) (cells : Cells) (done : Ports) (rest : List EndPort) (claimed taken : List Bool) (none : rest ≡ []) (k : IsKeeping lmc cells done rest claimed taken) where
+module _ (lmc : ℕ) (cells : Cells) (done : Ports) (rest : List EndPort) (claimed taken : List Bool) (none : rest
+    ≡ []) (k : IsKeeping lmc cells done rest claimed taken) where
   pub kept_all : done ≡ kept lmc cells
   kept_all = sym (append-nil done) ∙ ap (λ es. done ++ with_kept lmc cells k.prior es) (sym none) ∙ k.follows
 

@@ -18,17 +18,20 @@ use Rattle.lid_assign.proofs.Ranges.{some_width, meets_at, common_number, meets_
 module _ (lmc : ℕ) (cells : Cells) where
   pub claims_fitting : (e : EndPort) (c : ℕ) → fitting_claim lmc cells e ≡ Some c → ClaimsFitting lmc cells e c
   claims_fitting e c k =
-      elim (claim_of cells e.node e.port) as (λ o. claim_of cells e.node e.port ≡ o → option_and_then (if_fits (room cells) lmc e) o ≡ Some c → ClaimsFitting lmc cells e c) [
+      elim (claim_of cells e.node e.port) as (λ o. claim_of cells e.node e.port ≡ o → option_and_then (if_fits (room cells) lmc e) o ≡ Some c
+      → ClaimsFitting lmc cells e c) [
         | None ↦ λ p h. absurd (cc)
-        | Some d ↦ λ p h. (elim (fits (room cells) (range_at lmc e d)) as (λ t. fits (room cells) (range_at lmc e d) ≡ t → cond t (Some d) None ≡ Some c → ClaimsFitting lmc cells e c) [
-          | true ↦ λ q l.
-              let i : d ≡ c = cc in
-              record {
-                claimed = p ∙ ap (λ n. Some n) i;
-                claim_fits = subst (λ (n : ℕ). Fits (room cells) (range_at lmc e n)) i (fits_from_test (room cells) (range_at lmc e d) q);
-              }
-          | false ↦ λ q l. absurd (cc)
-        ] refl h)
+        | Some d ↦ λ p h.
+            (elim (fits (room cells) (range_at lmc e d)) as (λ t. fits (room cells) (range_at lmc e d) ≡ t → cond t (Some d) None ≡ Some c
+            → ClaimsFitting lmc cells e c) [
+              | true ↦ λ q l.
+                  let i : d ≡ c = cc in
+                  record {
+                    claimed = p ∙ ap (λ n. Some n) i;
+                    claim_fits = subst (λ (n : ℕ). Fits (room cells) (range_at lmc e n)) i (fits_from_test (room cells) (range_at lmc e d) q);
+                  }
+              | false ↦ λ q l. absurd (cc)
+            ] refl h)
       ] refl k
 
   pub fitting_from : (e : EndPort) (c : ℕ) → ClaimsFitting lmc cells e c → fitting_claim lmc cells e ≡ Some c
@@ -55,18 +58,24 @@ pub record CanKeep (lmc : ℕ) (cells : Cells) (prior : List EndPort) (e : EndPo
 module _ (lmc : ℕ) (cells : Cells) where
   kept_can_keep : (prior : List EndPort) (e : EndPort) (c : ℕ) → kept_claim lmc cells prior e ≡ Some c → CanKeep lmc cells prior e c
   kept_can_keep prior e c k =
-      elim (fitting_claim lmc cells e) as (λ o. fitting_claim lmc cells e ≡ o → option_and_then (if_first lmc cells prior e) o ≡ Some c → CanKeep lmc cells prior e c) [
+      elim (fitting_claim lmc cells e) as (λ o. fitting_claim lmc cells e ≡ o → option_and_then (if_first lmc cells prior e) o ≡ Some c
+      → CanKeep lmc cells prior e c) [
         | None ↦ λ p h. absurd (cc)
-        | Some d ↦ λ p h. (elim (list_any (claims lmc cells (range_at lmc e d)) prior) as (λ t. list_any (claims lmc cells (range_at lmc e d)) prior ≡ t → cond t None (Some d) ≡ Some c
+        | Some d ↦ λ p h.
+            (elim (list_any (claims lmc cells (range_at lmc e d)) prior) as (λ t. list_any (claims lmc cells (range_at lmc e d)) prior ≡ t → cond t None (Some d)
+            ≡ Some c
             → CanKeep lmc cells prior e c) [
               | true ↦ λ q l. absurd (cc)
               | false ↦ λ q l.
                   let i : d ≡ c = cc in
-                  let none : list_any (claims lmc cells (range_at lmc e c)) prior ≡ false = ap (λ n. list_any (claims lmc cells (range_at lmc e n)) prior) (sym i) ∙ q in
+                  let none : list_any (claims lmc cells (range_at lmc e c)) prior ≡ false =
+                  ap (λ n. list_any (claims lmc cells (range_at lmc e n)) prior) (sym i) ∙ q in
                   record {
                     fitting = p ∙ ap (λ n. Some n) i;
                     first = λ x f m g.
-                        false_from_ne_true _ (λ s. both_ways _ none (list_any_true (claims lmc cells (range_at lmc e c)) prior x m (claims_from lmc cells (range_at lmc e c) x f g s)));
+                        false_from_ne_true _
+                        (λ s. both_ways _ none
+                        (list_any_true (claims lmc cells (range_at lmc e c)) prior x m (claims_from lmc cells (range_at lmc e c) x f g s)));
                   }
             ] refl h)
       ] refl k
@@ -119,7 +128,8 @@ Ports = List (EndPort × Option ℕ)
 abbrev pub KeptApart : ℕ → Ports → Type 0
 KeptApart lmc [] = Unit {0}
 KeptApart lmc ((e, None) ∷ ports) = KeptApart lmc ports
-KeptApart lmc ((e, Some c) ∷ ports) = ((f : EndPort) (d : ℕ) → Contains ports (f, Some d) → meets (range_at lmc e c) (range_at lmc f d) ≡ false) × KeptApart lmc ports
+KeptApart lmc ((e, Some c) ∷ ports) =
+    ((f : EndPort) (d : ℕ) → Contains ports (f, Some d) → meets (range_at lmc e c) (range_at lmc f d) ≡ false) × KeptApart lmc ports
 
 module _ (lmc : ℕ) (cells : Cells) where
   kept_at : (prior es : List EndPort) (e : EndPort) (o : Option ℕ) → Contains (with_kept lmc cells prior es) (e, o)

@@ -30,7 +30,8 @@ module _ (lmc : ℕ) (ports : Ports) where
   pub among_ranges : (r : Range) → Contains (ranges_of lmc ports) r → (e : EndPort) × (c : ℕ) × Contains ports (e, Some c) × (r ≡ range_at lmc e c)
   among_ranges r h =
       let x = taken_from (kept_range lmc) ports r h in
-      elim x.0.1 as (λ o. Contains ports (x.0.0, o) → option_map (range_at lmc x.0.0) o ≡ Some r → (e : EndPort) × (c : ℕ) × Contains ports (e, Some c) × (r ≡ range_at lmc e c)) [
+      elim x.0.1 as (λ o. Contains ports (x.0.0, o) → option_map (range_at lmc x.0.0) o ≡ Some r → (e : EndPort) × (c : ℕ) × Contains ports (e, Some c)
+      × (r ≡ range_at lmc e c)) [
         | None ↦ λ k e. absurd (cc)
         | Some c ↦ λ k e. (x.0.0, c, k, one (range_at lmc x.0.0 c) r e)
       ] x.1 x.2
@@ -57,7 +58,8 @@ module _ (lmc : ℕ) (cells : Cells) where
 
     pub each_fits : (e : EndPort) (n : ℕ) → Contains given (e, n) → Fits (room cells) (range_at lmc e n)
     each_fits e n h =
-        elim (given_from (room cells) lmc (ranges_of lmc (kept lmc cells)) (kept lmc cells) given hands e n h) [ inl k ↦ kept_fits lmc cells e n k | inr k ↦ k.it_fits ]
+        elim (given_from (room cells) lmc (ranges_of lmc (kept lmc cells)) (kept lmc cells) given hands e n h)
+        [ inl k ↦ kept_fits lmc cells e n k | inr k ↦ k.it_fits ]
 
     pub pairs : PairsApart lmc given
     pairs = given_apart (room cells) lmc (ranges_of lmc (kept lmc cells)) (kept lmc cells) given hands (kept_apart lmc cells) (range_among lmc (kept lmc cells))
@@ -103,7 +105,8 @@ module _ (lmc : ℕ) (cells : Cells) where
       pub none_skipped : (earlier later : GivenLids) (e : EndPort) (n m : ℕ) → given ≡ earlier ++ (e, n) ∷ later → KeepsNothing lmc cells e
           → Fits (room cells) (range_at lmc e m) → m < n → (k : ℕ) × IsIn (range_at lmc e m) k × WasTaken lmc cells earlier given k
       none_skipped earlier later e n m stands nothing f l =
-          let met = lesser_met (room cells) lmc (ranges_of lmc (kept lmc cells)) (kept lmc cells) given hands earlier later e n m stands (is_other e nothing) f l in
+          let met = lesser_met (room cells) lmc (ranges_of lmc (kept lmc cells)) (kept lmc cells) given hands earlier later e n m stands (is_other e nothing) f
+          l in
           let some : 1 ≤ met.0.width = elim met.2 [
             | inl h ↦ some_there met.0 h
             | inr x ↦ subst (λ (r : Range). 1 ≤ r.width) (sym x.2) (some_width lmc x.0.0)
@@ -122,14 +125,16 @@ module _ (lmc : ℕ) (cells : Cells) where
           }
 
 -- what was found is below the room
-pub found_in_room : (lmc : ℕ) (cells : Cells) (given : GivenLids) → Some given ≡ handed_out lmc cells → (e : EndPort) (n : ℕ) → Contains given (e, n) → n + width_of lmc e ≤ room cells
+pub found_in_room : (lmc : ℕ) (cells : Cells) (given : GivenLids) → Some given ≡ handed_out lmc cells → (e : EndPort) (n : ℕ) → Contains given (e, n) → n
+    + width_of lmc e ≤ room cells
 found_in_room lmc cells given found e n h =
     (each_fits lmc cells given (hands_from (room cells) lmc (ranges_of lmc (kept lmc cells)) (kept lmc cells) given (sym found)) e n h).in_room
 
 -- no end port has two LIDs
 pub ports_apart : (lmc : ℕ) (x : Facts) → ¬ (IsNoRoom lmc (cells_of x)) → Apart (map (λ g. g.0) (lids lmc (cells_of x)).ports)
 ports_apart lmc x room_for_all =
-    subst (λ (es : List EndPort). Apart es) (sym (ports-given lmc (cells_of x) (lids lmc (cells_of x)).ports (handed lmc (cells_of x) room_for_all))) (end_ports_apart x)
+    subst (λ (es : List EndPort). Apart es) (sym (ports-given lmc (cells_of x) (lids lmc (cells_of x)).ports (handed lmc (cells_of x) room_for_all)))
+    (end_ports_apart x)
 
 pub ports-lids : (lmc : ℕ) (cells : Cells) → ¬ (IsNoRoom lmc cells) → map (λ x. x.0) (lids lmc cells).ports ≡ end_ports cells
 ports-lids lmc cells room_for_all = ports-given lmc cells (lids lmc cells).ports (handed lmc cells room_for_all)

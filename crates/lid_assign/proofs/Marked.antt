@@ -25,7 +25,8 @@ module _ (marks : List Bool) (n : ℕ) (h : n < length marks) where
       ap (λ ns. filter (λ m. slice_index_or marks m false) ns) (counted n (length marks) h) ∙ ap (λ t. cond t (n ∷ rest) rest) e
 
 -- where the marks are those of LIDs, these are the rising ones
-pub marked_are : (given : Given) (marks : List Bool) → length marks ≡ end_of (top_of given) → AreLidMarks given.ports marks → marked_from marks 0 ≡ rising_lids given
+pub marked_are : (given : Given) (marks : List Bool) → length marks ≡ end_of (top_of given) → AreLidMarks given.ports marks → marked_from marks 0
+    ≡ rising_lids given
 marked_are given marks len are =
     let end : length marks - 0 ≡ end_of (top_of given) = omega (arith, len) in
     ap (λ n. filter (λ m. slice_index_or marks m false) (count_up 0 n)) end

@@ -48,29 +48,33 @@ pub mark_more : (old new : List Bool) (first width : ℕ) → first + width < le
 mark_more old new first width h m =
     record {
       all = length-set new (first + width) true ∙ m.all;
-      each = λ n l. same_tests (get_or (set new (first + width) true) n false) (is_in (from_on (width + 1) first) n || is_marked old n) (λ e. to n l e) (λ e. from n l e);
+      each = λ n l. same_tests (get_or (set new (first + width) true) n false) (is_in (from_on (width + 1) first) n
+          || is_marked old n) (λ e. to n l e) (λ e. from n l e);
     }
   where
     to : (n : ℕ) → n < length old → get_or (set new (first + width) true) n false ≡ true → (is_in (from_on (width + 1) first) n || is_marked old n) ≡ true
     to n l e =
         elim (cases_eq n (first + width)) [
-          | inl q ↦ or_left (is_in (from_on (width + 1) first) n) (is_marked old n) (test_from_in (from_on (width + 1) first) n (omega (arith, q), omega (arith, q)))
-          | inr d ↦ (elim (or_cases (is_in (from_on width first) n) (is_marked old n) (sym (m.each n l) ∙ sym (get_or-set_other new (first + width) n true false d) ∙ e)) [
-            | inl i ↦
-                let p = in_from_test (from_on width first) n i in
-                or_left (is_in (from_on (width + 1) first) n) (is_marked old n) (test_from_in (from_on (width + 1) first) n (p.0, omega (arith, p.1)))
-            | inr k ↦ or_right (is_in (from_on (width + 1) first) n) (is_marked old n) k
-          ])
+          | inl q ↦ or_left (is_in (from_on (width + 1) first) n) (is_marked old n)
+              (test_from_in (from_on (width + 1) first) n (omega (arith, q), omega (arith, q)))
+          | inr d ↦ (elim (or_cases (is_in (from_on width first) n) (is_marked old n) (sym (m.each n l)
+              ∙ sym (get_or-set_other new (first + width) n true false d) ∙ e)) [
+                | inl i ↦
+                    let p = in_from_test (from_on width first) n i in
+                    or_left (is_in (from_on (width + 1) first) n) (is_marked old n) (test_from_in (from_on (width + 1) first) n (p.0, omega (arith, p.1)))
+                | inr k ↦ or_right (is_in (from_on (width + 1) first) n) (is_marked old n) k
+              ])
         ]
 
     from : (n : ℕ) → n < length old → (is_in (from_on (width + 1) first) n || is_marked old n) ≡ true → get_or (set new (first + width) true) n false ≡ true
     from n l e =
         elim (cases_eq n (first + width)) [
           | inl q ↦ ap (λ k. get_or (set new (first + width) true) k false) q ∙ get_or-set_same new (first + width) true false (omega (arith, m.all, h))
-          | inr d ↦ get_or-set_other new (first + width) n true false d ∙ m.each n l ∙ (elim (or_cases (is_in (from_on (width + 1) first) n) (is_marked old n) e) [
-            | inl i ↦
-                let p = in_from_test (from_on (width + 1) first) n i in
-                or_left (is_in (from_on width first) n) (is_marked old n) (test_from_in (from_on width first) n (p.0, omega (arith, p.1, d)))
-            | inr k ↦ or_right (is_in (from_on width first) n) (is_marked old n) k
-          ])
+          | inr d ↦ get_or-set_other new (first + width) n true false d ∙ m.each n l
+              ∙ (elim (or_cases (is_in (from_on (width + 1) first) n) (is_marked old n) e) [
+                | inl i ↦
+                    let p = in_from_test (from_on (width + 1) first) n i in
+                    or_left (is_in (from_on width first) n) (is_marked old n) (test_from_in (from_on width first) n (p.0, omega (arith, p.1, d)))
+                | inr k ↦ or_right (is_in (from_on width first) n) (is_marked old n) k
+              ])
         ]

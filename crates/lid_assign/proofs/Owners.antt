@@ -40,7 +40,8 @@ module _ (given : Given) where
       let f = found_there (is_end_port_at e) given.ports m.0 m.1 in
       contains_as given.ports (λ i. (same_end_port e m.0.0 f.1 i, m.2 i)) f.0
 
-  pub owner-from_given : PairsApart given.lmc given.ports → (e : EndPort) (lid n : ℕ) → Contains given.ports (e, lid) → IsIn (range_at given.lmc e lid) n → owner_of given n ≡ Some e
+  pub owner-from_given : PairsApart given.lmc given.ports → (e : EndPort) (lid n : ℕ) → Contains given.ports (e, lid) → IsIn (range_at given.lmc e lid) n
+      → owner_of given n ≡ Some e
   owner-from_given apart e lid n h i =
       ap (option_map (λ (x : EndPort × ℕ). x.0)) (find_only (has_number given.lmc n) given.ports (e, lid) h (test_from_in (range_at given.lmc e lid) n i)
       (λ y k q. same_from_pairs 0 given.lmc given.ports apart y (e, lid) k h

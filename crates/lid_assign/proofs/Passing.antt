@@ -21,7 +21,8 @@ module _ (marks : List Bool) (w : ℕ) where
   unmarked_fits c u = fits_from_test (length marks) (from_on w c) u.is_fit
 
   -- past a multiple of the width that is marked
-  pub past_marked : (low next : ℕ) → 1 ≤ w → next % w ≡ 0 → any_marked marks (from_on w next) ≡ true → NoneUnmarked marks w low next → NoneUnmarked marks w low (next + w)
+  pub past_marked : (low next : ℕ) → 1 ≤ w → next % w ≡ 0 → any_marked marks (from_on w next) ≡ true → NoneUnmarked marks w low next
+      → NoneUnmarked marks w low (next + w)
   past_marked low next some aligned marked none c l h u =
       elim (cases_lt c next) [
         | inl m ↦ none c l m u
@@ -36,11 +37,17 @@ module _ (marks : List Bool) (w : ℕ) where
   past_all low next end none c l h u = elim (cases_lt c next) [ inl m ↦ none c l m u | inr m ↦ omega (arith, (unmarked_fits c u).in_room, m, end) ]
 
   -- the first that is not marked
-  pub first_unmarked : (low next : ℕ) → low ≤ next → 1 ≤ next → next % w ≡ 0 → next + w ≤ length marks → any_marked marks (from_on w next) ≡ false → NoneUnmarked marks w low next
+  pub first_unmarked : (low next : ℕ) → low ≤ next → 1 ≤ next → next % w ≡ 0 → next + w ≤ length marks → any_marked marks (from_on w next) ≡ false
+      → NoneUnmarked marks w low next
       → IsLeastUnmarked marks w low next
   first_unmarked low next l some aligned within no_mark none =
       record {
-        unmarked_there = record { is_fit = test_from_fits (length marks) (from_on w next) (record { not_0 = some; aligned = aligned; in_room = within }); is_open = no_mark };
+        unmarked_there =
+            record {
+              is_fit = test_from_fits (length marks) (from_on w next) (record { not_0 = some; aligned = aligned; in_room = within });
+              is_open =
+                  no_mark;
+            };
         from_low = l;
         none_before = none;
       }
@@ -60,7 +67,8 @@ module _ (r : Option Range) (old new : List Bool) (m : AreMarkedMore r old new) 
       record {
         is_fit = ap (λ n. fits n (from_on w c)) (sym m.all) ∙ u.is_fit;
         is_open = none_marked old (from_on w c) (λ n low high.
-            (or_parts (is_in_some r n) (is_marked old n) (sym (m.each n (omega (arith, high, f.in_room, m.all))) ∙ not_marked new (from_on w c) u.is_open n (low, high))).1);
+            (or_parts (is_in_some r n) (is_marked old n) (sym (m.each n (omega (arith, high, f.in_room, m.all)))
+            ∙ not_marked new (from_on w c) u.is_open n (low, high))).1);
       }
 
   pub still_passed : (w next : ℕ) → IsPassed old w next → IsPassed new w next
@@ -100,4 +108,8 @@ passed_start marks w some =
 
 pub all_passed_start : (lmc : ℕ) (marks : List Bool) (next : Next) → next ≡ record { switch = 1; adapter = 2 ^ lmc } → ArePassed lmc marks next
 all_passed_start lmc marks next is =
-    subst (λ (n : Next). ArePassed lmc marks n) (sym is) (record { switches = passed_start marks 1 (omega arith); adapters = passed_start marks (2 ^ lmc) (omega (arith, pow_pos lmc)) })
+    subst (λ (n : Next). ArePassed lmc marks n) (sym is) (record {
+      switches = passed_start marks 1 (omega arith);
+      adapters =
+          passed_start marks (2 ^ lmc) (omega (arith, pow_pos lmc));
+    })

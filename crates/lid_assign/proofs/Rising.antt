@@ -108,7 +108,8 @@ module _ (p : ℕ → Bool) where
   pub none_is_found : (start k : ℕ) → ((m : ℕ) → start ≤ m → m < start + k → p m ≡ false) → find p (count_up start k) ≡ None
   none_is_found start zero h = refl
   none_is_found start (suc k) h =
-      ap (λ t. cond t (Some start) (find p (count_up (suc start) k))) (h start (omega arith) (omega arith)) ∙ none_is_found (suc start) k (λ m a b. h m (omega arith) (omega arith))
+      ap (λ t. cond t (Some start) (find p (count_up (suc start) k))) (h start (omega arith) (omega arith))
+      ∙ none_is_found (suc start) k (λ m a b. h m (omega arith) (omega arith))
 
   pub found_none : (start k : ℕ) → find p (count_up start k) ≡ None → (m : ℕ) → start ≤ m → m < start + k → p m ≡ false
   found_none start zero e m a b = absurd (omega arith)
@@ -128,7 +129,8 @@ pub no_more_than : (xs ys : List ℕ) → Apart xs → ((n : ℕ) → Contains x
 no_more_than [] ys a h = omega arith
 no_more_than (x ∷ xs) ys a h =
     let s = split_at ys x (h x (contains_here x xs)) in
-    let fewer = no_more_than xs (s.0 ++ s.1) a.1 (λ n k. past n k (Contains-append_cases s.0 (x ∷ s.1) n (contains_in n s.2 (h n (contains_later x n xs k))))) in
+    let fewer = no_more_than xs (s.0 ++ s.1) a.1 (λ n k. past n k (Contains-append_cases s.0 (x ∷ s.1) n (contains_in n s.2 (h n (contains_later x n xs k)))))
+    in
     omega (arith, fewer, length-append s.0 s.1, ap length s.2, length-append s.0 (x ∷ s.1))
   where
     past : (n : ℕ) → Contains xs n → Contains (split_at ys x (h x (contains_here x xs))).0 n ⊎ Contains (x ∷ (split_at ys x (h x (contains_here x xs))).1) n

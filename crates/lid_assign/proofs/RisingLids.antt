@@ -26,7 +26,8 @@ module _ (given : Given) where
   is_among : (n : ℕ) → (e : EndPort) × Contains given.ports (e, n) → Contains (rising_lids given) n
   is_among n (e, h) =
       let below = below_end given.lmc given.ports (end_of (top_of given)) (λ i. end_of (top_of given)) e n h in
-      contains_filter (is_lid given.ports) (count_up 0 (end_of (top_of given))) n (contains-count_up 0 (end_of (top_of given)) n (omega arith) (omega (arith, below, some_width given.lmc e)))
+      contains_filter (is_lid given.ports) (count_up 0 (end_of (top_of given))) n
+      (contains-count_up 0 (end_of (top_of given)) n (omega arith) (omega (arith, below, some_width given.lmc e)))
       (list_any_true (λ y. y.1 == n) given.ports (e, n) h (eq-eqb n n (λ i. n)))
 
 pub rising_lids_law : RisingLidsLaw

@@ -32,7 +32,8 @@ module _ (lmc : ℕ) (x : Facts) (room_for_all : ¬ (IsNoRoom lmc (cells_of x)))
       (g.0.1, contains_as (lids lmc (cells_of x)).ports (λ l. (g.2 l, g.0.1)) g.1)
 
   is_end_port : (e : EndPort) (lid : ℕ) → Contains (lids lmc (cells_of x)).ports (e, lid) → Contains (end_ports (cells_of x)) e
-  is_end_port e lid h = contains_in e (ports-lids lmc (cells_of x) room_for_all) (contains_map (λ (g : EndPort × ℕ). g.0) (lids lmc (cells_of x)).ports (e, lid) h)
+  is_end_port e lid h =
+      contains_in e (ports-lids lmc (cells_of x) room_for_all) (contains_map (λ (g : EndPort × ℕ). g.0) (lids lmc (cells_of x)).ports (e, lid) h)
 
 -- facts z whose end ports claim the LIDs that they have in facts x, and whose other end ports claim nothing or 0
 module _ (lmc : ℕ) (x z : Facts) (room_for_x : ¬ (IsNoRoom lmc (cells_of x)))
@@ -88,7 +89,8 @@ module _ (lmc : ℕ) (x y : Facts) (room_for_all : ¬ (IsNoRoom lmc (cells_of x)
     (ports : end_ports (cells_of y) ≡ end_ports (cells_of x)) (rooms : room (cells_of y) ≡ room (cells_of x))
     (claimed : (e : EndPort) (lid : ℕ) → lid_of (lids lmc (cells_of x)) e ≡ Some lid → claim_of (cells_of y) e.node e.port ≡ Some lid) where
   top_in_room : (top : ℕ) → top_of (lids lmc (cells_of x)) ≡ Some top → top < room (cells_of y)
-  top_in_room top q = omega (arith, top_below lmc (lids lmc (cells_of x)).ports (room (cells_of x)) top (λ e n h. ((lids_law lmc x room_for_all).each_fits e n h).in_room) q)
+  top_in_room top q =
+      omega (arith, top_below lmc (lids lmc (cells_of x)).ports (room (cells_of x)) top (λ e n h. ((lids_law lmc x room_for_all).each_fits e n h).in_room) q)
 
   keeps_it : (e : EndPort) (lid : ℕ) → Contains (lids lmc (cells_of x)).ports (e, lid) → Keeps lmc (cells_of y) e lid
   keeps_it = keeps_lid lmc x y room_for_all claimed (λ e h none. absurd (none (contains_in e ports h))) top_in_room
@@ -107,7 +109,8 @@ module _ (lmc : ℕ) (x y : Facts) (room_for_all : ¬ (IsNoRoom lmc (cells_of x)
         each_fits = λ e n h. subst (λ (r : ℕ). Fits r (range_at lmc e n)) (sym rooms) ((lids_law lmc x room_for_all).each_fits e n h);
         apart = (lids_law lmc x room_for_all).apart;
         kept_stay = keeps_once;
-        none_skipped = λ earlier later e n m stands nothing f l. absurd (nothing n (keeps_it e n (contains_in (e, n) (sym stands) (contains_at earlier later (e, n)))));
+        none_skipped = λ earlier later e n m stands nothing f l.
+            absurd (nothing n (keeps_it e n (contains_in (e, n) (sym stands) (contains_at earlier later (e, n)))));
       }
 
   same_handed : handed_out lmc (cells_of y) ≡ Some (lids lmc (cells_of x)).ports

@@ -23,7 +23,8 @@ use Rattle.lid_assign.specs.Lids.{has_number, is_end_port_at, is_lid, top_among,
 use Rattle.lid_assign.specs.Indexed.{AreOwners, AreOwnersMore, AreLidMarks, AreBelow, ByPort, node_port_cmp}
 
 -- the last of a list, which a step back takes
-pub stepped : {X : Type 0} (before after : List X) (r : X) (P : Type 0) (x : Option (Bor X)) → MatchOption x P (λ b. before ≡ push after b.now) → Some r ≡ option_copied x
+pub stepped : {X : Type 0} (before after : List X) (r : X) (P : Type 0) (x : Option (Bor X)) → MatchOption x P (λ b. before ≡ push after b.now) → Some r
+    ≡ option_copied x
     → before ≡ after ++ r ∷ []
 stepped before after r P None m e = absurd (cc)
 stepped before after r P (Some b) m e = let same : r ≡ b.now = cc in m ∙ ap (λ y. after ++ y ∷ []) (sym same)
@@ -38,7 +39,8 @@ seen xs x = reverse-append xs (x ∷ [])
 
 -- an owner more
 pub owners_more : (lmc : ℕ) (given : List (EndPort × ℕ)) (owners new : List (Option EndPort)) (p : EndPort) (lid : ℕ)
-    → AreOwners (record { lmc = lmc; ports = given }) owners → AreOwnersMore p (range_at lmc p lid) owners new → AreOwners (record { lmc = lmc; ports = (p, lid) ∷ given }) new
+    → AreOwners (record { lmc = lmc; ports = given }) owners → AreOwnersMore p (range_at lmc p lid) owners new
+    → AreOwners (record { lmc = lmc; ports = (p, lid) ∷ given }) new
 owners_more lmc given owners new p lid are m n =
     m.each n ∙ (λ i. cond (is_in (range_at lmc p lid) n) (Some p) (are n i)) ∙ chosen (is_in (range_at lmc p lid) n) (find (has_number lmc n) given)
   where
@@ -70,14 +72,16 @@ either : (b : Bool) (x : EndPort × ℕ) (o : Option (EndPort × ℕ)) → cond 
 either true x o = refl
 either false x o = refl
 
-pub lids_more : (given : List (EndPort × ℕ)) (lids new : BTreeMap (ℕ × ℕ) ℕ) (p : EndPort) (lid : ℕ) → ByPort given lids → Updates node_port_cmp lids new (p.node, p.port) (Some lid)
+pub lids_more : (given : List (EndPort × ℕ)) (lids new : BTreeMap (ℕ × ℕ) ℕ) (p : EndPort) (lid : ℕ) → ByPort given lids
+    → Updates node_port_cmp lids new (p.node, p.port) (Some lid)
     → ByPort ((p, lid) ∷ given) new
 lids_more given lids new p lid by u e =
     let key_is = eq_then (nat_cmp p.node e.node) (nat_cmp p.port e.port) ∙ (λ i. same_number p.node e.node i && same_number p.port e.port i) in
     u.0 (e.node, e.port) ∙ (λ i. cond (key_is i) (Some lid) (by e i)) ∙ either (is_end_port_at e (p, lid)) (p, lid) (find (is_end_port_at e) given)
 
 -- those to come are below the bound, and so is the next
-module _ (bound lmc : ℕ) (before after : List (EndPort × ℕ)) (p : EndPort) (lid : ℕ) (step : before ≡ after ++ (p, lid) ∷ []) (below : AreBelow bound lmc before) where
+module _ (bound lmc : ℕ) (before after : List (EndPort × ℕ)) (p : EndPort) (lid : ℕ) (step : before ≡ after ++ (p, lid)
+    ∷ []) (below : AreBelow bound lmc before) where
   pub next_below : lid + width_of lmc p ≤ bound
   next_below = below p lid (contains_in (p, lid) (sym step) (contains_at after [] (p, lid)))
 
@@ -85,7 +89,8 @@ module _ (bound lmc : ℕ) (before after : List (EndPort × ℕ)) (p : EndPort) 
   rest_below e n h = below e n (contains_in (e, n) (sym step) (Contains-append_left after ((p, lid) ∷ []) (e, n) h))
 
 -- a greatest number more
-pub top_more : (lmc : ℕ) (given : List (EndPort × ℕ)) (top : Option ℕ) (x : EndPort × ℕ) (last t : ℕ) → top ≡ top_among lmc given → last ≡ last_of lmc x → t ≡ max last (unwrap_or top 0)
+pub top_more : (lmc : ℕ) (given : List (EndPort × ℕ)) (top : Option ℕ) (x : EndPort × ℕ) (last t : ℕ) → top ≡ top_among lmc given → last ≡ last_of lmc x → t
+    ≡ max last (unwrap_or top 0)
     → Some t ≡ top_among lmc (x ∷ given)
 top_more lmc given top x last t is l e =
     ap (λ n. Some n) (e ∙ (λ i. max (l i) (unwrap_or (is i) 0)) ∙ ap (max (last_of lmc x)) (so_far given))

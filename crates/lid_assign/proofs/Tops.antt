@@ -16,12 +16,14 @@ at_most_greatest lmc (y ∷ given) x h =
       | inr k ↦ omega (arith, at_most_greatest lmc given x k)
     ]
 
-pub last_at_most : (lmc : ℕ) (given : List (EndPort × ℕ)) (x : EndPort × ℕ) → Contains given x → (top : ℕ) × (top_among lmc given ≡ Some top) × (last_of lmc x ≤ top)
+pub last_at_most : (lmc : ℕ) (given : List (EndPort × ℕ)) (x : EndPort × ℕ) → Contains given x → (top : ℕ) × (top_among lmc given ≡ Some top)
+    × (last_of lmc x ≤ top)
 last_at_most lmc [] x h = absurd (contains_none x h)
 last_at_most lmc (y ∷ given) x h = (max (last_of lmc y) (greatest (map (last_of lmc) given)), refl, at_most_greatest lmc (y ∷ given) x h)
 
 -- each number of an end port is at most the greatest
-pub at_most_top : (given : Given) (e : EndPort) (lid n : ℕ) → Contains given.ports (e, lid) → IsIn (range_at given.lmc e lid) n → (top : ℕ) × (top_of given ≡ Some top) × (n ≤ top)
+pub at_most_top : (given : Given) (e : EndPort) (lid n : ℕ) → Contains given.ports (e, lid) → IsIn (range_at given.lmc e lid) n → (top : ℕ)
+    × (top_of given ≡ Some top) × (n ≤ top)
 at_most_top given e lid n h i = let t = last_at_most given.lmc given.ports (e, lid) h in (t.0, t.1, omega (arith, t.2, i.1))
 
 -- and so is each LID
@@ -31,7 +33,13 @@ lid_at_most_top given e lid h = at_most_top given e lid lid h (omega arith, omeg
 greatest_below : (lmc : ℕ) (given : List (EndPort × ℕ)) (bound : ℕ) → 0 < bound → AreBelow bound lmc given → greatest (map (last_of lmc) given) < bound
 greatest_below lmc [] bound h below = h
 greatest_below lmc (x ∷ given) bound h below =
-    omega (arith, below x.0 x.1 (contains_here x given), some_width lmc x.0, greatest_below lmc given bound h (λ e n k. below e n (contains_later x (e, n) given k)))
+    omega (
+      arith,
+      below x.0 x.1 (contains_here x given),
+      some_width lmc x.0,
+      greatest_below lmc given bound h
+          (λ e n k. below e n (contains_later x (e, n) given k)),
+    )
 
 pub top_below : (lmc : ℕ) (given : List (EndPort × ℕ)) (bound top : ℕ) → AreBelow bound lmc given → top_among lmc given ≡ Some top → top < bound
 top_below lmc [] bound top below e = absurd (cc)

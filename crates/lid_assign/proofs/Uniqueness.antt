@@ -21,7 +21,8 @@ use Rattle.lid_assign.proofs.LidLaws.{ranges_of, range_among, among_ranges, lids
 -- an element and what comes before it are different, also by what a function makes of them
 once : {X Y : Type 0} (f : X → Y) (before after : List X) (x y : X) → Apart (map f (before ++ x ∷ after)) → Contains before y → f y ≡ f x → ⊥
 once {X} {Y} f before after x y a h e =
-    before_apart (map f before) (map f after) (f x) (subst (λ (ys : List Y). Apart ys) (map-append f before (x ∷ after)) a) (contains_as (map f before) e (contains_map f before y h))
+    before_apart (map f before) (map f after) (f x) (subst (λ (ys : List Y). Apart ys) (map-append f before (x ∷ after)) a)
+    (contains_as (map f before) e (contains_map f before y h))
 
 module _ (lmc : ℕ) (cells : Cells) (distinct : Apart (end_ports cells)) (given : GivenLids) (law : AreLids lmc cells given) where
   kept_of : (e : EndPort) (n : ℕ) → Contains given (e, n) → (o : Option ℕ) × Contains (kept lmc cells) (e, o)
@@ -128,8 +129,12 @@ module _ (lmc : ℕ) (cells : Cells) (distinct : Apart (end_ports cells)) (given
       let k = contains_as (kept lmc cells) (λ l. (sym i l, Some c)) (sub (e, Some c) (contains_here (e, Some c) ports)) in
       let j = number_kept x n c (stands_there before after x n q) k in
       let own = contains_as (kept lmc cells) (λ l. (x, Some (sym j l))) k in
-      let later = λ (y : EndPort × Option ℕ) (h : Contains ports y). sub y (contains_later (e, Some c) y ports h) in
-      (sym i, sym j, unique_from ports (before ++ (x, n) ∷ []) after taken (q ∙ sym (append_assoc before ((x, n) ∷ []) after)) (cc) later (past_kept before after x n q taken by own))
+      let later = λ (y : EndPort × Option ℕ) (h : Contains ports y). sub y (contains_later (e, Some c) y ports h) in (
+        sym i,
+        sym j,
+        unique_from ports (before ++ (x, n) ∷ []) after taken (q
+            ∙ sym (append_assoc before ((x, n) ∷ []) after)) (cc) later (past_kept before after x n q taken by own),
+      )
   unique_from ((e, None) ∷ ports) before ((x, n) ∷ after) taken q s sub by =
       let i : x ≡ e = cc in
       let k = contains_as (kept lmc cells) (λ l. (sym i l, None)) (sub (e, None) (contains_here (e, None) ports)) in
@@ -148,7 +153,8 @@ module _ (lmc : ℕ) (cells : Cells) (distinct : Apart (end_ports cells)) (given
 
   pub unique_hands : Hands (room cells) lmc (ranges_of lmc (kept lmc cells)) (kept lmc cells) given
   unique_hands =
-      unique_from (kept lmc cells) [] given (ranges_of lmc (kept lmc cells)) refl (law.end_ports_in_order ∙ sym (ports-with_kept lmc cells [] (end_ports cells))) (λ x h. h)
+      unique_from (kept lmc cells) [] given (ranges_of lmc (kept lmc cells)) refl (law.end_ports_in_order
+      ∙ sym (ports-with_kept lmc cells [] (end_ports cells))) (λ x h. h)
       (record {
         from = λ r h. let x = among_ranges lmc (kept lmc cells) r h in ((x.0, x.1), x.3, inr x.2);
         has_before = λ x h. absurd (contains_none x h);
@@ -163,7 +169,9 @@ lids_are_unique lmc facts given law = ap (λ o. unwrap_or o []) (sym (unique_lid
 
 pub no_room_law : NoRoomLaw
 no_room_law lmc facts = (
-  λ none given law. both_ways (not (is_some (handed_out lmc (cells_of facts)))) (ap (λ o. not (is_some o)) (unique_lids lmc (cells_of facts) (end_ports_apart facts) given law)) none,
+  λ none given law.
+      both_ways (not (is_some (handed_out lmc (cells_of facts)))) (ap (λ o. not (is_some o)) (unique_lids lmc (cells_of facts) (end_ports_apart facts) given law))
+      none,
   λ nobody. (elim (cases_Bool (is_no_room lmc (cells_of facts))) [
     | inl t ↦ t
     | inr f ↦ absurd (nobody (lids lmc (cells_of facts)).ports (lids_law lmc facts (λ t. both_ways (is_no_room lmc (cells_of facts)) f t)))
@@ -180,10 +188,13 @@ others_rise lmc facts given earlier middle later e f n m law stands widths nothi
     let there_f : Contains given (f, m) = contains_in (f, m) (sym stands) (contains_at (earlier ++ (e, n) ∷ middle) later (f, m)) in
     let before_f : Contains (earlier ++ (e, n) ∷ middle) (e, n) = contains_at earlier middle (e, n) in
     let apart_f = subst (λ (g : GivenLids). Apart (map (λ (y : EndPort × ℕ). y.0) g)) stands once_given in
-    let differ : (x : EndPort × ℕ) → Contains (earlier ++ (e, n) ∷ middle) x → x.0 ≡ f → ⊥ = λ x h q. once (λ (y : EndPort × ℕ). y.0) (earlier ++ (e, n) ∷ middle) later (f, m) x apart_f h q in
+    let differ : (x : EndPort × ℕ) → Contains (earlier ++ (e, n) ∷ middle) x → x.0 ≡ f → ⊥ =
+    λ x h q. once (λ (y : EndPort × ℕ). y.0) (earlier ++ (e, n) ∷ middle) later (f, m) x apart_f h q in
     let same_range : (k : ℕ) → range_at lmc e k ≡ range_at lmc f k = λ k i. record { first = k; width = widths i } in
     elim (cases_order n m) [
-      | inl q ↦ absurd (differ (e, n) before_f (law.apart e f n m n there_e there_f ((omega arith, omega (arith, some_width lmc e)), (omega arith, omega (arith, some_width lmc f)))))
+      | inl q ↦ absurd
+          (differ (e, n) before_f
+          (law.apart e f n m n there_e there_f ((omega arith, omega (arith, some_width lmc e)), (omega arith, omega (arith, some_width lmc f)))))
       | inr c ↦ (elim c [
         | inl l ↦ l
         | inr l ↦

@@ -37,7 +37,8 @@ abbrev pub ByPort : List (EndPort × ℕ) → BTreeMap (ℕ × ℕ) ℕ → Type
 ByPort given lids = (e : EndPort) → get node_port_cmp lids (e.node, e.port) ≡ lid_among given e
 
 -- a map's tables, of end ports that have unicast LIDs
-pub record IsIndexed (given : Given) (owners : List (Option EndPort)) (lids : BTreeMap (ℕ × ℕ) ℕ) (top : Option ℕ) (rising : List ℕ) : Type 0 where
+pub record IsIndexed (given : Given) (owners : List (Option EndPort)) (lids : BTreeMap (ℕ × ℕ) ℕ) (top : Option ℕ)
+    (rising : List ℕ) : Type 0 where
   pub owned : AreOwners given owners
   pub has_lids : ByPort given.ports lids
   pub greatest : top ≡ top_of given

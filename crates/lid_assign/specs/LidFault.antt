@@ -18,7 +18,8 @@ is_memory Memory = true
 
 -- how many end ports there are and how much room, where one of them finds no LID
 abbrev pub no_room : ℕ → Cells → Option Room
-no_room lmc cells = if is_no_room lmc cells then Some (record { endports = length (end_ports cells); room = room cells }) else None
+no_room lmc cells =
+    if is_no_room lmc cells then Some (record { endports = length (end_ports cells); room = room cells }) else None
 
 -- why no LIDs are given, memory aside
 abbrev pub lid_fault : Option Room → Option LidFault

@@ -66,14 +66,17 @@ is_open room taken r = fits room r && not (list_any (meets r) taken)
 
 -- the least number from which on so many fit and meet none of these ranges
 abbrev pub least_open : ℕ → List Range → ℕ → Option ℕ
-least_open room taken width = find (λ c. is_open room taken (record { first = c; width = width })) (count_up 1 (room - 1))
+least_open room taken width =
+    find (λ c. is_open room taken (record { first = c; width = width })) (count_up 1 (room - 1))
 
--- kept claims stay, and each other end port in turn takes the least number whose range is open; None where one finds none
+-- kept claims stay, and each other end port in turn takes the least number whose range is open; None where one finds
+-- none
 abbrev pub hand_out : ℕ → ℕ → List Range → List (EndPort × Option ℕ) → Option (List (EndPort × ℕ))
 hand_out room lmc taken [] = Some []
 hand_out room lmc taken ((e, Some c) ∷ rest) = option_map (λ given. (e, c) ∷ given) (hand_out room lmc taken rest)
 hand_out room lmc taken ((e, None) ∷ rest) =
-    option_and_then (λ c. option_map (λ given. (e, c) ∷ given) (hand_out room lmc (range_at lmc e c ∷ taken) rest)) (least_open room taken (width_of lmc e))
+    option_and_then (λ c. option_map (λ given. (e, c) ∷ given) (hand_out room lmc (range_at lmc e c ∷ taken) rest))
+    (least_open room taken (width_of lmc e))
 
 -- the end ports in their order, with their LIDs, where each has one
 abbrev pub handed_out : ℕ → Cells → Option (List (EndPort × ℕ))
@@ -168,8 +171,10 @@ pub record ClaimsFitting (lmc : ℕ) (cells : Cells) (e : EndPort) (c : ℕ) : T
 
 -- such a claim, whose range has no number in common with one that an earlier end port claims so
 abbrev pub Keeps : ℕ → Cells → EndPort → ℕ → Type 0
-Keeps lmc cells e c = (earlier later : List EndPort) → Stands earlier e later (end_ports cells) → ClaimsFitting lmc cells e c
-    × ((x : EndPort) (d n : ℕ) → Contains earlier x → ClaimsFitting lmc cells x d → IsInBoth (range_at lmc e c) (range_at lmc x d) n → ⊥)
+Keeps lmc cells e c =
+    (earlier later : List EndPort) → Stands earlier e later (end_ports cells) → ClaimsFitting lmc cells e c
+    × ((x : EndPort) (d n : ℕ) → Contains earlier x → ClaimsFitting lmc cells x d
+    → IsInBoth (range_at lmc e c) (range_at lmc x d) n → ⊥)
 
 -- the end port keeps no claim
 abbrev pub KeepsNothing : ℕ → Cells → EndPort → Type 0
@@ -183,18 +188,23 @@ pub record WasTaken (lmc : ℕ) (cells : Cells) (earlier given : List (EndPort �
   pub is_before : Contains earlier (by, lid) ⊎ Keeps lmc cells by lid
   pub is_its : IsIn (range_at lmc by lid) n
 
--- the end ports in order, each with the claim that it keeps, or the least number whose range fits and has none that was taken
+-- the end ports in order, each with the claim that it keeps, or the least number whose range fits and has none that was
+-- taken
 pub record AreLids (lmc : ℕ) (cells : Cells) (given : List (EndPort × ℕ)) : Type 0 where
   pub end_ports_in_order : map (λ x. x.0) given ≡ end_ports cells
   pub each_fits : (e : EndPort) (n : ℕ) → Contains given (e, n) → Fits (room cells) (range_at lmc e n)
-  pub apart : (e f : EndPort) (n m k : ℕ) → Contains given (e, n) → Contains given (f, m) → IsInBoth (range_at lmc e n) (range_at lmc f m) k → e ≡ f
+  pub apart : (e f : EndPort) (n m k : ℕ) → Contains given (e, n) → Contains given (f, m)
+      → IsInBoth (range_at lmc e n) (range_at lmc f m) k → e ≡ f
   pub kept_stay : (e : EndPort) (n c : ℕ) → Contains given (e, n) → Keeps lmc cells e c → n ≡ c
-  pub none_skipped : (earlier later : List (EndPort × ℕ)) (e : EndPort) (n m : ℕ) → Stands earlier (e, n) later given → KeepsNothing lmc cells e
-      → Fits (room cells) (range_at lmc e m) → m < n → (k : ℕ) × IsIn (range_at lmc e m) k × WasTaken lmc cells earlier given k
+  pub none_skipped : (earlier later : List (EndPort × ℕ)) (e : EndPort) (n m : ℕ) → Stands earlier (e, n) later given
+      → KeepsNothing lmc cells e
+      → Fits (room cells) (range_at lmc e m) → m < n → (k : ℕ) × IsIn (range_at lmc e m) k
+      × WasTaken lmc cells earlier given k
 
 -- where there is room, the LIDs are so
 abbrev pub LidsLaw : Type 0
-LidsLaw = (lmc : ℕ) (facts : Facts) → ¬ (IsNoRoom lmc (cells_of facts)) → AreLids lmc (cells_of facts) (lids lmc (cells_of facts)).ports
+LidsLaw = (lmc : ℕ) (facts : Facts) → ¬ (IsNoRoom lmc (cells_of facts))
+    → AreLids lmc (cells_of facts) (lids lmc (cells_of facts)).ports
 
 -- nothing else is so
 abbrev pub LidsAreUnique : Type 0
@@ -203,15 +213,18 @@ LidsAreUnique = (lmc : ℕ) (facts : Facts) (given : List (EndPort × ℕ)) → 
 
 -- and where there is no room, nothing is
 abbrev pub NoRoomLaw : Type 0
-NoRoomLaw = (lmc : ℕ) (facts : Facts) → IsNoRoom lmc (cells_of facts) ↔ ((given : List (EndPort × ℕ)) → AreLids lmc (cells_of facts) given → ⊥)
+NoRoomLaw = (lmc : ℕ) (facts : Facts) → IsNoRoom lmc (cells_of facts)
+    ↔ ((given : List (EndPort × ℕ)) → AreLids lmc (cells_of facts) given → ⊥)
 
 -- with one LID a port, there is no room where there are end ports, and not fewer than the room
 abbrev pub NoRoomAtLmc0 : Type 0
-NoRoomAtLmc0 = (cells : Cells) → IsNoRoom 0 cells ↔ ((0 < length (end_ports cells)) × (room cells ≤ length (end_ports cells)))
+NoRoomAtLmc0 = (cells : Cells) → IsNoRoom 0 cells
+    ↔ ((0 < length (end_ports cells)) × (room cells ≤ length (end_ports cells)))
 
 -- end ports of one width that keep no claim have rising LIDs
 abbrev pub OthersRise : Type 0
-OthersRise = (lmc : ℕ) (facts : Facts) (given earlier middle later : List (EndPort × ℕ)) (e f : EndPort) (n m : ℕ) → AreLids lmc (cells_of facts) given
+OthersRise = (lmc : ℕ) (facts : Facts) (given earlier middle later : List (EndPort × ℕ)) (e f : EndPort) (n m : ℕ)
+    → AreLids lmc (cells_of facts) given
     → given ≡ earlier ++ (e, n) ∷ middle ++ (f, m) ∷ later → width_of lmc e ≡ width_of lmc f
     → KeepsNothing lmc (cells_of facts) e → KeepsNothing lmc (cells_of facts) f → n < m
 
@@ -219,8 +232,11 @@ OthersRise = (lmc : ℕ) (facts : Facts) (given earlier middle later : List (End
 abbrev pub OwnersAreInverse : Type 0
 OwnersAreInverse = (lmc : ℕ) (facts : Facts) → ¬ (IsNoRoom lmc (cells_of facts)) → (e : EndPort) (n : ℕ)
     → (owner_of (lids lmc (cells_of facts)) n ≡ Some e)
-    ↔ ((lid : ℕ) × (lid_of (lids lmc (cells_of facts)) e ≡ Some lid) × IsTrue (has_lid lid (lmc_of (lids lmc (cells_of facts)) e) n))
+    ↔ ((lid : ℕ) × (lid_of (lids lmc (cells_of facts)) e ≡ Some lid)
+    × IsTrue (has_lid lid (lmc_of (lids lmc (cells_of facts)) e) n))
 
 -- the rising LIDs are those that are given, each once
 abbrev pub RisingLidsLaw : Type 0
-RisingLidsLaw = (given : Given) → ((n : ℕ) → Contains (rising_lids given) n ↔ ((e : EndPort) × Contains given.ports (e, n))) × AllPairs (λ m n. m < n) (rising_lids given)
+RisingLidsLaw = (given : Given)
+    → ((n : ℕ) → Contains (rising_lids given) n ↔ ((e : EndPort) × Contains given.ports (e, n)))
+    × AllPairs (λ m n. m < n) (rising_lids given)

@@ -28,7 +28,8 @@ is_in r n = is_among r.first r.width n
 abbrev pub meets : Range → Range → Bool
 meets a b = nat_lt a.first (b.first + b.width) && nat_lt b.first (a.first + a.width)
 
--- the range can be an end port's below the room: it begins at a multiple of its width, and not at 0, and its last number is below the room
+-- the range can be an end port's below the room: it begins at a multiple of its width, and not at 0, and its last
+-- number is below the room
 abbrev pub fits : ℕ → Range → Bool
 fits room r = nat_le 1 r.first && (r.first % r.width == 0 && nat_le (r.first + r.width) room)
 
@@ -49,4 +50,5 @@ pub record Fits (room : ℕ) (r : Range) : Type 0 where
 -- the tests say what the words say, of ranges that have a number
 abbrev pub RangesLaw : Type 0
 RangesLaw = (room n : ℕ) (a b : Range) → 1 ≤ a.width → 1 ≤ b.width
-    → (IsTrue (is_in a n) ↔ IsIn a n) × (IsTrue (meets a b) ↔ ((k : ℕ) × IsInBoth a b k)) × (IsTrue (fits room a) ↔ Fits room a)
+    → (IsTrue (is_in a n) ↔ IsIn a n) × (IsTrue (meets a b) ↔ ((k : ℕ) × IsInBoth a b k))
+    × (IsTrue (fits room a) ↔ Fits room a)

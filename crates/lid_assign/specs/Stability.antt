@@ -30,7 +30,8 @@ LidsSettle = (lmc : ℕ) (x y : Facts) → ¬ (IsNoRoom lmc (cells_of x)) → Is
 abbrev pub ClaimsNothing : Cells → EndPort → Type 0
 ClaimsNothing cells e = (claim_of cells e.node e.port ≡ None) ⊎ (claim_of cells e.node e.port ≡ Some 0)
 
--- the second view has the first's end ports, which claim their LIDs, other end ports that claim nothing, and room for these LIDs
+-- the second view has the first's end ports, which claim their LIDs, other end ports that claim nothing, and room for
+-- these LIDs
 pub record GrowsFrom (lmc : ℕ) (x z : Cells) : Type 0 where
   pub has : (e : EndPort) → Contains (end_ports x) e → Contains (end_ports z) e
   pub claimed : ClaimLids lmc x z
@@ -39,5 +40,7 @@ pub record GrowsFrom (lmc : ℕ) (x z : Cells) : Type 0 where
 
 -- LIDs that are claimed stay under the same LMC, whatever end ports come
 abbrev pub LidsStay : Type 0
-LidsStay = (lmc : ℕ) (x z : Facts) → ¬ (IsNoRoom lmc (cells_of x)) → ¬ (IsNoRoom lmc (cells_of z)) → GrowsFrom lmc (cells_of x) (cells_of z)
-    → (e : EndPort) (lid : ℕ) → lid_of (lids lmc (cells_of x)) e ≡ Some lid → lid_of (lids lmc (cells_of z)) e ≡ Some lid
+LidsStay = (lmc : ℕ) (x z : Facts) → ¬ (IsNoRoom lmc (cells_of x)) → ¬ (IsNoRoom lmc (cells_of z))
+    → GrowsFrom lmc (cells_of x) (cells_of z)
+    → (e : EndPort) (lid : ℕ) → lid_of (lids lmc (cells_of x)) e ≡ Some lid → lid_of (lids lmc (cells_of z)) e
+    ≡ Some lid

@@ -75,7 +75,8 @@ pub record IsAccepted (s : Sweep) (packet : List ℕ) (answer : Answer) : Type 0
 
 -- the report of a reply has no fault, nor has its packet
 report_parts : (report : Report) → report_fault report ≡ None → (packet_fault report.bytes ≡ None) × (attribute_fault report.context report.bytes ≡ None)
-report_parts report e = or_none (packet_fault report.bytes) (attribute_fault report.context report.bytes) (chosen_none (report.generation == 0) fault.Generation _ e).1
+report_parts report e =
+    or_none (packet_fault report.bytes) (attribute_fault report.context report.bytes) (chosen_none (report.generation == 0) fault.Generation _ e).1
 
 packet_good : (q : Question) (report : Report) → fault_by q report ≡ None → packet_fault report.bytes ≡ None
 packet_good ask.Node report e = (report_parts report e).0
@@ -84,7 +85,8 @@ packet_good (ask.Port port) report e = (report_parts report e).0
 packet_good (ask.Manager guid port) report e = e
 
 -- where a node was asked what it is, so is the attribute judged
-pub attribute_good : (q : Question) (report : Report) → fault_by q report ≡ None → attribute_asked q ≡ node_info → attribute_fault report.context report.bytes ≡ None
+pub attribute_good : (q : Question) (report : Report) → fault_by q report ≡ None → attribute_asked q ≡ node_info → attribute_fault report.context report.bytes
+    ≡ None
 attribute_good ask.Node report e asked = (report_parts report e).1
 attribute_good ask.Switch report e asked = (report_parts report e).1
 attribute_good (ask.Port port) report e asked = (report_parts report e).1
@@ -141,7 +143,8 @@ is_for_it generation packet r e =
 port_there : (packet path : List ℕ) (from : ℕ) → has_ports packet from path ≡ true → (i : ℕ) → i < length path
     → number_in (initial_path (from + i)) packet ≡ slice_index path i
 port_there packet [] from e i less = absurd (omega (arith, less))
-port_there packet (port ∷ path) from e i less = by_id i less (λ k there. port_there packet path (from + 1) (and_parts (number_in (initial_path from) packet == port) _ e).1 k there)
+port_there packet (port ∷ path) from e i less =
+    by_id i less (λ k there. port_there packet path (from + 1) (and_parts (number_in (initial_path from) packet == port) _ e).1 k there)
   where
     parts : ((number_in (initial_path from) packet == port) ≡ true) × (has_ports packet (from + 1) path ≡ true)
     parts = and_parts (number_in (initial_path from) packet == port) (has_ports packet (from + 1) path) e
@@ -184,7 +187,8 @@ kind_known context packet (Some kind) is e = record { kind = kind; type_is = is;
     in_range true e = refl
     in_range false e = cc
 
-pub good_node : (context : Context) (packet : List ℕ) → number_in attribute_id packet ≡ node_info → attribute_fault context packet ≡ None → IsGoodNode context packet
+pub good_node : (context : Context) (packet : List ℕ) → number_in attribute_id packet ≡ node_info → attribute_fault context packet ≡ None
+    → IsGoodNode context packet
 good_node context packet attribute e =
     let checked : node_info_fault context packet ≡ None =
     sym (ap (λ n. cond (n == node_info) (node_info_fault context packet)

@@ -67,7 +67,8 @@ module _ (a : Agent) (packet : List ℕ) (arrival : ℕ) (is : IsAgent a) (whole
     unfoldable pub Effect : Type 0
     Effect =
         ((number_in attribute_id packet ≡ port_info) × ((port : ℕ) × ((port_meant a (number_in attribute_modifier packet) arrival ≡ Some port)
-        × SetsPort a (after_answer a packet arrival).agent port (bytes_in attribute_data packet) (bytes_in attribute_data (after_answer a packet arrival).packet))))
+        × SetsPort a (after_answer a packet arrival).agent port (bytes_in attribute_data packet)
+        (bytes_in attribute_data (after_answer a packet arrival).packet))))
         ⊎ (((number_in attribute_id packet ≡ switch_info)
         × SetsTop a (after_answer a packet arrival).agent (bytes_in attribute_data packet) (bytes_in attribute_data (after_answer a packet arrival).packet))
         ⊎ ((number_in attribute_id packet ≡ linear_forwarding_table)

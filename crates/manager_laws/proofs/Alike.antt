@@ -66,7 +66,8 @@ agrees_holding f base_lid lmc entry top seat cells agrees =
     let other : Fabric = holding f base_lid lmc entry top in
     record {
       guids_distinct = λ p q a b one two same.
-          agrees.guids_distinct p q a b (end_there other f.base_lid f.lmc f.entry f.top seat p a one) (end_there other f.base_lid f.lmc f.entry f.top seat q b two) same;
+          agrees.guids_distinct p q a b (end_there other f.base_lid f.lmc f.entry f.top seat p a one)
+          (end_there other f.base_lid f.lmc f.entry f.top seat q b two) same;
       tells_end_ports = λ port node is. agrees.tells_end_ports port node (end_there other f.base_lid f.lmc f.entry f.top seat port node is);
       end_ports_exist = λ g p is. end_port_there f base_lid lmc entry top seat g p (agrees.end_ports_exist g p is);
       switches_exist = λ g is. end_port_there f base_lid lmc entry top seat g 0 (agrees.switches_exist g is);

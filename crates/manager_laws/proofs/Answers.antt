@@ -42,7 +42,8 @@ module _ (start : Simulation) (at : NodePort) (bytes : List ℕ) (r : IsAnswerFo
   same f apart = field_kept f r.answer bytes apart r.kept
 
   same_data : bytes_in attribute_data bytes ≡ bytes_in attribute_data r.answer
-  same_data = bytes_in-alike attribute_data bytes r.answer (omega (arith, r.count)) (omega (arith, r.is.count)) (λ id from less. r.kept id (inr (omega (arith, from), omega (arith, less))))
+  same_data = bytes_in-alike attribute_data bytes r.answer (omega (arith, r.count)) (omega (arith, r.is.count))
+      (λ id from less. r.kept id (inr (omega (arith, from), omega (arith, less))))
 
   same_status : status bytes ≡ status r.answer
   same_status =
@@ -134,7 +135,8 @@ bytes_answered request given payload =
     cond_both (is_directed request.bytes) _ _ (λ (p : Packet). p.bytes ≡ answer_packet request.bytes given payload) (λ _. refl) (λ _. refl)
 
 module _ {start : Simulation} (cables : AreCables start) (counts : (id : ℕ) → port_count start id ≤ 254) where
-  manager_answers : (h : Handed) (seat : NodePort) (given : ℕ) (payload : List ℕ) → IsForManager start h.at h.packet.bytes → given < 2 ^ 15 → length payload ≡ 64
+  manager_answers : (h : Handed) (seat : NodePort) (given : ℕ) (payload : List ℕ) → IsForManager start h.at h.packet.bytes → given < 2 ^ 15 → length payload
+      ≡ 64
       → asks_manager seat h ≡ true → IsOnCourse start seat (answer_packet h.packet.bytes given payload)
   manager_answers h seat given payload is small whole asks =
       manager_traced AnySends (SaysSo start) start cables counts h seat given payload is small whole asks
@@ -191,9 +193,11 @@ is_told start h is (directed, back) = elim (is.course directed) [
   | inr r ↦ tells start h.at h.packet.bytes r
 ]
 
-all_told : (start : Simulation) (handed : List Handed) → WereOnCourse start handed → All (λ h. IsBack h → TellsOfEnd (fabric_of start) h.at h.packet.bytes) handed
+all_told : (start : Simulation) (handed : List Handed) → WereOnCourse start handed
+    → All (λ h. IsBack h → TellsOfEnd (fabric_of start) h.at h.packet.bytes) handed
 all_told start [] all = All-nil (λ h. IsBack h → TellsOfEnd (fabric_of start) h.at h.packet.bytes)
-all_told start (h ∷ handed) all = All-cons (λ x. IsBack x → TellsOfEnd (fabric_of start) x.at x.packet.bytes) h handed (is_told start h all.0) (all_told start handed all.1)
+all_told start (h ∷ handed) all =
+    All-cons (λ x. IsBack x → TellsOfEnd (fabric_of start) x.at x.packet.bytes) h handed (is_told start h all.0) (all_told start handed all.1)
 
 -- at the beginning
 pub begun : (s : Scene) → IsQuiet s → Continues s.fabric s

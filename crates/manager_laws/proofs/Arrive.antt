@@ -263,7 +263,8 @@ module _ (w : Managing) (before between after : List ManagerEvent) (run : IsWrit
         (seat_end first at 1 first_begins)
 
     pub arrives : IsWhole sweep → is_written (at_end w before between after).manager ≡ true
-        → EachPingArrives (at_writing w before between).manager.planning.rule (cells_of (at_writing w before between).manager.store) (plan_at (at_writing w before between))
+        → EachPingArrives (at_writing w before between).manager.planning.rule (cells_of (at_writing w before between).manager.store)
+        (plan_at (at_writing w before between))
         (at_end w before between after).scene.fabric w.seat
     arrives whole written =
         let f = (at_end w before between after).scene.fabric in

@@ -82,7 +82,8 @@ module _ (start : Simulation) (seat : NodePort) (plan : PlanValue) (ground : Gro
       → Goes start seat plan ⊥ (record w { manager = after_begin_sweep w.manager })
   begin_goes old w g none =
       beside_goes start seat plan old ⊥ w (after_begin_sweep w.manager) g
-      (beside_swept start seat plan ground old w.scene.handed ⊥ w.manager (after_begin_sweep w.manager) g.fair.once (begun start seat old w.manager g.fair.side none))
+      (beside_swept start seat plan ground old w.scene.handed ⊥ w.manager (after_begin_sweep w.manager) g.fair.once
+      (begun start seat old w.manager g.fair.side none))
 
   -- a writing begins
   write_goes : (old : Type 0) (w : Managing) → Goes start seat plan old w → (old → ⊥) → writing_fault w.manager ≡ None
@@ -106,8 +107,10 @@ module _ (start : Simulation) (seat : NodePort) (plan : PlanValue) (ground : Gro
           → Goes start seat plan old (record w { manager = begun_with w.manager (phases_by w.manager o) })
       by_sweep None swept most = absurd swept
       by_sweep (Some s) swept most =
-          let phases = phases_of (plan_of w.manager.planning.rule w.manager.planning.lmc (cells_of w.manager.store)) (cells_of w.manager.store) s w.manager.standing.guid w.manager.port in
-          phase_goes start seat plan old w w.manager (record { later = without_empty_phases phases; has_failed = false }) g.fair refl refl g.fair.side g.fair.once
+          let phases = phases_of (plan_of w.manager.planning.rule w.manager.planning.lmc (cells_of w.manager.store)) (cells_of w.manager.store) s
+          w.manager.standing.guid w.manager.port in
+          phase_goes start seat plan old w w.manager (record { later = without_empty_phases phases; has_failed = false }) g.fair refl refl g.fair.side
+          g.fair.once
           (passed_goes start seat plan phases (writing_goes start seat w.manager may g.fair.side.lmc s swept plan)) most
 
   -- a packet is heard

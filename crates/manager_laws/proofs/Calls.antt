@@ -194,7 +194,8 @@ module _ (start : Simulation) (seat : NodePort) (plan : PlanValue) (g : Ground s
       asks m side once _ _ refl refl (length-lid_routed set sm_info (modifier_of_control control) m.counter payload whole)
       (not_directed set sm_info (modifier_of_control control) m.counter payload whole)
 
-  tells : (m : Manager) → SweepSide start seat old m → AreOnce m.counter m.pending → (lid : Option ℕ) (message : Option Message) → Beside m (after_message m lid message)
+  tells : (m : Manager) → SweepSide start seat old m → AreOnce m.counter m.pending → (lid : Option ℕ) (message : Option Message)
+      → Beside m (after_message m lid message)
   tells m side once None message = stays m side once
   tells m side once (Some lid) None = stays m side once
   tells m side once (Some lid) (Some message) = controls m side once lid (control_of_message message)
@@ -312,7 +313,8 @@ module _ (start : Simulation) (seat : NodePort) (plan : PlanValue) (g : Ground s
 
     pub packet_comes : (which : ℕ) (h : Handed) (lid : Option ℕ) → slice_get handed which ≡ Some h → is_same_port h.at seat ≡ true
         → IsForManager start seat h.packet.bytes
-        → BesideCall start seat plan old handed m (after_packet m h.packet.bytes lid).manager ⊎ StepEnds (HeardBy h.packet.bytes) m (after_packet m h.packet.bytes lid).manager
+        → BesideCall start seat plan old handed m (after_packet m h.packet.bytes lid).manager
+        ⊎ StepEnds (HeardBy h.packet.bytes) m (after_packet m h.packet.bytes lid).manager
     unfolding Comes Beside
     packet_comes which h lid there here is = by_fault (fault_of h.packet.bytes) refl
       where

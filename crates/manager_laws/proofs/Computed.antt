@@ -159,7 +159,8 @@ module _ (plan : PlanValue) (f : Fabric) (seat : NodePort) (phases : List Phase)
       sym (ap (λ t. not t || is_own (flight_with s.flights serial)) answers) ∙ e in
       let its : is_in_phases f seat (port_of takes.flight.whereabouts) takes.flight.packet.bytes phases ≡ true = sym (ap is_own takes.waits) ∙ own in
       let known : is_in_phases f seat at packet phases ≡ true =
-      sym (ap (λ p. is_in_phases f seat p takes.flight.packet.bytes phases) takes.waits_at ∙ ap (λ bytes. is_in_phases f seat at bytes phases) takes.bytes) ∙ its in
+      sym (ap (λ p. is_in_phases f seat p takes.flight.packet.bytes phases) takes.waits_at ∙ ap (λ bytes. is_in_phases f seat at bytes phases) takes.bytes)
+      ∙ its in
       inl (own_by f seat at packet phases known)
 
   abbrev event_kept : Managing → ManagerEvent → Bool
@@ -316,9 +317,11 @@ keeps_by start w planning o c events by_planning by_sweep by_cells no_fault keep
     subst (λ fault. AllKeep (plan_at w) (own_sets start w) events (record w { manager = if is_none fault then after_write_steps m else m })) (sym no_fault)
     (subst (λ (ps : List Phase). AllKeep (plan_at w) (IsOwnSet (fabric_of start.scene.fabric) start.seat ps) events (record w { manager = begun_with m ps }))
     (sym (same_phases m m.sweep))
-    (subst (λ (x : Planning). AllKeep (plan_of x.rule x.lmc (cells_of m.store)) (IsOwnSet (fabric_of start.scene.fabric) start.seat (phases_with x m m.sweep (cells_of m.store))) events
+    (subst (λ (x : Planning). AllKeep (plan_of x.rule x.lmc (cells_of m.store))
+    (IsOwnSet (fabric_of start.scene.fabric) start.seat (phases_with x m m.sweep (cells_of m.store))) events
     (record w { manager = begun_with m (phases_with x m m.sweep (cells_of m.store)) })) (sym by_planning)
-    (subst (λ x. AllKeep (plan_of planning.rule planning.lmc (cells_of m.store)) (IsOwnSet (fabric_of start.scene.fabric) start.seat (phases_with planning m x (cells_of m.store))) events
+    (subst (λ x. AllKeep (plan_of planning.rule planning.lmc (cells_of m.store))
+    (IsOwnSet (fabric_of start.scene.fabric) start.seat (phases_with planning m x (cells_of m.store))) events
     (record w { manager = begun_with m (phases_with planning m x (cells_of m.store)) })) (sym by_sweep)
     (subst (λ x. AllKeep (plan_of planning.rule planning.lmc x) (IsOwnSet (fabric_of start.scene.fabric) start.seat (phases_with planning m o x)) events
     (record w { manager = begun_with m (phases_with planning m o x) })) (sym by_cells) keep))))

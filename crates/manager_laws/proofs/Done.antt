@@ -105,11 +105,13 @@ module _ (w : Sweeping) (generation first : ℕ) (begins : Begins w generation f
           ways = ways can is_fabric node there ended.sweep (told_in ended.reports) covered none origin told;
         }
 
-    pings : (rule : RuleValue) (lmc : ℕ) (whole : IsWhole (after_sweep_events events w).sweep) → ¬ (IsNoRoom lmc (cells_of (facts_of (after_sweep_events events w).reports)))
+    pings : (rule : RuleValue) (lmc : ℕ) (whole : IsWhole (after_sweep_events events w).sweep)
+        → ¬ (IsNoRoom lmc (cells_of (facts_of (after_sweep_events events w).reports)))
         → HoldsPlan (IsJoinedTo (fabric_of (after_sweep_events events w).scene.fabric) w.seat)
         (plan_of rule lmc (cells_of (facts_of (after_sweep_events events w).reports)))
         (fabric_of (after_sweep_events events w).scene.fabric)
-        → EachPingArrives rule (cells_of (facts_of (after_sweep_events events w).reports)) (plan_of rule lmc (cells_of (facts_of (after_sweep_events events w).reports)))
+        → EachPingArrives rule (cells_of (facts_of (after_sweep_events events w).reports))
+        (plan_of rule lmc (cells_of (facts_of (after_sweep_events events w).reports)))
         (after_sweep_events events w).scene.fabric w.seat
     pings rule lmc whole room holds =
         let ended = after_sweep_events events w in

@@ -217,7 +217,8 @@ module _ (start : Simulation) (seat : NodePort) (plan : PlanValue) where
       }
 
   -- by its first packet, which it gives out
-  pub fair_taken : (old : Type 0) (c : ℕ) (all : List StepSent) (w : Managing) → IsFair old c all w → IsFair old c all (taking w (after_take_outgoing w.manager))
+  pub fair_taken : (old : Type 0) (c : ℕ) (all : List StepSent) (w : Managing) → IsFair old c all w
+      → IsFair old c all (taking w (after_take_outgoing w.manager))
   fair_taken old c all w fair = by_first w.manager.outgoing fair.outgoing
     where
       by_first : (out : List Outgoing) → AreOwnPackets c all w.scene.handed out → IsFair old c all (taking w (taken_of w.manager out))

@@ -113,7 +113,8 @@ asks_all [] u e =
       reports = refl;
     }
 asks_all (r ∷ queue) u e =
-    let next : after_sweep_event u sweeping.Ask ≡ asking_more u (after_next_request_of u.sweep (r ∷ queue)) = ap (λ q. asking_more u (after_next_request_of u.sweep q)) e in
+    let next : after_sweep_event u sweeping.Ask ≡ asking_more u (after_next_request_of u.sweep (r ∷ queue)) =
+    ap (λ q. asking_more u (after_next_request_of u.sweep q)) e in
     let later = asks_all queue (asking_more u (after_next_request_of u.sweep (r ∷ queue))) refl in
     subst (λ x. HasAskedAll u (after_sweep_events (asks queue) x)) (sym next)
     (record {

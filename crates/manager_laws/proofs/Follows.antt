@@ -203,7 +203,11 @@ module _ (start : Simulation) (seat : NodePort) (plan : PlanValue) (ground : Gro
             ∙ ap (sweeping.with_answer u bytes) taken
 
         all : HasAskedAll (record u { sweep = after_reply u.sweep bytes; reports = u.reports ++ reports_of answer })
-            (after_sweep_events (asks (after_reply u.sweep bytes).queued) (record u { sweep = after_reply u.sweep bytes; reports = u.reports ++ reports_of answer }))
+            (after_sweep_events (asks (after_reply u.sweep bytes).queued) (record u {
+              sweep = after_reply u.sweep bytes;
+              reports = u.reports
+                  ++ reports_of answer;
+            }))
         all = asks_all (after_reply u.sweep bytes).queued (record u { sweep = after_reply u.sweep bytes; reports = u.reports ++ reports_of answer }) refl
 
   -- events ---------------------------------------------------------------------------------------------------------
@@ -242,7 +246,8 @@ module _ (start : Simulation) (seat : NodePort) (plan : PlanValue) (ground : Gro
       by_port false e = quiet_followed w w u (unseen w) refl (kept w.manager) f
       by_port true e = by_fault e (fault_of h.packet.bytes)
 
-  timed_followed : (w : Managing) (transaction : ℕ) (u : Sweeping) → Follows w u → IsFollowed (record w { manager = (after_timeout w.manager transaction).manager }) u
+  timed_followed : (w : Managing) (transaction : ℕ) (u : Sweeping) → Follows w u
+      → IsFollowed (record w { manager = (after_timeout w.manager transaction).manager }) u
   timed_followed w transaction u f =
       cond_both (nat_le (2 ^ 32) transaction) _ _ (λ (x : Called). IsFollowed (record w { manager = x.manager }) u)
       (λ _. subst (λ o. IsFollowed (record w { manager = (sweep_gave_up w.manager transaction o).manager }) u) (sym f.sweep)
@@ -310,4 +315,5 @@ module _ (start : Simulation) (seat : NodePort) (plan : PlanValue) (ground : Gro
       (cond_both (is_none (poll_fault w.manager)) _ _ (KeepsSweep w.manager) (λ _. record { sweep = refl; store = refl }) (λ _. kept w.manager)) f
   event_followed w HandOver u g quiet can_be f =
       quiet_followed w (after_manager_event w HandOver) u (unseen w) refl
-      (cond_both (is_none (handover_fault w.manager)) _ _ (KeepsSweep w.manager) (λ _. handed_keeps w.manager (successor_lid w.manager)) (λ _. kept w.manager)) f
+      (cond_both (is_none (handover_fault w.manager)) _ _ (KeepsSweep w.manager) (λ _. handed_keeps w.manager (successor_lid w.manager)) (λ _. kept w.manager))
+      f

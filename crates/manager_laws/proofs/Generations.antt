@@ -93,7 +93,8 @@ in_range_small facts in_range few =
       few = few;
     }
 
-pub merged_small : (facts : Facts) (floor : ℕ) (told : Sightings) → KnowsSmall facts → floor < 2 ^ 32 → AreSmall told → KnowsSmall (merge facts (view_at floor told))
+pub merged_small : (facts : Facts) (floor : ℕ) (told : Sightings) → KnowsSmall facts → floor < 2 ^ 32 → AreSmall told
+    → KnowsSmall (merge facts (view_at floor told))
 merged_small facts floor told knows few small =
     record {
       floor = max knows.floor floor;

@@ -154,7 +154,8 @@ module _ (w : Managing) (before between after : List ManagerEvent) (run : IsWrit
     swept = elim swept_before.fair.side.sweep [ inl none ↦ absurd none.0 | inr one ↦ subst (IsSweptOne w.scene.fabric w.seat) sweep_is one ]
 
     pub phases : List Phase
-    phases = phases_of (plan_of (at_writing w before between).manager.planning.rule (at_writing w before between).manager.planning.lmc (cells_of (at_writing w before between).manager.store)) (cells_of (at_writing w before between).manager.store) sweep
+    phases = phases_of (plan_of (at_writing w before between).manager.planning.rule (at_writing w before between).manager.planning.lmc
+        (cells_of (at_writing w before between).manager.store)) (cells_of (at_writing w before between).manager.store) sweep
         (at_writing w before between).manager.standing.guid (at_writing w before between).manager.port
 
     pub good : (x : StepSent) → IsOf phases x.counts x.step → IsGood w.scene.fabric w.seat (plan_at (at_writing w before between)) x
@@ -187,7 +188,8 @@ module _ (w : Managing) (before between after : List ManagerEvent) (run : IsWrit
         let sent = phase_writes s w.seat p c phases good w3 w3.manager v [] swept_before.fair
         (omega arith) refl swept_before.fair.side swept_before.fair.once way
         (omega (arith, few, most)) in
-        subst (λ b. Writes s w.seat p c phases (record w3 { manager = cond b (after_write_steps w3.manager) w3.manager })) (sym (none-is_none _ run.writing_begins))
+        subst (λ b. Writes s w.seat p c phases (record w3 { manager = cond b (after_write_steps w3.manager) w3.manager }))
+        (sym (none-is_none _ run.writing_begins))
         (subst (λ x. Writes s w.seat p c phases (record w3 { manager = x })) same sent)
 
     -- its own Sets carry the plan's values
@@ -227,7 +229,9 @@ module _ (w : Managing) (before between after : List ManagerEvent) (run : IsWrit
       facts = (at_writing w before between).manager.store
 
       master : ℕ
-      master = own_lid (cells_of (at_writing w before between).manager.store) (plan_of (at_writing w before between).manager.planning.rule (at_writing w before between).manager.planning.lmc (cells_of (at_writing w before between).manager.store)).given.ports
+      master = own_lid (cells_of (at_writing w before between).manager.store)
+          (plan_of (at_writing w before between).manager.planning.rule (at_writing w before between).manager.planning.lmc
+          (cells_of (at_writing w before between).manager.store)).given.ports
           (at_writing w before between).manager.standing.guid (at_writing w before between).manager.port
 
       -- a step of a phase that counts is held
@@ -257,12 +261,14 @@ module _ (w : Managing) (before between after : List ManagerEvent) (run : IsWrit
       lids_held e range port has reached named =
           let (path, there) = some_path e.node e.port reached in
           let facts = (at_writing w before between).manager.store in
-          let x = range_is_set (at_writing w before between).manager.planning.rule (at_writing w before between).manager.planning.lmc swept_before.fair.side.lmc facts may.has_room sweep master few seen_few e range path has there in
+          let x = range_is_set (at_writing w before between).manager.planning.rule (at_writing w before between).manager.planning.lmc swept_before.fair.side.lmc
+          facts may.has_room sweep master few seen_few e range path has there in
           let (a, at, held, whole) = set_is_held (record { path = path; attribute = port_info; modifier = e.port; payload = port_data range master NoChange }) x
           e.node e.port there port.node named.node named.node_there named.guid_is in
           ap (λ o. (option_map_or (λ y. base_lid_at y port.port) o 0, option_map_or (λ y. lmc_at y port.port) o 0)) at
           ∙ ap (range_at a) named.port_is ∙ held.lids refl
-          ∙ range_value (at_writing w before between).manager.planning.rule (at_writing w before between).manager.planning.lmc swept_before.fair.side.lmc facts may.has_room sweep master few seen_few e range has
+          ∙ range_value (at_writing w before between).manager.planning.rule (at_writing w before between).manager.planning.lmc swept_before.fair.side.lmc facts
+          may.has_room sweep master few seen_few e range has
 
       tops_held : (guid top id : ℕ) (node : Node) → top_of (plan_at (at_writing w before between)).given ≡ Some top
           → Contains (switches_of (plan_at (at_writing w before between))) guid → IsReached sweep guid 0
@@ -272,10 +278,13 @@ module _ (w : Managing) (before between after : List ManagerEvent) (run : IsWrit
       tops_held guid top id node is_top is_switch reached has =
           let (path, there) = some_path guid 0 reached in
           let facts = (at_writing w before between).manager.store in
-          let x = top_is_set (at_writing w before between).manager.planning.rule (at_writing w before between).manager.planning.lmc swept_before.fair.side.lmc facts may.has_room sweep master few seen_few guid top path is_top is_switch there in
+          let x = top_is_set (at_writing w before between).manager.planning.rule (at_writing w before between).manager.planning.lmc swept_before.fair.side.lmc
+          facts may.has_room sweep master few seen_few guid top path is_top is_switch there in
           let (a, at, held, whole) = set_is_held (record { path = path; attribute = switch_info; modifier = 0; payload = top_data top }) x guid 0 there id
           node has.there has.named in
-          ap (λ o. option_map_or (λ (y : Agent). y.top) o 0) at ∙ held.top refl ∙ top_value (at_writing w before between).manager.planning.rule (at_writing w before between).manager.planning.lmc swept_before.fair.side.lmc facts may.has_room sweep master few seen_few top is_top
+          ap (λ o. option_map_or (λ (y : Agent). y.top) o 0) at ∙ held.top refl
+          ∙ top_value (at_writing w before between).manager.planning.rule (at_writing w before between).manager.planning.lmc swept_before.fair.side.lmc
+          facts may.has_room sweep master few seen_few top is_top
 
       blocks_held : (guid b id : ℕ) (block : List ℕ) (node : Node) → block_at (plan_at (at_writing w before between)) guid b ≡ Some block
           → IsReached sweep guid 0
@@ -285,7 +294,8 @@ module _ (w : Managing) (before between after : List ManagerEvent) (run : IsWrit
       blocks_held guid b id block node is_block reached has i less =
           let (path, there) = some_path guid 0 reached in
           let facts = (at_writing w before between).manager.store in
-          let x = block_is_set (at_writing w before between).manager.planning.rule (at_writing w before between).manager.planning.lmc swept_before.fair.side.lmc facts may.has_room sweep master few seen_few guid b block path is_block there in
+          let x = block_is_set (at_writing w before between).manager.planning.rule (at_writing w before between).manager.planning.lmc swept_before.fair.side.lmc
+          facts may.has_room sweep master few seen_few guid b block path is_block there in
           let (a, at, held, whole) = set_is_held (record { path = path; attribute = linear_forwarding_table; modifier = b; payload = block }) x guid 0 there
           id node has.there has.named in
           slice_get-get_or block i 0 (omega (arith, less, whole))

@@ -65,7 +65,8 @@ module _ (rule : RuleValue) (lmc : ℕ) (facts : Facts) where
           let (s, there, same) = contains-from_map table_of (switches (cells_of facts)) table is.0 in
           subst (Contains (switches (cells_of facts))) (ap (λ (t : SwitchTable). t.guid) same ∙ eqb-true _ _ is.1) there
 
-module _ (rule : RuleValue) (lmc : ℕ) (facts : Facts) (has_room : ¬ (IsNoRoom lmc (cells_of facts))) (part : Part) (f : Fabric) (sweep : Sweep) (agrees : AgreesOn part (cells_of facts) f)
+module _ (rule : RuleValue) (lmc : ℕ) (facts : Facts) (has_room : ¬ (IsNoRoom lmc (cells_of facts))) (part : Part) (f : Fabric) (sweep : Sweep)
+    (agrees : AgreesOn part (cells_of facts) f)
     (held : IsHeldWhere (plan_of rule lmc (cells_of facts)) sweep f) (known : (g p : ℕ) → IsEndPort (cells_of facts) g p → IsReached sweep g p) where
   module _ (port : NodePort) (node : Node) (end : IsEndPortIn part f port node) where
     tells : TellsEndPort (cells_of facts) node port.port
@@ -91,7 +92,8 @@ module _ (rule : RuleValue) (lmc : ℕ) (facts : Facts) (has_room : ¬ (IsNoRoom
     given =
         let listed = ((end_ports_law facts).0 (record { node = node.guid; port = port.port })).1 is_end in
         let among = subst (λ es. Contains es (record { node = node.guid; port = port.port })) (sym (lids_law lmc facts has_room).end_ports_in_order) listed in
-        let (x, there, same) = contains-from_map (λ (x : EndPort × ℕ). x.0) (lids lmc (cells_of facts)).ports (record { node = node.guid; port = port.port }) among in
+        let (x, there, same) =
+        contains-from_map (λ (x : EndPort × ℕ). x.0) (lids lmc (cells_of facts)).ports (record { node = node.guid; port = port.port }) among in
         record { lid = x.1; there = subst (λ (e : EndPort). Contains (lids lmc (cells_of facts)).ports (e, x.1)) same there }
 
     has_lid : lid_of (lids lmc (cells_of facts)) (record { node = node.guid; port = port.port }) ≡ Some given.lid

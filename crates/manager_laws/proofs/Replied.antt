@@ -81,7 +81,8 @@ module _ (f : Fabric) (seat : NodePort) where
 
         within : (node_info_of packet).local_port_num ≤ (node_info_of packet).num_ports
         within =
-            let ranges = and_parts (is_cabled_port (node_info_of packet).num_ports && nat_le (node_info_of packet).local_port_num (node_info_of packet).num_ports)
+            let ranges = and_parts (is_cabled_port (node_info_of packet).num_ports
+            && nat_le (node_info_of packet).local_port_num (node_info_of packet).num_ports)
             (may_be_asked_by r.context good.kind (node_info_of packet).local_port_num) good.ranges in
             leb-true _ _ (and_parts (is_cabled_port (node_info_of packet).num_ports) _ ranges.0).1
 
@@ -92,7 +93,8 @@ module _ (f : Fabric) (seat : NodePort) where
         anew None e room = absurd (cc (sym (ap type_of_number node.kind ∙ type_read says.node.kind) ∙ e))
         anew (Some kind) e room =
             let same : kind ≡ says.node.kind = same_Some _ _ (sym e ∙ ap type_of_number node.kind ∙ type_read says.node.kind) in
-            let g = anew_good f seat can r.path sound.sound.own sound.sound.short (node_info_of packet) to kind same node.ports node.local_port within s.reached is.reached in
+            let g = anew_good f seat can r.path sound.sound.own sound.sound.short (node_info_of packet) to kind same node.ports node.local_port within s.reached
+            is.reached in
             grown _ _ _ _ (record { questions = g.questions; reached = g.found; room = room })
 
         by_first : (m : Option Vertex) → first_vertex s.reached (node_info_of packet).node_guid ≡ m
@@ -101,7 +103,8 @@ module _ (f : Fabric) (seat : NodePort) where
         unfolding ended to
         by_first None e room = anew (type_of_number (node_info_of packet).node_type) refl room
         by_first (Some first) e room =
-            let g = again_good f seat can r.path sound.sound.own sound.sound.short (node_info_of packet) to says.node.kind refl node.ports node.local_port within s first is.reached e in
+            let g = again_good f seat can r.path sound.sound.own sound.sound.short (node_info_of packet) to says.node.kind refl node.ports node.local_port
+            within s first is.reached e in
             grown _ _ _ _ (record { questions = g.questions; reached = g.found; room = room })
 
       -- a port
@@ -111,7 +114,12 @@ module _ (f : Fabric) (seat : NodePort) where
       unfolding ended
       by_port guid port info leads_there room =
           grown _ s.reached _ _
-          (record { questions = sound_port f seat can r.path sound.sound.own sound.sound.short s guid port info is leads_there; reached = is.reached; room = room })
+          (record {
+            questions = sound_port f seat can r.path sound.sound.own sound.sound.short s guid port info is leads_there;
+            reached = is.reached;
+            room =
+                room;
+          })
 
       pub by_question : (q : Question) → r.question ≡ q → (context : Context) → r.context ≡ context → IsSound f seat q r.path context
           → s.next + length (questions r.path (finding_of s (record r { context = context }) packet q)) ≤ 2 ^ 32

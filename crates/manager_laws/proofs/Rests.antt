@@ -97,7 +97,9 @@ goes_on w HandOver never =
 writes_nothing : (w : Managing) (event : ManagerEvent) → NeverSwept w → BeginsNoWriting w event
 writes_nothing w Write never =
     let m = w.manager in
-    λ none. cc (sym (ap (λ o. or_else (write_fault_with m o) (or_else (plan_fault m.planning.lmc (cells_of m.store)) (number_fault (m.counter + most_steps (cells_of m.store))))) never) ∙ none)
+    λ none. cc (sym (ap
+    (λ o. or_else (write_fault_with m o) (or_else (plan_fault m.planning.lmc (cells_of m.store)) (number_fault (m.counter
+    + most_steps (cells_of m.store))))) never) ∙ none)
 writes_nothing w (Around event) never = tt
 writes_nothing w Begin never = tt
 writes_nothing w Take never = tt

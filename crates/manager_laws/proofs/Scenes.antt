@@ -119,13 +119,15 @@ module _ (start : Simulation) (seat : NodePort) (plan : PlanValue) (c : ℕ) (al
       of_agent : (a : Agent) → agent_at s (port_of flight.whereabouts).node ≡ Some a
           → number_in transaction_id (after_answer a request (port_of flight.whereabouts).port).packet ≡ number_in transaction_id request
       of_agent a there =
-          let holds = answers_hold a request (port_of flight.whereabouts).port (agent_there s.agents (port_of flight.whereabouts).node a c.fabric.along.agents there)
+          let holds = answers_hold a request (port_of flight.whereabouts).port (agent_there s.agents (port_of flight.whereabouts).node a c.fabric.along.agents
+          there)
           asked.whole in
           number_in-alike transaction_id (after_answer a request (port_of flight.whereabouts).port).packet request
           (λ id from less. holds.kept id (inr (inl (omega (arith, from), omega (arith, less)))))
 
       by_agent : (m : Option Agent) → agent_at s (port_of flight.whereabouts).node ≡ m
-          → number_in transaction_id (option_map_or (λ a. (after_answer a request (port_of flight.whereabouts).port).packet) m request) ≡ number_in transaction_id request
+          → number_in transaction_id (option_map_or (λ a. (after_answer a request (port_of flight.whereabouts).port).packet) m request)
+          ≡ number_in transaction_id request
       by_agent None there = refl
       by_agent (Some a) there = of_agent a there
 

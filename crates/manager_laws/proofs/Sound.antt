@@ -152,7 +152,11 @@ module _ (f : Fabric) (seat : NodePort) where
     sound_vertex v to path_is kind ports port =
         subst (λ p. AreSoundQuestions (vertex_questions (record v { path = p }))) (sym path_is)
         (cond_both (is_switch v.kind) _ _ AreSoundQuestions
-        (λ switch. (record { own = own; short = short; asks = to }, sound_ports v.guid 0 (v.ports + 1) to (ap is_switch (sym kind) ∙ switch) (omega (arith, ports))))
+        (λ switch. (
+          record { own = own; short = short; asks = to },
+          sound_ports v.guid 0 (v.ports + 1) to (ap is_switch (sym kind)
+              ∙ switch) (omega (arith, ports)),
+        ))
         (λ adapter.
         let here = port adapter in (
           record {
@@ -178,8 +182,10 @@ module _ (f : Fabric) (seat : NodePort) where
             by_first (Some v) e =
                 let (found, named) = first_found s.reached guid v is.reached e in
                 let at_seat : to.end ≡ seat = same_Some _ _ (sym to.leads ∙ ap (directed_end f seat) none) in
-                let same_id : found.id ≡ to.end.node = can.distinct _ _ found.node to.node found.has.there to.has.there (found.has.named ∙ named ∙ sym to.has.named) in
-                let here : IsNodeAt f seat.node found.node = subst (λ n. IsNodeAt f n found.node) (same_id ∙ ap (λ (p : NodePort). p.node) at_seat) found.has.there in
+                let same_id : found.id ≡ to.end.node =
+                can.distinct _ _ found.node to.node found.has.there to.has.there (found.has.named ∙ named ∙ sym to.has.named) in
+                let here : IsNodeAt f seat.node found.node =
+                subst (λ n. IsNodeAt f n found.node) (same_id ∙ ap (λ (p : NodePort). p.node) at_seat) found.has.there in
                 ap (λ b. b && (not (port == 0) && not (port == v.arrival))) (ap is_switch found.kind ∙ can.adapter found.node here)
 
         by_path : (ports : List ℕ) → path ≡ ports → BeginsWith seat.port (ports ++ port ∷ [])
@@ -221,7 +227,8 @@ module _ (f : Fabric) (seat : NodePort) where
     sound_manager s guid port info =
         cond_both (asks_manager s path guid info) _ _ AreSoundQuestions (λ _. (record { own = own; short = short; asks = tt }, tt)) (λ _. tt)
 
-    pub sound_port : (s : Sweep) (guid port : ℕ) (info : List ℕ) → IsSoundSweep s → LeadsTo path guid → AreSoundQuestions (questions path (port_found_of s path guid port info))
+    pub sound_port : (s : Sweep) (guid port : ℕ) (info : List ℕ) → IsSoundSweep s → LeadsTo path guid
+        → AreSoundQuestions (questions path (port_found_of s path guid port info))
     sound_port s guid port info is to =
         both_sound _ _ (sound_manager s guid port info) (sound_onward s guid port info is to)
 
@@ -241,7 +248,8 @@ module _ (f : Fabric) (seat : NodePort) where
           → GoodNode (vertex_questions (vertex_of path info k n)) (placed vertex_key (vertex_of path info k n) reached)
       vertex_good k n reached k_is n_is all =
           record {
-            questions = sound_vertex (vertex_of path info k n) to refl k_is (let most = can.counts to.end.node to.node to.has.there in omega (arith, most, n_is))
+            questions = sound_vertex (vertex_of path info k n) to refl k_is (let most = can.counts to.end.node to.node to.has.there in
+                omega (arith, most, n_is))
                 (λ adapter. let here : guid_port k info.local_port_num ≡ info.local_port_num = ap (λ b. cond b 0 info.local_port_num) adapter in
                 let small = few in (here ∙ local, omega (arith, here, within, small)));
             found = found_by_id (vertex_of path info k n) reached (record { id = to.end.node; node = to.node; has = to.has; kind = k_is; ports = n_is }) all;

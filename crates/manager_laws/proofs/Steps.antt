@@ -185,7 +185,8 @@ range-port_data range master state small few = λ i. (lid i, lmc_is i)
         let at_34 = blank_there range.0 master 34 (omega arith) (omega arith) in
         let apart : get_or (ranged range master) 32 0 ≡ get_or (two_lids range.0 master) 32 0 =
         get_or-with_number (record { at = 34; len = 1 }) _ (two_lids range.0 master) 32 (omega (arith, before)) (inl (omega arith)) in
-        bits_in-with_bits_apart ids.lmc port_state (number_of_state state) (ranged range master) (omega (arith, whole)) (omega (arith, apart, at_32)) (omega arith)
+        bits_in-with_bits_apart ids.lmc port_state (number_of_state state) (ranged range master) (omega (arith, whole)) (omega (arith, apart, at_32))
+        (omega arith)
         (state_small state) refl
         ∙ bits_in-with_bits ids.lmc range.1 (two_lids range.0 master) (omega (arith, before)) (omega (arith, at_34)) (omega arith) few
 
@@ -225,7 +226,8 @@ module _ (rule : RuleValue) (lmc : ℕ) (few_lmc : lmc < 8) (facts : Facts) (has
   top_fits : (top : ℕ) → top_of (lids lmc (cells_of facts)) ≡ Some top → top < 0xC000
   top_fits top e =
       top_below lmc (lids lmc (cells_of facts)).ports 0xC000 top
-      (λ x n there. let fits = ((lids_law lmc facts has_room).each_fits x n there).in_room in let most = room_at_most (cells_of facts) in omega (arith, fits, most)) e
+      (λ x n there. let fits = ((lids_law lmc facts has_room).each_fits x n there).in_room in let most = room_at_most (cells_of facts) in
+      omega (arith, fits, most)) e
 
   -- LIDs: who owns the first number of a range has it as its LID
   has_first : (e : EndPort) (lid : ℕ) → Contains (rising_lids (lids lmc (cells_of facts))) lid → owner_of (lids lmc (cells_of facts)) lid ≡ Some e
@@ -247,7 +249,8 @@ module _ (rule : RuleValue) (lmc : ℕ) (few_lmc : lmc < 8) (facts : Facts) (has
       let (lid, risen, e) = taken_from (owner_step sweep master (lids lmc (cells_of facts))) (rising_lids (lids lmc (cells_of facts))) s there in
       by_owner lid risen (owner_of (lids lmc (cells_of facts)) lid) refl e
     where
-      by_owner : (lid : ℕ) → Contains (rising_lids (lids lmc (cells_of facts))) lid → (m : Option EndPort) → owner_of (lids lmc (cells_of facts)) lid ≡ m → option_and_then (λ e. lid_step sweep master (lid, lmc_of (lids lmc (cells_of facts)) e) e) m ≡ Some s
+      by_owner : (lid : ℕ) → Contains (rising_lids (lids lmc (cells_of facts))) lid → (m : Option EndPort) → owner_of (lids lmc (cells_of facts)) lid ≡ m
+          → option_and_then (λ e. lid_step sweep master (lid, lmc_of (lids lmc (cells_of facts)) e) e) m ≡ Some s
           → LidStep s
       by_owner lid risen None owns h = absurd (cc)
       by_owner lid risen (Some e) owns h =
@@ -395,7 +398,8 @@ module _ (rule : RuleValue) (lmc : ℕ) (few_lmc : lmc < 8) (facts : Facts) (has
 
   from_block_step : (s : Step) → Contains (block_steps sweep (plan_of rule lmc (cells_of facts))) s → BlockStep s
   from_block_step s there =
-      let (guid, is_switch, in_it) = from_flat_map (switch_steps sweep (plan_of rule lmc (cells_of facts))) (switches_of (plan_of rule lmc (cells_of facts))) s there in
+      let (guid, is_switch, in_it) =
+      from_flat_map (switch_steps sweep (plan_of rule lmc (cells_of facts))) (switches_of (plan_of rule lmc (cells_of facts))) s there in
       let (b, ranged, e) = taken_from (block_step sweep (plan_of rule lmc (cells_of facts)) guid)
       (range_with_len 0 (block_count (top_of (lids lmc (cells_of facts))))) s in_it in
       by_block guid b (block_at (plan_of rule lmc (cells_of facts)) guid b) refl e
@@ -425,7 +429,8 @@ module _ (rule : RuleValue) (lmc : ℕ) (few_lmc : lmc < 8) (facts : Facts) (has
           planned = record {
             lids = λ f. absurd (omega (arith, is_block, f));
             top = λ f. absurd (omega (arith, is_block, f));
-            block = λ _ block has. m.payload_is ∙ same_Some _ _ (sym l.there ∙ ap (block_at (plan_of rule lmc (cells_of facts)) l.guid) (sym m.modifier_is) ∙ has);
+            block = λ _ block has. m.payload_is ∙ same_Some _ _ (sym l.there ∙ ap (block_at (plan_of rule lmc (cells_of facts)) l.guid) (sym m.modifier_is)
+                ∙ has);
           };
           zero = λ f. absurd (omega (arith, is_block, f));
         },
@@ -514,7 +519,8 @@ module _ (rule : RuleValue) (lmc : ℕ) (few_lmc : lmc < 8) (facts : Facts) (has
       subst (λ m. Contains (option_map_or (λ t. filter_map (top_step sweep t) (switches_of (plan_of rule lmc (cells_of facts)))) m [])
       (record { path = path; attribute = switch_info; modifier = 0; payload = top_data top }))
       (sym is_top)
-      (is_taken (top_step sweep top) (switches_of (plan_of rule lmc (cells_of facts))) guid _ is_switch (making sweep guid 0 switch_info 0 (top_data top) path there))
+      (is_taken (top_step sweep top) (switches_of (plan_of rule lmc (cells_of facts))) guid _ is_switch
+      (making sweep guid 0 switch_info 0 (top_data top) path there))
 
   pub top_value : (top : ℕ) → top_of (lids lmc (cells_of facts)) ≡ Some top → number_in linear_fdb_top (top_data top) ≡ top
   top_value top is_top = let small = top_fits top is_top in top-top_data top (omega (arith, small))
@@ -597,7 +603,8 @@ module _ (rule : RuleValue) (lmc : ℕ) (few_lmc : lmc < 8) (facts : Facts) (has
   abbrev all_phases : List Phase
   all_phases = phases_by (plan_of rule lmc (cells_of facts)) (cells_of facts) sweep master
 
-  pub range_is_set : (e : EndPort) (range : ℕ × ℕ) (path : List ℕ) → range_of (lids lmc (cells_of facts)) e ≡ Some range → path_to sweep e.node e.port ≡ Some path
+  pub range_is_set : (e : EndPort) (range : ℕ × ℕ) (path : List ℕ) → range_of (lids lmc (cells_of facts)) e ≡ Some range → path_to sweep e.node e.port
+      ≡ Some path
       → IsOf (phases_by (plan_of rule lmc (cells_of facts)) (cells_of facts) sweep master) true
       (record { path = path; attribute = port_info; modifier = e.port; payload = port_data range master NoChange })
   range_is_set e range path has there =
@@ -611,7 +618,8 @@ module _ (rule : RuleValue) (lmc : ℕ) (few_lmc : lmc < 8) (facts : Facts) (has
             (to_lid_step e range.0 path lid_is there);
       }
 
-  pub block_is_set : (guid b : ℕ) (payload path : List ℕ) → block_at (plan_of rule lmc (cells_of facts)) guid b ≡ Some payload → path_to sweep guid 0 ≡ Some path
+  pub block_is_set : (guid b : ℕ) (payload path : List ℕ) → block_at (plan_of rule lmc (cells_of facts)) guid b ≡ Some payload → path_to sweep guid 0
+      ≡ Some path
       → IsOf (phases_by (plan_of rule lmc (cells_of facts)) (cells_of facts) sweep master) true
       (record { path = path; attribute = linear_forwarding_table; modifier = b; payload = payload })
   block_is_set guid b payload path at there =
@@ -622,7 +630,8 @@ module _ (rule : RuleValue) (lmc : ℕ) (few_lmc : lmc < 8) (facts : Facts) (has
         step = to_block_step guid b payload path at there;
       }
 
-  pub top_is_set : (guid top : ℕ) (path : List ℕ) → top_of (lids lmc (cells_of facts)) ≡ Some top → Contains (switches_of (plan_of rule lmc (cells_of facts))) guid
+  pub top_is_set : (guid top : ℕ) (path : List ℕ) → top_of (lids lmc (cells_of facts)) ≡ Some top
+      → Contains (switches_of (plan_of rule lmc (cells_of facts))) guid
       → path_to sweep guid 0 ≡ Some path
       → IsOf (phases_by (plan_of rule lmc (cells_of facts)) (cells_of facts) sweep master) true
       (record { path = path; attribute = switch_info; modifier = 0; payload = top_data top })

@@ -73,7 +73,8 @@ module _ {start : Simulation} {seat : NodePort} (cables : AreCables start) (coun
       by_request (Some r) = λ answered near. absurd (omega (arith, answered))
 
   -- a reply is taken
-  pub reply_covers : (s : Sweep) (told : Sightings) → IsSoundSweep (fabric_of start) seat s → (bytes : List ℕ) → IsForManager start seat bytes → (answer : Answer)
+  pub reply_covers : (s : Sweep) (told : Sightings) → IsSoundSweep (fabric_of start) seat s → (bytes : List ℕ) → IsForManager start seat bytes
+      → (answer : Answer)
       → judged s bytes ≡ Ok answer → CoversSoFar s told → CoversSoFar (after_reply s bytes) (told ++ sightings_by answer)
   reply_covers s told sound bytes is answer taken h =
       let a = swept.accepted_as cables counts can cabled s sound bytes is answer taken in

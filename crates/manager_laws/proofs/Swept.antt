@@ -168,8 +168,10 @@ module _ {start : Simulation} {seat : NodePort} (cables : AreCables start) (coun
       let asked = were packet refl in
       record {
         scene = sends cables counts w.scene w.seat (directed_packet packet) g.scene
-            (λ there. subst (IsOnCourse start w.seat) (sym asked.is) (sent_on start w.seat get (attribute_asked asked.request.question) (modifier_asked asked.request.question)
-            (transaction_of asked.generation asked.request.number) asked.request.path (replicate 64 0) (fits asked.generation asked.request asked.few asked.sound)
+            (λ there. subst (IsOnCourse start w.seat) (sym asked.is)
+            (sent_on start w.seat get (attribute_asked asked.request.question) (modifier_asked asked.request.question)
+            (transaction_of asked.generation asked.request.number) asked.request.path (replicate 64 0)
+            (fits asked.generation asked.request asked.few asked.sound)
             (omega arith) asked.sound.sound.short (subst (λ (p : NodePort). BeginsWith p.port asked.request.path) (sym g.seat_is) asked.sound.sound.own)
             (seat_in_port cables counts w.scene.fabric g.scene.fabric w.seat there)));
         seat_is = g.seat_is;

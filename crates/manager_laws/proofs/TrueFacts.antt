@@ -66,7 +66,8 @@ module _ (f : Fabric) (seat : NodePort) (cabled : IsCabled f) (generation : ℕ)
     local_within =
         let parts = and_parts (is_cabled_port (node_info_of packet).num_ports && nat_le (node_info_of packet).local_port_num (node_info_of packet).num_ports)
         (may_be_asked_by context kind (node_info_of packet).local_port_num) ranges in
-        let most : (node_info_of packet).local_port_num ≤ (node_info_of packet).num_ports = leb-true _ _ (and_parts (is_cabled_port (node_info_of packet).num_ports) _ parts.0).1 in
+        let most : (node_info_of packet).local_port_num ≤ (node_info_of packet).num_ports =
+        leb-true _ _ (and_parts (is_cabled_port (node_info_of packet).num_ports) _ parts.0).1 in
         let local = node.local_port in
         let ports = node.ports in
         omega (arith, most, local, ports)
@@ -76,7 +77,8 @@ module _ (f : Fabric) (seat : NodePort) (cabled : IsCabled f) (generation : ℕ)
         (may_be_asked_by context kind (node_info_of packet).local_port_num) ranges).1
 
     -- an adapter's port is from 1 on
-    some_port : (c : Context) → may_be_asked_by c kind (node_info_of packet).local_port_num ≡ true → is_switch kind ≡ false → 1 ≤ (node_info_of packet).local_port_num
+    some_port : (c : Context) → may_be_asked_by c kind (node_info_of packet).local_port_num ≡ true → is_switch kind ≡ false → 1
+        ≤ (node_info_of packet).local_port_num
     some_port Start e adapter = elim (or_cases (is_switch kind) _ e) [ inl s ↦ absurd (cc (sym s ∙ adapter)) | inr some ↦ ltb-true _ _ some ]
     some_port (Via guid via) e adapter = ltb-true _ _ (and_parts (nat_lt 0 (node_info_of packet).local_port_num) (is_cabled_port via) e).0
     some_port (About guid) e adapter = ltb-true _ _ e
@@ -98,7 +100,8 @@ module _ (f : Fabric) (seat : NodePort) (cabled : IsCabled f) (generation : ℕ)
             let adapter : is_switch says.node.kind ≡ false = ap is_switch (sym kind_is) ∙ e in
             let local = node.local_port in
             let within = local_within in (
-              subst (λ b. MatchBool b ((node_info_of packet).local_port_num ≡ 0) ((1 ≤ (node_info_of packet).local_port_num) × ((node_info_of packet).local_port_num ≤ says.node.ports)))
+              subst (λ b. MatchBool b ((node_info_of packet).local_port_num ≡ 0) ((1 ≤ (node_info_of packet).local_port_num)
+                  × ((node_info_of packet).local_port_num ≤ says.node.ports)))
                   (sym adapter) (some_port context asked e, omega (arith, local, within)),
               ap says.node.port_guid node.local_port ∙ sym node.port_guid,
             )
@@ -142,7 +145,8 @@ module _ (f : Fabric) (seat : NodePort) (cabled : IsCabled f) (generation : ℕ)
           ),
         )
 
-    true_node : Asks f seat r.path ask.Node context → (m : Option NodeType) → m ≡ Some kind → AreTrue f (sightings_of_kind generation context (node_info_of packet) m)
+    true_node : Asks f seat r.path ask.Node context → (m : Option NodeType) → m ≡ Some kind
+        → AreTrue f (sightings_of_kind generation context (node_info_of packet) m)
     true_node asks None e = cc
     true_node asks (Some k) e =
         let same : k ≡ kind = same_Some k kind e in

@@ -61,7 +61,11 @@ starts =
 abbrev sweeping_with : ℕ → Managing
 sweeping_with generation =
     record beginning {
-      manager = with_sweep (record (new_manager 17 1 0 in_pairs) { standing = active_once_more (new_manager 17 1 0 in_pairs).standing; seen = [] }) (started 1 generation 1);
+      manager = with_sweep (record (new_manager 17 1 0 in_pairs) {
+        standing = active_once_more (new_manager 17 1 0 in_pairs).standing;
+        seen =
+            [];
+      }) (started 1 generation 1);
     }
 
 may_begin : begin_fault (new_manager 17 1 0 in_pairs) ≡ None

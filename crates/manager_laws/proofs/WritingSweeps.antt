@@ -258,7 +258,13 @@ module _ (start : Simulation) (seat : NodePort) where
             more = [];
             outgoing = sym (append-nil m.outgoing);
             asks = tt;
-            side = record { port = side.port; lmc = side.lmc; sweep = by_request s is_one (request_with s.generation transaction s.outstanding) refl; knows = side.knows };
+            side = record {
+              port = side.port;
+              lmc = side.lmc;
+              sweep = by_request s is_one (request_with s.generation transaction s.outstanding) refl;
+              knows =
+                  side.knows;
+            };
           }
 
       by_sweep : (o : Option Sweep) → SweepIs old o → SweepCall old m (sweep_gave_up m transaction o).manager

@@ -166,21 +166,26 @@ module _ (start : Simulation) (seat : NodePort) (m : Manager) (may : MayWrite m)
       elim (contains_cases q p phases there) [ inl i ↦ subst GoodOne i good.0 | inr k ↦ one_good phases p good.1 k ]
 
   -- of each phase
-  phase_good : (counts : Bool) (t : Step) → IsOf (phases_of (plan_of m.planning.rule m.planning.lmc (cells_of m.store)) (cells_of m.store) s m.standing.guid m.port) counts t
-      → IsStep (plan_of m.planning.rule m.planning.lmc (cells_of m.store)) s t × (counts ≡ true → IsPlanned (plan_of m.planning.rule m.planning.lmc (cells_of m.store)) s t)
+  phase_good : (counts : Bool) (t : Step)
+      → IsOf (phases_of (plan_of m.planning.rule m.planning.lmc (cells_of m.store)) (cells_of m.store) s m.standing.guid m.port) counts t
+      → IsStep (plan_of m.planning.rule m.planning.lmc (cells_of m.store)) s t
+      × (counts ≡ true → IsPlanned (plan_of m.planning.rule m.planning.lmc (cells_of m.store)) s t)
   unfolding GoodOne
   phase_good counts t is =
-      let good = one_good (phases_of (plan_of m.planning.rule m.planning.lmc (cells_of m.store)) (cells_of m.store) s m.standing.guid m.port) is.phase all_good is.there in
+      let good = one_good (phases_of (plan_of m.planning.rule m.planning.lmc (cells_of m.store)) (cells_of m.store) s m.standing.guid m.port) is.phase all_good
+      is.there in
       (good.steps t is.step, λ c. good.counted (is.counts_is ∙ c) t is.step)
 
-  pub writing_goes : (plan : PlanValue) → CanAllGo start seat plan (phases_of (plan_of m.planning.rule m.planning.lmc (cells_of m.store)) (cells_of m.store) s m.standing.guid m.port)
+  pub writing_goes : (plan : PlanValue)
+      → CanAllGo start seat plan (phases_of (plan_of m.planning.rule m.planning.lmc (cells_of m.store)) (cells_of m.store) s m.standing.guid m.port)
   writing_goes plan counts t is =
       let can = step_can_go start seat (plan_of m.planning.rule m.planning.lmc (cells_of m.store)) s swept.led t (phase_good counts t is).0 in
       record { sendable = can.sendable; own = can.own; short = can.short }
 
   -- a Set of its own carries the plan's values
   pub own_carries : (now : Simulation) → IsAlong start now → (at : NodePort) (a : Agent) (packet : List ℕ) → agent_at now at.node ≡ Some a
-      → IsOwnSet (fabric_of start) seat (phases_of (plan_of m.planning.rule m.planning.lmc (cells_of m.store)) (cells_of m.store) s m.standing.guid m.port) at packet
+      → IsOwnSet (fabric_of start) seat (phases_of (plan_of m.planning.rule m.planning.lmc (cells_of m.store)) (cells_of m.store) s m.standing.guid m.port) at
+      packet
       → Carries (plan_of m.planning.rule m.planning.lmc (cells_of m.store)) a at.port packet
   unfolding GoodOne
   own_carries now along at a packet agent own =
@@ -188,7 +193,8 @@ module _ (start : Simulation) (seat : NodePort) (m : Manager) (may : MayWrite m)
         lids = λ e port range meant has. ap range_in own.payload
             ∙ is.planned.lids (sym own.attribute ∙ e) range
             (ap (λ g. range_of (plan_of m.planning.rule m.planning.lmc (cells_of m.store)).given (record { node = g; port = own.step.modifier })) guid_is
-            ∙ ap (λ n. range_of (plan_of m.planning.rule m.planning.lmc (cells_of m.store)).given (record { node = a.node.guid; port = n })) (sym (means (sym own.attribute ∙ e) port meant))
+            ∙ ap (λ n. range_of (plan_of m.planning.rule m.planning.lmc (cells_of m.store)).given (record { node = a.node.guid; port = n }))
+            (sym (means (sym own.attribute ∙ e) port meant))
             ∙ has);
         top = λ e top switch is_top. ap (number_in linear_fdb_top) own.payload ∙ is.planned.top (sym own.attribute ∙ e) top is_top;
         block = λ e block there. own.payload ∙ is.planned.block (sym own.attribute ∙ e) block
@@ -197,7 +203,8 @@ module _ (start : Simulation) (seat : NodePort) (m : Manager) (may : MayWrite m)
       }
     where
       is : IsStep (plan_of m.planning.rule m.planning.lmc (cells_of m.store)) s own.step
-      is = (one_good (phases_of (plan_of m.planning.rule m.planning.lmc (cells_of m.store)) (cells_of m.store) s m.standing.guid m.port) own.phase all_good own.there).steps own.step
+      is = (one_good (phases_of (plan_of m.planning.rule m.planning.lmc (cells_of m.store)) (cells_of m.store) s m.standing.guid m.port) own.phase all_good
+          own.there).steps own.step
           own.in_phase
 
       to : LeadsToVertex (fabric_of start) seat own.step.path is.guid is.vertex
@@ -237,7 +244,8 @@ module _ (start : Simulation) (seat : NodePort) (m : Manager) (may : MayWrite m)
           by_kind false d v z h = by_zero (own.step.modifier == 0) refl (own.step.modifier == at.port) refl v z h
 
   -- each of its steps is good
-  pub writing_good : (x : StepSent) → IsOf (phases_of (plan_of m.planning.rule m.planning.lmc (cells_of m.store)) (cells_of m.store) s m.standing.guid m.port) x.counts x.step
+  pub writing_good : (x : StepSent)
+      → IsOf (phases_of (plan_of m.planning.rule m.planning.lmc (cells_of m.store)) (cells_of m.store) s m.standing.guid m.port) x.counts x.step
       → IsGood start seat (plan_of m.planning.rule m.planning.lmc (cells_of m.store)) x
   writing_good x is =
       let good = phase_good x.counts x.step is in

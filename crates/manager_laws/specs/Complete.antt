@@ -43,12 +43,13 @@ pub record HasWay (f : Fabric) (seat : NodePort) (s : Sweep) (guid port : ℕ) :
   pub named : node.guid ≡ guid
   pub vertex : vertex_of f end ≡ record { node = end.node; port = port }
 
--- they agree with the fabric as it was when the sweep began, and as it is when the sweep has ended, and the sweep has a way to
--- each of their end ports
+-- they agree with the fabric as it was when the sweep began, and as it is when the sweep has ended, and the sweep has a
+-- way to each of their end ports
 pub record HasFoundAll (begun ended : Sweeping) : Type 0 where
   pub at_first : AgreeWith ended.reports begun.scene.fabric begun.seat
   pub at_last : AgreeWith ended.reports ended.scene.fabric begun.seat
-  pub ways : (guid port : ℕ) → IsEndPort (cells_of (facts_of ended.reports)) guid port → HasWay (fabric_of begun.scene.fabric) begun.seat ended.sweep guid port
+  pub ways : (guid port : ℕ) → IsEndPort (cells_of (facts_of ended.reports)) guid port
+      → HasWay (fabric_of begun.scene.fabric) begun.seat ended.sweep guid port
 
 -- whatever else happens, a sweep that has every answer has found all that is joined to its seat
 abbrev pub DoneSweepsAreComplete : Type 0
@@ -56,15 +57,18 @@ DoneSweepsAreComplete =
     (w : Sweeping) (generation first : ℕ) (events : List SweepEvent) → Begins w generation first → All CanBe events
     → IsWhole (after_sweep_events events w).sweep → HasFoundAll w (after_sweep_events events w)
 
--- so once the fabric holds the plan of what it has found under an LMC, as far as its seat is joined to, each ping there arrives
+-- so once the fabric holds the plan of what it has found under an LMC, as far as its seat is joined to, each ping there
+-- arrives
 abbrev pub SweptPingsArrive : Type 0
 SweptPingsArrive =
-    (rule : RuleValue) (lmc : ℕ) (w : Sweeping) (generation first : ℕ) (events : List SweepEvent) → Begins w generation first → All CanBe events
+    (rule : RuleValue) (lmc : ℕ) (w : Sweeping) (generation first : ℕ) (events : List SweepEvent)
+    → Begins w generation first → All CanBe events
     → IsWhole (after_sweep_events events w).sweep
     → let ended = after_sweep_events events w in
     let cells = cells_of (facts_of ended.reports) in
     let f = fabric_of ended.scene.fabric in
-    ¬ (IsNoRoom lmc cells) → HoldsPlan (IsJoinedTo f w.seat) (plan_of rule lmc cells) f → EachPingArrives rule cells (plan_of rule lmc cells) ended.scene.fabric w.seat
+    ¬ (IsNoRoom lmc cells) → HoldsPlan (IsJoinedTo f w.seat) (plan_of rule lmc cells) f
+    → EachPingArrives rule cells (plan_of rule lmc cells) ended.scene.fabric w.seat
 
 -- there is such a sweep: a fabric, and events after which a sweep on it has every answer
 pub record SomeSweepIsWhole : Type 0 where

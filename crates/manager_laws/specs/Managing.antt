@@ -24,10 +24,10 @@ pub record Managing : Type 0 where
   pub manager : Manager
   pub out : List Outgoing
 
--- Something happens on the fabric; the manager is told to begin a sweep, or to write its plan; it gives its first packet out;
--- a packet that it gave out is sent from its seat, and may be again; a packet that was handed up at its seat is given to it,
--- and may be again; one of its requests times out; its floor is raised; facts of others at a floor are merged with its own; it is told
--- to poll a LID, or to hand over.
+-- Something happens on the fabric; the manager is told to begin a sweep, or to write its plan; it gives its first
+-- packet out; a packet that it gave out is sent from its seat, and may be again; a packet that was handed up at its
+-- seat is given to it, and may be again; one of its requests times out; its floor is raised; facts of others at a floor
+-- are merged with its own; it is told to poll a LID, or to hand over.
 pub data ManagerEvent : Type 0 where
   Around : (event : Event) → ManagerEvent
   Begin : ManagerEvent
@@ -78,7 +78,8 @@ sending w (Some o) = record w { scene = sent_from w.scene w.seat (packet_of o) }
 -- with the LID that it came from
 abbrev pub hearing : Managing → Option Handed → Managing
 hearing w None = w
-hearing w (Some h) = if is_same_port h.at w.seat then calling w (calls.Packet h.packet.bytes (Some h.packet.slid)) else w
+hearing w (Some h) =
+    if is_same_port h.at w.seat then calling w (calls.Packet h.packet.bytes (Some h.packet.slid)) else w
 
 abbrev pub after_manager_event : Managing → ManagerEvent → Managing
 after_manager_event w (Around event) = record w { scene = after_event w.scene event }
@@ -129,4 +130,5 @@ pub record Starts (w : Managing) : Type 0 where
 
 -- a manager that was just made is at rest
 abbrev pub NewManagersRest : Type 0
-NewManagersRest = (port_guid port priority : ℕ) (planning : Planning) → IsAtRest (new_manager port_guid port priority planning)
+NewManagersRest =
+    (port_guid port priority : ℕ) (planning : Planning) → IsAtRest (new_manager port_guid port priority planning)

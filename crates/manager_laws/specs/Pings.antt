@@ -17,19 +17,23 @@ use Rattle.fabric_sim.specs.Simulation.{Simulation, IsSimulation, fabric_of}
 use Rattle.fabric_sim.specs.Ping.{ping, ping_fault}
 
 -- a ping isn't refused, and reaches the end port that owns the LID, over the way on which a packet arrives there
-pub record PingArrives (rule : RuleValue) (part : Part) (cells : Cells) (s : Simulation) (lid : ℕ) (source : NodePort) (owner : EndPort) : Type 0 where
+pub record PingArrives (rule : RuleValue) (part : Part) (cells : Cells) (s : Simulation) (lid : ℕ) (source : NodePort)
+    (owner : EndPort) : Type 0 where
   pub accepted : ping_fault s source ≡ None
   pub arrives : Arrives rule part cells (fabric_of s) lid source owner
   pub reached : ping (fabric_of s) lid source ≡ Reached arrives.target (length arrives.hops)
 
 -- each ping from an end port of what the origin is joined to, for each LID of the plan
 abbrev pub EachPingArrives : RuleValue → Cells → PlanValue → Simulation → NodePort → Type 0
-EachPingArrives rule cells plan s origin = (source : NodePort) → IsEndPort (fabric_of s) source → IsJoinedTo (fabric_of s) origin source
-    → (lid : ℕ) (owner : EndPort) → owner_of plan.given lid ≡ Some owner → PingArrives rule (IsJoinedTo (fabric_of s) origin) cells s lid source owner
+EachPingArrives rule cells plan s origin =
+    (source : NodePort) → IsEndPort (fabric_of s) source → IsJoinedTo (fabric_of s) origin source
+    → (lid : ℕ) (owner : EndPort) → owner_of plan.given lid ≡ Some owner
+    → PingArrives rule (IsJoinedTo (fabric_of s) origin) cells s lid source owner
 
 -- where the facts agree with what an end port is joined to, and their plan is held there, pings arrive there
 abbrev pub PingsArrive : Type 0
-PingsArrive = (rule : RuleValue) (lmc : ℕ) (facts : Facts) (s : Simulation) (origin : NodePort) → ¬ (IsNoRoom lmc (cells_of facts)) → IsSimulation s → IsEndPort (fabric_of s) origin
+PingsArrive = (rule : RuleValue) (lmc : ℕ) (facts : Facts) (s : Simulation) (origin : NodePort)
+    → ¬ (IsNoRoom lmc (cells_of facts)) → IsSimulation s → IsEndPort (fabric_of s) origin
     → AgreesOn (IsJoinedTo (fabric_of s) origin) (cells_of facts) (fabric_of s)
     → HoldsPlan (IsJoinedTo (fabric_of s) origin) (plan_of rule lmc (cells_of facts)) (fabric_of s)
     → EachPingArrives rule (cells_of facts) (plan_of rule lmc (cells_of facts)) s origin

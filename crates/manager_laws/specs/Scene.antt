@@ -26,8 +26,8 @@ pub record Scene : Type 0 where
   pub fabric : Simulation
   pub handed : List Handed
 
--- what a manager may send from its port: any packet that is forwarded by LIDs; a request that a path routes; the answer to a
--- request for SMInfo that was handed up there
+-- what a manager may send from its port: any packet that is forwarded by LIDs; a request that a path routes; the answer
+-- to a request for SMInfo that was handed up there
 pub data Sending : Type 0 where
   ByLid : (packet : Packet) → Sending
   ByPath : (method attribute modifier tid : ℕ) (path payload : List ℕ) → Sending
@@ -46,7 +46,8 @@ pub data Event : Type 0 where
 abbrev pub CanSend : NodePort → Sending → Type 0
 CanSend seat (ByLid packet) = (length packet.bytes ≡ 256) × (is_directed packet.bytes ≡ false)
 CanSend seat (ByPath method attribute modifier tid path payload) =
-    FitsRequest method attribute modifier tid payload × (method < 2 ^ 7) × (length path ≤ max_hops) × BeginsWith seat.port path
+    FitsRequest method attribute modifier tid payload × (method < 2 ^ 7) × (length path ≤ max_hops)
+    × BeginsWith seat.port path
 CanSend seat (Answer which status payload) = (status < 2 ^ 15) × (length payload ≡ 64)
 
 abbrev pub CanHappen : Event → Type 0
@@ -96,7 +97,8 @@ sent s seat (Answer which status payload) = answered_from s seat status payload 
 
 abbrev pub after_event : Scene → Event → Scene
 after_event s (Deliver serial) =
-    let done = after_deliver s.fabric serial in record { fabric = done.fabric; handed = s.handed ++ handed_by done.result }
+    let done = after_deliver s.fabric serial in
+    record { fabric = done.fabric; handed = s.handed ++ handed_by done.result }
 after_event s (Lose serial) = with_fabric s (after_lose s.fabric serial).fabric
 after_event s (Repeat serial) = with_fabric s (after_repeat s.fabric serial).fabric
 after_event s (Send seat sending) = sent s seat sending

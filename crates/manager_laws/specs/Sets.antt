@@ -1,5 +1,6 @@
 -- Sets that agents take, and when they carry the values of a plan.
--- InfiniBand Architecture Specification, Volume 1: subnet management, PortInfo (LID), SwitchInfo (LinearFDBTop) and LinearForwardingTable.
+-- InfiniBand Architecture Specification, Volume 1: subnet management, PortInfo (LID), SwitchInfo (LinearFDBTop) and
+-- LinearForwardingTable.
 use Rattle.std.specs.Prelude.{◌≡◌, ◌⊎◌, ℕ, List, Contains, Ok, Some}
 use Rattle.fabric_model.specs.declared.cable.NodePort.{NodePort}
 use Rattle.fabric_model.specs.Fabric.{Fabric}
@@ -33,27 +34,32 @@ pub record TakesSet (s : Simulation) (serial : ℕ) (at : NodePort) (a : Agent) 
   pub method : number_in method packet ≡ set
   pub done : status (after_answer a packet at.port).packet ≡ done
 
--- what a Set would write at an agent is what the plan has there, wherever it has something: the LID and the LMC of the port
--- that is meant, the switch's top, and the block
+-- what a Set would write at an agent is what the plan has there, wherever it has something: the LID and the LMC of the
+-- port that is meant, the switch's top, and the block
 pub record Carries (plan : PlanValue) (a : Agent) (arrival : ℕ) (packet : List ℕ) : Type 0 where
   pub lids : number_in attribute_id packet ≡ port_info
       → (port : ℕ) (range : ℕ × ℕ) → port_meant a (number_in attribute_modifier packet) arrival ≡ Some port
-      → range_of plan.given (record { node = a.node.guid; port = port }) ≡ Some range → range_in (bytes_in attribute_data packet) ≡ range
+      → range_of plan.given (record { node = a.node.guid; port = port }) ≡ Some range
+      → range_in (bytes_in attribute_data packet) ≡ range
   pub top : number_in attribute_id packet ≡ switch_info
-      → (top : ℕ) → Contains (switches_of plan) a.node.guid → top_of plan.given ≡ Some top → number_in linear_fdb_top (bytes_in attribute_data packet) ≡ top
+      → (top : ℕ) → Contains (switches_of plan) a.node.guid → top_of plan.given ≡ Some top
+      → number_in linear_fdb_top (bytes_in attribute_data packet) ≡ top
   pub block : number_in attribute_id packet ≡ linear_forwarding_table
-      → (block : List ℕ) → block_at plan a.node.guid (number_in attribute_modifier packet) ≡ Some block → bytes_in attribute_data packet ≡ block
+      → (block : List ℕ) → block_at plan a.node.guid (number_in attribute_modifier packet) ≡ Some block
+      → bytes_in attribute_data packet ≡ block
 
--- at the end of the path of a step of these phases, over which it is sent from a seat, a packet asks for what the step sets
-pub record IsOwnSet (f : Fabric) (seat : NodePort) (phases : List Phase) (at : NodePort) (packet : List ℕ) : Type 0 where
-  pub phase : Phase
-  pub there : Contains phases phase
-  pub step : Step
-  pub in_phase : Contains phase.steps step
-  pub leads : directed_end f seat step.path ≡ Some at
-  pub attribute : number_in attribute_id packet ≡ step.attribute
-  pub modifier : number_in attribute_modifier packet ≡ step.modifier
-  pub payload : bytes_in attribute_data packet ≡ step.payload
+-- at the end of the path of a step of these phases, over which it is sent from a seat, a packet asks for what the step
+-- sets
+pub record IsOwnSet (f : Fabric) (seat : NodePort) (phases : List Phase) (at : NodePort) (packet : List ℕ) : Type 0
+  where
+    pub phase : Phase
+    pub there : Contains phases phase
+    pub step : Step
+    pub in_phase : Contains phase.steps step
+    pub leads : directed_end f seat step.path ≡ Some at
+    pub attribute : number_in attribute_id packet ≡ step.attribute
+    pub modifier : number_in attribute_modifier packet ≡ step.modifier
+    pub payload : bytes_in attribute_data packet ≡ step.payload
 
 -- which Sets are a writing's own steps: by the port that they come to, and what they ask for
 abbrev pub OwnSets : Type 1
@@ -62,5 +68,6 @@ OwnSets = NodePort → List ℕ → Type 0
 -- each other Set that an agent takes carries the plan's values
 abbrev pub KeepsPlan : PlanValue → OwnSets → Simulation → Event → Type 0
 KeepsPlan plan own s (Deliver serial) =
-    (at : NodePort) (a : Agent) (packet : List ℕ) → TakesSet s serial at a packet → own at packet ⊎ Carries plan a at.port packet
+    (at : NodePort) (a : Agent) (packet : List ℕ) → TakesSet s serial at a packet → own at packet
+    ⊎ Carries plan a at.port packet
 KeepsPlan plan own s event = Unit {0}

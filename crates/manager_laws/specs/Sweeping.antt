@@ -22,8 +22,9 @@ pub record Sweeping : Type 0 where
   pub asked : List (List ℕ)
   pub reports : List Report
 
--- something happens on the fabric; the sweep gives its next request out; a request that it gave out is sent from its seat,
--- and may be again; a packet that was handed up at its seat is given to it, and may be again; one of its requests times out
+-- something happens on the fabric; the sweep gives its next request out; a request that it gave out is sent from its
+-- seat, and may be again; a packet that was handed up at its seat is given to it, and may be again; one of its requests
+-- times out
 pub data SweepEvent : Type 0 where
   Around : (event : Event) → SweepEvent
   Ask : SweepEvent
@@ -57,12 +58,14 @@ reports_of (Facts report) = report ∷ []
 reports_of (Seen guid port info) = []
 
 abbrev pub with_answer : Sweeping → List ℕ → Result Answer SweepFault → Sweeping
-with_answer w packet (Ok answer) = record w { sweep = after_reply w.sweep packet; reports = w.reports ++ reports_of answer }
+with_answer w packet (Ok answer) =
+    record w { sweep = after_reply w.sweep packet; reports = w.reports ++ reports_of answer }
 with_answer w packet (Err fault) = w
 
 abbrev pub hearing : Sweeping → Option Handed → Sweeping
 hearing w None = w
-hearing w (Some h) = if is_same_port h.at w.seat then with_answer w h.packet.bytes (judged w.sweep h.packet.bytes) else w
+hearing w (Some h) =
+    if is_same_port h.at w.seat then with_answer w h.packet.bytes (judged w.sweep h.packet.bytes) else w
 
 abbrev pub after_sweep_event : Sweeping → SweepEvent → Sweeping
 after_sweep_event w (Around event) = record w { scene = after_event w.scene event }
@@ -75,8 +78,8 @@ abbrev pub after_sweep_events : List SweepEvent → Sweeping → Sweeping
 after_sweep_events [] w = w
 after_sweep_events (event ∷ events) w = after_sweep_events events (after_sweep_event w event)
 
--- a fabric on which nothing goes on and whose nodes have different GUIDs, and a sweep that has just begun at a seat, with the
--- number of its port
+-- a fabric on which nothing goes on and whose nodes have different GUIDs, and a sweep that has just begun at a seat,
+-- with the number of its port
 pub record Begins (w : Sweeping) (at from : ℕ) : Type 0 where
   pub quiet : IsQuiet w.scene
   pub distinct : AreGuidsDistinct (fabric_of w.scene.fabric)
@@ -91,4 +94,5 @@ pub record Begins (w : Sweeping) (at from : ℕ) : Type 0 where
 abbrev pub AcceptedFactsAreTrue : Type 0
 AcceptedFactsAreTrue =
     (w : Sweeping) (generation first : ℕ) (events : List SweepEvent) → Begins w generation first → All CanBe events
-    → All (λ report. All (IsTrueSighting (fabric_of w.scene.fabric)) (sightings_of report)) (after_sweep_events events w).reports
+    → All (λ report. All (IsTrueSighting (fabric_of w.scene.fabric)) (sightings_of report))
+    (after_sweep_events events w).reports

@@ -28,14 +28,17 @@ pub record HasCable (f : Fabric) (id port peer via : ℕ) : Type 0 where
 
 -- a value of a key
 abbrev pub IsTrueOf : Fabric → Key → Value → Type 0
-IsTrueOf f (Node guid) (Kind kind ports) = (id : ℕ) × (node : fabric.Node) × HasNode f guid id node × (node.kind ≡ kind) × (node.ports ≡ ports)
+IsTrueOf f (Node guid) (Kind kind ports) =
+    (id : ℕ) × (node : fabric.Node) × HasNode f guid id node × (node.kind ≡ kind) × (node.ports ≡ ports)
 IsTrueOf f (PortGuid guid port) (Guid value) =
     (id : ℕ) × (node : fabric.Node) × HasNode f guid id node × IsEndPortNumber node port × (node.port_guid port ≡ value)
-IsTrueOf f (Link guid port) (Peer peer via) = (id : ℕ) × (node : fabric.Node) × HasNode f guid id node × HasCable f id port peer via
+IsTrueOf f (Link guid port) (Peer peer via) =
+    (id : ℕ) × (node : fabric.Node) × HasNode f guid id node × HasCable f id port peer via
 IsTrueOf f (Port guid port) (Up up) =
     (id : ℕ) × (node : fabric.Node) × HasNode f guid id node × (port ≤ node.ports) × (IsTrue up ↔ IsUp f id node port)
 IsTrueOf f (Claim guid port) (Lid lid) = Unit {0}
-IsTrueOf f (Cap guid) (Count cap) = (id : ℕ) × (node : fabric.Node) × HasNode f guid id node × (is_switch node.kind ≡ true) × (node.cap ≡ cap)
+IsTrueOf f (Cap guid) (Count cap) =
+    (id : ℕ) × (node : fabric.Node) × HasNode f guid id node × (is_switch node.kind ≡ true) × (node.cap ≡ cap)
 IsTrueOf f key value = ⊥
 
 -- a sighting: a reply never tells that a fact is disputed
@@ -45,4 +48,5 @@ IsTrueSighting f (key, Disputed generation) = ⊥
 
 -- no two nodes have one GUID
 abbrev pub AreGuidsDistinct : Fabric → Type 0
-AreGuidsDistinct f = (here there : ℕ) (one other : fabric.Node) → IsNodeAt f here one → IsNodeAt f there other → one.guid ≡ other.guid → here ≡ there
+AreGuidsDistinct f = (here there : ℕ) (one other : fabric.Node) → IsNodeAt f here one → IsNodeAt f there other
+    → one.guid ≡ other.guid → here ≡ there

@@ -39,7 +39,8 @@ pub record BringsUp (w : Managing) (before between after : List ManagerEvent) : 
 abbrev pub PingsArriveOnceWritten : Type 0
 PingsArriveOnceWritten =
     (w : Managing) (before between after : List ManagerEvent) → BringsUp w before between after
-    → EachPingArrives (at_writing w before between).manager.planning.rule (cells_of (at_writing w before between).manager.store) (plan_at (at_writing w before between))
+    → EachPingArrives (at_writing w before between).manager.planning.rule
+    (cells_of (at_writing w before between).manager.store) (plan_at (at_writing w before between))
     (at_end w before between after).scene.fabric w.seat
 
 -- there is a manager that brings a subnet up: one that was just made, on a fabric, with what happens there

@@ -28,11 +28,14 @@ IsReached s guid port = IsSome (path_to s guid port)
 
 -- each end port and each switch of the plan that the sweep came to holds what the plan has for it
 pub record IsHeldWhere (plan : PlanValue) (s : Sweep) (f : Fabric) : Type 0 where
-  pub lids : (e : EndPort) (range : ℕ × ℕ) (port : NodePort) → range_of plan.given e ≡ Some range → IsReached s e.node e.port
+  pub lids : (e : EndPort) (range : ℕ × ℕ) (port : NodePort) → range_of plan.given e ≡ Some range
+      → IsReached s e.node e.port
       → IsPortNamed f e.node e.port port → range_at f port ≡ range
-  pub tops : (guid top id : ℕ) (node : fabric.Node) → top_of plan.given ≡ Some top → Contains (switches_of plan) guid → IsReached s guid 0
+  pub tops : (guid top id : ℕ) (node : fabric.Node) → top_of plan.given ≡ Some top → Contains (switches_of plan) guid
+      → IsReached s guid 0
       → HasNode f guid id node → f.top id ≡ top
-  pub blocks : (guid b id : ℕ) (block : List ℕ) (node : fabric.Node) → block_at plan guid b ≡ Some block → IsReached s guid 0
+  pub blocks : (guid b id : ℕ) (block : List ℕ) (node : fabric.Node) → block_at plan guid b ≡ Some block
+      → IsReached s guid 0
       → HasNode f guid id node → HoldsBlock f id b block
 
 -- runs -------------------------------------------------------------------------------------------
@@ -54,7 +57,8 @@ SweepsFirst (event ∷ events) w =
 -- that is so of whatever happens to a manager that was just made
 abbrev pub NewManagersSweepFirst : Type 0
 NewManagersSweepFirst =
-    (port_guid port priority : ℕ) (planning : Planning) (w : Managing) (events : List ManagerEvent) → w.manager ≡ new_manager port_guid port priority planning
+    (port_guid port priority : ℕ) (planning : Planning) (w : Managing) (events : List ManagerEvent) → w.manager
+    ≡ new_manager port_guid port priority planning
     → SweepsFirst events w
 
 -- no writing begins, and each Set that an agent takes is one of the own, or carries the plan's values
@@ -100,7 +104,8 @@ pub record IsWritingRun (w : Managing) (before between after : List ManagerEvent
   pub writing_begins : writing_fault (at_writing w before between).manager ≡ None
   -- from the writing's first step on no other writing begins, and each Set that an agent takes, unless it is one of the
   -- writing's own, carries the plan's values
-  pub keep : AllKeep (plan_at (at_writing w before between)) (own_sets w (at_writing w before between)) after (at_first_steps w before between)
+  pub keep : AllKeep (plan_at (at_writing w before between)) (own_sets w (at_writing w before between)) after
+      (at_first_steps w before between)
 
 -- once the plan is written, all that the last sweep before came to holds it
 abbrev pub WrittenPlansAreHeld : Type 0

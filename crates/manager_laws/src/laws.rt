@@ -8,18 +8,18 @@ ghost use Rattle.manager_laws.specs.WritingPings.{PingsArriveOnceWritten, SomeMa
 ghost use Rattle.manager_laws.specs.Written.{NewManagersSweepFirst, WrittenPlansAreHeld};
 
 /// A directed answer that comes back to a manager tells of the end of the path that it was asked over: the node, its
-/// port or its forwarding table's size, as they are. So it is whatever other managers send, each from its own port: packets that
-/// are forwarded by LIDs, requests over paths that leave by that port, and answers to what asked them for SMInfo; and
-/// whatever is lost, copied and reordered on the way, as long as no cable changes.
+/// port or its forwarding table's size, as they are. So it is whatever other managers send, each from its own port:
+/// packets that are forwarded by LIDs, requests over paths that leave by that port, and answers to what asked them for
+/// SMInfo; and whatever is lost, copied and reordered on the way, as long as no cable changes.
 #[tactic(auto, using(crate::proofs::Answers::answers_tell))]
 pub fn answers_tell()
     ensures { AnswersTell }
 {}
 
-/// Each fact of a report that a sweep accepts is true of the fabric, but for the LIDs that ports claim, of which nothing is
-/// said. So it is on every fabric whose nodes have different GUIDs, whatever other managers send of what `answers_tell`
-/// names, whatever is lost, copied and reordered, and however often or late a request of the sweep is sent or a reply is
-/// given to it.
+/// Each fact of a report that a sweep accepts is true of the fabric, but for the LIDs that ports claim, of which
+/// nothing is said. So it is on every fabric whose nodes have different GUIDs, whatever other managers send of what
+/// `answers_tell` names, whatever is lost, copied and reordered, and however often or late a request of the sweep is
+/// sent or a reply is given to it.
 pub fn accepted_facts_are_true()
     ensures { AcceptedFactsAreTrue }
 {}
@@ -35,9 +35,9 @@ pub fn pings_arrive()
 /// it was when the sweep began and as it is then: they tell its end ports, its switches and its
 /// wires, and no others. And the path that the sweep has for each of these end ports leads there.
 /// So it is on every fabric whose nodes have different GUIDs, whatever other managers send of what
-/// `manager_laws::laws::answers_tell` names, whatever is lost, copied and reordered, and however often or
-/// late a request of the sweep is sent or a reply is given to it. A request for SMInfo has to be answered as well, by the manager that
-/// is asked; what this tells of itself may be anything.
+/// `manager_laws::laws::answers_tell` names, whatever is lost, copied and reordered, and however often or late a
+/// request of the sweep is sent or a reply is given to it. A request for SMInfo has to be answered as well, by the
+/// manager that is asked; what this tells of itself may be anything.
 pub fn done_sweeps_are_complete()
     ensures { DoneSweepsAreComplete }
 {}
@@ -68,13 +68,13 @@ pub fn new_managers_sweep_first()
     ensures { NewManagersSweepFirst }
 {}
 
-/// Once a plan is written, each end port and each usable switch of the plan that the last sweep
-/// before the writing came to holds its LID, its blocks and the greatest LID. So it is on every
-/// fabric whose nodes have different GUIDs and agents in any state, whatever other managers send
-/// from their seats of what `manager_laws::laws::answers_tell` names, whatever is lost, copied and reordered, however often or late a packet of the
-/// manager is sent or given to it, and whatever is asked of the manager meanwhile, as long as no
-/// cable changes, no other writing of it begins and each Set that an agent takes from the writing's
-/// first step on, unless it is one of the writing's own, carries the plan's values.
+/// Once a plan is written, each end port and each usable switch of the plan that the last sweep before the writing came
+/// to holds its LID, its blocks and the greatest LID. So it is on every fabric whose nodes have different GUIDs and
+/// agents in any state, whatever other managers send from their seats of what `manager_laws::laws::answers_tell` names,
+/// whatever is lost, copied and reordered, however often or late a packet of the manager is sent or given to it, and
+/// whatever is asked of the manager meanwhile, as long as no cable changes, no other writing of it begins and each Set
+/// that an agent takes from the writing's first step on, unless it is one of the writing's own, carries the plan's
+/// values.
 pub fn written_plans_are_held()
     ensures { WrittenPlansAreHeld }
 {}

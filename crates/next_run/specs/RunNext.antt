@@ -1,4 +1,5 @@
--- What a step from tables that are held towards a plan does: it reads its inputs in order, and writes the tables to write next, or says why it can't.
+-- What a step from tables that are held towards a plan does: it reads its inputs in order, and writes the tables to
+-- write next, or says why it can't.
 use Rattle.std.specs.Prelude.{◌≡◌, ◌⊎◌, ◌+◌, ◌↔◌, ℕ, Bool, List, [], ◌∷◌, ◌++◌, Option, None, Some, IsTrue}
 use Rattle.std.specs.Io.KnownBytes.{Appends}
 use Rattle.fact_store.specs.View.{Facts, cells_of}
@@ -43,7 +44,8 @@ step_text lmc rule facts held = next_text (plan_of rule lmc (cells_of facts)).gi
 -- channels that wait for each other by some mixture of two tables, as few as there are; none where numbers rise
 abbrev pub IsCycleInStep : Cells → HeldPlan → HeldPlan → List ℕ → Type 0
 IsCycleInStep cells held next [] = (numbers : List ℕ) × NumbersRise cells held next numbers
-IsCycleInStep cells held next (channel ∷ later) = WaitInCycle cells held next (channel ∷ later) × NoneShorter cells held next (channel ∷ later)
+IsCycleInStep cells held next (channel ∷ later) =
+    WaitInCycle cells held next (channel ∷ later) × NoneShorter cells held next (channel ∷ later)
 
 -- these channels, and for each the least LID for which packets that hold it wait for the one after it
 abbrev pub IsLoopInStep : Cells → HeldPlan → HeldPlan → List ℕ → List ℕ → Type 0
@@ -53,8 +55,10 @@ IsLoopInStep cells held next cycle lids = IsCycleInStep cells held next cycle ×
 abbrev pub IsSaid : Option (List ℕ) → Option (List ℕ) → Bool → List ℕ → Type 0
 IsSaid written written' has_failed text = IsTrue has_failed ⊎ Appends written written' text
 
--- there is room for the plan and no LID moves; of what was written and said this holds: the step, and a shortest credit loop, or that there is none, as it passes
-pub record IsStep (lmc : ℕ) (rule : RuleValue) (facts : Facts) (held : HeldPlan) (prints says : List ℕ → Type 0) (passed : Bool) : Type 0 where
+-- there is room for the plan and no LID moves; of what was written and said this holds: the step, and a shortest credit
+-- loop, or that there is none, as it passes
+pub record IsStep (lmc : ℕ) (rule : RuleValue) (facts : Facts) (held : HeldPlan) (prints says : List ℕ
+    → Type 0) (passed : Bool) : Type 0 where
   pub has_room : no_room lmc (cells_of facts) ≡ None
   pub no_move : first_moved held (planned lmc rule facts) ≡ None
   pub written : prints (step_text lmc rule facts held)
@@ -69,10 +73,12 @@ abbrev pub fault_of_step : ℕ → StepFault → Fault
 fault_of_step at (steps.Moves lid) = Text at (Moves lid)
 fault_of_step at steps.Memory = Memory
 
--- why there is none: the plan has no room, or a LID of the tables, which are at this input, moves; else the output has failed, or memory was refused
+-- why there is none: the plan has no room, or a LID of the tables, which are at this input, moves; else the output has
+-- failed, or memory was refused
 abbrev pub StopsStep : ℕ → ℕ → RuleValue → Facts → HeldPlan → Bool → Fault → Type 0
 StopsStep at lmc rule facts held sink_failed (NoRoom why) = no_room lmc (cells_of facts) ≡ Some why
-StopsStep at lmc rule facts held sink_failed (Text input (Moves lid)) = (input ≡ at) × (first_moved held (planned lmc rule facts) ≡ Some lid)
+StopsStep at lmc rule facts held sink_failed (Text input (Moves lid)) =
+    (input ≡ at) × (first_moved held (planned lmc rule facts) ≡ Some lid)
 StopsStep at lmc rule facts held sink_failed Write = IsTrue sink_failed
 StopsStep at lmc rule facts held sink_failed Memory = no_room lmc (cells_of facts) ≡ None
 StopsStep at lmc rule facts held sink_failed fault = ⊥
@@ -87,7 +93,8 @@ pub record Inputs {S : Type 0} (inputs : List S) : Type 0 where
   pub are : inputs ≡ roots ++ (tables ++ files)
 
 -- they were read, and say this
-pub record AreRead {S : Type 0} (left : S → Option (List ℕ)) (has_failed : S → Bool) (asked : StepAsked) (olds news : List S)
+pub record AreRead {S : Type 0} (left : S → Option (List ℕ)) (has_failed : S
+    → Bool) (asked : StepAsked) (olds news : List S)
     (rule : RuleValue) (held : HeldPlan) (facts : Facts) : Type 0 where
   pub were : Inputs olds
   pub are : Inputs news
@@ -96,7 +103,8 @@ pub record AreRead {S : Type 0} (left : S → Option (List ℕ)) (has_failed : S
   pub files_read : HasRead left has_failed asked.floor were.files are.files facts
 
 -- they were read, each root that was asked for is a usable switch, and the step was written
-pub record HasStepped {S : Type 0} (left : S → Option (List ℕ)) (has_failed : S → Bool) (asked : StepAsked) (olds news : List S)
+pub record HasStepped {S : Type 0} (left : S → Option (List ℕ)) (has_failed : S
+    → Bool) (asked : StepAsked) (olds news : List S)
     (prints says : List ℕ → Type 0) (passed : Bool) : Type 0 where
   pub rule : RuleValue
   pub held : HeldPlan
@@ -108,7 +116,8 @@ pub record HasStepped {S : Type 0} (left : S → Option (List ℕ)) (has_failed 
 -- faults ----------------------------------------------------------------------------------------
 
 -- the tables are refused behind the text that the rule takes, and no file was touched
-pub record RefusesTables {S : Type 0} (left : S → Option (List ℕ)) (has_failed : S → Bool) (interruptions : S → ℕ) (asked : StepAsked)
+pub record RefusesTables {S : Type 0} (left : S → Option (List ℕ)) (has_failed : S → Bool) (interruptions : S
+    → ℕ) (asked : StepAsked)
     (olds news : List S) (fault : Fault) : Type 0 where
   pub were : Inputs olds
   pub are : Inputs news
@@ -118,7 +127,8 @@ pub record RefusesTables {S : Type 0} (left : S → Option (List ℕ)) (has_fail
   pub untouched : are.files ≡ were.files
 
 -- both were read, and a file is refused
-pub record RefusesFiles {S : Type 0} (left : S → Option (List ℕ)) (has_failed : S → Bool) (interruptions : S → ℕ) (asked : StepAsked)
+pub record RefusesFiles {S : Type 0} (left : S → Option (List ℕ)) (has_failed : S → Bool) (interruptions : S
+    → ℕ) (asked : StepAsked)
     (olds news : List S) (fault : Fault) : Type 0 where
   pub were : Inputs olds
   pub are : Inputs news
@@ -129,7 +139,8 @@ pub record RefusesFiles {S : Type 0} (left : S → Option (List ℕ)) (has_faile
   pub why : IsRefusedFile left has_failed interruptions (texts_for asked.rule + 1) were.files are.files fault
 
 -- all were read, and no plan goes by the roots
-pub record RefusesRoots {S : Type 0} (left : S → Option (List ℕ)) (has_failed : S → Bool) (asked : StepAsked) (olds news : List S) (fault : Fault) : Type 0 where
+pub record RefusesRoots {S : Type 0} (left : S → Option (List ℕ)) (has_failed : S
+    → Bool) (asked : StepAsked) (olds news : List S) (fault : Fault) : Type 0 where
   pub rule : RuleValue
   pub held : HeldPlan
   pub facts : Facts
@@ -139,7 +150,8 @@ pub record RefusesRoots {S : Type 0} (left : S → Option (List ℕ)) (has_faile
   pub refused : rule_fault (is_usable (cells_of facts)) asked.rule rule ≡ Some why
 
 -- all were read, and the step is not written
-pub record FailsToStep {S : Type 0} (left : S → Option (List ℕ)) (has_failed : S → Bool) (asked : StepAsked) (olds news : List S)
+pub record FailsToStep {S : Type 0} (left : S → Option (List ℕ)) (has_failed : S
+    → Bool) (asked : StepAsked) (olds news : List S)
     (sink_failed : Bool) (fault : Fault) : Type 0 where
   pub rule : RuleValue
   pub held : HeldPlan
@@ -149,7 +161,8 @@ pub record FailsToStep {S : Type 0} (left : S → Option (List ℕ)) (has_failed
   pub stops : StopsStep (texts_for asked.rule) asked.lmc rule facts held sink_failed fault
 
 -- why a step over open inputs ends early
-abbrev pub IsStepFault : {S : Type 0} → (S → Option (List ℕ)) → (S → Bool) → (S → ℕ) → StepAsked → List S → List S → Bool → Fault → Type 0
+abbrev pub IsStepFault : {S : Type 0} → (S → Option (List ℕ)) → (S → Bool) → (S → ℕ) → StepAsked → List S → List S
+    → Bool → Fault → Type 0
 IsStepFault left has_failed interruptions asked olds news sink_failed fault =
     RefusesRule left has_failed interruptions asked.rule olds news fault
     ⊎ (RefusesTables left has_failed interruptions asked olds news fault

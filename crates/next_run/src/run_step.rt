@@ -30,11 +30,11 @@ pub struct StepAsked {
 }
 
 /// Reads the text of roots, where one is asked for, then the text of tables that switches hold, and then the files in
-/// order; writes the tables to write next towards the plan of what the files say together, as text; and says on `told`, in a
-/// line as an audit's, whether channels can wait for each other by any mixture of both tables, and in another for which LIDs.
-/// Answers whether none can. The first fault counts; then that of the roots, that there is no room for the plan, and that a
-/// LID is given to another end port than the one that holds it. Where an input is refused, or memory is, nothing is written;
-/// how much went out before a write failed is not said.
+/// order; writes the tables to write next towards the plan of what the files say together, as text; and says on `told`,
+/// in a line as an audit's, whether channels can wait for each other by any mixture of both tables, and in another for
+/// which LIDs. Answers whether none can. The first fault counts; then that of the roots, that there is no room for the
+/// plan, and that a LID is given to another end port than the one that holds it. Where an input is refused, or memory
+/// is, nothing is written; how much went out before a write failed is not said.
 pub fn run_next<S: Source, W: Sink, E: Sink>(
     alloc: Global,
     inputs: &mut [S],
@@ -74,8 +74,8 @@ pub fn run_next<S: Source, W: Sink, E: Sink>(
     step(alloc, texts, &held, &store, asked.lmc, &rule, sink, told)
 }
 
-/// Writes the step from tables that are held, whose text is at an input, towards the plan of what a store holds, and says
-/// whether channels can wait for each other in it.
+/// Writes the step from tables that are held, whose text is at an input, towards the plan of what a store holds, and
+/// says whether channels can wait for each other in it.
 fn step<W: Sink, E: Sink>(
     alloc: Global,
     input: usize,

@@ -140,7 +140,8 @@ module _ (cells : Cells) (held plan : HeldPlan) (columns : List (List ℕ)) (cou
   those_are k (g ∷ xs) there few =
       let here : slice_get gs k ≡ Some g = ap (slice_get gs) (sym (add-zero k)) ∙ there 0 g refl in
       let own = some_are k g (block_count (Some (next_top held plan g))) here (few 0 g refl) in
-      let rest = those_are (suc k) xs (λ j x e. let at : suc k + j ≡ k + suc j = omega arith in ap (slice_get gs) at ∙ there (suc j) x e) (λ j x e. few (suc j) x e) in
+      let rest = those_are (suc k) xs (λ j x e. let at : suc k + j ≡ k + suc j = omega arith in ap (slice_get gs) at
+      ∙ there (suc j) x e) (λ j x e. few (suc j) x e) in
       λ i. own i ++ rest i
 
   pub all_are : count ≡ block_count (Some (max (greatest_top cells held) (greatest_top cells plan)))

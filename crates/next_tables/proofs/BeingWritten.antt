@@ -45,7 +45,8 @@ counted_either lid top greater entry later now x h (inr p) (inr q) = inr (inl (�
 counted_either lid top greater entry later now x h (inl p) (inr q) =
     elim (lid == 0 || nat_lt top lid) as (λ t. (lid == 0 || nat_lt top lid) ≡ t → Either lid top greater entry later (counted lid now x)) [
       | true ↦ λ e. inr (inr (ap (λ t. cond t 255 entry) e))
-      | false ↦ λ e. inr (inl ((λ i. counted lid (p i) (q i)) ∙ ap (λ t. cond t 255 later) e ∙ sym (ap (λ t. cond t 255 later) (still_counts lid top greater h e))))
+      | false ↦ λ e. inr (inl ((λ i. counted lid (p i) (q i)) ∙ ap (λ t. cond t 255 later) e
+          ∙ sym (ap (λ t. cond t 255 later) (still_counts lid top greater h e))))
     ] refl
 counted_either lid top greater entry later now x h (inr p) (inl q) =
     elim (lid == 0 || nat_lt top lid) as (λ t. (lid == 0 || nat_lt top lid) ≡ t → Either lid top greater entry later (counted lid now x)) [

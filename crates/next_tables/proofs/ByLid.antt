@@ -37,11 +37,13 @@ module _ (cells : Cells) (held plan : HeldPlan) (lid : ℕ) where
   pub nobodys : (entries : List ℕ) (planned : List EndPort) → planned ≡ owners_of plan lid → planned ≡ [] → (count : ℕ) → count ≡ length gs
       → entries ≡ replicate count 255 → entries ≡ column_of cells held plan lid
   nobodys entries planned p none count all e =
-      let empty : column_by planned (keeper planned (owners_of held lid)) ≡ map (λ (g : ℕ). 255) gs = ap (λ (es : List EndPort). column_by es (keeper es (owners_of held lid))) none in
+      let empty : column_by planned (keeper planned (owners_of held lid)) ≡ map (λ (g : ℕ). 255) gs =
+      ap (λ (es : List EndPort). column_by es (keeper es (owners_of held lid))) none in
       e ∙ ap (λ n. replicate n 255) all ∙ sym (same_each 255 gs) ∙ sym empty ∙ by_owners planned (owners_of held lid) p refl
 
   -- one that one end port keeps
-  pub kept : (entries : List ℕ) (planned owners : List EndPort) (port : EndPort) (hs ps : List SwitchStep) → planned ≡ owners_of plan lid → owners ≡ owners_of held lid
+  pub kept : (entries : List ℕ) (planned owners : List EndPort) (port : EndPort) (hs ps : List SwitchStep) → planned ≡ owners_of plan lid → owners
+      ≡ owners_of held lid
       → Some port ≡ keeper planned owners → hs ≡ map (switch_step cells held lid) gs → ps ≡ map (switch_step cells plan lid) gs
       → entries ≡ next_of port hs ps → entries ≡ column_of cells held plan lid
   kept entries planned owners port hs ps p h k hs_are ps_are e =

@@ -120,7 +120,8 @@ module _ (cells : Cells) (held plan next : HeldPlan) (line : HeldLid) (same : ow
       → Agreed (by held) (by plan) by_agreed i) [
         | true ↦ λ h. inl (
           here ∙ ap (λ t. plain (cond t (step_at cells plan lid g) (dropped g))) h ∙ sym (steps_at plan i less),
-          steps_at held i less ∙ same_step cells held plan lid g (sym same) (eqb-true (entry_for held lid g) (entry_for plan lid g) h) ∙ sym (steps_at plan i less),
+          steps_at held i less ∙ same_step cells held plan lid g (sym same) (eqb-true (entry_for held lid g) (entry_for plan lid g) h)
+              ∙ sym (steps_at plan i less),
         )
         | false ↦ λ h. inr (g, here ∙ ap (λ t. plain (cond t (step_at cells plan lid g) (dropped g))) h)
       ] refl
@@ -224,7 +225,11 @@ module _ (cells : Cells) (held plan next : HeldPlan) (line : HeldLid) (same : ow
       let d = delivers cells held line g in
       elim d as (λ t. d ≡ t → Mending port (by held) (by plan) by_mending i) [
         | true ↦ λ r. inl (good i less r, mending_is i less ∙ ap (λ t. plain (cond t (Ends (Taken port)) (patch_at cells held plan lid g))) r)
-        | false ↦ λ r. inr (good_not i less r, mending_is i less ∙ ap (λ t. plain (cond t (Ends (Taken port)) (patch_at cells held plan lid g))) r ∙ patch_is i less)
+        | false ↦ λ r. inr (
+          good_not i less r,
+          mending_is i less ∙ ap (λ t. plain (cond t (Ends (Taken port)) (patch_at cells held plan lid g))) r
+              ∙ patch_is i less,
+        )
       ] refl
 
   -- a test fails where what it tests is not so

@@ -23,7 +23,8 @@ pub record WaitsUpTo (count : ℕ) (cells : Cells) (held next : HeldPlan) (a b :
   waits : WaitsInStep cells held next lid a b
 
 -- those of these LIDs
-pub record SoFar (count : ℕ) (cells : Cells) (held next : HeldPlan) (held_number next_number : ℕ) (held_rows next_rows : List (List ℕ)) (waits : List (List ℕ)) : Type 0 where
+pub record SoFar (count : ℕ) (cells : Cells) (held next : HeldPlan) (held_number next_number : ℕ) (held_rows next_rows : List (List ℕ)) (waits : List (List ℕ))
+    : Type 0 where
   pub held_blocks : AreBlocks held held_number held_rows
   pub next_blocks : AreBlocks next next_number next_rows
   pub as_many : length waits ≡ 256 * length (switches cells)
@@ -52,7 +53,11 @@ module _ (cells : Cells) (held next : HeldPlan) where
         held_blocks = h;
         next_blocks = k;
         as_many = long n ∙ all;
-        follows = λ a b. (λ f. absurd (contains_none b (subst (λ (xs : List ℕ). Contains xs b) (blank n a) f)), λ t. (let low = t.low in let most = t.most in absurd (omega arith)));
+        follows = λ a b. (
+          λ f. absurd (contains_none b (subst (λ (xs : List ℕ). Contains xs b) (blank n a) f)),
+          λ t. (let low = t.low in let most = t.most in
+              absurd (omega arith)),
+        );
       })
 
   pub more : (count lid held_before next_before held_number next_number : ℕ) (old_held old_next held_rows next_rows waits new : List (List ℕ))
@@ -60,18 +65,26 @@ module _ (cells : Cells) (held next : HeldPlan) where
       → AreBlocks held held_number held_rows → AreBlocks next next_number next_rows → lid ≡ count + 1
       → before ≡ edges_of cells held lid → after ≡ edges_of cells next lid → IsWithStep waits before after new
       → SoFar (count + 1) cells held next held_number next_number held_rows next_rows new
-  more count lid held_before next_before held_number next_number old_held old_next held_rows next_rows waits new before after so h k lid_is b_is a_is with_it = record {
-    held_blocks = h;
-    next_blocks = k;
-    as_many = with_it.as_many ∙ so.as_many;
-    follows = λ a b. ((λ f. there a b ((with_it.follows a b).0 f)), (λ t. (with_it.follows a b).1 (back a b t)));
-  }
+  more count lid held_before next_before held_number next_number old_held old_next held_rows next_rows waits new before after so h k lid_is b_is a_is with_it =
+      record {
+        held_blocks = h;
+        next_blocks = k;
+        as_many = with_it.as_many ∙ so.as_many;
+        follows = λ a b. ((λ f. there a b ((with_it.follows a b).0 f)), (λ t. (with_it.follows a b).1 (back a b t)));
+      }
     where
       there : (a b : ℕ) → Follows waits a b ⊎ TakesInStep before after a b → WaitsUpTo (count + 1) cells held next a b
       there a b (inl f) =
           let t = (so.follows a b).0 f in
           let most = t.most in record { lid = t.lid; low = t.low; most = omega arith; waits = t.waits }
-      there a b (inr t) = record { lid = lid; low = omega arith; most = omega arith; waits = moved before after (edges_of cells held lid) (edges_of cells next lid) a b b_is a_is t }
+      there a b (inr t) =
+          record {
+            lid = lid;
+            low = omega arith;
+            most = omega arith;
+            waits =
+                moved before after (edges_of cells held lid) (edges_of cells next lid) a b b_is a_is t;
+          }
 
       back : (a b : ℕ) → WaitsUpTo (count + 1) cells held next a b → Follows waits a b ⊎ TakesInStep before after a b
       back a b t =
@@ -100,7 +113,8 @@ module _ (cells : Cells) (held next : HeldPlan) where
       nothing {x} {y} (inr (inr (inl t))) h k = no_turn y x k t
       nothing {x} {y} (inr (inr (inr t))) h k = no_turn y y k t
 
-  pub all : (count held_number next_number : ℕ) (held_rows next_rows waits : List (List ℕ)) → SoFar count cells held next held_number next_number held_rows next_rows waits
+  pub all : (count held_number next_number : ℕ) (held_rows next_rows waits : List (List ℕ))
+      → SoFar count cells held next held_number next_number held_rows next_rows waits
       → max (greatest_top cells held) (greatest_top cells next) ≤ count → AreWaits cells held next waits
   all count held_number next_number held_rows next_rows waits h past = record {
     as_many = h.as_many;

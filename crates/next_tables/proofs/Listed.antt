@@ -63,5 +63,6 @@ listed cells held plan line =
     ap (λ d. mends_of port d hs ps) delivers
     ∙ ap (comes_to port) (mapped (mending_by port (comes_to port (next_hops_of cells held line.lid))) now planned gs) in
     (λ i. chosen_by port (leads i) (delivers i) (mends i) hs ps)
-    ∙ mapped (next_by port (comes_to port (agreed cells held plan line.lid)) (comes_to port (next_hops_of cells held line.lid)) (comes_to port (mending cells held plan line)))
+    ∙ mapped (next_by port (comes_to port (agreed cells held plan line.lid)) (comes_to port (next_hops_of cells held line.lid))
+    (comes_to port (mending cells held plan line)))
     now planned gs

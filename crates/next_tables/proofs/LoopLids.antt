@@ -196,12 +196,15 @@ module _ (cells : Cells) (held next : HeldPlan) where
         | inr within ↦ absurd (none.1 other is_lid within w)
       ];
     })
-    one_more count a b known new at (inl none) (inr kept) = inl (kept.0 ∙ none.0, λ other is_lid most w. elim (cases_lt count other) [
-      | inl past ↦
-          (let same : other ≡ lid = omega arith in
-          kept.1 none.0 (taken_here a b (subst (λ (n : ℕ). WaitsInStep cells held next n a b) same w)))
-      | inr within ↦ none.1 other is_lid within w
-    ])
+    one_more count a b known new at (inl none) (inr kept) = inl (
+      kept.0 ∙ none.0,
+      λ other is_lid most w. elim (cases_lt count other) [
+        | inl past ↦
+            (let same : other ≡ lid = omega arith in
+            kept.1 none.0 (taken_here a b (subst (λ (n : ℕ). WaitsInStep cells held next n a b) same w)))
+        | inr within ↦ none.1 other is_lid within w
+      ],
+    )
     one_more count a b known new at (inr least) (inl noted) = (let some = least.is_lid in let none = noted.0 in absurd (omega arith))
     one_more count a b known new at (inr least) (inr kept) = inr (subst (IsLeastLid cells held next a b) (sym kept.0) least)
 

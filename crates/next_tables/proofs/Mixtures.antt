@@ -60,7 +60,8 @@ pub record Emptied (port : EndPort) (held plan agreed mending : List NextHop) (i
 -- the next entry, of the four kinds
 abbrev pub Choice : EndPort → List NextHop → List NextHop → List NextHop → List NextHop → List NextHop → (ℕ → Type 0) → ℕ → Type 0
 Choice port held plan agreed mending next planned i =
-    Led port plan agreed next planned i ⊎ (Kept port held plan agreed next i ⊎ (Patched port held plan agreed mending next i ⊎ Emptied port held plan agreed mending i))
+    Led port plan agreed next planned i
+    ⊎ (Kept port held plan agreed next i ⊎ (Patched port held plan agreed mending next i ⊎ Emptied port held plan agreed mending i))
 
 -- how a walk is mended
 abbrev pub Mending : EndPort → List NextHop → List NextHop → List NextHop → ℕ → Type 0
@@ -99,7 +100,8 @@ one_comes : (port : EndPort) (steps : List NextHop) (s : NextHop) → ComesBy po
 one_comes port steps s h = (h.0, sym (by_one h.0 steps s) ∙ h.1)
 
 -- one step before
-by_more : (port : EndPort) (mixed : ℕ → List NextHop) (i : ℕ) (s : NextHop) → at (mixed 0) i ≡ s → ComesBy port (λ k. mixed (suc k)) s → ComesBy port mixed (To i)
+by_more : (port : EndPort) (mixed : ℕ → List NextHop) (i : ℕ) (s : NextHop) → at (mixed 0) i ≡ s → ComesBy port (λ k. mixed (suc k)) s
+    → ComesBy port mixed (To i)
 by_more port mixed i s e h = (suc h.0, ap (after_by h.0 (λ k. mixed (suc k))) e ∙ h.1)
 
 ends_more : (mixed : ℕ → List NextHop) (i : ℕ) (s : NextHop) → at (mixed 0) i ≡ s → EndsBy (λ k. mixed (suc k)) s → EndsBy mixed (To i)
@@ -126,7 +128,8 @@ module _ (port : EndPort) (count : ℕ) (held plan agreed mending next : List Ne
       ]
 
   -- over entries that are the plan's already
-  pub agreed_comes : (n : ℕ) (s : NextHop) (mixed : ℕ → List NextHop) → Loose count held next mixed → after n agreed s ≡ Ends (Taken port) → ComesBy port mixed s
+  pub agreed_comes : (n : ℕ) (s : NextHop) (mixed : ℕ → List NextHop) → Loose count held next mixed → after n agreed s ≡ Ends (Taken port)
+      → ComesBy port mixed s
   agreed_comes n (Ends e) mixed mix h = (0, sym (after_ended n agreed e) ∙ h)
   agreed_comes zero (To i) mixed mix h = absurd (cc)
   agreed_comes (suc n) (To i) mixed mix h =
@@ -151,7 +154,8 @@ module _ (port : EndPort) (count : ℕ) (held plan agreed mending next : List Ne
   held_comes (suc n) (To i) mixed mix h =
       let less : i < count = omega (arith, in_range held (suc n) i (Taken port) h, held_long) in
       let later : Loose count held next (λ k. mixed (suc k)) = λ k. mix (suc k) in
-      let kept : at (mixed 0) i ≡ at held i → ComesBy port mixed (To i) = λ e. by_more port mixed i (at held i) e (held_comes n (at held i) (λ k. mixed (suc k)) later h) in
+      let kept : at (mixed 0) i ≡ at held i → ComesBy port mixed (To i) =
+      λ e. by_more port mixed i (at held i) e (held_comes n (at held i) (λ k. mixed (suc k)) later h) in
       elim (mix 0 i less) [
         | inl e ↦ kept e
         | inr (inr d) ↦ absurd (lost_not n d.0 port held (sym (ap (after n held) d.1) ∙ h))
@@ -253,7 +257,8 @@ module _ (port : EndPort) (count : ℕ) (held plan agreed mending next : List Ne
               elim (mix 0 i less) [
                 | inl e ↦ held_step i (at held i) refl mixed e on
                 | inr e ↦ elim (choose i less) [
-                  | inl it ↦ comes_ends port mixed (To i) (by_more port mixed i (at plan i) (e ∙ it.is) (agreed_comes it.leads.0 (at plan i) (λ k. mixed (suc k)) (loosen count held next (λ k. mixed (suc k)) later) it.leads.1))
+                  | inl it ↦ comes_ends port mixed (To i) (by_more port mixed i (at plan i) (e
+                      ∙ it.is) (agreed_comes it.leads.0 (at plan i) (λ k. mixed (suc k)) (loosen count held next (λ k. mixed (suc k)) later) it.leads.1))
                   | inr (inl it) ↦ absurd (q.0 it.delivers)
                   | inr (inr (inl it)) ↦ on (e ∙ it.is)
                   | inr (inr (inr it)) ↦ let d = drops i less it in ends_more mixed i (Ends d.0) (e ∙ d.1) (d.0, 0, refl)
@@ -273,13 +278,16 @@ module _ (port : EndPort) (count : ℕ) (held plan agreed mending next : List Ne
     held_ends (suc n) (To i) e mixed mix h =
         let less : i < count = omega (arith, in_range held (suc n) i e h, held_long) in
         let later : Mix count held next (λ k. mixed (suc k)) = λ k. mix (suc k) in
-        let on : at (mixed 0) i ≡ at held i → EndsBy mixed (To i) = λ q. ends_more mixed i (at held i) q (held_ends n (at held i) e (λ k. mixed (suc k)) later h) in
+        let on : at (mixed 0) i ≡ at held i → EndsBy mixed (To i) =
+        λ q. ends_more mixed i (at held i) q (held_ends n (at held i) e (λ k. mixed (suc k)) later h) in
         elim (mix 0 i less) [
           | inl q ↦ on q
           | inr q ↦ elim (choose i less) [
-            | inl it ↦ comes_ends port mixed (To i) (by_more port mixed i (at plan i) (q ∙ it.is) (agreed_comes it.leads.0 (at plan i) (λ k. mixed (suc k)) (loosen count held next (λ k. mixed (suc k)) later) it.leads.1))
+            | inl it ↦ comes_ends port mixed (To i) (by_more port mixed i (at plan i) (q
+                ∙ it.is) (agreed_comes it.leads.0 (at plan i) (λ k. mixed (suc k)) (loosen count held next (λ k. mixed (suc k)) later) it.leads.1))
             | inr (inl it) ↦ on (q ∙ it.is)
-            | inr (inr (inl it)) ↦ ends_more mixed i (at mending i) (q ∙ it.is ∙ sym (mended i less it)) (mended_ends it.mends.0 (at mending i) (λ k. mixed (suc k)) later it.mends.1)
+            | inr (inr (inl it)) ↦ ends_more mixed i (at mending i) (q ∙ it.is
+                ∙ sym (mended i less it)) (mended_ends it.mends.0 (at mending i) (λ k. mixed (suc k)) later it.mends.1)
             | inr (inr (inr it)) ↦ let d = drops i less it in ends_more mixed i (Ends d.0) (q ∙ d.1) (d.0, 0, refl)
           ]
         ]

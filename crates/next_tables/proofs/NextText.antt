@@ -73,10 +73,12 @@ module _ (held : HeldPlan) (range : IsHeldInRange held) where
   byte_at None lid = omega arith
   byte_at (Some k) lid =
       byte_in (block_at held k (lid / 64)) (lid % 64) (omega arith)
-      (found_has (λ (b : HeldBlock). IsBlock b.entries) (is_block_of k (lid / 64)) (reverse held.blocks) (all_reverse (λ (b : HeldBlock). IsBlock b.entries) held.blocks range.blocks))
+      (found_has (λ (b : HeldBlock). IsBlock b.entries) (is_block_of k (lid / 64)) (reverse held.blocks)
+      (all_reverse (λ (b : HeldBlock). IsBlock b.entries) held.blocks range.blocks))
 
   byte_for : (lid g : ℕ) → entry_for held lid g < 256
-  byte_for lid g = cond_both (lid == 0 || nat_lt (top_of held g) lid) 255 (entry_of held g lid) (λ n. n < 256) (λ _. omega arith) (λ _. byte_at (index_of held g) lid)
+  byte_for lid g =
+      cond_both (lid == 0 || nat_lt (top_of held g) lid) 255 (entry_of held g lid) (λ n. n < 256) (λ _. omega arith) (λ _. byte_at (index_of held g) lid)
 
   -- and a top is a LID
   least_top : (switch : Option HeldSwitch) → IfFound (λ (s : HeldSwitch). s.top ≤ 0xBFFF) switch → option_map_or (λ s. s.top) switch 0 ≤ 0xBFFF
@@ -222,7 +224,8 @@ module _ (facts : Facts) (held : HeldPlan) (plan : PlanValue) where
         lmc = plan_range.lmc;
         lids = plan_range.lids;
         top = plan_range.top;
-        rising = subst IsStrictlyIncreasing (sym (next_guids facts held (held_plan plan) held_range target)) (switches_rise facts (switches (cells_of facts)) refl);
+        rising = subst IsStrictlyIncreasing (sym (next_guids facts held (held_plan plan) held_range target))
+            (switches_rise facts (switches (cells_of facts)) refl);
         tables = all_numbers IsTableInRange (next_table (cells_of facts) held (held_plan plan)) (switches (cells_of facts))
             (λ g there. table_in_range facts held (held_plan plan) held_range target range g there);
       }

@@ -126,10 +126,12 @@ module _ (cells : Cells) (held plan next : HeldPlan) (line : HeldLid) (same : ow
       ]
 
 -- where a packet comes, and does so but for causes
-as_plain : (steps : List NextHop) (port : EndPort) (n : ℕ) (s : NextHop) → after n steps s ≡ Ends (Taken port) → after n (map plain steps) (plain s) ≡ Ends (Taken port)
+as_plain : (steps : List NextHop) (port : EndPort) (n : ℕ) (s : NextHop) → after n steps s ≡ Ends (Taken port) → after n (map plain steps) (plain s)
+    ≡ Ends (Taken port)
 as_plain steps port n s h = plain_after n steps s ∙ ap plain h
 
-from_plain : (steps : List NextHop) (port : EndPort) (n : ℕ) (s : NextHop) → after n (map plain steps) (plain s) ≡ Ends (Taken port) → after n steps s ≡ Ends (Taken port)
+from_plain : (steps : List NextHop) (port : EndPort) (n : ℕ) (s : NextHop) → after n (map plain steps) (plain s) ≡ Ends (Taken port) → after n steps s
+    ≡ Ends (Taken port)
 from_plain steps port n s h = plain_taken (after n steps s) port (sym (plain_after n steps s) ∙ h)
 
 pub next_deliver_or_drop : NextDeliverOrDrop
@@ -144,7 +146,8 @@ none_is_lost cells held plan next line same is mixed are source h =
     let first = first_hop (owners_of held line.lid) (sender_of cells source) in
     let steps : ℕ → List NextHop = λ k. next_hops_of cells (mixed k) line.lid in
     let it = lost cells held plan next line same is mixed are h.0 (plain first) (as_plain (next_hops_of cells held line.lid) line.port h.0 first h.1) in
-    let there : after_by it.0 steps first ≡ Ends (Taken line.port) = plain_taken (after_by it.0 steps first) line.port (sym (plain_after_by it.0 steps first) ∙ it.1) in
+    let there : after_by it.0 steps first ≡ Ends (Taken line.port) =
+    plain_taken (after_by it.0 steps first) line.port (sym (plain_after_by it.0 steps first) ∙ it.1) in
     let now = are 0 in
     (it.0, ap (λ os. after_by it.0 steps (first_hop os (sender_of cells source))) now.owners ∙ there)
 
@@ -206,7 +209,8 @@ module _ (cells : Cells) (plan : HeldPlan) (line : HeldLid) (tables : ℕ → He
         | true ↦ λ q. eqb-true (entry_for (tables m) line.lid g) (entry_for plan line.lid g) q
         | false ↦ λ q.
             let drops : at (by m) i ≡ dropped g = here ∙ ap (λ t. plain (cond t (step_at cells plan line.lid g) (dropped g))) q in
-            let over : ◌≡◌ {A = NextHop} (dropped g) (Ends (Taken line.port)) = sym (after_ended n (by m) (Lost g NoEntry)) ∙ sym (ap (after n (by m)) drops) ∙ h in
+            let over : ◌≡◌ {A = NextHop} (dropped g) (Ends (Taken line.port)) =
+            sym (after_ended n (by m) (Lost g NoEntry)) ∙ sym (ap (after n (by m)) drops) ∙ h in
             absurd (cc)
       ] refl
 

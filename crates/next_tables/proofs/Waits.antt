@@ -32,7 +32,8 @@ leaves_by cells held next mixed lid is i edge h =
 pub mixtures_wait_so : MixturesWaitSo
 mixtures_wait_so cells held next before now lid b_is n_is a b w =
     let t = w.1 in
-    let across : (x y : HeldPlan) → slice_index_or (edges_of cells x lid) w.0 None ≡ Some t.first → slice_index_or (edges_of cells y lid) t.first.to None ≡ Some t.second
+    let across : (x y : HeldPlan) → slice_index_or (edges_of cells x lid) w.0 None ≡ Some t.first → slice_index_or (edges_of cells y lid) t.first.to None
+    ≡ Some t.second
     → WaitsAcross cells x y lid a b =
     λ x y e k. (w.0, record { first = t.first; second = t.second; leaves = e; leaves_there = k; channel_is = t.channel_is; next_is = t.next_is }) in
     elim (leaves_by cells held next before lid b_is w.0 t.first t.leaves) [
@@ -50,7 +51,8 @@ module _ (cells : Cells) (held next : HeldPlan) (numbers : List ℕ) (rise : Ris
   one_more : (a b : ℕ) → WaitsMixed cells held next a b → slice_index_or numbers a 0 < slice_index_or numbers b 0
   one_more a b w = rise w.lid a b w.is_lid (mixtures_wait_so cells held next w.before w.now w.lid w.before_is w.now_is a b w.waits)
 
-  rise_along : (channel last : ℕ) (later : List ℕ) → WaitOnMixed cells held next channel later last → slice_index_or numbers channel 0 < slice_index_or numbers last 0
+  rise_along : (channel last : ℕ) (later : List ℕ) → WaitOnMixed cells held next channel later last → slice_index_or numbers channel 0
+      < slice_index_or numbers last 0
   rise_along channel last [] h = one_more channel last h
   rise_along channel last (c ∷ later) h =
       let one = one_more channel c h.0 in let more = rise_along c last later h.1 in omega arith

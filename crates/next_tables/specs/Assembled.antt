@@ -21,4 +21,5 @@ some_blocks columns index count = blocks_from index 0 (map (block_in columns ind
 -- those of switches, that count from an index on
 abbrev pub all_blocks : List (List ℕ) → ℕ → List HeldSwitch → List HeldBlock
 all_blocks columns index [] = []
-all_blocks columns index (s ∷ switches) = some_blocks columns index (block_count (Some s.top)) ++ all_blocks columns (suc index) switches
+all_blocks columns index (s ∷ switches) =
+    some_blocks columns index (block_count (Some s.top)) ++ all_blocks columns (suc index) switches

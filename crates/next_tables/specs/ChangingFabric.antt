@@ -1,5 +1,5 @@
--- A fabric whose switches change their tables while a packet travels there. Its wiring stands still.
--- InfiniBand Architecture Specification, Volume 1: switches, unicast forwarding by the linear forwarding table; subnet management,
+-- A fabric whose switches change their tables while a packet travels there. Its wiring stands still. InfiniBand
+-- Architecture Specification, Volume 1: switches, unicast forwarding by the linear forwarding table; subnet management,
 -- LinearForwardingTable and SwitchInfo (LinearFDBTop), which are written block by block.
 use Rattle.std.specs.Prelude.{◌≡◌, ◌≤◌, ◌⊎◌, ℕ, suc, ◌+◌, ◌*◌, List, [], ◌∷◌, length, Some, IsTrue}
 use Rattle.fabric_model.specs.declared.cable.NodePort.{NodePort}
@@ -41,10 +41,11 @@ pub record StandsStill (part : Part) (lid : ℕ) (before now : Fabric) : Type 0 
       → owns now port lid ≡ owns before port lid
 
 -- in the midst of a change each switch of the part has such an entry for the LID
-pub record IsInChange (part : Part) (cells : Cells) (held next : HeldPlan) (lid : ℕ) (before now : Fabric) : Type 0 where
-  pub still : StandsStill part lid before now
-  pub entries : (port : NodePort) (node : Node) → IsEndPortIn part before port node → IsTrue (is_switch node.kind)
-      → IsLooseEntry cells held next lid node.guid (entry_now now lid port.node)
+pub record IsInChange (part : Part) (cells : Cells) (held next : HeldPlan) (lid : ℕ) (before now : Fabric) : Type 0
+  where
+    pub still : StandsStill part lid before now
+    pub entries : (port : NodePort) (node : Node) → IsEndPortIn part before port node → IsTrue (is_switch node.kind)
+        → IsLooseEntry cells held next lid node.guid (entry_now now lid port.node)
 
 -- so it is whenever the packet comes to a node: first, then at the next one, and so on
 abbrev pub ChangesMeanwhile : Part → Cells → HeldPlan → HeldPlan → ℕ → Fabric → (ℕ → Fabric) → Type 0
@@ -58,7 +59,8 @@ pub record IsBeingWritten (part : Part) (held next : HeldPlan) (lid : ℕ) (befo
   pub tops : (port : NodePort) (node : Node) → IsEndPortIn part before port node → IsTrue (is_switch node.kind)
       → (now.top port.node ≡ top_of held node.guid) ⊎ (now.top port.node ≡ top_of next node.guid)
   pub entries : (port : NodePort) (node : Node) → IsEndPortIn part before port node → IsTrue (is_switch node.kind)
-      → (now.entry port.node lid ≡ entry_of held node.guid lid) ⊎ (now.entry port.node lid ≡ entry_of next node.guid lid)
+      → (now.entry port.node lid ≡ entry_of held node.guid lid)
+      ⊎ (now.entry port.node lid ≡ entry_of next node.guid lid)
 
 -- a packet goes from one standing to another over these wires in turn, and each node does with it what it does in the
 -- fabric as it is then
@@ -85,17 +87,23 @@ pub record ArrivesMeanwhile (fabrics : ℕ → Fabric) (lid : ℕ) (source : Nod
   pub nowhere_else : (others : List Hop) (other : NodePort) → IsDeliveredMeanwhile fabrics lid source others other
       → other ≡ target
 
--- what is joined to an end port is as the facts say and holds the tables held, and goes over to the next tables towards a
--- plan, each switch at its own time: a packet that the tables held deliver at the end port that alone holds its LID, in
--- these and in the plan, is delivered there meanwhile
+-- what is joined to an end port is as the facts say and holds the tables held, and goes over to the next tables towards
+-- a plan, each switch at its own time: a packet that the tables held deliver at the end port that alone holds its LID,
+-- in these and in the plan, is delivered there meanwhile
 abbrev pub PacketsArriveWhileTablesChange : Type 0
 PacketsArriveWhileTablesChange =
-    (facts : Facts) (held plan : HeldPlan) (line : HeldLid) (before : Fabric) (origin : NodePort) → IsEndPort before origin
+    (facts : Facts) (held plan : HeldPlan) (line : HeldLid) (before : Fabric) (origin : NodePort)
+    → IsEndPort before origin
     → IsSeenIn (IsJoinedTo before origin) (cells_of facts) held before → 1 ≤ line.lid → IsKept held plan line
     → (fabrics : ℕ → Fabric)
-    → ChangesMeanwhile (IsJoinedTo before origin) (cells_of facts) held (next_tables (cells_of facts) held plan) line.lid before fabrics
+    → ChangesMeanwhile (IsJoinedTo before origin) (cells_of facts) held (next_tables (cells_of facts) held plan)
+    line.lid before fabrics
     → (source : NodePort) (node : Node) → IsEndPortIn (IsJoinedTo before origin) before source node
-    → IsBrought (cells_of facts) held line.lid (record { node = node.guid; port = source.port }) (Some (Taken line.port))
+    → IsBrought (cells_of facts) held line.lid (record {
+      node = node.guid;
+      port =
+          source.port;
+    }) (Some (Taken line.port))
     → ArrivesMeanwhile fabrics line.lid source line.port (2 * length (switches (cells_of facts)) + 1)
 
 -- what is being written is in such a change
@@ -104,4 +112,5 @@ WrittenTablesAreInChange =
     (facts : Facts) (held plan : HeldPlan) (lid : ℕ) (before now : Fabric) (origin : NodePort)
     → IsSeenIn (IsJoinedTo before origin) (cells_of facts) held before
     → IsBeingWritten (IsJoinedTo before origin) held (next_tables (cells_of facts) held plan) lid before now
-    → IsInChange (IsJoinedTo before origin) (cells_of facts) held (next_tables (cells_of facts) held plan) lid before now
+    → IsInChange (IsJoinedTo before origin) (cells_of facts) held (next_tables (cells_of facts) held plan) lid before
+    now

@@ -21,7 +21,8 @@ turned (channel ∷ later) = later ++ channel ∷ []
 pub record AreLoopLids (cells : Cells) (held next : HeldPlan) (cycle lids : List ℕ) : Type 0 where
   pub as_many : length lids ≡ length cycle
   pub each : (i : ℕ) → i < length cycle
-      → IsLeastLid cells held next (slice_index_or cycle i 0) (slice_index_or (turned cycle) i 0) (slice_index_or lids i 0)
+      → IsLeastLid cells held next (slice_index_or cycle i 0) (slice_index_or (turned cycle) i 0)
+      (slice_index_or lids i 0)
 
 -- packets for one LID ----------------------------------------------------------------------------
 
@@ -31,7 +32,8 @@ TakesFrom before now a b = TakesAcross before now (a / 256) a b
 
 -- by those of either
 abbrev pub TakesHere : List (Option Edge) → List (Option Edge) → ℕ → ℕ → Type 0
-TakesHere held next a b = TakesFrom held held a b ⊎ (TakesFrom held next a b ⊎ (TakesFrom next held a b ⊎ TakesFrom next next a b))
+TakesHere held next a b =
+    TakesFrom held held a b ⊎ (TakesFrom held next a b ⊎ (TakesFrom next held a b ⊎ TakesFrom next next a b))
 
 -- a LID is noted for two channels where none was known (0) and its packets do so
 abbrev pub IsNoted : List (Option Edge) → List (Option Edge) → ℕ → ℕ → ℕ → ℕ → ℕ → Type 0
@@ -42,4 +44,5 @@ IsNoted held next lid a b known new =
 pub record AreNoted (held next : List (Option Edge)) (lid : ℕ) (cycle after known new : List ℕ) : Type 0 where
   pub as_many : length new ≡ length known
   pub each : (i : ℕ) → i < length known
-      → IsNoted held next lid (slice_index_or cycle i 0) (slice_index_or after i 0) (slice_index_or known i 0) (slice_index_or new i 0)
+      → IsNoted held next lid (slice_index_or cycle i 0) (slice_index_or after i 0) (slice_index_or known i 0)
+      (slice_index_or new i 0)

@@ -1,4 +1,5 @@
--- What becomes of packets while switches go over from the tables that they hold to the next ones, each block at its own time.
+-- What becomes of packets while switches go over from the tables that they hold to the next ones, each block at its own
+-- time.
 use Rattle.std.specs.Prelude.{◌≡◌, ◌≤◌, ◌<◌, ◌⊎◌, ℕ, zero, suc, List, [], ◌∷◌, Contains, Option, None, Some, slice_get, slice_index_or}
 use Rattle.port_graph.specs.declared.edge.Edge.{Edge}
 use Rattle.audit_channels.specs.Columns.{TakesAcross}
@@ -21,7 +22,8 @@ use Rattle.next_tables.specs.Next.{step_at, IsNext}
 -- tables of which each entry for the LID is of the one or of the other
 pub record IsMixed (cells : Cells) (held next : HeldPlan) (lid : ℕ) (mixed : HeldPlan) : Type 0 where
   pub owners : owners_of mixed lid ≡ owners_of held lid
-  pub entries : (g : ℕ) → Contains (switches cells) g → (entry_for mixed lid g ≡ entry_for held lid g) ⊎ (entry_for mixed lid g ≡ entry_for next lid g)
+  pub entries : (g : ℕ) → Contains (switches cells) g → (entry_for mixed lid g ≡ entry_for held lid g)
+      ⊎ (entry_for mixed lid g ≡ entry_for next lid g)
 
 -- so many steps further, where other steps count each time
 abbrev pub after_by : ℕ → (ℕ → List NextHop) → NextHop → NextHop
@@ -31,25 +33,33 @@ after_by (suc n) steps s = after_by n (λ k. steps (suc k)) (onward (steps 0) s)
 -- where forwarding brings a packet by tables that change: these are held when it has met so many switches
 abbrev pub IsBroughtBy : Cells → (ℕ → HeldPlan) → ℕ → EndPort → End → Type 0
 IsBroughtBy cells tables lid e end =
-    (n : ℕ) × (after_by n (λ k. next_hops_of cells (tables k) lid) (first_hop (owners_of (tables 0) lid) (sender_of cells e)) ≡ Ends end)
+    (n : ℕ) × (after_by n (λ k. next_hops_of cells (tables k) lid)
+    (first_hop (owners_of (tables 0) lid) (sender_of cells e)) ≡ Ends end)
 
--- and a switch that drops the packet by the held tables may do anything: its top is raised before its blocks are written
+-- and a switch that drops the packet by the held tables may do anything: its top is raised before its blocks are
+-- written
 pub record IsLoose (cells : Cells) (held next : HeldPlan) (lid : ℕ) (mixed : HeldPlan) : Type 0 where
   pub owners : owners_of mixed lid ≡ owners_of held lid
   pub entries : (g : ℕ) → Contains (switches cells) g
-      → (entry_for mixed lid g ≡ entry_for held lid g) ⊎ ((entry_for mixed lid g ≡ entry_for next lid g) ⊎ ((x : ℕ) × (cause : Cause) × (step_at cells held lid g ≡ Ends (Lost x cause))))
+      → (entry_for mixed lid g ≡ entry_for held lid g)
+      ⊎ ((entry_for mixed lid g ≡ entry_for next lid g)
+      ⊎ ((x : ℕ) × (cause : Cause) × (step_at cells held lid g ≡ Ends (Lost x cause))))
 
--- a packet that the held tables deliver at an end port is delivered there by whatever mixtures of these and the next ones
+-- a packet that the held tables deliver at an end port is delivered there by whatever mixtures of these and the next
+-- ones
 abbrev pub NoneIsLost : Type 0
 NoneIsLost =
-    (cells : Cells) (held plan next : HeldPlan) (line : HeldLid) → owners_of plan line.lid ≡ owners_of held line.lid → IsNext cells held plan line next
+    (cells : Cells) (held plan next : HeldPlan) (line : HeldLid) → owners_of plan line.lid ≡ owners_of held line.lid
+    → IsNext cells held plan line next
     → (mixed : ℕ → HeldPlan) → ((k : ℕ) → IsLoose cells held next line.lid (mixed k))
-    → (source : EndPort) → IsBrought cells held line.lid source (Some (Taken line.port)) → IsBroughtBy cells mixed line.lid source (Taken line.port)
+    → (source : EndPort) → IsBrought cells held line.lid source (Some (Taken line.port))
+    → IsBroughtBy cells mixed line.lid source (Taken line.port)
 
 -- by the next tables each switch delivers the packet, or has no entry
 abbrev pub NextDeliverOrDrop : Type 0
 NextDeliverOrDrop =
-    (cells : Cells) (held plan next : HeldPlan) (line : HeldLid) → owners_of plan line.lid ≡ owners_of held line.lid → IsNext cells held plan line next
+    (cells : Cells) (held plan next : HeldPlan) (line : HeldLid) → owners_of plan line.lid ≡ owners_of held line.lid
+    → IsNext cells held plan line next
     → (i g : ℕ) → slice_get (switches cells) i ≡ Some g
     → (entry_for next line.lid g ≡ 255) ⊎ IsEndOf (next_hops_of cells next line.lid) (To i) (Some (Taken line.port))
 
@@ -58,7 +68,8 @@ abbrev pub NoneGoesRound : Type 0
 NoneGoesRound =
     (cells : Cells) (held plan next : HeldPlan) (line : HeldLid) → owners_of plan line.lid ≡ owners_of held line.lid
     → IsNext cells held plan line next → (mixed : ℕ → HeldPlan) → ((k : ℕ) → IsMixed cells held next line.lid (mixed k))
-    → (source : EndPort) (end : End) → IsBrought cells held line.lid source (Some end) → (last : End) × IsBroughtBy cells mixed line.lid source last
+    → (source : EndPort) (end : End) → IsBrought cells held line.lid source (Some end) → (last : End)
+    × IsBroughtBy cells mixed line.lid source last
 
 -- step after step
 pub record AreSteps (cells : Cells) (plan : HeldPlan) (line : HeldLid) (tables : ℕ → HeldPlan) : Type 0 where
@@ -69,29 +80,35 @@ pub record AreSteps (cells : Cells) (plan : HeldPlan) (line : HeldLid) (tables :
 abbrev pub EndInThePlan : Type 0
 EndInThePlan =
     (cells : Cells) (plan : HeldPlan) (line : HeldLid) (tables : ℕ → HeldPlan) → AreSteps cells plan line tables
-    → (i g n m : ℕ) → slice_get (switches cells) i ≡ Some g → after n (next_hops_of cells plan line.lid) (To i) ≡ Ends (Taken line.port) → n ≤ m
+    → (i g n m : ℕ) → slice_get (switches cells) i ≡ Some g → after n (next_hops_of cells plan line.lid) (To i)
+    ≡ Ends (Taken line.port) → n ≤ m
     → entry_for (tables m) line.lid g ≡ entry_for plan line.lid g
 
 -- where a step changes nothing, each switch from which the plan has a way has its entry
 abbrev pub StillIsThePlan : Type 0
 StillIsThePlan =
-    (cells : Cells) (held plan : HeldPlan) (line : HeldLid) → owners_of plan line.lid ≡ owners_of held line.lid → IsNext cells held plan line held
-    → (i g n : ℕ) → slice_get (switches cells) i ≡ Some g → after n (next_hops_of cells plan line.lid) (To i) ≡ Ends (Taken line.port)
+    (cells : Cells) (held plan : HeldPlan) (line : HeldLid) → owners_of plan line.lid ≡ owners_of held line.lid
+    → IsNext cells held plan line held
+    → (i g n : ℕ) → slice_get (switches cells) i ≡ Some g → after n (next_hops_of cells plan line.lid) (To i)
+    ≡ Ends (Taken line.port)
     → entry_for held line.lid g ≡ entry_for plan line.lid g
 
 -- after two steps each packet arrives that does so by the plan
 abbrev pub HealInTwo : Type 0
 HealInTwo =
     (cells : Cells) (plan : HeldPlan) (line : HeldLid) (tables : ℕ → HeldPlan) → AreSteps cells plan line tables
-    → (source : EndPort) → IsBrought cells plan line.lid source (Some (Taken line.port)) → IsBrought cells (tables 2) line.lid source (Some (Taken line.port))
+    → (source : EndPort) → IsBrought cells plan line.lid source (Some (Taken line.port))
+    → IsBrought cells (tables 2) line.lid source (Some (Taken line.port))
 
--- a packet takes one channel and then another at some switch, by the edges that switches have then, and by those that they have when it comes to the next
+-- a packet takes one channel and then another at some switch, by the edges that switches have then, and by those that
+-- they have when it comes to the next
 abbrev pub TakesBy : List (Option Edge) → List (Option Edge) → ℕ → ℕ → Type 0
 TakesBy before now channel next = (switch : ℕ) × TakesAcross before now switch channel next
 
 -- each by the edges of the held tables or of the next ones
 abbrev pub TakesInStep : List (Option Edge) → List (Option Edge) → ℕ → ℕ → Type 0
-TakesInStep held next a b = TakesBy held held a b ⊎ (TakesBy held next a b ⊎ (TakesBy next held a b ⊎ TakesBy next next a b))
+TakesInStep held next a b =
+    TakesBy held held a b ⊎ (TakesBy held next a b ⊎ (TakesBy next held a b ⊎ TakesBy next next a b))
 
 -- so packets for a LID do: the channel that one holds waits for the other
 abbrev pub WaitsAcross : Cells → HeldPlan → HeldPlan → ℕ → ℕ → ℕ → Type 0
@@ -103,13 +120,15 @@ WaitsInStep cells held next lid a b = TakesInStep (edges_of cells held lid) (edg
 -- so it is with all that waits in any mixtures, whenever it came there
 abbrev pub MixturesWaitSo : Type 0
 MixturesWaitSo =
-    (cells : Cells) (held next before now : HeldPlan) (lid : ℕ) → IsMixed cells held next lid before → IsMixed cells held next lid now
+    (cells : Cells) (held next before now : HeldPlan) (lid : ℕ) → IsMixed cells held next lid before
+    → IsMixed cells held next lid now
     → (a b : ℕ) → WaitsAcross cells before now lid a b → WaitsInStep cells held next lid a b
 
 -- numbers rise over all of these, for every LID, whether or not a port holds it
 abbrev pub RiseInStep : Cells → HeldPlan → HeldPlan → List ℕ → Type 0
 RiseInStep cells held next numbers =
-    (lid a b : ℕ) → 1 ≤ lid → WaitsInStep cells held next lid a b → slice_index_or numbers a 0 < slice_index_or numbers b 0
+    (lid a b : ℕ) → 1 ≤ lid → WaitsInStep cells held next lid a b → slice_index_or numbers a 0
+    < slice_index_or numbers b 0
 
 -- a channel waits for another in some mixtures
 pub record WaitsMixed (cells : Cells) (held next : HeldPlan) (a b : ℕ) : Type 0 where
@@ -123,7 +142,8 @@ pub record WaitsMixed (cells : Cells) (held next : HeldPlan) (a b : ℕ) : Type 
 
 abbrev pub WaitOnMixed : Cells → HeldPlan → HeldPlan → ℕ → List ℕ → ℕ → Type 0
 WaitOnMixed cells held next channel [] last = WaitsMixed cells held next channel last
-WaitOnMixed cells held next channel (c ∷ later) last = WaitsMixed cells held next channel c × WaitOnMixed cells held next c later last
+WaitOnMixed cells held next channel (c ∷ later) last =
+    WaitsMixed cells held next channel c × WaitOnMixed cells held next c later last
 
 -- then channels never wait in a cycle, whatever the mixtures
 abbrev pub NoCycleInStep : Type 0

@@ -15,7 +15,8 @@ use Rattle.audit.specs.NextHops.{by_entry, cause_of, is_at, next_hops_of}
 
 -- what a usable switch does with a packet for the LID, by tables
 abbrev pub step_at : Cells → HeldPlan → ℕ → ℕ → NextHop
-step_at cells tables lid g = by_entry (owners_of tables lid) g (cause_of cells tables lid g) (row_of cells g) (entry_for tables lid g)
+step_at cells tables lid g =
+    by_entry (owners_of tables lid) g (cause_of cells tables lid g) (row_of cells g) (entry_for tables lid g)
 
 -- whether a walk comes to the port
 abbrev pub comes_to : EndPort → List NextHop → NextHop → Bool
@@ -23,7 +24,8 @@ comes_to port steps s = is_at port (end_of (after (length steps) steps s))
 
 -- by the entries that are the plan's already: any other drops the packet
 abbrev pub agreed_at : Cells → HeldPlan → HeldPlan → ℕ → ℕ → NextHop
-agreed_at cells held plan lid g = if entry_for held lid g == entry_for plan lid g then step_at cells plan lid g else Ends (Lost g NoEntry)
+agreed_at cells held plan lid g =
+    if entry_for held lid g == entry_for plan lid g then step_at cells plan lid g else Ends (Lost g NoEntry)
 
 abbrev pub agreed : Cells → HeldPlan → HeldPlan → ℕ → List NextHop
 agreed cells held plan lid = map (agreed_at cells held plan lid) (switches cells)
@@ -38,13 +40,16 @@ delivers cells held line g = comes_to line.port (next_hops_of cells held line.li
 
 -- a switch that sends it on goes on so, and one that does not takes the plan's entry
 abbrev pub patch_entry : Cells → HeldPlan → HeldPlan → ℕ → ℕ → ℕ
-patch_entry cells held plan lid g = if is_to (step_at cells held lid g) then entry_for held lid g else entry_for plan lid g
+patch_entry cells held plan lid g =
+    if is_to (step_at cells held lid g) then entry_for held lid g else entry_for plan lid g
 
 abbrev pub patch_at : Cells → HeldPlan → HeldPlan → ℕ → ℕ → NextHop
-patch_at cells held plan lid g = if is_to (step_at cells held lid g) then step_at cells held lid g else step_at cells plan lid g
+patch_at cells held plan lid g =
+    if is_to (step_at cells held lid g) then step_at cells held lid g else step_at cells plan lid g
 
 abbrev pub mending_at : Cells → HeldPlan → HeldPlan → HeldLid → ℕ → NextHop
-mending_at cells held plan line g = if delivers cells held line g then Ends (Taken line.port) else patch_at cells held plan line.lid g
+mending_at cells held plan line g =
+    if delivers cells held line g then Ends (Taken line.port) else patch_at cells held plan line.lid g
 
 abbrev pub mending : Cells → HeldPlan → HeldPlan → HeldLid → List NextHop
 mending cells held plan line = map (mending_at cells held plan line) (switches cells)

@@ -44,9 +44,11 @@ abbrev pub next_for : Cells → HeldPlan → HeldPlan → ℕ → List EndPort �
 next_for cells held plan lid planned None g = if_owned planned (entry_for plan lid g)
 next_for cells held plan lid planned (Some port) g = next_entry cells held plan (record { lid = lid; port = port }) g
 
--- the next entry of a usable switch for a LID: by the rule where one end port alone holds the LID in both, else the plan's
+-- the next entry of a usable switch for a LID: by the rule where one end port alone holds the LID in both, else the
+-- plan's
 unfoldable pub next_at : Cells → HeldPlan → HeldPlan → ℕ → ℕ → ℕ
-next_at cells held plan lid g = next_for cells held plan lid (owners_of plan lid) (keeper (owners_of plan lid) (owners_of held lid)) g
+next_at cells held plan lid g =
+    next_for cells held plan lid (owners_of plan lid) (keeper (owners_of plan lid) (owners_of held lid)) g
 
 -- those of all usable switches
 abbrev pub column_of : Cells → HeldPlan → HeldPlan → ℕ → List ℕ

@@ -20,10 +20,12 @@ IsStepRead facts held plan =
 
 -- from tables in range towards a plan in range, in a subnet whose facts are in range
 abbrev pub NextTextsAreRead : Type 0
-NextTextsAreRead = (facts : Facts) (held : HeldPlan) (plan : PlanValue) → AreInRange facts → IsHeldInRange held → IsPlanInRange plan → IsStepRead facts held plan
+NextTextsAreRead = (facts : Facts) (held : HeldPlan) (plan : PlanValue) → AreInRange facts → IsHeldInRange held
+    → IsPlanInRange plan → IsStepRead facts held plan
 
 -- so it is from what any text says towards the plan of a view with room
 abbrev pub StepTextsAreRead : Type 0
 StepTextsAreRead =
-    (rule : RuleValue) (lmc : ℕ) (facts : Facts) (text : List ℕ) → lmc ≤ 7 → AreInRange facts → ¬ (IsNoRoom lmc (cells_of facts))
+    (rule : RuleValue) (lmc : ℕ) (facts : Facts) (text : List ℕ) → lmc ≤ 7 → AreInRange facts
+    → ¬ (IsNoRoom lmc (cells_of facts))
     → IsStepRead facts (held_of text) (plan_of rule lmc (cells_of facts))

@@ -25,21 +25,25 @@ NextTablesAreSo = (cells : Cells) (held plan : HeldPlan) → AreNextTables cells
 
 -- so the rule holds for a LID that one end port alone holds in both
 abbrev pub StepsFollowTheRule : Type 0
-StepsFollowTheRule = (cells : Cells) (held plan : HeldPlan) (line : HeldLid) → IsKept held plan line → IsNext cells held plan line (next_tables cells held plan)
+StepsFollowTheRule = (cells : Cells) (held plan : HeldPlan) (line : HeldLid) → IsKept held plan line
+    → IsNext cells held plan line (next_tables cells held plan)
 
--- a packet that the tables held deliver at the end port is delivered there by whatever mixtures of these and the next ones
+-- a packet that the tables held deliver at the end port is delivered there by whatever mixtures of these and the next
+-- ones
 abbrev pub StepsLoseNone : Type 0
 StepsLoseNone =
     (cells : Cells) (held plan : HeldPlan) (line : HeldLid) → IsKept held plan line
     → (mixed : ℕ → HeldPlan) → ((k : ℕ) → IsLoose cells held (next_tables cells held plan) line.lid (mixed k))
-    → (source : EndPort) → IsBrought cells held line.lid source (Some (Taken line.port)) → IsBroughtBy cells mixed line.lid source (Taken line.port)
+    → (source : EndPort) → IsBrought cells held line.lid source (Some (Taken line.port))
+    → IsBroughtBy cells mixed line.lid source (Taken line.port)
 
 -- one that they do not send round for ever is sent round by none of these mixtures
 abbrev pub StepsSendNoneRound : Type 0
 StepsSendNoneRound =
     (cells : Cells) (held plan : HeldPlan) (line : HeldLid) → IsKept held plan line
     → (mixed : ℕ → HeldPlan) → ((k : ℕ) → IsMixed cells held (next_tables cells held plan) line.lid (mixed k))
-    → (source : EndPort) (end : End) → IsBrought cells held line.lid source (Some end) → (last : End) × IsBroughtBy cells mixed line.lid source last
+    → (source : EndPort) (end : End) → IsBrought cells held line.lid source (Some end) → (last : End)
+    × IsBroughtBy cells mixed line.lid source last
 
 -- the tables after so many steps towards a plan
 abbrev pub stepped : Cells → HeldPlan → HeldPlan → ℕ → HeldPlan
@@ -50,7 +54,8 @@ stepped cells plan held (suc n) = next_tables cells (stepped cells plan held n) 
 abbrev pub StepsEndInThePlan : Type 0
 StepsEndInThePlan =
     (cells : Cells) (held plan : HeldPlan) (line : HeldLid) → IsKept held plan line
-    → (i g n m : ℕ) → slice_get (switches cells) i ≡ Some g → after n (next_hops_of cells plan line.lid) (To i) ≡ Ends (Taken line.port) → n ≤ m
+    → (i g n m : ℕ) → slice_get (switches cells) i ≡ Some g → after n (next_hops_of cells plan line.lid) (To i)
+    ≡ Ends (Taken line.port) → n ≤ m
     → entry_for (stepped cells plan held m) line.lid g ≡ entry_for plan line.lid g
 
 -- after two steps each packet arrives that does so by the plan

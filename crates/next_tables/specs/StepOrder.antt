@@ -8,7 +8,8 @@ use Rattle.audit_channels.specs.declared.order.ChannelOrder.{ChannelOrder}
 use Rattle.audit_channels.specs.declared.order.ChannelOrder.TheVariants.{Rises, Cycle}
 use Rattle.next_tables.specs.Mixtures.{TakesInStep, WaitsInStep, RiseInStep}
 
--- the same, and that all those follow each other of which the one is taken by either column, and then the other by either
+-- the same, and that all those follow each other of which the one is taken by either column, and then the other by
+-- either
 pub record IsWithStep (old : List (List ℕ)) (held next : List (Option Edge)) (new : List (List ℕ)) : Type 0 where
   pub as_many : length new ≡ length old
   pub follows : (a b : ℕ) → Follows new a b ↔ (Follows old a b ⊎ TakesInStep held next a b)
@@ -36,7 +37,8 @@ pub record NumbersRise (cells : Cells) (held next : HeldPlan) (numbers : List �
 -- each of some channels waits for the next, and the last for another
 abbrev pub WaitOn : Cells → HeldPlan → HeldPlan → ℕ → List ℕ → ℕ → Type 0
 WaitOn cells held next channel [] last = WaitsFor cells held next channel last
-WaitOn cells held next channel (c ∷ later) last = WaitsFor cells held next channel c × WaitOn cells held next c later last
+WaitOn cells held next channel (c ∷ later) last =
+    WaitsFor cells held next channel c × WaitOn cells held next c later last
 
 -- channels of which each waits for the next, and the last for the first
 abbrev pub WaitInCycle : Cells → HeldPlan → HeldPlan → List ℕ → Type 0
@@ -50,7 +52,8 @@ IsStepOrder cells held next (Cycle channels) = WaitInCycle cells held next chann
 
 -- no cycle has fewer channels than these
 abbrev pub NoneShorter : Cells → HeldPlan → HeldPlan → List ℕ → Type 0
-NoneShorter cells held next channels = (cycle : List ℕ) → WaitInCycle cells held next cycle → length channels ≤ length cycle
+NoneShorter cells held next channels =
+    (cycle : List ℕ) → WaitInCycle cells held next cycle → length channels ≤ length cycle
 
 -- where it is a cycle, none has fewer channels
 abbrev pub IsShortestInStep : Cells → HeldPlan → HeldPlan → ChannelOrder → Type 0

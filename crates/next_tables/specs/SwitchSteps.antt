@@ -47,7 +47,8 @@ next_by port leads delivers mends x =
     (if delivers x.0.hop then x.0.entry else
     (if mends (mending_by port delivers x) then patch_entry_by x else 255))
 
-abbrev pub chosen_by : EndPort → (NextHop → Bool) → (NextHop → Bool) → (NextHop → Bool) → List SwitchStep → List SwitchStep → List ℕ
+abbrev pub chosen_by : EndPort → (NextHop → Bool) → (NextHop → Bool) → (NextHop → Bool) → List SwitchStep
+    → List SwitchStep → List ℕ
 chosen_by port leads delivers mends held plan = map (next_by port leads delivers mends) (zip held plan)
 
 -- those of all switches
@@ -56,7 +57,8 @@ mends_of port delivers held plan = comes_to port (mending_of port delivers held 
 
 unfoldable pub next_of : EndPort → List SwitchStep → List SwitchStep → List ℕ
 next_of port held plan =
-    chosen_by port (comes_to port (agreed_of held plan)) (comes_to port (hops_of held)) (mends_of port (comes_to port (hops_of held)) held plan) held plan
+    chosen_by port (comes_to port (agreed_of held plan)) (comes_to port (hops_of held))
+    (mends_of port (comes_to port (hops_of held)) held plan) held plan
 
 -- a walk comes to the port, by where walks from the switches end
 abbrev pub arrives_by : EndPort → List NextHop → NextHop → Bool

@@ -26,11 +26,15 @@ impl Columns {
     }
 }
 
-/// That channels follow each other by which packets for a LID leave a switch by either table, and then the next by either;
-/// unless those of the LID before, which have been added, are the same. Takes a step for each switch where they are, or where
-/// both tables have the same edges, and else four; and for each a walk over the channels that follow its own where the next is
-/// not known to.
-pub(crate) fn add_step(waits: &mut Waits, before: &Columns, columns: &Columns) -> Result<(), AllocError>
+/// That channels follow each other by which packets for a LID leave a switch by either table, and then the next by
+/// either; unless those of the LID before, which have been added, are the same. Takes a step for each switch where they
+/// are, or where both tables have the same edges, and else four; and for each a walk over the channels that follow its
+/// own where the next is not known to.
+pub(crate) fn add_step(
+    waits: &mut Waits,
+    before: &Columns,
+    columns: &Columns,
+) -> Result<(), AllocError>
     requires added { IsAddedInStep before.now.held.items before.now.next.items waits.old }
     requires held { length waits.old ≡ 256 * length columns.now.held.items }
     requires next { length waits.old ≡ 256 * length columns.now.next.items }

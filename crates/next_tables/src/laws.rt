@@ -6,8 +6,8 @@ ghost use Rattle.next_tables.specs.NextText.{NextTextsAreRead, StepTextsAreRead}
 ghost use Rattle.next_tables.specs.StepLaws.{StepsEndInThePlan, StepsHealInTwo};
 ghost use Rattle.next_tables.specs.StepLaws.{NextTablesAreSo, StepsFollowTheRule, StepsLoseNone, StepsSendNoneRound};
 
-/// A packet that the held tables deliver is delivered by whatever loose mixtures of these and the next ones, also where they
-/// change while it travels.
+/// A packet that the held tables deliver is delivered by whatever loose mixtures of these and the next ones, also where
+/// they change while it travels.
 pub fn none_is_lost()
     ensures law { NoneIsLost }
 {}
@@ -32,7 +32,8 @@ pub fn heal_in_two()
     ensures law { HealInTwo }
 {}
 
-/// By the next tables each switch delivers the packet, or has no entry: none goes round, and none leaves by a dead port.
+/// By the next tables each switch delivers the packet, or has no entry: none goes round, and none leaves by a dead
+/// port.
 pub fn next_deliver_or_drop()
     ensures law { NextDeliverOrDrop }
 {}
@@ -47,8 +48,8 @@ pub fn no_cycle_in_step()
     ensures law { NoCycleInStep }
 {}
 
-/// What `next_tables` answers has the plan's owners, and at each usable switch the greater of its tops and the next entry for
-/// each LID.
+/// What `next_tables` answers has the plan's owners, and at each usable switch the greater of its tops and the next
+/// entry for each LID.
 pub fn next_tables_are_so()
     ensures law { NextTablesAreSo }
 {}
@@ -58,7 +59,8 @@ pub fn steps_follow_the_rule()
     ensures law { StepsFollowTheRule }
 {}
 
-/// What `next_tables` answers loses no packet for a LID that one end port alone holds in the tables held and in the plan.
+/// What `next_tables` answers loses no packet for a LID that one end port alone holds in the tables held and in the
+/// plan.
 pub fn steps_lose_none()
     ensures law { StepsLoseNone }
 {}
@@ -78,10 +80,10 @@ pub fn steps_heal_in_two()
     ensures law { StepsHealInTwo }
 {}
 
-/// In a fabric whose switches go over to what `next_tables` answers, each at its own time, a packet that the tables held
-/// deliver at the end port that alone holds its LID, in these and in the plan, is delivered there meanwhile: where what is
-/// joined to an end port is as the facts say, and held the tables when the change began. It takes at most twice as many wires
-/// as there are usable switches, and one more.
+/// In a fabric whose switches go over to what `next_tables` answers, each at its own time, a packet that the tables
+/// held deliver at the end port that alone holds its LID, in these and in the plan, is delivered there meanwhile: where
+/// what is joined to an end port is as the facts say, and held the tables when the change began. It takes at most twice
+/// as many wires as there are usable switches, and one more.
 pub fn packets_arrive_while_tables_change()
     ensures law { PacketsArriveWhileTablesChange }
 {}
@@ -91,8 +93,8 @@ pub fn written_tables_are_in_change()
     ensures law { WrittenTablesAreInChange }
 {}
 
-/// The text of the next tables, with the plan's LIDs in front, has no fault, and is read as these tables, where the numbers
-/// of the facts, of the tables held and of the plan are in their ranges.
+/// The text of the next tables, with the plan's LIDs in front, has no fault, and is read as these tables, where the
+/// numbers of the facts, of the tables held and of the plan are in their ranges.
 pub fn next_texts_are_read()
     ensures law { NextTextsAreRead }
 {}

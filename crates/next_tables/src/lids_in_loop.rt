@@ -12,9 +12,10 @@ use port_graph::Edge;
 use smp_bytes::Lid;
 use std::alloc::{AllocError, Global};
 
-/// For each channel of a credit loop in a step the least LID for which packets that hold it wait for the channel after it, and
-/// from the last one on for the first, by an entry of either table at each of the two switches. Takes for each LID up to the
-/// greatest top of both tables a step for each switch, by either table, and four for each channel without a LID yet.
+/// For each channel of a credit loop in a step the least LID for which packets that hold it wait for the channel after
+/// it, and from the last one on for the first, by an entry of either table at each of the two switches. Takes for each
+/// LID up to the greatest top of both tables a step for each switch, by either table, and four for each channel without
+/// a LID yet.
 pub fn loop_lids(
     alloc: Global,
     held: &Network,
@@ -60,8 +61,8 @@ fn none_known(alloc: Global, count: usize) -> Result<Vec<Lid>, AllocError>
     vec![in alloc; Lid::new(0); count]
 }
 
-/// Notes a LID for each channel of a cycle that has none yet, where its packets hold the channel and wait for the one after
-/// it, by the edges of either column.
+/// Notes a LID for each channel of a cycle that has none yet, where its packets hold the channel and wait for the one
+/// after it, by the edges of either column.
 fn note_lid(
     lids: &mut [Lid],
     cycle: &[usize],
@@ -79,8 +80,8 @@ fn note_lid(
     }
 }
 
-/// The LID that is known for two channels, where 0 is none; or else this one, where its packets hold the one channel and wait
-/// for the other.
+/// The LID that is known for two channels, where 0 is none; or else this one, where its packets hold the one channel
+/// and wait for the other.
 fn noted(
     channel: usize,
     other: usize,
@@ -98,7 +99,8 @@ fn noted(
     }
 }
 
-/// Whether packets for a LID leave the switch of one channel by it, and the next by the other, by the edges of either column.
+/// Whether packets for a LID leave the switch of one channel by it, and the next by the other, by the edges of either
+/// column.
 fn waits(channel: usize, other: usize, held: &[Option<Edge>], next: &[Option<Edge>]) -> bool
     ensures { IsTrue result ↔ TakesHere held.now next.now channel other }
 {
@@ -108,8 +110,8 @@ fn waits(channel: usize, other: usize, held: &[Option<Edge>], next: &[Option<Edg
         || takes(channel, other, next, next)
 }
 
-/// Whether packets for a LID leave the switch of one channel by it, by the edges of one column, and the next by the other, by
-/// those of another column.
+/// Whether packets for a LID leave the switch of one channel by it, by the edges of one column, and the next by the
+/// other, by those of another column.
 fn takes(channel: usize, other: usize, before: &[Option<Edge>], now: &[Option<Edge>]) -> bool
     ensures { IsTrue result ↔ TakesFrom before.now now.now channel other }
 {

@@ -10,8 +10,8 @@ use audit::{Cause, End, NextHop, SwitchStep};
 use std::alloc::{AllocError, Global};
 use subnet_view::EndPort;
 
-/// The next entries of the switches, by what each does by the tables held and by the plan. Takes for each switch some steps
-/// for each of three walks, by the number of digits of the longest way's length.
+/// The next entries of the switches, by what each does by the tables held and by the plan. Takes for each switch some
+/// steps for each of three walks, by the number of digits of the longest way's length.
 pub(crate) fn next_entries(
     alloc: Global,
     port: &EndPort,

@@ -11,10 +11,10 @@ use smp_bytes::Lid;
 use std::alloc::{AllocError, Global};
 
 #[tactic(auto, using(crate::proofs::InStep::order_is, crate::proofs::InStep::shortest_is))]
-/// Numbers of channels that rise along the way of every packet, by whatever mixtures of the tables held and the next ones,
-/// where there are such; or else channels that wait for each other in a cycle by some, as few as there are. The channels
-/// have the numbers that they have in `audit_channels::channel_order`. Takes what that does for both tables, and four steps
-/// in place of one where they differ.
+/// Numbers of channels that rise along the way of every packet, by whatever mixtures of the tables held and the next
+/// ones, where there are such; or else channels that wait for each other in a cycle by some, as few as there are. The
+/// channels have the numbers that they have in `audit_channels::channel_order`. Takes what that does for both tables,
+/// and four steps in place of one where they differ.
 pub fn step_order(alloc: Global, held: &Network, next: &Network) -> Result<ChannelOrder, AllocError>
     requires facts { next.now.facts ≡ held.now.facts }
     ensures order { IfOk result (λ found.

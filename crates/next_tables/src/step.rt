@@ -16,14 +16,14 @@ use plan_file::{Held, HeldBlock, HeldLid, HeldSwitch};
 use smp_bytes::Lid;
 use std::alloc::{AllocError, Global};
 
-/// The tables to write next, from those held towards a plan's, which are both read with the same facts: the plan's LIDs,
-/// and for each usable switch the greater of its tops and the next entry for each LID up to it. Takes what an audit of both
-/// takes, and for each LID three walks from the switches.
+/// The tables to write next, from those held towards a plan's, which are both read with the same facts: the plan's
+/// LIDs, and for each usable switch the greater of its tops and the next entry for each LID up to it. Takes what an
+/// audit of both takes, and for each LID three walks from the switches.
 ///
 /// # Errors
 ///
-/// `Moves`, with the first LID that the plan gives to an end port and the tables held to another, and `Memory` where there
-/// is none.
+/// `Moves`, with the first LID that the plan gives to an end port and the tables held to another, and `Memory` where
+/// there is none.
 pub fn next_tables(alloc: Global, held: &Network, plan: &Network) -> Result<Held, StepFault>
     requires facts { plan.now.facts ≡ held.now.facts }
     ensures judged { JudgesButFor is_memory result (step_fault (first_moved held.now.held plan.now.held)) }

@@ -40,8 +40,8 @@ fn add_node(store: &mut Store, node: u64, kind: NodeType, ports: u8, port: u8) -
     add(store, key, Value::Guid(guid))
 }
 
-/// Switches 10, 20 and 30, from each to the next a wire between the ports 1 and 2, and adapters 100, 200 and 300 at their
-/// ports 3. The wire from 30 to 10 may be cut.
+/// Switches 10, 20 and 30, from each to the next a wire between the ports 1 and 2, and adapters 100, 200 and 300 at
+/// their ports 3. The wire from 30 to 10 may be cut.
 fn triangle(alloc: Global, is_cut: bool) -> Result<Store, Fail> {
     let mut store = Store::new(alloc);
     for node in [0x10, 0x20, 0x30] {

@@ -101,7 +101,8 @@ module _ (a : Agent) (payload : List ℕ) (changed : ℕ × Port) where
       subst (λ (c : ℕ × Port). Steps (port_at a c.0) c.1) same (steps_after (port_at a port) new (has_lid a port) (max_lmc a port) payload (sym e))
 
   meant_is : (m : Option ℕ)
-      → option_and_then (λ port. option_map (λ (after : Port). (port, after)) (port_after (port_at a port) (has_lid a port) (max_lmc a port) payload)) m ≡ Some changed
+      → option_and_then (λ port. option_map (λ (after : Port). (port, after)) (port_after (port_at a port) (has_lid a port) (max_lmc a port) payload)) m
+      ≡ Some changed
       → Steps (port_at a changed.0) changed.1
   meant_is None h = cc
   meant_is (Some port) h = after_is port _ refl h

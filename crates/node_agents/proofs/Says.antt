@@ -66,7 +66,8 @@ type_small ChannelAdapter = omega arith
 type_small Switch = omega arith
 type_small Router = omega arith
 
-guid_small : (node : AgentNode) (arrival : ℕ) → node.guid < 2 ^ 64 → (types.is_switch node.kind ≡ false → node.guid + node.ports < 2 ^ 64) → arrival ≤ node.ports
+guid_small : (node : AgentNode) (arrival : ℕ) → node.guid < 2 ^ 64 → (types.is_switch node.kind ≡ false → node.guid + node.ports < 2 ^ 64) → arrival
+    ≤ node.ports
     → port_guid node arrival < 2 ^ 64
 guid_small node arrival small fits within = by_kind (types.is_switch node.kind) refl
   where
@@ -129,11 +130,13 @@ switch_told : (is_it : Bool) (x y : Result (List ℕ) Refusal) (payload : List �
 switch_told true x y payload h = (refl, h)
 switch_told false x y payload h = cc
 
-get_of-node_info : (a : Agent) (packet : List ℕ) (arrival : ℕ) → number_in attribute_id packet ≡ node_info → get_of a packet arrival ≡ Ok (get_node_info a arrival)
+get_of-node_info : (a : Agent) (packet : List ℕ) (arrival : ℕ) → number_in attribute_id packet ≡ node_info → get_of a packet arrival
+    ≡ Ok (get_node_info a arrival)
 unfolding get_of
 get_of-node_info a packet arrival e = ap (λ n. get_attribute a n (number_in attribute_modifier packet) arrival) e
 
-get_of-switch : (a : Agent) (packet : List ℕ) (arrival : ℕ) (payload : List ℕ) → number_in attribute_id packet ≡ switch_info → get_of a packet arrival ≡ Ok payload
+get_of-switch : (a : Agent) (packet : List ℕ) (arrival : ℕ) (payload : List ℕ) → number_in attribute_id packet ≡ switch_info → get_of a packet arrival
+    ≡ Ok payload
     → (is_switch a ≡ true) × (◌≡◌ {A = Result (List ℕ) Refusal} (Ok (get_switch_info a)) (Ok payload))
 unfolding get_of
 get_of-switch a packet arrival payload e h =
@@ -150,7 +153,9 @@ unfolding meant_of
 same_meant a b modifier arrival e = ap (λ n. meant_of n modifier arrival) e
 
 cap_said : (a : Agent) → a.node.cap ≤ 49152 → number_in linear_fdb_cap (get_switch_info a) ≡ a.node.cap
-cap_said a most = number_in-with_numbers 64 (switch_entries a) (replicate 64 0) 0 (record { field = linear_fdb_cap; number = a.node.cap }) refl refl refl (omega (arith, most))
+cap_said a most =
+    number_in-with_numbers 64 (switch_entries a) (replicate 64 0) 0 (record { field = linear_fdb_cap; number = a.node.cap }) refl refl refl
+    (omega (arith, most))
 
 module _ (a : Agent) (packet : List ℕ) (arrival : ℕ) (is : IsAgent a) (within : arrival ≤ a.node.ports)
     (payload : List ℕ) (now : ToldNow a packet arrival payload) where
@@ -196,8 +201,10 @@ answers_say a packet arrival is whole within status_is =
     let (payload, told_is) = is_told told (sym holds.status ∙ status_is) in
     let now = told_now a packet arrival payload told_is in
     let payload_is = holds.attribute_data ∙ ap (λ t. payload_told t packet) told_is in
-    let attribute = number_in-alike attribute_id (after_answer a packet arrival).packet packet (λ offset from less. holds.kept offset (inr (inl (omega (arith, from), omega (arith, less))))) in
-    let modifier = number_in-alike attribute_modifier (after_answer a packet arrival).packet packet (λ offset from less. holds.kept offset (inr (inl (omega (arith, from), omega (arith, less))))) in
+    let attribute = number_in-alike attribute_id (after_answer a packet arrival).packet packet
+    (λ offset from less. holds.kept offset (inr (inl (omega (arith, from), omega (arith, less))))) in
+    let modifier = number_in-alike attribute_modifier (after_answer a packet arrival).packet packet
+    (λ offset from less. holds.kept offset (inr (inl (omega (arith, from), omega (arith, less))))) in
     record {
       node = λ e. ap node_info_in payload_is ∙ of_node a packet arrival is within payload now (sym attribute ∙ e);
       port = λ e. subst (λ m. SaysPort a m arrival (bits_in port_state (bytes_in attribute_data (after_answer a packet arrival).packet))) (sym modifier)

@@ -259,7 +259,8 @@ module _ (port : Port) (arrival : ℕ) where
       let empty = blank 32 (omega arith) (omega arith) in
       let none = blank 34 (omega arith) (omega arith) in
       let apart : get_or (port_ranged port arrival) 32 0 ≡ 0 = below_lmc ∙ empty in
-      bits_in-with_bits_apart lmc port_state (number_of_state port.state) (port_ranged port arrival) (omega arith) (omega arith) (omega arith) (state_small port.state) refl
+      bits_in-with_bits_apart lmc port_state (number_of_state port.state) (port_ranged port arrival) (omega arith) (omega arith) (omega arith)
+      (state_small port.state) refl
       ∙ bits_in-with_bits lmc port.lmc (port_marked port arrival) (omega arith) (omega arith) (omega arith) (omega arith)
 
 -- and both, where they are those of a payload
@@ -314,7 +315,8 @@ ports_are_set a packet arrival port there is meant =
     let count : length a.ports ≡ a.node.ports + 1 = is.agent.count in
     let P : Agent → List ℕ → Type 0 = λ x told. SetsPort a x port payload told in
     let of_port : SetsPort a (with_port a after.0 after.1) after.0 payload (port_info_of (port_at (with_port a after.0 after.1) after.0) arrival) =
-    sets_port a after.0 arrival payload after.1 (omega arith) (became (port_at a after.0) after.1 (has_lid a after.0) (max_lmc a after.0) payload after.2.after) in
+    sets_port a after.0 arrival payload after.1 (omega arith) (became (port_at a after.0) after.1 (has_lid a after.0) (max_lmc a after.0) payload after.2.after)
+    in
     let of_agent : SetsPort a b after.0 payload (port_info_of (port_at b after.0) arrival) =
     subst (λ (x : Agent). SetsPort a x after.0 payload (port_info_of (port_at x after.0) arrival)) after.2.agent of_port in
     let known : SetsPort a b port payload (port_info_of (port_at b after.0) arrival) =

@@ -30,7 +30,8 @@ abbrev pub APortIsTaken : Agent → Agent → ℕ → ℕ → List ℕ → Type 
 APortIsTaken a b modifier arrival payload = (port : ℕ) × (new : Port) × PortTaken a b modifier arrival payload port new
 
 module _ (a b : Agent) (modifier arrival : ℕ) (payload : List ℕ) where
-  port_became : (port : ℕ) (m : Option Port) → m ≡ port_after (port_at a port) (has_lid a port) (max_lmc a port) payload → port_meant a modifier arrival ≡ Some port
+  port_became : (port : ℕ) (m : Option Port) → m ≡ port_after (port_at a port) (has_lid a port) (max_lmc a port) payload → port_meant a modifier arrival
+      ≡ Some port
       → option_map (λ (changed : ℕ × Port). with_port a changed.0 changed.1) (option_map (λ (after : Port). (port, after)) m) ≡ Some b
       → APortIsTaken a b modifier arrival payload
   port_became port None e meant h = cc
@@ -38,7 +39,8 @@ module _ (a b : Agent) (modifier arrival : ℕ) (payload : List ℕ) where
 
   port_was : (m : Option ℕ) → m ≡ port_meant a modifier arrival
       → option_map (λ (changed : ℕ × Port). with_port a changed.0 changed.1)
-      (option_and_then (λ port. option_map (λ (after : Port). (port, after)) (port_after (port_at a port) (has_lid a port) (max_lmc a port) payload)) m) ≡ Some b
+      (option_and_then (λ port. option_map (λ (after : Port). (port, after)) (port_after (port_at a port) (has_lid a port) (max_lmc a port) payload)) m)
+      ≡ Some b
       → APortIsTaken a b modifier arrival payload
   port_was None e h = cc
   port_was (Some port) e h = port_became port _ refl (sym e) h

@@ -9,7 +9,8 @@ use Rattle.attr_codec.specs.declared.port_state.PortState.TheVariants.{NoChange,
 use Rattle.node_agents.specs.declared.agent_node.AgentNode.{AgentNode}
 use Rattle.node_agents.specs.declared.port.Port.{Port}
 
--- the node as it was built, its ports from port 0 on, its forwarding table in whole blocks, and the greatest LID that is forwarded
+-- the node as it was built, its ports from port 0 on, its forwarding table in whole blocks, and the greatest LID that
+-- is forwarded
 pub record Agent : Type 0 where
   pub node : AgentNode
   pub ports : List Port
@@ -64,7 +65,14 @@ port_guid node port = if types.is_switch node.kind then node.guid else node.guid
 
 -- the node that forwarding sees
 abbrev pub node_of : Agent → Node
-node_of a = record { guid = a.node.guid; kind = a.node.kind; ports = a.node.ports; cap = a.node.cap; port_guid = port_guid a.node }
+node_of a = record {
+  guid = a.node.guid;
+  kind = a.node.kind;
+  ports = a.node.ports;
+  cap = a.node.cap;
+  port_guid =
+      port_guid a.node;
+}
 
 -- what changes it from outside ----------------------------------------------------------
 
@@ -74,7 +82,8 @@ with_port a port to = record a { ports = slice_set a.ports port to }
 
 -- a cable goes into a port, or comes out
 abbrev pub after_set_wired : Agent → ℕ → Bool → Agent
-after_set_wired a port is_wired = with_port a port (record (port_at a port) { state = if is_wired then Initialize else Down })
+after_set_wired a port is_wired =
+    with_port a port (record (port_at a port) { state = if is_wired then Initialize else Down })
 
 -- a subnet manager comes to sit at a port
 abbrev pub after_set_seat : Agent → ℕ → Agent

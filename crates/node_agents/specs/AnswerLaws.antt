@@ -29,7 +29,8 @@ AnsweredKeepsShape = (a : Agent) (packet : List ℕ) (arrival : ℕ) → KeepsSh
 
 -- an agent stays one, whatever it answers
 abbrev pub AnsweredIsAgent : Type 0
-AnsweredIsAgent = (a : Agent) (packet : List ℕ) (arrival : ℕ) → IsAgent a → IsAgent (after_answer a packet arrival).agent
+AnsweredIsAgent =
+    (a : Agent) (packet : List ℕ) (arrival : ℕ) → IsAgent a → IsAgent (after_answer a packet arrival).agent
 
 -- answers ---------------------------------------------------------------------------------
 
@@ -38,20 +39,24 @@ pub record IsPacket (packet : List ℕ) : Type 0 where
   pub count : length packet ≡ 256
   pub parses : fault_of packet ≡ None
 
--- an answer is a packet with the status and the attribute that are told; all else but the method stands as in the request
+-- an answer is a packet with the status and the attribute that are told; all else but the method stands as in the
+-- request
 abbrev pub AnswersHold : Type 0
 AnswersHold =
     (a : Agent) (packet : List ℕ) (arrival : ℕ) → IsAgent a → IsPacket packet
-    → (let told = (after_request a packet arrival).told in HoldsAnswer packet (after_answer a packet arrival).packet (status_told told) (payload_told told packet))
+    → (let told = (after_request a packet arrival).told in
+    HoldsAnswer packet (after_answer a packet arrival).packet (status_told told) (payload_told told packet))
 
 -- a Get leaves the agent as it was
 abbrev pub GetsChangeNothing : Type 0
-GetsChangeNothing = (a : Agent) (packet : List ℕ) (arrival : ℕ) → number_in method packet ≡ get → (after_answer a packet arrival).agent ≡ a
+GetsChangeNothing = (a : Agent) (packet : List ℕ) (arrival : ℕ) → number_in method packet ≡ get
+    → (after_answer a packet arrival).agent ≡ a
 
 -- so does a request whose answer has another status than 0
 abbrev pub RefusalsChangeNothing : Type 0
 RefusalsChangeNothing =
-    (a : Agent) (packet : List ℕ) (arrival : ℕ) → IsAgent a → IsPacket packet → status (after_answer a packet arrival).packet ≢ done
+    (a : Agent) (packet : List ℕ) (arrival : ℕ) → IsAgent a → IsPacket packet
+    → status (after_answer a packet arrival).packet ≢ done
     → (after_answer a packet arrival).agent ≡ a
 
 -- what is said ------------------------------------------------------------------------------
@@ -72,10 +77,12 @@ pub record SaysSwitch (a : Agent) (cap : ℕ) : Type 0 where
 
 -- by its attribute, of the agent that gave it to a request that came to one of its ports
 pub record Says (a : Agent) (arrival : ℕ) (answer : List ℕ) : Type 0 where
-  pub node : number_in attribute_id answer ≡ node_info → node_info_in (bytes_in attribute_data answer) ≡ node_info_of a.node arrival
+  pub node : number_in attribute_id answer ≡ node_info → node_info_in (bytes_in attribute_data answer)
+      ≡ node_info_of a.node arrival
   pub port : number_in attribute_id answer ≡ port_info
       → SaysPort a (number_in attribute_modifier answer) arrival (bits_in port_state (bytes_in attribute_data answer))
-  pub switch : number_in attribute_id answer ≡ switch_info → SaysSwitch a (number_in linear_fdb_cap (bytes_in attribute_data answer))
+  pub switch : number_in attribute_id answer ≡ switch_info
+      → SaysSwitch a (number_in linear_fdb_cap (bytes_in attribute_data answer))
 
 -- an answer with status 0, to a Get or a Set, says what is so of the node, but for LIDs and tables
 abbrev pub AnswersSay : Type 0
@@ -101,8 +108,10 @@ pub record IsAboutTheSame (p q : List ℕ) : Type 0 where
 -- a Get by the same port tells what the answer to the Set before it told
 abbrev pub GetsTellAsSets : Type 0
 GetsTellAsSets =
-    (a : Agent) (p q : List ℕ) (arrival number : ℕ) → IsTaken a p arrival number → IsPacket q → number_in method q ≡ get → IsAboutTheSame q p
-    → bytes_in attribute_data (after_answer (after_answer a p arrival).agent q arrival).packet ≡ bytes_in attribute_data (after_answer a p arrival).packet
+    (a : Agent) (p q : List ℕ) (arrival number : ℕ) → IsTaken a p arrival number → IsPacket q → number_in method q ≡ get
+    → IsAboutTheSame q p
+    → bytes_in attribute_data (after_answer (after_answer a p arrival).agent q arrival).packet
+    ≡ bytes_in attribute_data (after_answer a p arrival).packet
 
 -- a block that is set is told, stands in the table at its offset, and nothing else is changed
 pub record SetsBlock (a after : Agent) (block : ℕ) (payload told : List ℕ) : Type 0 where
@@ -115,7 +124,8 @@ pub record SetsBlock (a after : Agent) (block : ℕ) (payload told : List ℕ) :
 abbrev pub BlocksAreSet : Type 0
 BlocksAreSet =
     (a : Agent) (packet : List ℕ) (arrival : ℕ) → IsTaken a packet arrival linear_forwarding_table
-    → SetsBlock a (after_answer a packet arrival).agent (number_in attribute_modifier packet) (bytes_in attribute_data packet)
+    → SetsBlock a (after_answer a packet arrival).agent (number_in attribute_modifier packet)
+    (bytes_in attribute_data packet)
     (bytes_in attribute_data (after_answer a packet arrival).packet)
 
 -- the top that is set is told, and nothing else is changed
@@ -127,9 +137,11 @@ pub record SetsTop (a after : Agent) (payload told : List ℕ) : Type 0 where
 abbrev pub TopsAreSet : Type 0
 TopsAreSet =
     (a : Agent) (packet : List ℕ) (arrival : ℕ) → IsTaken a packet arrival switch_info
-    → SetsTop a (after_answer a packet arrival).agent (bytes_in attribute_data packet) (bytes_in attribute_data (after_answer a packet arrival).packet)
+    → SetsTop a (after_answer a packet arrival).agent (bytes_in attribute_data packet)
+    (bytes_in attribute_data (after_answer a packet arrival).packet)
 
--- the LID and the LMC that are set at a port with a LID are told, and so is the state; no other port and nothing else is changed
+-- the LID and the LMC that are set at a port with a LID are told, and so is the state; no other port and nothing else
+-- is changed
 pub record SetsPort (a after : Agent) (port : ℕ) (payload told : List ℕ) : Type 0 where
   pub lids : has_lid a port ≡ true → range_at after port ≡ range_in payload
   pub lids_told : has_lid a port ≡ true → range_in told ≡ range_in payload
@@ -142,12 +154,14 @@ abbrev pub PortsAreSet : Type 0
 PortsAreSet =
     (a : Agent) (packet : List ℕ) (arrival port : ℕ) → arrival ≤ a.node.ports → IsTaken a packet arrival port_info
     → port_meant a (number_in attribute_modifier packet) arrival ≡ Some port
-    → SetsPort a (after_answer a packet arrival).agent port (bytes_in attribute_data packet) (bytes_in attribute_data (after_answer a packet arrival).packet)
+    → SetsPort a (after_answer a packet arrival).agent port (bytes_in attribute_data packet)
+    (bytes_in attribute_data (after_answer a packet arrival).packet)
 
 -- from outside ------------------------------------------------------------------------------
 
 -- an agent that is made, wired at a port from 1 on, or given a subnet manager at a port of an adapter is one
 pub record AgentsAreMade : Type 0 where
   pub fresh : (node : AgentNode) → IsAgentNode node → length node.description ≡ 64 → IsAgent (fresh_agent node)
-  pub wired : (a : Agent) (port : ℕ) (is_wired : Bool) → IsAgent a → 1 ≤ port → IsAgent (after_set_wired a port is_wired)
+  pub wired : (a : Agent) (port : ℕ) (is_wired : Bool) → IsAgent a → 1 ≤ port
+      → IsAgent (after_set_wired a port is_wired)
   pub seated : (a : Agent) (port : ℕ) → IsAgent a → is_switch a ≡ false → IsAgent (after_set_seat a port)

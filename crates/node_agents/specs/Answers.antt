@@ -50,7 +50,9 @@ get_of a packet arrival = get_attribute a (number_in attribute_id packet) (numbe
 
 -- what a packet that sets makes of the agent
 unfoldable pub set_of : Agent → List ℕ → ℕ → Result Agent Refusal
-set_of a packet arrival = set_attribute a (number_in attribute_id packet) (number_in attribute_modifier packet) arrival (bytes_in attribute_data packet)
+set_of a packet arrival =
+    set_attribute a (number_in attribute_id packet) (number_in attribute_modifier packet) arrival
+    (bytes_in attribute_data packet)
 
 -- the answer to a Set that is taken tells what a Get would now
 abbrev pub met_set : Agent → Result Agent Refusal → List ℕ → ℕ → Met
@@ -83,4 +85,8 @@ pub record Answered : Type 0 where
 
 -- what an agent answers to a packet that came to a port of it
 unfoldable pub after_answer : Agent → List ℕ → ℕ → Answered
-after_answer a packet arrival = record { packet = answer_with packet (after_request a packet arrival).told; agent = (after_request a packet arrival).agent }
+after_answer a packet arrival = record {
+  packet = answer_with packet (after_request a packet arrival).told;
+  agent =
+      (after_request a packet arrival).agent;
+}

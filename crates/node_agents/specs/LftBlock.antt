@@ -14,4 +14,5 @@ get_block a block = if has_block a block then Some (take 64 (drop (64 * block) a
 
 -- all 64 of them
 abbrev pub set_block : Agent → ℕ → List ℕ → Option Agent
-set_block a block payload = if has_block a block then Some (record a { table = with_bytes (64 * block) payload a.table }) else None
+set_block a block payload =
+    if has_block a block then Some (record a { table = with_bytes (64 * block) payload a.table }) else None

@@ -23,11 +23,13 @@ port_meant a modifier arrival =
 abbrev pub port_info_of : Port → ℕ → List ℕ
 port_info_of port arrival =
     with_bits port_state (number_of_state port.state) (with_bits lmc port.lmc (with_bits is_sm_bit (flag port.is_sm)
-    (image (record { field = base_lid; number = port.base_lid } ∷ record { field = master_sm_lid; number = port.master_sm_lid }
+    (image (record { field = base_lid; number = port.base_lid }
+    ∷ record { field = master_sm_lid; number = port.master_sm_lid }
     ∷ record { field = local_port_num; number = arrival } ∷ []))))
 
 abbrev pub get_port_info : Agent → ℕ → ℕ → Option (List ℕ)
-get_port_info a modifier arrival = option_map (λ port. port_info_of (port_at a port) arrival) (port_meant a modifier arrival)
+get_port_info a modifier arrival =
+    option_map (λ port. port_info_of (port_at a port) arrival) (port_meant a modifier arrival)
 
 -- Set ---------------------------------------------------------------------------------
 
@@ -62,19 +64,23 @@ port_with port has_lid payload state =
 
 -- the LIDs of a payload are some that a port may have, with no greater LMC
 abbrev pub are_lids_taken : ℕ → List ℕ → Bool
-are_lids_taken max_lmc payload = nat_le (bits_in lmc payload) max_lmc && may_have (number_in base_lid payload) (bits_in lmc payload)
+are_lids_taken max_lmc payload =
+    nat_le (bits_in lmc payload) max_lmc && may_have (number_in base_lid payload) (bits_in lmc payload)
 
 -- what a payload makes of a port, if its LIDs are some that this port may have and the state wished for is granted
 abbrev pub port_after : Port → Bool → ℕ → List ℕ → Option Port
 port_after port has_lid max_lmc payload =
     if are_lids_taken max_lmc payload
-    then option_map (port_with port has_lid payload) (option_and_then (state_after port.state) (state_of_number (bits_in port_state payload)))
+    then option_map (port_with port has_lid payload)
+    (option_and_then (state_after port.state) (state_of_number (bits_in port_state payload)))
     else None
 
 -- the port that a Set means, and what the payload makes of it
 unfoldable pub changed_port : Agent → ℕ → ℕ → List ℕ → Option (ℕ × Port)
 changed_port a modifier arrival payload =
-    option_and_then (λ port. option_map (λ after. (port, after)) (port_after (port_at a port) (has_lid a port) (max_lmc a port) payload)) (port_meant a modifier arrival)
+    option_and_then (λ port. option_map (λ after. (port, after))
+    (port_after (port_at a port) (has_lid a port) (max_lmc a port) payload)) (port_meant a modifier arrival)
 
 abbrev pub set_port_info : Agent → ℕ → ℕ → List ℕ → Option Agent
-set_port_info a modifier arrival payload = option_map (λ changed. with_port a changed.0 changed.1) (changed_port a modifier arrival payload)
+set_port_info a modifier arrival payload =
+    option_map (λ changed. with_port a changed.0 changed.1) (changed_port a modifier arrival payload)

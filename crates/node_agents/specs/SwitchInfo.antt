@@ -8,8 +8,11 @@ use Rattle.node_agents.specs.Agent.{Agent}
 
 -- how many entries the table has room for, and the greatest LID that is forwarded; all else is 0
 abbrev pub get_switch_info : Agent → List ℕ
-get_switch_info a = image (record { field = linear_fdb_cap; number = a.node.cap } ∷ record { field = linear_fdb_top; number = a.top } ∷ [])
+get_switch_info a =
+    image (record { field = linear_fdb_cap; number = a.node.cap } ∷ record { field = linear_fdb_top; number = a.top }
+    ∷ [])
 
 -- the greatest LID that is forwarded, if the table has room for it; all else in it is ignored
 abbrev pub set_switch_info : Agent → List ℕ → Option Agent
-set_switch_info a payload = let top = number_in linear_fdb_top payload in if nat_lt top a.node.cap then Some (record a { top = top }) else None
+set_switch_info a payload = let top =
+    number_in linear_fdb_top payload in if nat_lt top a.node.cap then Some (record a { top = top }) else None

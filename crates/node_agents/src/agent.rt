@@ -188,8 +188,8 @@ impl Agent {
         self.ports[usize::from(port.number())].is_sm = true;
     }
 
-    /// The answer to a request that came to a port, and what a Set makes of the agent. A request that is refused changes
-    /// nothing. Takes time in proportion to the 64 bytes of an attribute.
+    /// The answer to a request that came to a port, and what a Set makes of the agent. A request that is refused
+    /// changes nothing. Takes time in proportion to the 64 bytes of an attribute.
     #[tactic(auto, unfolding(crate::specs::Answers::after_answer))]
     pub fn answer(&mut self, smp: &Smp, arrival: PortNum) -> Smp
         requires least { 1 ≤ arrival }

@@ -112,7 +112,8 @@ fn are_lids_taken(max_lmc: u8, info: &PortInfo) -> bool
     lmc.number() <= max_lmc && may_have(info.base_lid(), lmc)
 }
 
-/// Whether a port may have a LID with an LMC: none, or one that is a multiple of its count of LIDs, all of which are unicast.
+/// Whether a port may have a LID with an LMC: none, or one that is a multiple of its count of LIDs, all of which are
+/// unicast.
 fn may_have(base: Lid, lmc: Lmc) -> bool
     ensures { result ≡ may_have base lmc }
 {

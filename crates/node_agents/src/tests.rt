@@ -1,4 +1,5 @@
-//! The agents of the sample fabric's switch S2 and adapter H1: each status, each attribute byte for byte, and port states.
+//! The agents of the sample fabric's switch S2 and adapter H1: each status, each attribute byte for byte, and port
+//! states.
 use super::*;
 use attr_codec::{Attribute, NodeDescription, PortState};
 use smp_bytes::{AttributeId, Guid, Lid, Method, NodeType, Path, PortNum, Smp, Status};

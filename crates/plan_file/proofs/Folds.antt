@@ -72,7 +72,8 @@ fault_here text rest index number line later fault h e is =
 pub no_fault : (text rest : List ℕ) (index : LastLines) (number : ℕ) → HasJudged text rest index number → lines rest ≡ [] → first_fault text ≡ None
 no_fault text rest index number h e = sym h.fault ∙ ap (first_fault_from (number + 1) index) e
 
-pub held_all : (text rest : List ℕ) (index : LastLines) (held : HeldPlan) (number : ℕ) → HasRead text rest index held number → lines rest ≡ [] → held ≡ held_of text
+pub held_all : (text rest : List ℕ) (index : LastLines) (held : HeldPlan) (number : ℕ) → HasRead text rest index held number → lines rest ≡ [] → held
+    ≡ held_of text
 held_all text rest index held number h e = ap (λ ls. held_by held (items_from (number + 1) index ls)) (sym e) ∙ h.held_is
 
 -- what the loops over lines are proved by

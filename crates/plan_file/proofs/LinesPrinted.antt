@@ -73,9 +73,11 @@ lid_words_are r most port small = (
   (decimal_word r.first.lid (omega arith), (port_is_word r.first.port.node r.first.port.port port, lmc_words_are r.lmc small)),
 )
 
-lid_text : (lid lmc : ℕ) (e : EndPort) → lid_line (lid, lmc, e) ≡ line_text (lid_words (record { first = record { lid = lid; port = e }; lmc = lmc })) ++ 10 ∷ []
+lid_text : (lid lmc : ℕ) (e : EndPort) → lid_line (lid, lmc, e) ≡ line_text (lid_words (record { first = record { lid = lid; port = e }; lmc = lmc })) ++ 10
+    ∷ []
 lid_text lid zero e = joined_alone (codes "lid") (decimal lid) (port_text e.node e.port)
-lid_text lid (suc n) e = rw (ne_eqb (suc n) 0 (λ z. omega (arith, z))) (joined_five (codes "lid") (decimal lid) (port_text e.node e.port) (codes "lmc") (decimal (suc n)))
+lid_text lid (suc n) e =
+    rw (ne_eqb (suc n) 0 (λ z. omega (arith, z))) (joined_five (codes "lid") (decimal lid) (port_text e.node e.port) (codes "lmc") (decimal (suc n)))
 
 lid_follows : (number : ℕ) (last : Option HeldLid) (r : LidRange) → IsBelow last r.first.lid → lid_after number last r ≡ Ok (Lid r)
 lid_follows number None r below = refl
@@ -132,12 +134,14 @@ switch_is_said number index top guid most small before =
     rw (guid_is_read guid small, small_is_read 0xBFFF top (omega arith) most) (switch_follows number index.switch (record { guid = guid; top = top }) before)
 
 pub switch_passes : (index : LastLines) (top guid : ℕ) → top ≤ 0xBFFF → guid < 2 ^ 64 → IsBeforeSwitch index.switch guid
-    → Passes index (switch_line top guid) (Switch (record { guid = guid; top = top }) ∷ []) (last_lines_after index (Switch (record { guid = guid; top = top })))
+    → Passes index (switch_line top guid) (Switch (record { guid = guid; top = top })
+    ∷ []) (last_lines_after index (Switch (record { guid = guid; top = top })))
 switch_passes index top guid most small before =
     let held : HeldSwitch = record { guid = guid; top = top } in
     let P : List ℕ → Type 0 = λ t. Passes index t (Switch held ∷ []) (last_lines_after index (Switch held)) in
     subst P (sym (switch_text top guid))
-    (passes_line index (switch_words top guid) (Switch held) (switch_words_are top guid most) (λ number. switch_is_said number index top guid most small before))
+    (passes_line index (switch_words top guid) (Switch held) (switch_words_are top guid most)
+    (λ number. switch_is_said number index top guid most small before))
 
 -- the line of a block
 abbrev block_words : ℕ → List ℕ → List (List ℕ)

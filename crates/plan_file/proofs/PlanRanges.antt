@@ -104,7 +104,8 @@ module _ (facts : Facts) (range : AreInRange facts) where
   -- attachments and next ports
   attached_small : (g p : ℕ) (attachment : ℕ × ℕ) → attached cells g p ≡ Some attachment → attachment.1 ≤ 254
   attached_small g p attachment e =
-      elim (is_switch_node cells g) as (λ t. cond t None (option_and_then (λ q. cond (is_switch_node cells q.0) (Some q) None) (across cells g p)) ≡ Some attachment → attachment.1 ≤ 254) [
+      elim (is_switch_node cells g) as (λ t. cond t None (option_and_then (λ q. cond (is_switch_node cells q.0) (Some q) None) (across cells g p))
+      ≡ Some attachment → attachment.1 ≤ 254) [
         | true ↦ λ k. absurd (cc)
         | false ↦ λ k. (elim (across cells g p) as
             (λ o. across cells g p ≡ o → option_and_then (λ q. cond (is_switch_node cells q.0) (Some q) None) o ≡ Some attachment → attachment.1 ≤ 254) [
@@ -114,13 +115,15 @@ module _ (facts : Facts) (range : AreInRange facts) where
       ] e
     where
       by_kind : (q : ℕ × ℕ) (t : Bool) → across cells g p ≡ Some q → cond t (Some q) None ≡ Some attachment → attachment.1 ≤ 254
-      by_kind q true w m = let same : q ≡ attachment = same_Some q attachment m in let small = (wire_small g p q.0 q.1 w).1 in let port = ap (λ (x : ℕ × ℕ). x.1) same in omega arith
+      by_kind q true w m = let same : q ≡ attachment = same_Some q attachment m in let small = (wire_small g p q.0 q.1 w).1 in let port =
+          ap (λ (x : ℕ × ℕ). x.1) same in omega arith
       by_kind q false w m = cc
 
   attachment_small : (e : EndPort) (attachment : ℕ × ℕ) → attachment_of cells e ≡ Some attachment → attachment.1 ≤ 254
   attachment_small e attachment h =
       elim (is_usable cells e.node) as (λ t. cond t (Some (e.node, 0)) (attached cells e.node e.port) ≡ Some attachment → attachment.1 ≤ 254) [
-        | true ↦ λ k. let own : ℕ × ℕ = (e.node, 0) in let same : own ≡ attachment = same_Some own attachment k in let port = ap (λ (x : ℕ × ℕ). x.1) same in omega arith
+        | true ↦ λ k. let own : ℕ × ℕ = (e.node, 0) in let same : own ≡ attachment = same_Some own attachment k in let port =
+            ap (λ (x : ℕ × ℕ). x.1) same in omega arith
         | false ↦ λ k. attached_small e.node e.port attachment k
       ] h
 
@@ -171,7 +174,8 @@ module _ (facts : Facts) (range : AreInRange facts) where
         elim (cases_lt i 64) [
           | inl less ↦ let at : get_or (map f (range_with_len 0 64)) i 0 ≡ f i = get_or-map-range_with_len f 0 64 i i 0 less (omega arith) in
               let small = entry_small s (64 * b + i) there in omega arith
-          | inr more ↦ let at : get_or (map f (range_with_len 0 64)) i 0 ≡ 0 = past (map f (range_with_len 0 64)) i (omega (arith, length-map-range_with_len f 0 64)) in
+          | inr more ↦ let at : get_or (map f (range_with_len 0 64)) i 0 ≡ 0 =
+              past (map f (range_with_len 0 64)) i (omega (arith, length-map-range_with_len f 0 64)) in
               omega arith
         ]
       where
@@ -182,7 +186,11 @@ module _ (facts : Facts) (range : AreInRange facts) where
 
     is_block : (s b : ℕ) → Contains (switches cells) s → IsBlock (block (attachment_of_lid cells (lids lmc cells)) next s b)
     is_block s b there =
-        record { whole = length-map-range_with_len (λ j. entry (attachment_of_lid cells (lids lmc cells)) next s (64 * b + j)) 0 64; bytes = λ i. block_at_most s b i there }
+        record {
+          whole = length-map-range_with_len (λ j. entry (attachment_of_lid cells (lids lmc cells)) next s (64 * b + j)) 0 64;
+          bytes =
+              λ i. block_at_most s b i there;
+        }
 
     all_blocks : (s : ℕ) (bs : List ℕ) → Contains (switches cells) s → AllByRecursion IsBlock (map (block (attachment_of_lid cells (lids lmc cells)) next s) bs)
     all_blocks s [] there = tt
@@ -215,7 +223,8 @@ module _ (facts : Facts) (range : AreInRange facts) where
 
       end_small : (e : EndPort) (n : ℕ) → Contains (lids lmc cells).ports (e, n) → (e.node < 2 ^ 64) × (e.port ≤ 254)
       end_small e n there =
-          let listed = subst (λ (xs : List EndPort). Contains xs e) good.end_ports_in_order (contains_map (λ (x : EndPort × ℕ). x.0) (lids lmc cells).ports (e, n) there) in
+          let listed = subst (λ (xs : List EndPort). Contains xs e) good.end_ports_in_order
+          (contains_map (λ (x : EndPort × ℕ). x.0) (lids lmc cells).ports (e, n) there) in
           let (kind, ports, known, number, guid) = ((end_ports_law facts).0 e).0 listed in
           let count : port_count_of cells e.node ≡ ports = ap (λ o. option_map_or (λ x. x.1) o 0) known in (
             node_small e.node (ap is_some known),
@@ -259,7 +268,8 @@ module _ (facts : Facts) (range : AreInRange facts) where
         lmc = small;
         lids = all_of (IsLidInRange (lids lmc cells)) (rising_lids (lids lmc cells)) lid_range;
         top = top_most;
-        rising = subst IsStrictlyIncreasing (graph_guids cells ∙ sym (guids_are (block_count (top_of (lids lmc cells))) (switches cells))) (switches_rise facts);
+        rising = subst IsStrictlyIncreasing (graph_guids cells
+            ∙ sym (guids_are (block_count (top_of (lids lmc cells))) (switches cells))) (switches_rise facts);
         tables = all_tables (block_count (top_of (lids lmc cells))) (switches cells) few_blocks (λ s there. there);
       }
 

@@ -39,8 +39,11 @@ rises_more low n (m ∷ ns) h r = let above = r.0 in (omega arith, r.1)
 -- numbers that rise, by recursion
 rises_from : (low : ℕ) (ns : List ℕ) → ((k : ℕ) → k < length ns → low < get_or ns k 0) → AllPairs (λ m n. m < n) ns → Rises low ns
 rises_from low [] above pairs = tt
-rises_from low (n ∷ ns) above pairs =
-    (above 0 (omega arith), rises_from n ns (λ k h. pairs 0 (suc k) 0 (omega arith) (omega arith)) (λ i j d h l. pairs (suc i) (suc j) d (omega arith) (omega arith)))
+rises_from low (n ∷ ns) above pairs = (
+  above 0 (omega arith),
+  rises_from n ns (λ k h. pairs 0 (suc k) 0 (omega arith) (omega arith))
+      (λ i j d h l. pairs (suc i) (suc j) d (omega arith) (omega arith)),
+)
 
 -- the last LID is no greater than a number
 abbrev IsUpTo : Option HeldLid → ℕ → Type 0
@@ -89,7 +92,8 @@ owner_passes given index low n (Some port) text held small e range is above late
       passes = passes_then index next behind (lid_line (n, lmc_of given port, port)) text (Lid here ∷ []) (map Lid held) first rest.passes;
     }
 
-lids_pass : (given : Given) (index : LastLines) (low : ℕ) (ns : List ℕ) → given.lmc ≤ 7 → AllByRecursion (IsLidInRange given) ns → IsUpTo index.lid low → Rises low ns
+lids_pass : (given : Given) (index : LastLines) (low : ℕ) (ns : List ℕ) → given.lmc ≤ 7 → AllByRecursion (IsLidInRange given) ns → IsUpTo index.lid low
+    → Rises low ns
     → LidsPass index (flat_map (owner_line given) ns) (map Lid (filter_map (owned_range given) ns))
 lids_pass given index low [] small range is rises = record { last = index.lid; passes = passes_none index }
 lids_pass given index low (n ∷ ns) small range is rises =
@@ -174,7 +178,8 @@ held_lids h (r ∷ rs) =
 abbrev at_switch : ℕ → ℕ × List ℕ → HeldBlock
 at_switch index x = record { switch = index; number = x.0; entries = x.1 }
 
-held_blocks : (h : HeldPlan) (xs : List (ℕ × List ℕ)) → held_by h (map block_item xs) ≡ record h { blocks = h.blocks ++ map (at_switch (length h.switches - 1)) xs }
+held_blocks : (h : HeldPlan) (xs : List (ℕ × List ℕ)) → held_by h (map block_item xs)
+    ≡ record h { blocks = h.blocks ++ map (at_switch (length h.switches - 1)) xs }
 held_blocks h [] = ap (λ bs. record h { blocks = bs }) (sym (append-nil h.blocks))
 held_blocks h (x ∷ xs) =
     held_blocks (held_with h (block_item x)) xs
@@ -207,7 +212,8 @@ held_tables h top (table ∷ tables) =
     held_append h (table_items top table) (flat_map (table_items top) tables)
     ∙ ap (λ g. held_by g (flat_map (table_items top) tables)) (held_table h top table)
     ∙ held_tables next top tables
-    ∙ ap (λ ss. with_tables h ss ((h.blocks ++ own) ++ blocks_of (length (h.switches ++ s ∷ [])) tables)) (append_assoc h.switches (s ∷ []) (map (with_own_top top) tables))
+    ∙ ap (λ ss. with_tables h ss ((h.blocks ++ own) ++ blocks_of (length (h.switches ++ s ∷ [])) tables)) (append_assoc h.switches (s
+    ∷ []) (map (with_own_top top) tables))
     ∙ ap (λ n. with_tables h (h.switches ++ s ∷ map (with_own_top top) tables) ((h.blocks ++ own) ++ blocks_of n tables)) (one_more h.switches s)
     ∙ ap (with_tables h (h.switches ++ s ∷ map (with_own_top top) tables)) (append_assoc h.blocks own (blocks_of (suc (length h.switches)) tables))
 

@@ -80,7 +80,8 @@ entries_are word =
     cond_both (length word % 2 == 1) (Err OddLength) (cond (length word / 2 == 64) pairs (Err InvalidStringLength)) P (λ _. tt)
     (λ _. cond_both (length word / 2 == 64) pairs (Err InvalidStringLength) P (λ e. pairs_are word pairs refl (eqb-true (length word / 2) 64 e)) (λ _. tt))
 
-with_entries : (number : Option ℕ) (o : Option (List ℕ)) → AreEntries o → IsLine (option_map line.Block (option_map (λ e. record { number = number; entries = e }) o))
+with_entries : (number : Option ℕ) (o : Option (List ℕ)) → AreEntries o
+    → IsLine (option_map line.Block (option_map (λ e. record { number = number; entries = e }) o))
 with_entries number None h = tt
 with_entries number (Some entries) h = h
 
@@ -90,7 +91,8 @@ with_small None word = tt
 with_small (Some number) word = with_entries number (entries_of word) (entries_are word)
 
 with_block_words : (o : Option (List ℕ × List ℕ))
-    → IsLine (option_map line.Block (option_and_then (λ x. option_and_then (λ n. option_map (λ e. record { number = n; entries = e }) (entries_of x.1)) (small_of 767 x.0)) o))
+    → IsLine (option_map line.Block
+    (option_and_then (λ x. option_and_then (λ n. option_map (λ e. record { number = n; entries = e }) (entries_of x.1)) (small_of 767 x.0)) o))
 with_block_words None = tt
 with_block_words (Some x) = with_small (small_of 767 x.0) x.1
 

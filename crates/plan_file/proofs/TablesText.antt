@@ -43,7 +43,8 @@ part_all a b left all h none =
     subst P (sym (append-nil h.part) ∙ ap (λ t. h.part ++ t) (sym none) ∙ h.parts) h.written
 
 -- a switch more
-pub switch_more : (switches : List HeldSwitch) (blocks : List HeldBlock) (index : ℕ) (switch : HeldSwitch) (own later : List HeldBlock) → index < length switches
+pub switch_more : (switches : List HeldSwitch) (blocks : List HeldBlock) (index : ℕ) (switch : HeldSwitch) (own later : List HeldBlock) → index
+    < length switches
     → switch ≡ get_or switches index switch → own ≡ first_blocks index blocks → later ≡ later_blocks index blocks
     → switches_text index (drop index switches) blocks
     ≡ (switch_line switch.top switch.guid ++ flat_map block_text own) ++ switches_text (index + 1) (drop (index + 1) switches) later

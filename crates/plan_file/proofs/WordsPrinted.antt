@@ -56,7 +56,8 @@ no_slash b h = rw (digit_apart b 47 refl h) refl
 pub port_is_read : (g p : ℕ) → g < 2 ^ 64 → p ≤ 254 → port_of (port_text g p) ≡ Some (g, Some p)
 port_is_read g p h within =
     let split : until 47 (port_text g p) ≡ Some (guid_text g, decimal p) =
-    ap (until 47) (slashed g p) ∙ until_then 47 (guid_text g) (decimal p) (digits_all 16 (λ b. not (b == 47)) (guid_text g) (omega arith) no_slash (hex_digits 16 g)) in
+    ap (until 47) (slashed g p)
+    ∙ until_then 47 (guid_text g) (decimal p) (digits_all 16 (λ b. not (b == 47)) (guid_text g) (omega arith) no_slash (hex_digits 16 g)) in
     rw (split, guid_is_read g h, small_is_read 254 p (omega arith) within) refl
 
 -- entries
@@ -79,7 +80,8 @@ hex_digit d h =
 later_bytes : (b : ℕ) (bytes : List ℕ) → IsBytes (b ∷ bytes) → IsBytes bytes
 later_bytes b bytes h i = h (suc i)
 
-each_digit : (p : ℕ → Bool) (bytes : List ℕ) → ((d : ℕ) → d < 16 → p (slice_index lower_digits d) ≡ true) → IsBytes bytes → list_all p (encode_lower bytes) ≡ true
+each_digit : (p : ℕ → Bool) (bytes : List ℕ) → ((d : ℕ) → d < 16 → p (slice_index lower_digits d) ≡ true) → IsBytes bytes → list_all p (encode_lower bytes)
+    ≡ true
 unfolding encode_with
 each_digit p [] passes small = refl
 each_digit p (b ∷ bytes) passes small =

@@ -31,7 +31,8 @@ owned_lids given = flat_map lids_of (filter_map (owned_range given) (rising_lids
 
 -- the blocks of the switch at an index, that count from a number on
 abbrev pub blocks_from : ℕ → ℕ → List (List ℕ) → List HeldBlock
-blocks_from index number blocks = map (λ x. record { switch = index; number = x.0; entries = x.1 }) (enumerate_from number blocks)
+blocks_from index number blocks =
+    map (λ x. record { switch = index; number = x.0; entries = x.1 }) (enumerate_from number blocks)
 
 -- the blocks of switches, that count from an index on
 abbrev pub blocks_of : ℕ → List SwitchTable → List HeldBlock
@@ -84,7 +85,8 @@ IsRead plan = (first_fault (plan_text plan) ≡ None) × (held_of (plan_text pla
 abbrev pub PrintedPlansAreRead : Type 0
 PrintedPlansAreRead = (plan : PlanValue) → IsPlanInRange plan → IsRead plan
 
--- so is that of the plan, by each rule and under each LMC, of a view whose facts are in range, where there is room for its LIDs
+-- so is that of the plan, by each rule and under each LMC, of a view whose facts are in range, where there is room for
+-- its LIDs
 abbrev pub PlansAreRead : Type 0
 PlansAreRead =
     (rule : RuleValue) (lmc : ℕ) (facts : Facts) → lmc ≤ 7 → AreInRange facts → ¬ (IsNoRoom lmc (cells_of facts))

@@ -30,7 +30,8 @@ held_under top plan = record {
 
 abbrev pub PrintedTablesAreRead : Type 0
 PrintedTablesAreRead =
-    (top : ℕ → ℕ) (plan : PlanValue) → IsPlanInRange plan → AreTops top plan.tables → Says (next_text plan.given (held_under top plan)) (held_under top plan)
+    (top : ℕ → ℕ) (plan : PlanValue) → IsPlanInRange plan → AreTops top plan.tables
+    → Says (next_text plan.given (held_under top plan)) (held_under top plan)
 
 -- tops are LIDs, and blocks have 64 entries, each a byte
 pub record IsHeldInRange (held : HeldPlan) : Type 0 where

@@ -32,7 +32,8 @@ fault_at number what = Err (record { line = number; wrong = what })
 -- of a LID that is not less, it or its end port is greater
 abbrev pub is_behind : HeldLid → HeldLid → Bool
 is_behind last held =
-    nat_lt last.lid held.lid || nat_lt last.port.node held.port.node || (last.port.node == held.port.node && nat_lt last.port.port held.port.port)
+    nat_lt last.lid held.lid || nat_lt last.port.node held.port.node
+    || (last.port.node == held.port.node && nat_lt last.port.port held.port.port)
 
 -- the LIDs of an end port behind the last one's
 abbrev pub lid_behind : ℕ → HeldLid → LidRange → Result Item PlanLineFault
@@ -55,12 +56,17 @@ lid_with number last None node port lmc = fault_at number wrong.Lid
 lid_with number last (Some lid) node None lmc = fault_at number wrong.Port
 lid_with number last (Some lid) node (Some port) None = fault_at number wrong.Lmc
 lid_with number last (Some lid) node (Some port) (Some lmc) =
-    lid_in_room number last (record { first = record { lid = lid; port = record { node = node; port = port } }; lmc = lmc })
+    lid_in_room number last (record {
+      first = record { lid = lid; port = record { node = node; port = port } };
+      lmc =
+          lmc;
+    })
 
 -- a switch behind the last one
 abbrev pub switch_after : ℕ → Option ℕ → HeldSwitch → Result Item PlanLineFault
 switch_after number None switch = Ok (Switch switch)
-switch_after number (Some last) switch = if nat_lt last switch.guid then Ok (Switch switch) else fault_at number wrong.Switch
+switch_after number (Some last) switch =
+    if nat_lt last switch.guid then Ok (Switch switch) else fault_at number wrong.Switch
 
 abbrev pub switch_with : ℕ → Option ℕ → ℕ → Option ℕ → Result Item PlanLineFault
 switch_with number last guid None = fault_at number wrong.Lid
@@ -69,7 +75,8 @@ switch_with number last guid (Some top) = switch_after number last (record { gui
 -- a block below a switch, behind the last one
 abbrev pub block_after : ℕ → ℕ → Option ℕ → List ℕ → Result Item PlanLineFault
 block_after number next None entries = fault_at number wrong.Block
-block_after number next (Some block) entries = if nat_lt block next then fault_at number wrong.Block else Ok (Block block entries)
+block_after number next (Some block) entries =
+    if nat_lt block next then fault_at number wrong.Block else Ok (Block block entries)
 
 abbrev pub block_below : ℕ → Option ℕ → ℕ → Option ℕ → List ℕ → Result Item PlanLineFault
 block_below number None next block entries = fault_at number wrong.Syntax
@@ -95,13 +102,15 @@ then_or (Err fault) next last = last fault
 abbrev pub first_fault_from : ℕ → LastLines → List (List ℕ) → Option PlanLineFault
 first_fault_from number last_lines [] = None
 first_fault_from number last_lines (l ∷ later) =
-    then_or (item_of number last_lines (line_of l)) (λ item. first_fault_from (number + 1) (last_lines_after last_lines item) later) Some
+    then_or (item_of number last_lines (line_of l)) (λ item. first_fault_from (number
+    + 1) (last_lines_after last_lines item) later) Some
 
 -- what the lines before the first fault say
 abbrev pub items_from : ℕ → LastLines → List (List ℕ) → List Item
 items_from number last_lines [] = []
 items_from number last_lines (l ∷ later) =
-    then_or (item_of number last_lines (line_of l)) (λ item. item ∷ items_from (number + 1) (last_lines_after last_lines item) later) (λ fault. [])
+    then_or (item_of number last_lines (line_of l)) (λ item. item
+    ∷ items_from (number + 1) (last_lines_after last_lines item) later) (λ fault. [])
 
 -- what is held, with what a line more says: a block is of the last switch
 abbrev pub held_with : HeldPlan → Item → HeldPlan
@@ -109,7 +118,10 @@ held_with held Nothing = held
 held_with held (Lid range) = record held { lids = held.lids ++ lids_of range }
 held_with held (Switch switch) = record held { switches = held.switches ++ switch ∷ [] }
 held_with held (Block number entries) =
-    record held { blocks = held.blocks ++ record { switch = length held.switches - 1; number = number; entries = entries } ∷ [] }
+    record held {
+      blocks = held.blocks
+          ++ record { switch = length held.switches - 1; number = number; entries = entries } ∷ [];
+    }
 
 abbrev pub held_by : HeldPlan → List Item → HeldPlan
 held_by held [] = held

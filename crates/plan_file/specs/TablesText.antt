@@ -22,11 +22,13 @@ later_blocks index blocks = drop (prefix_len (is_of index) blocks) blocks
 abbrev pub block_text : HeldBlock → List ℕ
 block_text block = block_line (block.number, block.entries)
 
--- switches that count from an index on: of each its line, with its top, and a line for each of its blocks, which are at the head
+-- switches that count from an index on: of each its line, with its top, and a line for each of its blocks, which are at
+-- the head
 abbrev pub switches_text : ℕ → List HeldSwitch → List HeldBlock → List ℕ
 switches_text index [] blocks = []
 switches_text index (switch ∷ switches) blocks =
-    switch_line switch.top switch.guid ++ flat_map block_text (first_blocks index blocks) ++ switches_text (suc index) switches (later_blocks index blocks)
+    switch_line switch.top switch.guid ++ flat_map block_text (first_blocks index blocks)
+    ++ switches_text (suc index) switches (later_blocks index blocks)
 
 -- the switches with their blocks
 abbrev pub tables_text_of : HeldPlan → List ℕ

@@ -31,12 +31,14 @@ lid_of_port lid rest p = option_map (λ lmc. record { lid = lid; node = p.0; por
 abbrev pub lid_line : List (List ℕ) → Option LidLine
 lid_line [] = None
 lid_line (lid ∷ []) = None
-lid_line (lid ∷ port ∷ rest) = option_and_then (λ n. option_and_then (lid_of_port n rest) (port_of port)) (count_of 0xBFFF lid)
+lid_line (lid ∷ port ∷ rest) =
+    option_and_then (λ n. option_and_then (lid_of_port n rest) (port_of port)) (count_of 0xBFFF lid)
 
 -- a switch's GUID; 'top', and its top
 abbrev pub top_line : List ℕ → List ℕ × List ℕ → Option SwitchLine
 top_line guid x =
-    if bytes_eq x.0 (codes "top") then option_and_then (λ g. option_map (λ t. record { guid = g; top = t }) (small_of 0xBFFF x.1)) (bare_guid_of guid)
+    if bytes_eq x.0 (codes "top") then option_and_then
+    (λ g. option_map (λ t. record { guid = g; top = t }) (small_of 0xBFFF x.1)) (bare_guid_of guid)
     else None
 
 abbrev pub switch_line : List (List ℕ) → Option SwitchLine
@@ -46,7 +48,8 @@ switch_line (guid ∷ rest) = option_and_then (top_line guid) (both rest)
 -- the number of a block, and its entries
 abbrev pub block_line : List (List ℕ) → Option BlockLine
 block_line words =
-    option_and_then (λ x. option_and_then (λ n. option_map (λ e. record { number = n; entries = e }) (entries_of x.1)) (small_of 767 x.0)) (both words)
+    option_and_then (λ x. option_and_then (λ n. option_map (λ e. record { number = n; entries = e }) (entries_of x.1))
+    (small_of 767 x.0)) (both words)
 
 -- the line that the words are
 abbrev pub line_in : List (List ℕ) → Option TextLine

@@ -20,7 +20,8 @@ bare_guid_of word = guid_of (codes "0x" ++ word)
 -- a node's GUID, a slash, and a port of it, and whether that is not over 254
 abbrev pub port_of : List ℕ → Option (ℕ × Option ℕ)
 port_of word =
-    option_and_then (λ x. option_and_then (λ node. option_map (λ port. (node, port)) (small_of 254 x.1)) (bare_guid_of x.0)) (until 47 word)
+    option_and_then (λ x. option_and_then (λ node. option_map (λ port. (node, port)) (small_of 254 x.1))
+    (bare_guid_of x.0)) (until 47 word)
 
 -- the entries of a block: two hex digits each
 abbrev pub entries_of : List ℕ → Option (List ℕ)

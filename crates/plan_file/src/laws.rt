@@ -14,8 +14,8 @@ pub fn plans_are_read()
     ensures law { PlansAreRead }
 {}
 
-/// The text of tables whose switches have tops of their own, with the LIDs of a plan in front, has no fault, and is read as
-/// these tables.
+/// The text of tables whose switches have tops of their own, with the LIDs of a plan in front, has no fault, and is
+/// read as these tables.
 pub fn printed_tables_are_read()
     ensures law { PrintedTablesAreRead }
 {}

@@ -21,8 +21,8 @@ pub fn write_next<W: Sink>(sink: &mut W, lids: &LidMap, next: &Held) -> Result<(
     sink.flush()
 }
 
-/// Writes tables: for each switch in turn a line with its top, and one for each of its blocks, which stand by the indices
-/// of their switches.
+/// Writes tables: for each switch in turn a line with its top, and one for each of its blocks, which stand by the
+/// indices of their switches.
 pub fn write_tables<W: Sink>(sink: &mut W, held: &Held) -> Result<(), WriteFault>
     ensures { WritesPart W.written W.has_failed result sink.old sink.new (tables_text_of held.now) }
 {

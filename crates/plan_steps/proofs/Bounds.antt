@@ -75,7 +75,8 @@ module _ (rule : RuleValue) (lmc : ℕ) (facts : Facts) (s : Sweep) (master : �
   top_fits : IsTop (top_of (lids lmc (cells_of facts)))
   top_fits n e =
       top_below lmc (lids lmc (cells_of facts)).ports 0xC000 n
-      (λ x lid there. let fits = ((lids_law lmc facts has_room).each_fits x lid there).in_room in let most = room_at_most (cells_of facts) in omega (arith, fits, most)) e
+      (λ x lid there. let fits = ((lids_law lmc facts has_room).each_fits x lid there).in_room in let most = room_at_most (cells_of facts) in
+      omega (arith, fits, most)) e
 
   lids_fit : length (rising_lids (lids lmc (cells_of facts))) ≤ 0xC000
   lids_fit =
@@ -97,7 +98,8 @@ module _ (rule : RuleValue) (lmc : ℕ) (facts : Facts) (s : Sweep) (master : �
   top_steps_fit = by_top (top_of (lids lmc (cells_of facts)))
     where
       by_top : (top : Option ℕ)
-          → length (option_map_or (λ t. filter_map (top_step s t) (switches_of (plan_of rule lmc (cells_of facts)))) top []) ≤ length (switches (cells_of facts))
+          → length (option_map_or (λ t. filter_map (top_step s t) (switches_of (plan_of rule lmc (cells_of facts)))) top [])
+          ≤ length (switches (cells_of facts))
       by_top None = omega arith
       by_top (Some t) =
           let found = found_at_most (top_step s t) (switches_of (plan_of rule lmc (cells_of facts))) in

@@ -95,7 +95,8 @@ module _ (cells : Cells) (port_guid port : ℕ) where
             })
         | false ↦ λ q.
             let other : (e : EndPort) (n : ℕ) → x ≡ (e, n) → IsOwnPort cells port_guid port e → ⊥ =
-            λ e n i own. let t : is_own_port cells port_guid port x.0 ≡ true = ap (λ y. is_own_port cells port_guid port y.0) i ∙ test_from_own e own in absurd (cc) in
+            λ e n i own. let t : is_own_port cells port_guid port x.0 ≡ true =
+            ap (λ y. is_own_port cells port_guid port y.0) i ∙ test_from_own e own in absurd (cc) in
             (elim (own_lid_is given (later_pairs (ComesBefore cells) x.0 (map (λ z. z.0) given) pairs)) [
               | inl r ↦ inl (record {
                 end = r.end;

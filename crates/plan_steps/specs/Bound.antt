@@ -17,4 +17,5 @@ most_steps cells = 0xC000 + 768 * length (switches cells) + length cells
 abbrev pub PhaseBoundLaw : Type 0
 PhaseBoundLaw =
     (rule : RuleValue) (lmc : ℕ) (facts : Facts) (s : Sweep) (master : ℕ) → ¬ (IsNoRoom lmc (cells_of facts))
-    → AllByRecursion (λ p. length p.steps ≤ most_steps (cells_of facts)) (phases_by (plan_of rule lmc (cells_of facts)) (cells_of facts) s master)
+    → AllByRecursion (λ p. length p.steps
+    ≤ most_steps (cells_of facts)) (phases_by (plan_of rule lmc (cells_of facts)) (cells_of facts) s master)

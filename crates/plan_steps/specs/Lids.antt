@@ -18,9 +18,11 @@ use Rattle.plan_steps.specs.Step.{step_at}
 
 -- an end port of this number whose GUID is known to be this one
 abbrev pub is_own_port : Cells → ℕ → ℕ → EndPort → Bool
-is_own_port cells port_guid port e = e.port == port && option_map_or (λ guid. guid == port_guid) (port_guid_of cells e.node e.port) false
+is_own_port cells port_guid port e =
+    e.port == port && option_map_or (λ guid. guid == port_guid) (port_guid_of cells e.node e.port) false
 
--- the LID of the manager at the port of this GUID and number: that of the first such end port, and 0 where there is none
+-- the LID of the manager at the port of this GUID and number: that of the first such end port, and 0 where there is
+-- none
 abbrev pub own_lid : Cells → List (EndPort × ℕ) → ℕ → ℕ → ℕ
 own_lid cells given port_guid port = option_map_or (λ x. x.1) (find (λ x. is_own_port cells port_guid port x.0) given) 0
 
@@ -36,7 +38,8 @@ lid_step sweep master range e = step_at sweep e.node e.port port_info e.port (po
 
 -- the step of the end port that has a LID
 abbrev pub owner_step : Sweep → ℕ → Given → ℕ → Option Step
-owner_step sweep master given lid = option_and_then (λ e. lid_step sweep master (lid, lmc_of given e) e) (owner_of given lid)
+owner_step sweep master given lid =
+    option_and_then (λ e. lid_step sweep master (lid, lmc_of given e) e) (owner_of given lid)
 
 -- each end port that was reached gets its LID and its LMC, by rising LIDs
 abbrev pub lid_steps : Sweep → ℕ → Given → List Step
@@ -57,14 +60,17 @@ pub record IsOwnLid (cells : Cells) (given : List (EndPort × ℕ)) (port_guid p
 
 -- there is no such end port
 abbrev pub HasNoOwnPort : Cells → List (EndPort × ℕ) → ℕ → ℕ → Type 0
-HasNoOwnPort cells given port_guid port = (e : EndPort) (n : ℕ) → Contains given (e, n) → IsOwnPort cells port_guid port e → ⊥
+HasNoOwnPort cells given port_guid port =
+    (e : EndPort) (n : ℕ) → Contains given (e, n) → IsOwnPort cells port_guid port e → ⊥
 
 -- it is the one, or there is none and it is 0
 abbrev pub IsOwnLidOr0 : Cells → List (EndPort × ℕ) → ℕ → ℕ → ℕ → Type 0
-IsOwnLidOr0 cells given port_guid port lid = IsOwnLid cells given port_guid port lid ⊎ (HasNoOwnPort cells given port_guid port × (lid ≡ 0))
+IsOwnLidOr0 cells given port_guid port lid =
+    IsOwnLid cells given port_guid port lid ⊎ (HasNoOwnPort cells given port_guid port × (lid ≡ 0))
 
 -- where there is room, the LID of the manager is so
 abbrev pub OwnLidLaw : Type 0
 OwnLidLaw =
     (lmc : ℕ) (facts : Facts) → ¬ (IsNoRoom lmc (cells_of facts)) → (port_guid port : ℕ)
-    → IsOwnLidOr0 (cells_of facts) (lids lmc (cells_of facts)).ports port_guid port (own_lid (cells_of facts) (lids lmc (cells_of facts)).ports port_guid port)
+    → IsOwnLidOr0 (cells_of facts) (lids lmc (cells_of facts)).ports port_guid port
+    (own_lid (cells_of facts) (lids lmc (cells_of facts)).ports port_guid port)

@@ -43,7 +43,8 @@ vertex_port cells at = if is_usable cells at.0 then 0 else at.1
 -- an end port's LIDs go with its state; a switch's other ports have none
 abbrev pub state_data : Given → ℕ → PortState → ℕ × ℕ → List ℕ
 state_data given master state at =
-    option_map_or (λ range. port_data range master state) (range_of given (record { node = at.0; port = at.1 })) (port_data (0, 0) 0 state)
+    option_map_or (λ range. port_data range master state) (range_of given (record { node = at.0; port = at.1 }))
+    (port_data (0, 0) 0 state)
 
 -- the state of a port that the sweep saw in one from which it is still to come to it
 abbrev pub state_step : Cells → Sweep → Given → ℕ → PortState → ℕ × ℕ → Option Step

@@ -14,4 +14,10 @@ set_packet transaction step = directed set step.attribute step.modifier transact
 -- sweep did not reach it
 abbrev pub step_at : Sweep → ℕ → ℕ → ℕ → ℕ → List ℕ → Option Step
 step_at sweep guid vertex attribute modifier payload =
-    option_map (λ path. record { path = path; attribute = attribute; modifier = modifier; payload = payload }) (path_to sweep guid vertex)
+    option_map (λ path. record {
+      path = path;
+      attribute = attribute;
+      modifier = modifier;
+      payload =
+          payload;
+    }) (path_to sweep guid vertex)

@@ -19,7 +19,8 @@ block_step sweep plan guid b = option_and_then (step_at sweep guid 0 linear_forw
 
 -- the blocks of a switch that was reached, from 0 to that of the greatest LID
 abbrev pub switch_steps : Sweep → PlanValue → ℕ → List Step
-switch_steps sweep plan guid = filter_map (block_step sweep plan guid) (range_with_len 0 (block_count (top_of plan.given)))
+switch_steps sweep plan guid =
+    filter_map (block_step sweep plan guid) (range_with_len 0 (block_count (top_of plan.given)))
 
 -- the blocks of each usable switch, by rising GUID
 abbrev pub block_steps : Sweep → PlanValue → List Step

@@ -11,7 +11,8 @@ const NUMBERS: usize = 0xC000;
 /// One for each block of these.
 const BLOCKS: usize = NUMBERS / 64;
 
-/// How many steps a phase of the plan of a store has at most, as far as 64 bits count. Takes no memory, and walks the cells.
+/// How many steps a phase of the plan of a store has at most, as far as 64 bits count. Takes no memory, and walks the
+/// cells.
 pub fn most_steps(store: &Store) -> usize
     ensures { result ≡ min (most_steps (cells_of store.now)) (2 ^ 64 - 1) }
 {

@@ -50,9 +50,11 @@ module _ (ups : List (List Edge)) (rise : LeadToLesser ups) (distances : List (O
           all = omega (arith, length_push costs c, are.all);
           cost = λ a h. (elim (cases_eq a n) [
             | inl same ↦ ap (λ x. slice_index_or (costs ++ c ∷ []) x None) same ∙ get_or_push costs c None n are.all ∙ is
-                ∙ sym (cost_kept n (slice_index_or distances n None) (omega arith)) ∙ (λ i. cost_of (slice_index_or distances (sym same i) None) (edges_at ups (sym same i)) (costs ++ c ∷ []))
+                ∙ sym (cost_kept n (slice_index_or distances n None) (omega arith))
+                ∙ (λ i. cost_of (slice_index_or distances (sym same i) None) (edges_at ups (sym same i)) (costs ++ c ∷ []))
             | inr other ↦ let below : a < n = grind arith in
-                get_or_append_left costs (c ∷ []) None a (omega (arith, are.all)) ∙ are.cost a below ∙ sym (cost_kept a (slice_index_or distances a None) (omega arith))
+                get_or_append_left costs (c ∷ []) None a (omega (arith, are.all)) ∙ are.cost a below
+                ∙ sym (cost_kept a (slice_index_or distances a None) (omega arith))
           ]);
         }
 

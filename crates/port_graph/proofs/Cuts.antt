@@ -21,7 +21,8 @@ cut_kept edges more (span ∷ spans) within =
     ap₂ (λ (x : List Edge) (xs : List (List Edge)). x ∷ xs) (part_kept edges more span first.0 first.1) (cut_kept edges more spans rest)
 
 -- it is one more part itself
-pub cut_pushed : (edges more : List Edge) (spans : List Span) (span : Span) → AreWithin edges spans → span.start ≡ length edges → span.end ≡ length edges + length more
+pub cut_pushed : (edges more : List Edge) (spans : List Span) (span : Span) → AreWithin edges spans → span.start ≡ length edges → span.end ≡ length edges
+    + length more
     → cut (edges ++ more) (spans ++ span ∷ []) ≡ cut edges spans ++ more ∷ []
 cut_pushed edges more spans span within start end =
     let last : part (edges ++ more) span ≡ more =

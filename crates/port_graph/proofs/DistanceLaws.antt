@@ -29,7 +29,8 @@ among_numbers (suc n) k h =
     ]
 
 -- where a walk leads there is a shortest with fewer edges than there are vertices
-pub shortest_found : (next : ℕ → List ℕ) (n : ℕ) → ((a b : ℕ) → Contains (next a) b → b < n) → (m a b : ℕ) → a < n → Walk next a b m → (d : ℕ) × (shortest next n a b ≡ Some d)
+pub shortest_found : (next : ℕ → List ℕ) (n : ℕ) → ((a b : ℕ) → Contains (next a) b → b < n) → (m a b : ℕ) → a < n → Walk next a b m → (d : ℕ)
+    × (shortest next n a b ≡ Some d)
 shortest_found next n within m a b h w =
     let kept = keeps_to next (numbers n) (λ x y k. among_numbers n y (within x y k)) m a b (among_numbers n a h) w in
     let short = bounded_walk next n (numbers n) m a b (omega (arith, all_numbers n)) kept in
@@ -38,7 +39,8 @@ shortest_found next n within m a b h w =
 -- the law of distances
 pub distances_in_words : DistancesLaw
 distances_in_words edges from distances lead start are a h =
-    elim (slice_index_or distances a None) as (λ o. slice_index_or distances a None ≡ o → MatchOption o (HasNoWalk (heads edges) from a) (IsShortest (heads edges) from a)) [
+    elim (slice_index_or distances a None) as (λ o. slice_index_or distances a None ≡ o
+    → MatchOption o (HasNoWalk (heads edges) from a) (IsShortest (heads edges) from a)) [
       | None ↦ λ e. λ m w.
           let d = shortest_found (heads edges) (length edges) within m from a start w in
           none-some d.0 (sym e ∙ are.shortest a h ∙ d.1)

@@ -22,20 +22,24 @@ use Rattle.port_graph.proofs.Costs.{cost_recurs, way}
 apart : (a b : ℕ) → a < b → (a == b) ≡ false
 apart a b l = elim (a == b) as (λ t. (a == b) ≡ t → t ≡ false) [ true ↦ λ e. absurd (omega (arith, eqb-true a b e)) | false ↦ λ e. refl ] refl
 
-ups_from : (ups downs : List (List Edge)) (first k a : ℕ) → length downs ≡ length ups → a ≡ first + k → ups_at (indexed_from first ups downs) a ≡ slice_index_or ups k []
+ups_from : (ups downs : List (List Edge)) (first k a : ℕ) → length downs ≡ length ups → a ≡ first + k → ups_at (indexed_from first ups downs) a
+    ≡ slice_index_or ups k []
 ups_from [] downs first k a all e = refl
 ups_from (u ∷ ups) [] first k a all e = absurd (omega arith)
 ups_from (u ∷ ups) (d ∷ downs) first zero a all e = ap (λ t. cond t u (ups_at (indexed_from (suc first) ups downs) a)) (eq-eqb first a (omega arith))
 ups_from (u ∷ ups) (d ∷ downs) first (suc k) a all e =
-    ap (λ t. cond t u (ups_at (indexed_from (suc first) ups downs) a)) (apart first a (omega arith)) ∙ ups_from ups downs (suc first) k a (omega arith) (omega arith)
+    ap (λ t. cond t u (ups_at (indexed_from (suc first) ups downs) a)) (apart first a (omega arith))
+    ∙ ups_from ups downs (suc first) k a (omega arith) (omega arith)
 
-downs_from : (ups downs : List (List Edge)) (first k a : ℕ) → length downs ≡ length ups → a ≡ first + k → downs_at (indexed_from first ups downs) a ≡ slice_index_or downs k []
+downs_from : (ups downs : List (List Edge)) (first k a : ℕ) → length downs ≡ length ups → a ≡ first + k → downs_at (indexed_from first ups downs) a
+    ≡ slice_index_or downs k []
 downs_from [] [] first k a all e = refl
 downs_from [] (d ∷ downs) first k a all e = absurd (omega arith)
 downs_from (u ∷ ups) [] first k a all e = absurd (omega arith)
 downs_from (u ∷ ups) (d ∷ downs) first zero a all e = ap (λ t. cond t d (downs_at (indexed_from (suc first) ups downs) a)) (eq-eqb first a (omega arith))
 downs_from (u ∷ ups) (d ∷ downs) first (suc k) a all e =
-    ap (λ t. cond t d (downs_at (indexed_from (suc first) ups downs) a)) (apart first a (omega arith)) ∙ downs_from ups downs (suc first) k a (omega arith) (omega arith)
+    ap (λ t. cond t d (downs_at (indexed_from (suc first) ups downs) a)) (apart first a (omega arith))
+    ∙ downs_from ups downs (suc first) k a (omega arith) (omega arith)
 
 slopes_from : (ups downs : List (List Edge)) (first : ℕ) → length downs ≡ length ups → length (indexed_from first ups downs) ≡ length ups
 slopes_from [] downs first all = refl
@@ -52,7 +56,8 @@ edges_below edges a e h =
 
 -- walks back ----------------------------------------------------------------------------
 
-module _ (next back : ℕ → List ℕ) (there : (a b : ℕ) → Contains (next a) b → Contains (back b) a) (here : (a b : ℕ) → Contains (back a) b → Contains (next b) a) where
+module _ (next back : ℕ → List ℕ) (there : (a b : ℕ) → Contains (next a) b → Contains (back b) a) (here : (a b : ℕ) → Contains (back a) b
+    → Contains (next b) a) where
   has_walk_turned : (a b n : ℕ) → has_walk next a b n ≡ has_walk back b a n
   has_walk_turned a b n =
       both_ways (has_walk next a b n) (has_walk back b a n) (λ e. test_from_walk back b a n (walk_turned next back there n a b (walk_from_test next a b n e)))
@@ -88,7 +93,8 @@ module _ (ups downs : List (List Edge)) (are : AreSlopes ups downs) where
   -- the down distance is the length of the shortest walk up from the target
   pub down_is : (s t : ℕ) → down_distance (indexed ups downs) s t ≡ shortest (heads ups) (length ups) t s
   down_is s t =
-      (λ i. shortest (λ a. map (λ e. e.to) (downs_indexed a i)) (all_indexed i) s t) ∙ shortest_turned (heads downs) (heads ups) are.back_up are.back_down (length ups) s t
+      (λ i. shortest (λ a. map (λ e. e.to) (downs_indexed a i)) (all_indexed i) s t)
+      ∙ shortest_turned (heads downs) (heads ups) are.back_up are.back_down (length ups) s t
 
   abbrev pub height : ℕ → ℕ
   height s = min s (length ups)
@@ -109,7 +115,8 @@ module _ (ups downs : List (List Edge)) (are : AreSlopes ups downs) where
     upper : (s : ℕ) → ((e : Edge) → e.to < s → e.to < length ups → slice_index_or costs e.to None ≡ cost (indexed ups downs) e.to t)
         → filter_map (λ e. slice_index_or costs e.to None) (edges_at ups s) ≡ filter_map (λ e. cost (indexed ups downs) e.to t) (ups_at (indexed ups downs) s)
     upper s lesser =
-        filter_map_same (λ e. slice_index_or costs e.to None) (λ e. cost (indexed ups downs) e.to t) (edges_at ups s) (λ e m. lesser e (are.rise s e m) (ups_lead s e m))
+        filter_map_same (λ e. slice_index_or costs e.to None) (λ e. cost (indexed ups downs) e.to t) (edges_at ups s)
+        (λ e m. lesser e (are.rise s e m) (ups_lead s e m))
         ∙ ap (filter_map (λ e. cost (indexed ups downs) e.to t)) (sym (ups_indexed s))
 
     cost_below : (k s : ℕ) → s < k → s < length ups → slice_index_or costs s None ≡ cost (indexed ups downs) s t

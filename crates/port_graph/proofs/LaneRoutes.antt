@@ -108,17 +108,20 @@ module _ (ups downs : List (List Edge)) (are : AreSlopes ups downs) (t : ℕ) (t
       let k = subst (λ (es : List Edge). Contains es e) (downs_indexed ups downs are a) h in
       omega (arith, downs_lead ups downs are a e k, are.all, all_indexed ups downs are)
 
-  down_recurs : (a : ℕ) → a < length ups → down_from a ≡ cond (t == a) (Some 0) (option_map suc (least_of (filter_map (λ e. down_from e.to) (edges_at downs a))))
+  down_recurs : (a : ℕ) → a < length ups → down_from a
+      ≡ cond (t == a) (Some 0) (option_map suc (least_of (filter_map (λ e. down_from e.to) (edges_at downs a))))
   down_recurs a h =
       elim (t == a) as (λ b. (t == a) ≡ b → down_from a ≡ cond b (Some 0) (option_map suc (least_of (filter_map (λ e. down_from e.to) (edges_at downs a))))) [
-        | true ↦ λ same. ap down_from (sym (eqb-true t a same)) ∙ shortest_here (downs_at (indexed ups downs)) (length (indexed ups downs)) within t (omega (arith, all_indexed ups downs are))
+        | true ↦ λ same. ap down_from (sym (eqb-true t a same))
+            ∙ shortest_here (downs_at (indexed ups downs)) (length (indexed ups downs)) within t (omega (arith, all_indexed ups downs are))
         | false ↦ λ other.
             shortest_recurs (downs_at (indexed ups downs)) (length (indexed ups downs)) within a t (omega (arith, all_indexed ups downs are)) (turned other)
             ∙ ap (λ es. option_map suc (least_of (filter_map (λ e. down_from e.to) es))) (downs_indexed ups downs are a)
       ] refl
     where
       turned : (t == a) ≡ false → (a == t) ≡ false
-      turned other = elim (a == t) as (λ b. (a == t) ≡ b → b ≡ false) [ true ↦ λ q. absurd (cc (other, eq-eqb t a (sym (eqb-true a t q)))) | false ↦ λ q. refl ] refl
+      turned other = elim (a == t) as (λ b. (a == t) ≡ b → b ≡ false) [ true ↦ λ q. absurd (cc (other, eq-eqb t a (sym (eqb-true a t q)))) | false ↦ λ q. refl ]
+          refl
 
   -- by the nearest down
   pub down_step : (x : ℕ → ℕ) (a y port : ℕ) → a < length ups → ((e : Edge) → Contains (edges_at downs a) e → number_in (x e.to) ≡ down_from e.to)
@@ -130,8 +133,10 @@ module _ (ups downs : List (List Edge)) (are : AreSlopes ups downs) (t : ℕ) (t
             ap (port_in y) step.port
             ∙ port_is x (edges_at downs a) y one_more
             ∙ ap (option_map (λ e. e.port)) (find_same (λ e. same_number (option_map suc (number_in (x e.to))) (number_in y))
-            (λ e. same_number (option_map suc (down_from e.to)) (down_from a)) (edges_at downs a) (λ e k. ap₂ (λ o p. same_number (option_map suc o) p) (each e k) distance))
-            ∙ ap (λ es. option_map (λ e. e.port) (find (λ e. same_number (option_map suc (down_from e.to)) (down_from a)) es)) (sym (downs_indexed ups downs are a));
+            (λ e. same_number (option_map suc (down_from e.to)) (down_from a)) (edges_at downs a)
+            (λ e k. ap₂ (λ o p. same_number (option_map suc o) p) (each e k) distance))
+            ∙ ap (λ es. option_map (λ e. e.port) (find (λ e. same_number (option_map suc (down_from e.to)) (down_from a)) es))
+            (sym (downs_indexed ups downs are a));
       }
     where
       least : number_in (nearest_by x (edges_at downs a)).0 ≡ least_of (filter_map (λ e. down_from e.to) (edges_at downs a))
@@ -142,28 +147,38 @@ module _ (ups downs : List (List Edge)) (are : AreSlopes ups downs) (t : ℕ) (t
 
       one_more : (n : ℕ) → number_in y ≡ Some (suc n) → number_in (nearest_by x (edges_at downs a)).0 ≡ Some n
       one_more n e =
-          elim (t == a) as (λ b. number_in y ≡ cond b (Some 0) (option_map suc (number_in (nearest_by x (edges_at downs a)).0)) → number_in (nearest_by x (edges_at downs a)).0 ≡ Some n) [
+          elim (t == a) as (λ b. number_in y ≡ cond b (Some 0) (option_map suc (number_in (nearest_by x (edges_at downs a)).0))
+          → number_in (nearest_by x (edges_at downs a)).0 ≡ Some n) [
             | true ↦ λ q. let r : 0 ≡ suc n = same_Some 0 (suc n) (sym q ∙ e) in absurd (omega arith)
             | false ↦ λ q. none_less (number_in (nearest_by x (edges_at downs a)).0) n (sym q ∙ e)
           ] step.number
 
-  cost_by_ups : (a : ℕ) → cost_from a ≡ cond (is_some (down_from a)) (down_from a) (option_map suc (least_of (filter_map (λ e. cost_from e.to) (edges_at ups a))))
+  cost_by_ups : (a : ℕ) → cost_from a
+      ≡ cond (is_some (down_from a)) (down_from a) (option_map suc (least_of (filter_map (λ e. cost_from e.to) (edges_at ups a))))
   cost_by_ups a =
       cost_recurs (indexed ups downs) (height ups downs are) (falls ups downs are) (bounded ups downs are) a t
       ∙ ap (λ es. cond (is_some (down_from a)) (down_from a) (option_map suc (least_of (filter_map (λ e. cost_from e.to) es)))) (ups_indexed ups downs are a)
 
   -- the next port is the port down where there is a distance, else the port up
-  next_by : (a : ℕ) → a < length ups → next_port (indexed ups downs) a t ≡ cond (is_some (down_from a)) (port_down (indexed ups downs) a t) (port_up (indexed ups downs) a t)
+  next_by : (a : ℕ) → a < length ups → next_port (indexed ups downs) a t
+      ≡ cond (is_some (down_from a)) (port_down (indexed ups downs) a t) (port_up (indexed ups downs) a t)
   next_by a h =
-      elim (a == t) as (λ b. (a == t) ≡ b → next_port (indexed ups downs) a t ≡ cond (is_some (down_from a)) (port_down (indexed ups downs) a t) (port_up (indexed ups downs) a t)) [
+      elim (a == t) as (λ b. (a == t) ≡ b → next_port (indexed ups downs) a t
+      ≡ cond (is_some (down_from a)) (port_down (indexed ups downs) a t) (port_up (indexed ups downs) a t)) [
         | true ↦ λ same.
-            let here : down_from a ≡ Some 0 = ap down_from (eqb-true a t same) ∙ shortest_here (downs_at (indexed ups downs)) (length (indexed ups downs)) within t (omega (arith, all_indexed ups downs are)) in
-            port_at_target (indexed ups downs) a t same ∙ sym (ap (λ o. cond (is_some o) (option_map (λ (e : Edge). e.port) (find (λ e. same_number (option_map suc (down_from e.to)) o) (downs_at (indexed ups downs) a))) (port_up (indexed ups downs) a t)) here
+            let here : down_from a ≡ Some 0 = ap down_from (eqb-true a t same)
+            ∙ shortest_here (downs_at (indexed ups downs)) (length (indexed ups downs)) within t (omega (arith, all_indexed ups downs are)) in
+            port_at_target (indexed ups downs) a t same
+            ∙ sym (ap (λ o. cond (is_some o)
+            (option_map (λ (e : Edge). e.port) (find (λ e. same_number (option_map suc (down_from e.to)) o) (downs_at (indexed ups downs) a)))
+            (port_up (indexed ups downs) a t)) here
             ∙ none_down (downs_at (indexed ups downs) a))
-        | false ↦ λ other. (elim (down_from a) as (λ o. down_from a ≡ o → next_port (indexed ups downs) a t ≡ cond (is_some o) (port_down (indexed ups downs) a t) (port_up (indexed ups downs) a t)) [
-          | None ↦ λ e. port_where_up (indexed ups downs) a t other e
-          | Some d ↦ λ e. port_where_down (indexed ups downs) a t d other e
-        ] refl)
+        | false ↦ λ other.
+            (elim (down_from a) as (λ o. down_from a ≡ o → next_port (indexed ups downs) a t
+            ≡ cond (is_some o) (port_down (indexed ups downs) a t) (port_up (indexed ups downs) a t)) [
+              | None ↦ λ e. port_where_up (indexed ups downs) a t other e
+              | Some d ↦ λ e. port_where_down (indexed ups downs) a t d other e
+            ] refl)
       ] refl
     where
       none_down : (es : List Edge) → option_map (λ (e : Edge). e.port) (find (λ e. same_number (option_map suc (down_from e.to)) (Some 0)) es) ≡ None
@@ -171,11 +186,14 @@ module _ (ups downs : List (List Edge)) (are : AreSlopes ups downs) (t : ℕ) (t
         where
           not_zero : (o : Option ℕ) → same_number (option_map suc o) (Some 0) ≡ false
           not_zero None = refl
-          not_zero (Some n) = elim (suc n == 0) as (λ t. (suc n == 0) ≡ t → t ≡ false) [ true ↦ λ q. absurd (omega (arith, eqb-true (suc n) 0 q)) | false ↦ λ q. refl ] refl
+          not_zero (Some n) =
+              elim (suc n == 0) as (λ t. (suc n == 0) ≡ t → t ≡ false) [ true ↦ λ q. absurd (omega (arith, eqb-true (suc n) 0 q)) | false ↦ λ q. refl ] refl
 
           none_found : (es : List Edge) → find (λ e. same_number (option_map suc (down_from e.to)) (Some 0)) es ≡ None
           none_found [] = refl
-          none_found (e ∷ es) = ap (λ (b : Bool). cond b (Some e) (find (λ e. same_number (option_map suc (down_from e.to)) (Some 0)) es)) (not_zero (down_from e.to)) ∙ none_found es
+          none_found (e ∷ es) =
+              ap (λ (b : Bool). cond b (Some e) (find (λ e. same_number (option_map suc (down_from e.to)) (Some 0)) es)) (not_zero (down_from e.to))
+              ∙ none_found es
 
   -- by the nearest up, where there is no distance
   pub up_step : (x : ℕ → ℕ) (a y down_port z port : ℕ) → a < length ups → ((e : Edge) → Contains (edges_at ups a) e → number_in (x e.to) ≡ cost_from e.to)
@@ -189,23 +207,29 @@ module _ (ups downs : List (List Edge)) (are : AreSlopes ups downs) (t : ℕ) (t
             let z_is : z ≡ y = (known_is z y (same ∙ known y l)).0 in
             let port_same : port ≡ down_port = step.port ∙ ap (λ b. cond b down_port r.1) (test y l) in
             record {
-              cost_is = same ∙ down.distance ∙ sym (cost_by_ups a ∙ ap (λ b. cond b (down_from a) (option_map suc (least_of (filter_map (λ e. cost_from e.to) (edges_at ups a))))) some);
-              next_is = ap₂ port_in z_is port_same ∙ down.port_is ∙ sym (next_by a h ∙ ap (λ b. cond b (port_down (indexed ups downs) a t) (port_up (indexed ups downs) a t)) some);
+              cost_is = same ∙ down.distance
+                  ∙ sym (cost_by_ups a ∙ ap (λ b. cond b (down_from a) (option_map suc (least_of (filter_map (λ e. cost_from e.to) (edges_at ups a))))) some);
+              next_is = ap₂ port_in z_is port_same ∙ down.port_is
+                  ∙ sym (next_by a h ∙ ap (λ b. cond b (port_down (indexed ups downs) a t) (port_up (indexed ups downs) a t)) some);
             }
         | inr m ↦
             let none : is_some (down_from a) ≡ false = ap is_some (sym down.distance ∙ unknown_from y m) in
-            let more : number_in z ≡ option_map suc (number_in r.0) = step.number ∙ ap (λ b. cond b (number_in y) (option_map suc (number_in r.0))) (test_not y m) in
+            let more : number_in z ≡ option_map suc (number_in r.0) =
+            step.number ∙ ap (λ b. cond b (number_in y) (option_map suc (number_in r.0))) (test_not y m) in
             let up : port ≡ r.1 = step.port ∙ ap (λ b. cond b down_port r.1) (test_not y m) in
             let is : number_in z ≡ cost_from a =
-            more ∙ ap (option_map suc) least ∙ sym (cost_by_ups a ∙ ap (λ b. cond b (down_from a) (option_map suc (least_of (filter_map (λ e. cost_from e.to) (edges_at ups a))))) none) in
+            more ∙ ap (option_map suc) least
+            ∙ sym (cost_by_ups a ∙ ap (λ b. cond b (down_from a) (option_map suc (least_of (filter_map (λ e. cost_from e.to) (edges_at ups a))))) none) in
             record {
               cost_is = is;
               next_is =
                   ap (port_in z) up
                   ∙ port_is x (edges_at ups a) z (λ n e. none_less (number_in r.0) n (sym more ∙ e))
                   ∙ ap (option_map (λ e. e.port)) (find_same (λ e. same_number (option_map suc (number_in (x e.to))) (number_in z))
-                  (λ e. same_number (option_map suc (cost_from e.to)) (cost_from a)) (edges_at ups a) (λ e k. ap₂ (λ o p. same_number (option_map suc o) p) (each e k) is))
-                  ∙ ap (λ es. option_map (λ e. e.port) (find (λ e. same_number (option_map suc (cost_from e.to)) (cost_from a)) es)) (sym (ups_indexed ups downs are a))
+                  (λ e. same_number (option_map suc (cost_from e.to)) (cost_from a)) (edges_at ups a)
+                  (λ e k. ap₂ (λ o p. same_number (option_map suc o) p) (each e k) is))
+                  ∙ ap (λ es. option_map (λ e. e.port) (find (λ e. same_number (option_map suc (cost_from e.to)) (cost_from a)) es))
+                  (sym (ups_indexed ups downs are a))
                   ∙ sym (next_by a h ∙ ap (λ b. cond b (port_down (indexed ups downs) a t) (port_up (indexed ups downs) a t)) none);
             }
       ]
@@ -247,7 +271,8 @@ module _ (ups downs : List (List Edge)) (are : AreSlopes ups downs) (t : ℕ) (t
         above a from other = grind arith
 
         stepped : IsStepDown (t == v) (nearest_by (λ a. at numbers a k) (edges_at downs v)) (slice_index its_numbers k) (slice_index its_ports k)
-        stepped = subst (λ (es : List Edge). IsStepDown (t == v) (nearest_by (λ a. at numbers a k) es) (slice_index its_numbers k) (slice_index its_ports k)) is step
+        stepped = subst (λ (es : List Edge). IsStepDown (t == v) (nearest_by (λ a. at numbers a k) es) (slice_index its_numbers k) (slice_index its_ports k)) is
+            step
 
         known_below : (e : Edge) → Contains (edges_at downs v) e → number_in (at numbers e.to k) ≡ down_from e.to
         known_below e m = (so_far e.to (omega (arith, downs_rise v e m)) (omega (arith, downs_lead ups downs are v e m, are.all))).distance
@@ -280,8 +305,10 @@ module _ (ups downs : List (List Edge)) (are : AreSlopes ups downs) (t : ℕ) (t
         greater : (a : ℕ) → v + 1 ≤ a → a ≡ v → ⊥
         greater a from same = omega arith
 
-        stepped : IsStepUp (at numbers v k) (at ports v k) (nearest_by (λ a. at numbers a k) (edges_at ups v)) (slice_index its_numbers k) (slice_index its_ports k)
-        stepped = subst (λ (es : List Edge). IsStepUp (at numbers v k) (at ports v k) (nearest_by (λ a. at numbers a k) es) (slice_index its_numbers k) (slice_index its_ports k)) is step
+        stepped : IsStepUp (at numbers v k) (at ports v k) (nearest_by (λ a. at numbers a k) (edges_at ups v)) (slice_index its_numbers k)
+            (slice_index its_ports k)
+        stepped = subst (λ (es : List Edge). IsStepUp (at numbers v k) (at ports v k) (nearest_by (λ a. at numbers a k) es) (slice_index its_numbers k)
+            (slice_index its_ports k)) is step
 
         known_above : (e : Edge) → Contains (edges_at ups v) e → number_in (at numbers e.to k) ≡ cost_from e.to
         known_above e m = (so_far.routed e.to (are.rise v e m)).cost_is

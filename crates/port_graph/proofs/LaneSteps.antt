@@ -125,7 +125,8 @@ module _ (x : ℕ → ℕ) where
               | inl same ↦ inl same
               | inr less ↦ inr (
                 less.0,
-                ap (λ (t : Bool). option_map (λ y. y.port) (cond t (Some e) (find (λ y. x y.to == r.0) edges))) (are_apart (x e.to) r.0 (omega (arith, less.0))) ∙ less.1,
+                ap (λ (t : Bool). option_map (λ y. y.port) (cond t (Some e) (find (λ y. x y.to == r.0) edges))) (are_apart (x e.to) r.0 (omega (arith, less.0)))
+                    ∙ less.1,
               )
             ])
       ]
@@ -163,17 +164,22 @@ module _ (x : ℕ → ℕ) where
       → port_in y (nearest_by x edges).1 ≡ option_map (λ e. e.port) (find (λ e. same_number (option_map suc (number_in (x e.to))) (number_in y)) edges)
   port_is edges y one_more =
       let r = nearest_by x edges in
-      elim (number_in y) as (λ o. number_in y ≡ o → port_in y r.1 ≡ option_map (λ e. e.port) (find (λ e. same_number (option_map suc (number_in (x e.to))) o) edges)) [
-        | None ↦ λ e. none_beside y r.1 (not_known y e) ∙ sym (ap (option_map (λ e. e.port)) (find_none (λ e. same_number (option_map suc (number_in (x e.to))) None) edges (λ e. with_none (option_map suc (number_in (x e.to))))))
+      elim (number_in y) as (λ o. number_in y ≡ o → port_in y r.1
+      ≡ option_map (λ e. e.port) (find (λ e. same_number (option_map suc (number_in (x e.to))) o) edges)) [
+        | None ↦ λ e. none_beside y r.1 (not_known y e)
+            ∙ sym (ap (option_map (λ e. e.port))
+            (find_none (λ e. same_number (option_map suc (number_in (x e.to))) None) edges (λ e. with_none (option_map suc (number_in (x e.to))))))
         | Some zero ↦ λ e. none_at_zero y r.1 (known_is y 0 e).0
-            ∙ sym (ap (option_map (λ e. e.port)) (find_none (λ e. same_number (option_map suc (number_in (x e.to))) (Some 0)) edges (λ e. not_zero (number_in (x e.to)))))
+            ∙ sym (ap (option_map (λ e. e.port)) (find_none (λ e. same_number (option_map suc (number_in (x e.to))) (Some 0)) edges
+            (λ e. not_zero (number_in (x e.to)))))
         | Some (suc n) ↦ λ e.
             let least = known_is r.0 n (one_more n e) in
             let is = known_is y (suc n) e in
             beside y r.1 (omega (arith, is.0)) is.1
             ∙ (elim (found_first 255 0 edges) [
               | inl same ↦ let top : r.0 ≡ 255 = ap (λ (s : ℕ × ℕ). s.0) same in absurd (omega (arith, least.1))
-              | inr less ↦ sym less.1 ∙ ap (option_map (λ e. e.port)) (find_alike (λ e. x e.to == r.0) (λ e. same_number (option_map suc (number_in (x e.to))) (Some (suc n))) edges
+              | inr less ↦ sym less.1
+                  ∙ ap (option_map (λ e. e.port)) (find_alike (λ e. x e.to == r.0) (λ e. same_number (option_map suc (number_in (x e.to))) (Some (suc n))) edges
                   (λ e. same_test (x e.to) r.0 n least.0 least.1))
             ])
       ] refl
@@ -196,7 +202,8 @@ module _ (x : ℕ → ℕ) where
 
       not_zero : (o : Option ℕ) → same_number (option_map suc o) (Some 0) ≡ false
       not_zero None = refl
-      not_zero (Some n) = elim (suc n == 0) as (λ t. (suc n == 0) ≡ t → t ≡ false) [ true ↦ λ q. absurd (omega (arith, eqb-true (suc n) 0 q)) | false ↦ λ q. refl ] refl
+      not_zero (Some n) =
+          elim (suc n == 0) as (λ t. (suc n == 0) ≡ t → t ≡ false) [ true ↦ λ q. absurd (omega (arith, eqb-true (suc n) 0 q)) | false ↦ λ q. refl ] refl
 
       find_alike : (p q : Edge → Bool) (xs : List Edge) → ((e : Edge) → p e ≡ q e) → find p xs ≡ find q xs
       find_alike p q [] h = refl

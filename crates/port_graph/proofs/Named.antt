@@ -26,7 +26,8 @@ module _ (name : ℕ → ℕ) (slopes : List Slope) (ups downs : List (List Edge
         ups = λ s h. named.ups_are s (omega (arith, all)) ∙ ap (map (rename name)) (sym (ups_indexed ups downs are s));
         downs = λ s h. named.downs_are s (omega (arith, all)) ∙ ap (map (rename name)) (sym (downs_indexed ups downs are s));
         ups_within = λ s e h. omega (arith, all, ups_lead ups downs are s e (subst (λ (es : List Edge). Contains es e) (ups_indexed ups downs are s) h));
-        downs_within = λ s e h. omega (arith, all, are.all, downs_lead ups downs are s e (subst (λ (es : List Edge). Contains es e) (downs_indexed ups downs are s) h));
+        downs_within = λ s e h.
+            omega (arith, all, are.all, downs_lead ups downs are s e (subst (λ (es : List Edge). Contains es e) (downs_indexed ups downs are s) h));
         apart = λ s t h k. named.apart s t (omega (arith, all)) (omega (arith, all));
       }
 

@@ -29,14 +29,16 @@ none_nearer edges numbers number e =
 pub none_below : (edges : List Edge) (numbers : List (Option ℕ)) (number : Option ℕ) (n : ℕ) → number ≡ Some n → n < 1 → port_nearer edges numbers number ≡ None
 none_below edges numbers number n e h =
     ap (option_map (λ e. e.port)) (find_none (λ e. same_number (option_map suc (slice_index_or numbers e.to None)) number) edges
-    (λ x. ap (same_number (option_map suc (slice_index_or numbers x.to None))) (e ∙ ap (λ (m : ℕ). Some m) (is_zero n h)) ∙ not_zero (slice_index_or numbers x.to None)))
+    (λ x. ap (same_number (option_map suc (slice_index_or numbers x.to None))) (e ∙ ap (λ (m : ℕ). Some m) (is_zero n h))
+    ∙ not_zero (slice_index_or numbers x.to None)))
   where
     is_zero : (n : ℕ) → n < 1 → n ≡ 0
     is_zero n h = omega arith
 
     not_zero : (o : Option ℕ) → same_number (option_map suc o) (Some 0) ≡ false
     not_zero None = refl
-    not_zero (Some n) = elim (suc n == 0) as (λ t. (suc n == 0) ≡ t → t ≡ false) [ true ↦ λ q. absurd (omega (arith, eqb-true (suc n) 0 q)) | false ↦ λ q. refl ] refl
+    not_zero (Some n) =
+        elim (suc n == 0) as (λ t. (suc n == 0) ≡ t → t ≡ false) [ true ↦ λ q. absurd (omega (arith, eqb-true (suc n) 0 q)) | false ↦ λ q. refl ] refl
 
 pub find_same : {X : Type 0} (p q : X → Bool) (xs : List X) → ((x : X) → Contains xs x → p x ≡ q x) → find p xs ≡ find q xs
 find_same p q [] h = refl
@@ -59,19 +61,27 @@ module _ (ups downs : List (List Edge)) (are : AreSlopes ups downs) (t : ℕ) (t
       (λ i. option_map (λ e. e.port) (find_same (λ e. same_number (option_map suc (slice_index_or distances e.to None)) (slice_index_or distances s None))
       (λ e. same_number (option_map suc (down_distance slopes e.to t)) (down_distance slopes s t)) (edges_at downs s)
       (λ e k. (λ j. same_number (option_map suc (is_distance e.to (omega (arith, downs_lead ups downs are s e k, are.all)) j)) (is_distance s h j))) i))
-      ∙ ap (λ es. option_map (λ e. e.port) (find (λ e. same_number (option_map suc (down_distance slopes e.to t)) (down_distance slopes s t)) es)) (sym (downs_indexed ups downs are s))
+      ∙ ap (λ es. option_map (λ e. e.port) (find (λ e. same_number (option_map suc (down_distance slopes e.to t)) (down_distance slopes s t)) es))
+      (sym (downs_indexed ups downs are s))
 
   is_port_up : (s : ℕ) → s < length ups → port_nearer (edges_at ups s) costs (slice_index_or costs s None) ≡ port_up slopes s t
   is_port_up s h =
       (λ i. option_map (λ e. e.port) (find_same (λ e. same_number (option_map suc (slice_index_or costs e.to None)) (slice_index_or costs s None))
       (λ e. same_number (option_map suc (cost slopes e.to t)) (cost slopes s t)) (edges_at ups s)
       (λ e k. (λ j. same_number (option_map suc (is_cost e.to (ups_lead ups downs are s e k) j)) (is_cost s h j))) i))
-      ∙ ap (λ es. option_map (λ e. e.port) (find (λ e. same_number (option_map suc (cost slopes e.to t)) (cost slopes s t)) es)) (sym (ups_indexed ups downs are s))
+      ∙ ap (λ es. option_map (λ e. e.port) (find (λ e. same_number (option_map suc (cost slopes e.to t)) (cost slopes s t)) es))
+      (sym (ups_indexed ups downs are s))
 
   at_target : slice_index_or distances t None ≡ Some 0
   at_target =
       lengths.shortest t target
-      ∙ least_is 0 (length ups) (has_walk (heads ups) t t) 0 (record { from = omega arith; bounded = omega arith; passes = eq-eqb t t refl; least = λ m h l. absurd (omega arith) })
+      ∙ least_is 0 (length ups) (has_walk (heads ups) t t) 0 (record {
+        from = omega arith;
+        bounded = omega arith;
+        passes = eq-eqb t t refl;
+        least =
+            λ m h l. absurd (omega arith);
+      })
 
   -- the port by the distances and the costs is the next port
   pub is_next_port : (s : ℕ) → s < length ups → port_by ups downs distances costs s ≡ next_port slopes s t
@@ -79,11 +89,13 @@ module _ (ups downs : List (List Edge)) (are : AreSlopes ups downs) (t : ℕ) (t
       elim (s == t) as (λ b. (s == t) ≡ b → port_by ups downs distances costs s ≡ next_port slopes s t) [
         | true ↦ λ same.
             let here = ap (λ x. slice_index_or distances x None) (eqb-true s t same) ∙ at_target in
-            ap (λ (d : Option ℕ). cond (is_some d) (port_nearer (edges_at downs s) distances d) (port_nearer (edges_at ups s) costs (slice_index_or costs s None))) here
+            ap (λ (d : Option ℕ). cond (is_some d) (port_nearer (edges_at downs s) distances d)
+            (port_nearer (edges_at ups s) costs (slice_index_or costs s None))) here
             ∙ none_below (edges_at downs s) distances (Some 0) 0 refl (omega arith) ∙ sym (port_at_target slopes s t same)
         | false ↦ λ other.
             (λ i. cond (is_some (is_distance s h i)) (is_port_down s h i) (is_port_up s h i))
-            ∙ (elim (down_distance slopes s t) as (λ o. down_distance slopes s t ≡ o → cond (is_some o) (port_down slopes s t) (port_up slopes s t) ≡ next_port slopes s t) [
+            ∙ (elim (down_distance slopes s t) as (λ o. down_distance slopes s t ≡ o → cond (is_some o) (port_down slopes s t) (port_up slopes s t)
+            ≡ next_port slopes s t) [
               | None ↦ λ e. sym (port_where_up slopes s t other e)
               | Some d ↦ λ e. sym (port_where_down slopes s t d other e)
             ] refl)
@@ -99,13 +111,15 @@ pub ports_none : (ups downs : List (List Edge)) (t : ℕ) (ports : List (Option 
 ports_none ups downs t ports e = record { all = ap length e; next = λ a h. absurd (omega arith) }
 
 -- that of one more
-pub ports_more : (ups downs : List (List Edge)) (t n : ℕ) (ports : List (Option ℕ)) (p : Option ℕ) → AreFirstPorts ups downs t n ports → p ≡ next_port (indexed ups downs) n t
+pub ports_more : (ups downs : List (List Edge)) (t n : ℕ) (ports : List (Option ℕ)) (p : Option ℕ) → AreFirstPorts ups downs t n ports → p
+    ≡ next_port (indexed ups downs) n t
     → AreFirstPorts ups downs t (n + 1) (ports ++ p ∷ [])
 ports_more ups downs t n ports p are is =
     record {
       all = omega (arith, length_push ports p, are.all);
       next = λ a h. (elim (cases_eq a n) [
-        | inl same ↦ ap (λ x. slice_index_or (ports ++ p ∷ []) x None) same ∙ get_or_push ports p None n are.all ∙ is ∙ ap (λ x. next_port (indexed ups downs) x t) (sym same)
+        | inl same ↦ ap (λ x. slice_index_or (ports ++ p ∷ []) x None) same ∙ get_or_push ports p None n are.all ∙ is
+            ∙ ap (λ x. next_port (indexed ups downs) x t) (sym same)
         | inr other ↦ let below : a < n = grind arith in get_or_append_left ports (p ∷ []) None a (omega (arith, are.all)) ∙ are.next a below
       ]);
     }

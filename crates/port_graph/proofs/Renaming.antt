@@ -17,7 +17,8 @@ module _ {X Y : Type 0} (h : X → Y) where
   any_renamed p q [] e = refl
   any_renamed p q (x ∷ xs) e = ap₂ (λ a b. a || b) (e x (contains_here x xs)) (any_renamed p q xs (λ y k. e y (contains_later x y xs k)))
 
-  filter_map_renamed : {Z : Type 0} (f : Y → Option Z) (g : X → Option Z) (xs : List X) → ((x : X) → Contains xs x → f (h x) ≡ g x) → filter_map f (map h xs) ≡ filter_map g xs
+  filter_map_renamed : {Z : Type 0} (f : Y → Option Z) (g : X → Option Z) (xs : List X) → ((x : X) → Contains xs x → f (h x) ≡ g x) → filter_map f (map h xs)
+      ≡ filter_map g xs
   filter_map_renamed f g [] e = refl
   filter_map_renamed f g (x ∷ xs) e = ap₂ cons_option (e x (contains_here x xs)) (filter_map_renamed f g xs (λ y k. e y (contains_later x y xs k)))
 
@@ -93,7 +94,8 @@ module _ (name : ℕ → ℕ) (slopes renamed : List Slope) (are : AreRenamed na
   -- down distances are the same
   pub down_distance_renamed : (s t : ℕ) → Is s → Is t → down_distance slopes (name s) (name t) ≡ down_distance renamed s t
   down_distance_renamed s t h k =
-      ap (λ n. shortest (below slopes) n (name s) (name t)) are.all ∙ shortest_renamed name (length renamed) (below slopes) (below renamed) below_renamed (length renamed) s t h k
+      ap (λ n. shortest (below slopes) n (name s) (name t)) are.all
+      ∙ shortest_renamed name (length renamed) (below slopes) (below renamed) below_renamed (length renamed) s t h k
 
   cost_within_renamed : (climbs s t : ℕ) → Is s → Is t → cost_within slopes climbs (name s) (name t) ≡ cost_within renamed climbs s t
   cost_within_renamed zero s t h k = down_distance_renamed s t h k
@@ -120,7 +122,8 @@ module _ (name : ℕ → ℕ) (slopes renamed : List Slope) (are : AreRenamed na
   port_down_renamed : (s t : ℕ) → Is s → Is t → port_down slopes (name s) (name t) ≡ port_down renamed s t
   port_down_renamed s t h k =
       port_renamed (λ e. same_number (option_map suc (down_distance slopes e.to (name t))) (down_distance slopes (name s) (name t)))
-      (λ e. same_number (option_map suc (down_distance renamed e.to t)) (down_distance renamed s t)) (downs_at slopes (name s)) (downs_at renamed s) (are.downs s h)
+      (λ e. same_number (option_map suc (down_distance renamed e.to t)) (down_distance renamed s t)) (downs_at slopes (name s)) (downs_at renamed s)
+      (are.downs s h)
       (λ e l. ap₂ (λ a b. same_number (option_map suc a) b) (down_distance_renamed e.to t (are.downs_within s e l) k) (down_distance_renamed s t h k))
 
   port_up_renamed : (s t : ℕ) → Is s → Is t → port_up slopes (name s) (name t) ≡ port_up renamed s t

@@ -16,7 +16,8 @@ abbrev pub IsMapped : {X Y : Type 0} → (X → Y) → List X → List Y → ℕ
 IsMapped f xs done i = done ++ map f (drop i xs) ≡ map f xs
 
 -- one more item
-pub mapped_more : {Y : Type 0} (f : ℕ → Y) (xs : List ℕ) (done : List Y) (i : ℕ) → i < length xs → IsMapped f xs done i → IsMapped f xs (done ++ f (slice_index xs i) ∷ []) (i + 1)
+pub mapped_more : {Y : Type 0} (f : ℕ → Y) (xs : List ℕ) (done : List Y) (i : ℕ) → i < length xs → IsMapped f xs done i
+    → IsMapped f xs (done ++ f (slice_index xs i) ∷ []) (i + 1)
 mapped_more f xs done i h e =
     let x = slice_index xs i in
     append_assoc done (f x ∷ []) (map f (drop (i + 1) xs)) ∙ sym (ap (λ ys. done ++ map f ys) (drop-cons xs i 0 h ∙ (λ j. x ∷ drop (sym (add-one i) j) xs))) ∙ e
@@ -46,9 +47,12 @@ module _ (ups downs : List (List Edge)) (vertices : List ℕ) (within : All (λ 
   each_within a h = subst (λ (b : ℕ). b < length ups) h.2 (within h.0 a h.1)
 
   -- by a lane
-  pub row_in_lane : (t k : ℕ) (numbers ports : List (List ℕ)) → AreRouted ups downs t k numbers ports → map (λ a. port_in (at numbers a k) (at ports a k)) vertices ≡ row_to ups downs vertices t
-  row_in_lane t k numbers ports are = map_alike (λ a. port_in (at numbers a k) (at ports a k)) (λ s. next_port (indexed ups downs) s t) vertices (λ a h. are.next a (each_within a h))
+  pub row_in_lane : (t k : ℕ) (numbers ports : List (List ℕ)) → AreRouted ups downs t k numbers ports
+      → map (λ a. port_in (at numbers a k) (at ports a k)) vertices ≡ row_to ups downs vertices t
+  row_in_lane t k numbers ports are =
+      map_alike (λ a. port_in (at numbers a k) (at ports a k)) (λ s. next_port (indexed ups downs) s t) vertices (λ a h. are.next a (each_within a h))
 
   -- by the ports of all vertices
-  pub row_at : (t : ℕ) (ports : List (Option ℕ)) → AreNextPorts ups downs t ports → map (λ a. slice_index_or ports a None) vertices ≡ row_to ups downs vertices t
+  pub row_at : (t : ℕ) (ports : List (Option ℕ)) → AreNextPorts ups downs t ports → map (λ a. slice_index_or ports a None) vertices
+      ≡ row_to ups downs vertices t
   row_at t ports are = map_alike (λ a. slice_index_or ports a None) (λ s. next_port (indexed ups downs) s t) vertices (λ a h. are.next a (each_within a h))

@@ -31,7 +31,8 @@ none_at n k =
 pub starts : (next : ℕ → List ℕ) (from n : ℕ) (ds : List (Option ℕ)) (q : List (ℕ × ℕ)) → from < n → ds ≡ replicate n None → q ≡ (from, 0) ∷ []
     → IsBetween next from n (slice_set ds from (Some 0), q)
 starts next from n ds q below is one =
-    begun next from n ds q (ap length is ∙ length-replicate n None) below (λ k. ap (λ xs. slice_index_or xs k None) is ∙ none_at n k) (ap unknown is ∙ unknown_all n) one
+    begun next from n ds q (ap length is ∙ length-replicate n None) below (λ k. ap (λ xs. slice_index_or xs k None) is ∙ none_at n k) (ap unknown is
+    ∙ unknown_all n) one
 
 -- as many as get a distance wait
 reach_counts : (d : ℕ) (s : Search) (a : ℕ) → a < length s.0 → unknown (reach d s a).0 + length (reach d s a).1 ≡ unknown s.0 + length s.1
@@ -57,7 +58,8 @@ all_counts d s (x ∷ left) below =
     ∙ reach_counts d s x.to (below x (contains_here x left))
 
 -- a step that is written over the distances
-pub written : {Z : Type 0} (distances : Vec (Option ℕ) Z) (seen new : List (Option ℕ)) (q rest : List (ℕ × ℕ)) (d : ℕ) (left : List Edge) → length new ≡ distances.len
+pub written : {Z : Type 0} (distances : Vec (Option ℕ) Z) (seen new : List (Option ℕ)) (q rest : List (ℕ × ℕ)) (d : ℕ) (left : List Edge) → length new
+    ≡ distances.len
     → seen ≡ distances.items → reach_all d (seen, q) left ≡ (new, rest) → reach_all d (distances.items, q) left ≡ ((with_items distances new).items, rest)
 written distances seen new q rest d left all are step =
     (λ i. reach_all d (sym are i, q) left) ∙ step ∙ (λ i. (sym (with_items_is distances new all) i, rest))
@@ -80,9 +82,11 @@ module _ (edges : List (List Edge)) (from : ℕ) (lead : LeadToVertices edges) (
     pub between : IsBetween (heads edges) from (length edges) after
     between =
         let n = length edges in
-        let start = taken (heads edges) from n a d left ds q (ap (map (λ e. e.to)) (sym is)) (λ e h. omega (arith, lead_within left is e h, i.search.all)) opened in
+        let start = taken (heads edges) from n a d left ds q (ap (map (λ e. e.to)) (sym is)) (λ e h. omega (arith, lead_within left is e h, i.search.all))
+        opened in
         let Is : Search → Type 0 = λ s. IsBetween (heads edges) from n s in
-        subst Is (ap (λ m. reach_all m (ds, q) left) (sym next) ∙ step) (given_back (heads edges) from n a d _ (all_reached (heads edges) from n a d left (ds, q) start))
+        subst Is (ap (λ m. reach_all m (ds, q) left) (sym next)
+        ∙ step) (given_back (heads edges) from n a d _ (all_reached (heads edges) from n a d left (ds, q) start))
 
     -- fewer wait or have no distance
     pub fewer : unknown after.0 + length after.1 < unknown ds + length before

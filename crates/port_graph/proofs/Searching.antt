@@ -91,7 +91,11 @@ module _ (ds : List (Option ℕ)) (a d : ℕ) (below : a < length ds) (none : sl
   known_cases : (b e : ℕ) → Has (slice_set ds a (Some d)) b e → ((b ≡ a) × (e ≡ d)) ⊎ Has ds b e
   known_cases b e h =
       elim (cases_eq b a) [
-        | inl same ↦ inl (same, same_Some e d (sym h ∙ ap (λ x. slice_index_or (slice_set ds a (Some d)) x None) same ∙ get_or-set_same ds a (Some d) None below))
+        | inl same ↦ inl (
+          same,
+          same_Some e d (sym h ∙ ap (λ x. slice_index_or (slice_set ds a (Some d)) x None) same
+              ∙ get_or-set_same ds a (Some d) None below),
+        )
         | inr other ↦ inr (sym (get_or-set_other ds a b (Some d) None other) ∙ h)
       ]
 
@@ -100,7 +104,8 @@ module _ (ds : List (Option ℕ)) (a d : ℕ) (below : a < length ds) (none : sl
 
 module _ (next : ℕ → List ℕ) (from n a d : ℕ) where
   -- the vertex to which an edge leads has a distance already
-  reached_before : (x : Edge) (left : List Edge) (s : Search) (f : ℕ) → Has s.0 x.to f → IsFollowing next from n a d (x ∷ left) s → IsFollowing next from n a d left s
+  reached_before : (x : Edge) (left : List Edge) (s : Search) (f : ℕ) → Has s.0 x.to f → IsFollowing next from n a d (x ∷ left) s
+      → IsFollowing next from n a d left s
   reached_before x left s f h i =
       record {
         search = i.search;
@@ -170,7 +175,12 @@ module _ (next : ℕ → List ℕ) (from n a d : ℕ) where
         ]);
         led = λ b k. (elim (i.led b k) [
           | inl c ↦ (elim (contains_cases x.to b (map (λ (e : Edge). e.to) left) c) [
-            | inl same ↦ inr (suc d, ap (λ y. slice_index_or (slice_set s.0 x.to (Some (suc d))) y None) (sym same) ∙ get_or-set_same s.0 x.to (Some (suc d)) None below, omega arith)
+            | inl same ↦ inr (
+              suc d,
+              ap (λ y. slice_index_or (slice_set s.0 x.to (Some (suc d))) y None) (sym same)
+                  ∙ get_or-set_same s.0 x.to (Some (suc d)) None below,
+              omega arith,
+            )
             | inr later ↦ inl later
           ])
           | inr e ↦ inr (e.0, kept b e.0 e.1, e.2)
@@ -242,16 +252,19 @@ module _ (next : ℕ → List ℕ) (from n : ℕ) where
       }
 
   -- the first vertex waits
-  pub begun : (ds : List (Option ℕ)) (q : List (ℕ × ℕ)) → length ds ≡ n → from < n → ((a : ℕ) → slice_index_or ds a None ≡ None) → unknown ds ≡ n → q ≡ (from, 0) ∷ []
+  pub begun : (ds : List (Option ℕ)) (q : List (ℕ × ℕ)) → length ds ≡ n → from < n → ((a : ℕ) → slice_index_or ds a None ≡ None) → unknown ds ≡ n → q
+      ≡ (from, 0) ∷ []
       → IsBetween next from n (slice_set ds from (Some 0), q)
   begun ds q all below none count is =
       let start : Has (slice_set ds from (Some 0)) from 0 = get_or-set_same ds from (Some 0) None (omega arith) in
       let less = unknown_less ds from 0 (omega arith) (none from) in
-      let only : (a d : ℕ) → Has (slice_set ds from (Some 0)) a d → (a ≡ from) × (d ≡ 0) = λ a d h. (elim (known_cases ds from 0 (omega arith) (none from) a d h) [
+      let only : (a d : ℕ) → Has (slice_set ds from (Some 0)) a d → (a ≡ from) × (d ≡ 0) =
+      λ a d h. (elim (known_cases ds from 0 (omega arith) (none from) a d h) [
         | inl it ↦ it
         | inr old ↦ absurd (none-some d (sym (none a) ∙ old))
       ]) in
-      let one : (a d : ℕ) → Contains q (a, d) → ◌≡◌ {A = ℕ × ℕ} (from, 0) (a, d) = λ a d h. (elim (contains_cases (from, 0) (a, d) [] (subst (λ (xs : List (ℕ × ℕ)). Contains xs (a, d)) is h)) [
+      let one : (a d : ℕ) → Contains q (a, d) → ◌≡◌ {A = ℕ × ℕ} (from, 0) (a, d) =
+      λ a d h. (elim (contains_cases (from, 0) (a, d) [] (subst (λ (xs : List (ℕ × ℕ)). Contains xs (a, d)) is h)) [
         | inl same ↦ same
         | inr more ↦ absurd (contains_none (a, d) more)
       ]) in

@@ -18,9 +18,12 @@ LeadToVertices edges = (a : ℕ) (e : Edge) → Contains (edges_at edges a) e �
 -- at each vertex the length of a shortest walk that leads there
 pub record AreDistances (edges : List (List Edge)) (from : ℕ) (distances : List (Option ℕ)) : Type 0 where
   pub all : length distances ≡ length edges
-  pub shortest : (a : ℕ) → a < length edges → slice_index_or distances a None ≡ shortest (heads edges) (length edges) from a
+  pub shortest : (a : ℕ) → a < length edges → slice_index_or distances a None
+      ≡ shortest (heads edges) (length edges) from a
 
 -- where there is a distance a shortest walk is as long, and where there is none no walk leads there
 abbrev pub DistancesLaw : Type 0
-DistancesLaw = (edges : List (List Edge)) (from : ℕ) (distances : List (Option ℕ)) → LeadToVertices edges → from < length edges → AreDistances edges from distances
-    → (a : ℕ) → a < length edges → MatchOption (slice_index_or distances a None) (HasNoWalk (heads edges) from a) (IsShortest (heads edges) from a)
+DistancesLaw = (edges : List (List Edge)) (from : ℕ) (distances : List (Option ℕ)) → LeadToVertices edges → from
+    < length edges → AreDistances edges from distances
+    → (a : ℕ) → a < length edges
+    → MatchOption (slice_index_or distances a None) (HasNoWalk (heads edges) from a) (IsShortest (heads edges) from a)

@@ -10,7 +10,8 @@ use Rattle.port_graph.specs.Routes.{Way}
 abbrev pub indexed_from : ℕ → List (List Edge) → List (List Edge) → List Slope
 indexed_from first [] downs = []
 indexed_from first (u ∷ ups) [] = []
-indexed_from first (u ∷ ups) (d ∷ downs) = record { guid = first; ups = u; downs = d } ∷ indexed_from (suc first) ups downs
+indexed_from first (u ∷ ups) (d ∷ downs) =
+    record { guid = first; ups = u; downs = d } ∷ indexed_from (suc first) ups downs
 
 -- the slopes of vertices that have these edges up and down
 abbrev pub indexed : List (List Edge) → List (List Edge) → List Slope
@@ -38,22 +39,28 @@ AreLess bound numbers = (a n : ℕ) → slice_index_or numbers a None ≡ Some n
 
 -- the distance where there is one, else one more than the least cost over the edges
 abbrev pub cost_of : Option ℕ → List Edge → List (Option ℕ) → Option ℕ
-cost_of distance edges costs = if is_some distance then distance else option_map suc (least_of (filter_map (λ e. slice_index_or costs e.to None) edges))
+cost_of distance edges costs =
+    if is_some distance then distance else option_map suc
+    (least_of (filter_map (λ e. slice_index_or costs e.to None) edges))
 
 -- at each of the first vertices such a cost
-pub record AreCosts (ups : List (List Edge)) (distances : List (Option ℕ)) (n : ℕ) (costs : List (Option ℕ)) : Type 0 where
-  pub all : length costs ≡ n
-  pub cost : (a : ℕ) → a < n → slice_index_or costs a None ≡ cost_of (slice_index_or distances a None) (edges_at ups a) costs
+pub record AreCosts (ups : List (List Edge)) (distances : List (Option ℕ)) (n : ℕ) (costs : List (Option ℕ)) : Type 0
+  where
+    pub all : length costs ≡ n
+    pub cost : (a : ℕ) → a < n → slice_index_or costs a None
+        ≡ cost_of (slice_index_or distances a None) (edges_at ups a) costs
 
 -- the port of the first edge to a vertex whose number is one less
 abbrev pub port_nearer : List Edge → List (Option ℕ) → Option ℕ → Option ℕ
-port_nearer edges numbers number = option_map (λ e. e.port) (find (λ e. same_number (option_map suc (slice_index_or numbers e.to None)) number) edges)
+port_nearer edges numbers number =
+    option_map (λ e. e.port) (find (λ e. same_number (option_map suc (slice_index_or numbers e.to None)) number) edges)
 
 -- the port down where a distance is known, else the port up
 abbrev pub port_by : List (List Edge) → List (List Edge) → List (Option ℕ) → List (Option ℕ) → ℕ → Option ℕ
 port_by ups downs distances costs a =
     let distance = slice_index_or distances a None in
-    if is_some distance then port_nearer (edges_at downs a) distances distance else port_nearer (edges_at ups a) costs (slice_index_or costs a None)
+    if is_some distance then port_nearer (edges_at downs a) distances distance else port_nearer (edges_at ups a) costs
+    (slice_index_or costs a None)
 
 -- at each vertex the next port to the target
 pub record AreNextPorts (ups downs : List (List Edge)) (target : ℕ) (ports : List (Option ℕ)) : Type 0 where
@@ -64,6 +71,8 @@ pub record AreNextPorts (ups downs : List (List Edge)) (target : ℕ) (ports : L
 abbrev pub ports_between : List (List Edge) → List (List Edge) → List ℕ → List (List (Option ℕ))
 ports_between ups downs vertices = map (λ t. map (λ s. next_port (indexed ups downs) s t) vertices) vertices
 
--- from a vertex with a cost a way by next ports leads to the target, first up and then down, over as many edges as the cost
+-- from a vertex with a cost a way by next ports leads to the target, first up and then down, over as many edges as the
+-- cost
 abbrev pub WaysLaw : Type 0
-WaysLaw = (ups downs : List (List Edge)) → AreSlopes ups downs → (s t n : ℕ) → t < length ups → cost (indexed ups downs) s t ≡ Some n → Way (indexed ups downs) s t n
+WaysLaw = (ups downs : List (List Edge)) → AreSlopes ups downs → (s t n : ℕ) → t < length ups
+    → cost (indexed ups downs) s t ≡ Some n → Way (indexed ups downs) s t n

@@ -56,7 +56,8 @@ pub record AreRouted (ups downs : List (List Edge)) (t k : ℕ) (numbers ports :
   pub next : (a : ℕ) → a < length ups → port_in (at numbers a k) (at ports a k) ≡ next_port (indexed ups downs) a t
 
 -- for so many vertices, and routed in all lanes where that is said
-pub record IsBlock (ups downs : List (List Edge)) (is_routed : Bool) (targets : List ℕ) (numbers ports : List (List ℕ)) : Type 0 where
+pub record IsBlock (ups downs : List (List Edge)) (is_routed : Bool) (targets : List ℕ) (numbers ports : List (List ℕ))
+    : Type 0 where
   pub all_numbers : length numbers ≡ length ups
   pub all_ports : length ports ≡ length ups
   pub routed : is_routed ≡ true → EachLane (λ k. AreRouted ups downs (slice_index targets k) k numbers ports)

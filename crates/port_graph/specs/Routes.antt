@@ -11,7 +11,8 @@ IsDownDistance slopes s t n = IsShortest (below slopes) s t n
 -- k wires up from s to u, past switches from which no walk down leads to t
 abbrev pub Climb : List Slope → ℕ → ℕ → ℕ → ℕ → Type 0
 Climb slopes t s u zero = s ≡ u
-Climb slopes t s u (suc k) = HasNoWalk (below slopes) s t × ((e : Edge) × Contains (ups_at slopes s) e × Climb slopes t e.to u k)
+Climb slopes t s u (suc k) =
+    HasNoWalk (below slopes) s t × ((e : Edge) × Contains (ups_at slopes s) e × Climb slopes t e.to u k)
 
 -- a climb as far as needed and a shortest walk down, n wires in all
 abbrev pub IsRoute : List Slope → ℕ → ℕ → ℕ → Type 0

@@ -8,7 +8,8 @@ Search = List (Option ℕ) × List (ℕ × ℕ)
 
 -- a vertex is reached: if its distance was not known it is now, and the vertex waits
 abbrev pub reach : ℕ → Search → ℕ → Search
-reach distance s a = if is_some (slice_index_or s.0 a None) then s else (slice_set s.0 a (Some distance), s.1 ++ (a, distance) ∷ [])
+reach distance s a =
+    if is_some (slice_index_or s.0 a None) then s else (slice_set s.0 a (Some distance), s.1 ++ (a, distance) ∷ [])
 
 -- the vertices to which edges lead are reached, one after another
 abbrev pub reach_all : ℕ → Search → List Edge → Search

@@ -36,7 +36,9 @@ least_of (n ∷ ns) = Some (lesser n (least_of ns))
 -- with at most so many climbs: down where that leads to the target, else one wire up and the least cost from there
 abbrev pub cost_within : List Slope → ℕ → ℕ → ℕ → Option ℕ
 cost_within slopes zero s t = down_distance slopes s t
-cost_within slopes (suc climbs) s t = let down = down_distance slopes s t in if is_some down then down else option_map suc (least_of (filter_map (λ e. cost_within slopes climbs e.to t) (ups_at slopes s)))
+cost_within slopes (suc climbs) s t = let down = down_distance slopes s t in
+    if is_some down then down else option_map suc
+    (least_of (filter_map (λ e. cost_within slopes climbs e.to t) (ups_at slopes s)))
 
 -- no climb passes a switch twice
 abbrev pub cost : List Slope → ℕ → ℕ → Option ℕ
@@ -48,12 +50,18 @@ same_number _ _ = false
 
 -- the least port down to a switch that is one nearer to the target
 abbrev pub port_down : List Slope → ℕ → ℕ → Option ℕ
-port_down slopes s t = option_map (λ e. e.port) (find (λ e. same_number (option_map suc (down_distance slopes e.to t)) (down_distance slopes s t)) (downs_at slopes s))
+port_down slopes s t =
+    option_map (λ e. e.port)
+    (find (λ e. same_number (option_map suc (down_distance slopes e.to t)) (down_distance slopes s t))
+    (downs_at slopes s))
 
 -- the least port up to a switch of least cost
 abbrev pub port_up : List Slope → ℕ → ℕ → Option ℕ
-port_up slopes s t = option_map (λ e. e.port) (find (λ e. same_number (option_map suc (cost slopes e.to t)) (cost slopes s t)) (ups_at slopes s))
+port_up slopes s t =
+    option_map (λ e. e.port) (find (λ e. same_number (option_map suc (cost slopes e.to t)) (cost slopes s t))
+    (ups_at slopes s))
 
 -- down if that leads to the target, else up
 abbrev pub next_port : List Slope → ℕ → ℕ → Option ℕ
-next_port slopes s t = if s == t then None else (if is_some (down_distance slopes s t) then port_down slopes s t else port_up slopes s t)
+next_port slopes s t =
+    if s == t then None else (if is_some (down_distance slopes s t) then port_down slopes s t else port_up slopes s t)

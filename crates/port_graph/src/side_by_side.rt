@@ -80,7 +80,8 @@ impl Block {
         requires ports { length self.old.ports.items ≡ length ups.now }
         requires targets { EachLane (λ k. slice_index targets k < length ups.now) }
         ensures targets { self.new.targets ≡ targets }
-        ensures routed { IsBlock ups.now downs.now self.new.is_routed targets self.new.numbers.items self.new.ports.items }
+        ensures routed { IsBlock ups.now downs.now self.new.is_routed targets self.new.numbers.items
+            self.new.ports.items }
     {
         self.targets = targets;
         self.is_routed = route_in_lanes(ups, downs, &targets, &mut self.numbers, &mut self.ports);
@@ -96,7 +97,8 @@ impl Block {
         vertices: &[usize],
     ) -> Result<Vec<Option<PortNum>>, AllocError>
         requires slopes { AreSlopes ups.now downs.now }
-        requires routed { IsBlock ups.now downs.now self.now.is_routed self.now.targets self.now.numbers.items self.now.ports.items }
+        requires routed { IsBlock ups.now downs.now self.now.is_routed self.now.targets self.now.numbers.items
+            self.now.ports.items }
         requires lane { lane < 16 }
         requires target { slice_index self.now.targets lane < length ups.now }
         requires vertices { All (λ vertex. vertex < length ups.now) vertices.now }
@@ -128,7 +130,8 @@ fn route_in_lanes(
     requires numbers { length numbers.old ≡ length ups.now }
     requires ports { length ports.old ≡ length ups.now }
     requires targets { EachLane (λ k. slice_index targets.now k < length ups.now) }
-    ensures { result ≡ true → EachLane (λ k. AreRouted ups.now downs.now (slice_index targets.now k) k numbers.new ports.new) }
+    ensures { result ≡ true
+        → EachLane (λ k. AreRouted ups.now downs.now (slice_index targets.now k) k numbers.new ports.new) }
 {
     let mut vertex = ups.len();
     'down: while vertex > 0 {

@@ -235,7 +235,8 @@ absorbs-refused p q r a old mid new taken n room b f g fresh inside h some least
                 sound = w.sound;
                 whole = w.whole;
                 good = w.good;
-                near = let done = w.completed in omega (arith, ap length w.whole, behind-length w.format w.records w.r w.behind, length-append taken bytes, long);
+                near = let done =
+                    w.completed in omega (arith, ap length w.whole, behind-length w.format w.records w.r w.behind, length-append taken bytes, long);
               },
               held-wanted old mid new taken bytes g.held w,
             );

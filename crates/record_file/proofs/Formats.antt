@@ -29,7 +29,8 @@ bad_order true true e f i h = absurd (cc)
 bad_order true false e f i h = let P : Judgement → Type 0 = λ v. IsBadJudgement v i in subst P h tt
 bad_order false b e f i h = let P : Judgement → Type 0 = λ v. IsBadJudgement v i in subst P h tt
 
-bad_cell : (head_floor : Option ℕ) (last : Option Key) (o : Option (Key × Cell Value)) (f : ℕ → FileFault) (i : ℕ) → of_cell head_floor last o ≡ Err f → IsBadPart (f i)
+bad_cell : (head_floor : Option ℕ) (last : Option Key) (o : Option (Key × Cell Value)) (f : ℕ → FileFault) (i : ℕ) → of_cell head_floor last o ≡ Err f
+    → IsBadPart (f i)
 bad_cell head_floor last None f i h = let P : Judgement → Type 0 = λ v. IsBadJudgement v i in subst P h tt
 bad_cell head_floor last (Some e) f i h = bad_order (is_at_told head_floor e.1) (is_above last e.0) e f i h
 

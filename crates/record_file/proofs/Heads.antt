@@ -155,7 +155,8 @@ only front m rest eight long is =
 other_by : (front : List ℕ) (r : Result Format FileFault) → length front ≡ 8 → (front ≡ head_bytes Reports → ⊥) → (front ≡ head_bytes (Cells None) → ⊥)
     → (front ≡ floored_magic → ⊥) → Begins front r → r ≡ Err Magic
 other_by front _ eight no_reports no_cells no_floored (whole Reports sound rest is) = absurd (no_reports (only front (head_bytes Reports) rest eight refl is))
-other_by front _ eight no_reports no_cells no_floored (whole (Cells None) sound rest is) = absurd (no_cells (only front (head_bytes (Cells None)) rest eight refl is))
+other_by front _ eight no_reports no_cells no_floored (whole (Cells None) sound rest is) =
+    absurd (no_cells (only front (head_bytes (Cells None)) rest eight refl is))
 other_by front _ eight no_reports no_cells no_floored (whole (Cells (Some floor)) sound rest is) =
     absurd (omega (arith, ap length is, length-append (head_bytes (Cells (Some floor))) rest, length-head (Cells (Some floor))))
 other_by front _ eight no_reports no_cells no_floored (other more) = refl

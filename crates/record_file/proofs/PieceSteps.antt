@@ -83,7 +83,8 @@ behind_head format bytes sound is =
 kept-head : (format : Format) (bytes : List ℕ) → IsFormat format → bytes ≡ head_bytes format → kept bytes ≡ []
 unfolding behind_head
 kept-head format bytes sound is =
-    kept-behind format 0 None [] bytes (behind_head format bytes sound is) (let small = head-short format in omega (arith, ap length is, length-head format, small.1))
+    kept-behind format 0 None [] bytes (behind_head format bytes sound is) (let small = head-short format in
+    omega (arith, ap length is, length-head format, small.1))
 
 no_items : (items : List ℕ) → length items ≡ 0 → items ≡ []
 no_items [] h = refl
@@ -184,7 +185,8 @@ module _ (format : Format) (index : ℕ) (last : Option Key) (part q fed : List 
         key = sym (last_key-more format None rs r);
         short = size-positive format;
       } in
-      let one : sightings_by format (last_key format None rs) (r ∷ []) ≡ sightings = ap (λ v. sightings_then v []) (last-record ∙ good) ∙ append-nil sightings in
+      let one : sightings_by format (last_key format None rs) (r ∷ []) ≡ sightings =
+      ap (λ v. sightings_then v []) (last-record ∙ good) ∙ append-nil sightings in
       let more : kept (fed ++ q) ≡ kept fed ++ sightings =
       kept-behind format (index + 1) (key_in format r) [] (fed ++ q) behind fits ∙ sightings_by-good format None 0 rs (r ∷ []) known.1
       ∙ ap (λ l. sightings_by format None rs ++ l) one ∙ ap (λ l. l ++ sightings) (sym kept-before) in
@@ -280,7 +282,8 @@ size-some (awaited.Record format index last) = size-positive format
 next_is : (next w : Awaited) → ◌≡◌ {A = Result Awaited FileFault} (Ok next) (Ok w) → next ≡ w
 next_is next w e = cc
 
-offset-magic : (bytes : List ℕ) (o : Result Format FileFault) (next : Awaited) → length bytes ≡ 8 → Begins bytes o → Ok next ≡ behind_magic o → offset_of next ≡ 8
+offset-magic : (bytes : List ℕ) (o : Result Format FileFault) (next : Awaited) → length bytes ≡ 8 → Begins bytes o → Ok next ≡ behind_magic o → offset_of next
+    ≡ 8
 offset-magic bytes _ next eight (head.whole format sound rest is) h =
     let small = head-short format in
     ap offset_of (next_is next (awaited.Record format 0 None) h)

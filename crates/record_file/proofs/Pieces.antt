@@ -40,7 +40,8 @@ floor-short bytes short = floor-fault bytes Magic (head-early bytes short)
 -- no bytes say nothing
 pub nothing-said : (s : Facts) → merge s (facts_in []) ≡ s
 nothing-said s =
-    ap (λ l. merge s (view_at (floor_in []) l)) (kept-short [] (omega arith)) ∙ ap (λ n. merge s (view_at n [])) (floor-short [] (omega arith)) ∙ merge-nothing s
+    ap (λ l. merge s (view_at (floor_in []) l)) (kept-short [] (omega arith)) ∙ ap (λ n. merge s (view_at n [])) (floor-short [] (omega arith))
+    ∙ merge-nothing s
 
 module _ (format : Format) (index : ℕ) (last : Option Key) (part fed : List ℕ) (b : IsBehindRecords format index last part fed) where
   pub length-behind : length fed ≡ bytes_of format (length b.records) + length part

@@ -153,7 +153,8 @@ pub kept-head : (format : Format) → IsFormat format → (x : List ℕ)
 unfolding kept
 kept-head format sound x = ap (λ o. kept_as o (head_bytes format ++ x)) (format_in-head format x sound)
 
-pub outcome-file : (format : Format) → IsFormat format → (rs : List (List ℕ)) (x : List ℕ) → AreRecords (record_size format) rs → bytes_of format (length rs) ≤ 2 ^ 40
+pub outcome-file : (format : Format) → IsFormat format → (rs : List (List ℕ)) (x : List ℕ) → AreRecords (record_size format) rs → bytes_of format (length rs)
+    ≤ 2 ^ 40
     → outcome (file format rs x) ≡ fault_first (first_fault format None 0 (rs ++ records (record_size format) (take (2 ^ 40 - bytes_of format (length rs)) x)))
     (ending format (length (file format rs x)))
 outcome-file format sound rs x h fits =
@@ -161,7 +162,8 @@ outcome-file format sound rs x h fits =
     ∙ ap (λ r. fault_first (first_fault format None 0 r) (ending format (length (file format rs x))))
     (records_in_reach-file format rs x h fits)
 
-pub kept-file : (format : Format) → IsFormat format → (rs : List (List ℕ)) (x : List ℕ) → AreRecords (record_size format) rs → bytes_of format (length rs) ≤ 2 ^ 40
+pub kept-file : (format : Format) → IsFormat format → (rs : List (List ℕ)) (x : List ℕ) → AreRecords (record_size format) rs → bytes_of format (length rs)
+    ≤ 2 ^ 40
     → kept (file format rs x) ≡ sightings_by format None (rs ++ records (record_size format) (take (2 ^ 40 - bytes_of format (length rs)) x))
 kept-file format sound rs x h fits = kept-head format sound (concat rs ++ x) ∙ ap (sightings_by format None) (records_in_reach-file format rs x h fits)
 
@@ -180,7 +182,8 @@ fault_in-file format rs h fits good =
     fault_in-part format rs [] [] h fits good (take_all (2 ^ 40 - bytes_of format (length rs)) [] (omega arith)) (size-positive format)
 
 -- what stands behind good records is less than a whole record
-pub outcome-part : (format : Format) → IsFormat format → (rs : List (List ℕ)) (x part : List ℕ) → AreRecords (record_size format) rs → bytes_of format (length rs) ≤ 2 ^ 40
+pub outcome-part : (format : Format) → IsFormat format → (rs : List (List ℕ)) (x part : List ℕ) → AreRecords (record_size format) rs
+    → bytes_of format (length rs) ≤ 2 ^ 40
     → first_fault format None 0 rs ≡ None
     → take (2 ^ 40 - bytes_of format (length rs)) x ≡ part → length part < record_size format
     → outcome (file format rs x) ≡ ending format (length (file format rs x))
@@ -191,7 +194,8 @@ outcome-part format sound rs x part h fits good cut short =
     ∙ ap (λ l. fault_first (first_fault format None 0 (rs ++ l)) (ending format (length (file format rs x)))) none
     ∙ ap (λ f. fault_first f (ending format (length (file format rs x)))) (ap (first_fault format None 0) (append-nil rs) ∙ good)
 
-pub kept-part : (format : Format) → IsFormat format → (rs : List (List ℕ)) (x part : List ℕ) → AreRecords (record_size format) rs → bytes_of format (length rs) ≤ 2 ^ 40
+pub kept-part : (format : Format) → IsFormat format → (rs : List (List ℕ)) (x part : List ℕ) → AreRecords (record_size format) rs → bytes_of format (length rs)
+    ≤ 2 ^ 40
     → take (2 ^ 40 - bytes_of format (length rs)) x ≡ part → length part < record_size format → kept (file format rs x) ≡ sightings_by format None rs
 kept-part format sound rs x part h fits cut short =
     let w = record_size format in
@@ -206,7 +210,8 @@ outcome-bad format sound rs x f h fits bad =
     outcome-file format sound rs x h fits
     ∙ ap (λ o. fault_first o (ending format (length (file format rs x)))) (first_fault-bad format None 0 rs more f bad)
 
-pub kept-bad : (format : Format) → IsFormat format → (rs : List (List ℕ)) (x : List ℕ) (f : FileFault) → AreRecords (record_size format) rs → bytes_of format (length rs) ≤ 2 ^ 40
+pub kept-bad : (format : Format) → IsFormat format → (rs : List (List ℕ)) (x : List ℕ) (f : FileFault) → AreRecords (record_size format) rs
+    → bytes_of format (length rs) ≤ 2 ^ 40
     → first_fault format None 0 rs ≡ Some f → kept (file format rs x) ≡ sightings_by format None rs
 kept-bad format sound rs x f h fits bad =
     kept-file format sound rs x h fits ∙ sightings_by-bad format None 0 rs (records (record_size format) (take (2 ^ 40 - bytes_of format (length rs)) x)) f bad
@@ -236,7 +241,8 @@ good-more format last (s ∷ rs) r sightings h long good = (h.0, h.1, good-more 
 
 -- a record more
 pub file-record : (format : Format) (rs : List (List ℕ)) (r : List ℕ) → file format (rs ++ r ∷ []) [] ≡ file format rs r
-file-record format rs r = ap (λ l. head_bytes format ++ l) (append-nil (concat (rs ++ r ∷ [])) ∙ concat-append rs (r ∷ []) ∙ ap (λ l. concat rs ++ l) (append-nil r))
+file-record format rs r =
+    ap (λ l. head_bytes format ++ l) (append-nil (concat (rs ++ r ∷ [])) ∙ concat-append rs (r ∷ []) ∙ ap (λ l. concat rs ++ l) (append-nil r))
 
 pub AreRecords-more : (size : ℕ) (rs : List (List ℕ)) (r : List ℕ) → AreRecords size rs → length r ≡ size → AreRecords size (rs ++ r ∷ [])
 AreRecords-more size [] r h long = (long, tt)

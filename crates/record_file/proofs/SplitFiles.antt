@@ -30,7 +30,8 @@ kept-whole bytes rs is =
     let short = is.short in
     let rest = 2 ^ 40 - bytes_of Reports (length rs) in
     let none : records 272 (take rest []) ≡ [] = ap (records 272) (take_all rest [] (omega arith)) ∙ records-short 272 [] (omega arith) in
-    ap kept same ∙ kept-file Reports refl rs [] good.0 (omega arith) ∙ ap (λ l. sightings_by Reports None (rs ++ l)) none ∙ ap (sightings_by Reports None) (append-nil rs)
+    ap kept same ∙ kept-file Reports refl rs [] good.0 (omega arith) ∙ ap (λ l. sightings_by Reports None (rs ++ l)) none
+    ∙ ap (sightings_by Reports None) (append-nil rs)
 
 -- the records of a report file stand in no order
 no_key : (rs : List (List ℕ)) → last_key Reports None rs ≡ None
@@ -114,7 +115,8 @@ record IsPart (head_floor : Option ℕ) (part : List ℕ) (es : Sightings) : Typ
   cells : kept part ≡ es
   floor : floor_in part ≡ floor_of (Cells head_floor)
 
-part_of_store : (head_floor : Option ℕ) (part : List ℕ) (es : Sightings) → IsFormat (Cells head_floor) → Rise None es → AllSightings es → AllAtTold head_floor es
+part_of_store : (head_floor : Option ℕ) (part : List ℕ) (es : Sightings) → IsFormat (Cells head_floor) → Rise None es → AllSightings es
+    → AllAtTold head_floor es
     → part ≡ cells_file head_floor es → length part < 2 ^ 40 → IsPart head_floor part es
 part_of_store head_floor part es sound rise all above is short =
     let f = facts_with head_floor es sound rise all above in
@@ -129,7 +131,8 @@ split_store head_floor whole front back facts first second w split f b =
     let rise : Rise None (first ++ second) = subst (λ (es : Sightings). Rise None es) split (sorted_rise (cells_of facts) (cells_in_order facts)) in
     let all : AllSightings (first ++ second) = subst (λ (es : Sightings). AllSightings es) split (in_range_sightings facts w.in_range) in
     let above : AllAtTold head_floor (first ++ second) = subst (λ (es : Sightings). AllAtTold head_floor es) split (cells_at head_floor facts w.floor) in
-    let joined : whole ≡ head_bytes (Cells head_floor) ++ (flat_map record_bytes first ++ flat_map record_bytes second) = w.whole ∙ ap (cells_file head_floor) split
+    let joined : whole ≡ head_bytes (Cells head_floor) ++ (flat_map record_bytes first ++ flat_map record_bytes second) =
+    w.whole ∙ ap (cells_file head_floor) split
     ∙ ap (λ l. head_bytes (Cells head_floor) ++ l) (flat_map-append record_bytes first second) in
     let sized = ap length joined in let long = w.short in
     let short = shorter (head_bytes (Cells head_floor)) (flat_map record_bytes first) (flat_map record_bytes second) (omega arith) in
@@ -142,7 +145,8 @@ split_store head_floor whole front back facts first second w split f b =
     record {
       front_accepted = is_front.accepted;
       back_accepted = is_back.accepted;
-      together = (read_back head_floor whole facts w).cells ∙ split ∙ ap (λ x. x ++ second) (sym is_front.cells) ∙ ap (λ x. kept front ++ x) (sym is_back.cells);
+      together = (read_back head_floor whole facts w).cells ∙ split ∙ ap (λ x. x ++ second) (sym is_front.cells)
+          ∙ ap (λ x. kept front ++ x) (sym is_back.cells);
       front_floor = is_front.floor ∙ floor;
       back_floor = is_back.floor ∙ floor;
     }

@@ -134,7 +134,8 @@ pub record Spelled (head_floor : Option ℕ) (last : Option Key) (i : ℕ) (es :
   pub good : first_fault (Cells head_floor) last i (map record_bytes es) ≡ None
   pub tells : sightings_by (Cells head_floor) last (map record_bytes es) ≡ es
 
-pub spelled : (head_floor : Option ℕ) (last : Option Key) (i : ℕ) (es : Sightings) → Rise last es → AllSightings es → AllAtTold head_floor es → Spelled head_floor last i es
+pub spelled : (head_floor : Option ℕ) (last : Option Key) (i : ℕ) (es : Sightings) → Rise last es → AllSightings es → AllAtTold head_floor es
+    → Spelled head_floor last i es
 spelled head_floor last i [] rise all above = record { records = tt; good = refl; tells = refl }
 spelled head_floor last i (e ∷ es) rise all above =
     let later = spelled head_floor (Some e.0) (i + 1) es rise.1 all.1 above.1 in
@@ -166,7 +167,8 @@ pub record GoodCell (head_floor : Option ℕ) (last : Option Key) (o : Option (K
   pub after : is_above last e.0 ≡ true
   pub none : later ≡ None
 
-good_cell_by : (head_floor : Option ℕ) (last : Option Key) (i : ℕ) (e : Key × Cell Value) (later : Option FileFault) (a b : Bool) → is_at_told head_floor e.1 ≡ a
+good_cell_by : (head_floor : Option ℕ) (last : Option Key) (i : ℕ) (e : Key × Cell Value) (later : Option FileFault) (a b : Bool) → is_at_told head_floor e.1
+    ≡ a
     → is_above last e.0 ≡ b → fault_or i (cond a (cond b (Ok (e ∷ [])) (Err CellOrder)) (Err BadCell)) later ≡ None → GoodCell head_floor last (Some e) later
 good_cell_by head_floor last i e later true true at after h = record { e = e; is = refl; at = at; after = after; none = h }
 good_cell_by head_floor last i e later true false at after h = absurd (cc)
@@ -239,14 +241,18 @@ flat (e ∷ es) = ap (λ l. record_bytes e ++ l) (flat es)
 pub in_range_sightings : (facts : Facts) → AreInRange facts → AllSightings (cells_of facts)
 in_range_sightings facts h = all_sightings (cells_of facts) (λ e there. h e.0 e.1 (contained_get facts.found e.0 e.1 there))
 
-facts_spelled : (head_floor : Option ℕ) (facts : Facts) → AreInRange facts → facts.floor ≡ floor_of (Cells head_floor) → Spelled head_floor None 0 (cells_of facts)
+facts_spelled : (head_floor : Option ℕ) (facts : Facts) → AreInRange facts → facts.floor ≡ floor_of (Cells head_floor)
+    → Spelled head_floor None 0 (cells_of facts)
 facts_spelled head_floor facts h floor =
-    spelled head_floor None 0 (cells_of facts) (sorted_rise (cells_of facts) (cells_in_order facts)) (in_range_sightings facts h) (cells_at head_floor facts floor)
+    spelled head_floor None 0 (cells_of facts) (sorted_rise (cells_of facts) (cells_in_order facts)) (in_range_sightings facts h)
+    (cells_at head_floor facts floor)
 
-whole_file : (head_floor : Option ℕ) (facts : Facts) → cells_file head_floor (cells_of facts) ≡ head_bytes (Cells head_floor) ++ concat (map record_bytes (cells_of facts))
+whole_file : (head_floor : Option ℕ) (facts : Facts) → cells_file head_floor (cells_of facts) ≡ head_bytes (Cells head_floor)
+    ++ concat (map record_bytes (cells_of facts))
 whole_file head_floor facts = ap (λ l. head_bytes (Cells head_floor) ++ l) (flat (cells_of facts))
 
-store_is_file : (head_floor : Option ℕ) (bytes : List ℕ) (facts : Facts) → IsStoreFile head_floor bytes facts → IsFile (Cells head_floor) bytes (map record_bytes (cells_of facts))
+store_is_file : (head_floor : Option ℕ) (bytes : List ℕ) (facts : Facts) → IsStoreFile head_floor bytes facts
+    → IsFile (Cells head_floor) bytes (map record_bytes (cells_of facts))
 store_is_file head_floor bytes facts is =
     let spells = facts_spelled head_floor facts is.in_range is.floor in
     record { sound = is.sound; whole = is.whole ∙ whole_file head_floor facts; records = spells.records; good = spells.good; short = is.short }
@@ -257,7 +263,8 @@ records-file : (head_floor : Option ℕ) (bytes : List ℕ) (facts : Facts) → 
 records-file head_floor bytes facts is =
     let rs = map record_bytes (cells_of facts) in
     ap (λ l. records 32 (drop (head_size (Cells head_floor)) l)) (is.whole ∙ whole_file head_floor facts)
-    ∙ ap (records 32) (drop_at (head_bytes (Cells head_floor)) (concat rs) (head_size (Cells head_floor)) (length-head (Cells head_floor)) ∙ sym (append-nil (concat rs)))
+    ∙ ap (records 32) (drop_at (head_bytes (Cells head_floor)) (concat rs) (head_size (Cells head_floor)) (length-head (Cells head_floor))
+    ∙ sym (append-nil (concat rs)))
     ∙ records-concat 32 rs [] (omega arith) (facts_spelled head_floor facts is.in_range is.floor).records
     ∙ ap (λ l. rs ++ l) (records-short 32 [] (omega arith)) ∙ append-nil rs
 
@@ -285,7 +292,8 @@ pub record FactsWith (head_floor : Option ℕ) (es : Sightings) : Type 0 where
   pub in_range : AreInRange facts
   pub floor : facts.floor ≡ floor_of (Cells head_floor)
 
-pub facts_with : (head_floor : Option ℕ) (es : Sightings) → IsFormat (Cells head_floor) → Rise None es → AllSightings es → AllAtTold head_floor es → FactsWith head_floor es
+pub facts_with : (head_floor : Option ℕ) (es : Sightings) → IsFormat (Cells head_floor) → Rise None es → AllSightings es → AllAtTold head_floor es
+    → FactsWith head_floor es
 facts_with head_floor es sound rise sightings above =
     let floor = floor_of (Cells head_floor) in
     let facts : Facts = view_at floor es in
@@ -309,7 +317,8 @@ store_files_are_accepted head_floor bytes = (
       let f = facts_with head_floor spells.0 is.sound spells.1.rise spells.1.sightings spells.1.above in (
         f.facts,
         record {
-          whole = is.whole ∙ ap (λ rs. head_bytes (Cells head_floor) ++ concat rs) (spells.1.records ∙ ap (map record_bytes) (sym f.cells)) ∙ sym (whole_file head_floor f.facts);
+          whole = is.whole ∙ ap (λ rs. head_bytes (Cells head_floor) ++ concat rs) (spells.1.records ∙ ap (map record_bytes) (sym f.cells))
+              ∙ sym (whole_file head_floor f.facts);
           sound = is.sound;
           floor = f.floor;
           in_range = f.in_range;
@@ -325,7 +334,11 @@ floored_is bytes is =
     let was = well_found bytes (outcome bytes) (found bytes) is.accepted in
     let begins = (whole_of bytes was.0 was.1).1 in
     let floored = floored_format was.0 begins.0 (ap (λ l. starts_with nat_eq l floored_magic) (sym begins.1) ∙ is.begins) in
-    let f = (store_files_are_accepted (Some floored.0) bytes).0 (was.1 ∙ ap (λ (f : Format). let r : Result Format FileFault = Ok f in r) floored.1, is.accepted) in
+    let f = (store_files_are_accepted (Some floored.0) bytes).0 (
+      was.1
+          ∙ ap (λ (f : Format). let r : Result Format FileFault = Ok f in r) floored.1,
+      is.accepted,
+    ) in
     (floored.0, f.0, f.1)
 
 pub one_spelling : FactsHaveOneSpelling

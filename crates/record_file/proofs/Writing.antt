@@ -18,14 +18,16 @@ pub record HasWritten {X : Type 0} (text : X → List ℕ) (a b : Option (List �
   pub parts : given ++ left ≡ all
 
 -- of the next one too
-pub written_more : {X : Type 0} (text : X → List ℕ) (a b c : Option (List ℕ)) (given left left' all : List X) (x : X) → HasWritten text a b given left all → left ≡ x ∷ left' → Appends b c (text x) → HasWritten text a c (given ++ x ∷ []) left' all
+pub written_more : {X : Type 0} (text : X → List ℕ) (a b c : Option (List ℕ)) (given left left' all : List X) (x : X) → HasWritten text a b given left all
+    → left ≡ x ∷ left' → Appends b c (text x) → HasWritten text a c (given ++ x ∷ []) left' all
 written_more text a b c given left left' all x h next q = record {
   written = let P : List ℕ → Type 0 = λ t. Appends a c t in subst P (flat_map_more text [] given x) (appends_then a b c _ (text x) h.written q);
   parts = append_assoc given (x ∷ []) left' ∙ ap (λ t. given ++ t) (sym next) ∙ h.parts;
 }
 
 -- and of all in the end
-pub written_all : {X : Type 0} (text : X → List ℕ) (a b : Option (List ℕ)) (given left all : List X) → HasWritten text a b given left all → left ≡ [] → Appends a b (flat_map text all)
+pub written_all : {X : Type 0} (text : X → List ℕ) (a b : Option (List ℕ)) (given left all : List X) → HasWritten text a b given left all → left ≡ []
+    → Appends a b (flat_map text all)
 written_all text a b given left all h none =
     let P : List _ → Type 0 = λ t. Appends a b (flat_map text t) in
     subst P (sym (append-nil given) ∙ ap (λ t. given ++ t) (sym none) ∙ h.parts) h.written

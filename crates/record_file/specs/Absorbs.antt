@@ -10,7 +10,8 @@ use Rattle.record_file.specs.declared.format.Format.{Format}
 use Rattle.record_file.specs.Head.{IsFormat, floored_magic, format_in, head_bytes}
 use Rattle.record_file.specs.RecordFile.{AreGoodRecords, Judgement, facts_in, fault_in, outcome}
 
--- what a record is judged to tell is in the store, unless there was no memory for it; or it is bad, and that is the answer
+-- what a record is judged to tell is in the store, unless there was no memory for it; or it is bad, and that is the
+-- answer
 abbrev pub AbsorbsJudged : {K : Type 0} → Judgement → ℕ → Result K FileFault → Facts → Facts → Type 0
 AbsorbsJudged (Ok sightings) index (Ok key) old new = new ≡ merge old (view sightings)
 AbsorbsJudged (Ok sightings) index (Err f) old new = (f ≡ Memory) × (new ≡ old)
@@ -27,7 +28,8 @@ pub record EndsBehindRecord (taken : List ℕ) : Type 0 where
   pub good : AreGoodRecords format None (records ++ last ∷ [])
   pub near : length behind < 4096
 
--- what the taken bytes say was merged into the store; when out of memory, what those before the record say that wanted it
+-- what the taken bytes say was merged into the store; when out of memory, what those before the record say that wanted
+-- it
 abbrev pub HoldsKept : Result (Unit {0}) FileFault → Facts → Facts → List ℕ → Type 0
 HoldsKept (Err Memory) old new taken =
     (wanted : EndsBehindRecord taken) × (new ≡ merge old (facts_in (head_bytes wanted.format ++ concat wanted.records)))
@@ -47,13 +49,15 @@ HasNoHeadYet taken = (length taken < 8) ⊎ ((starts_with nat_eq taken floored_m
 
 -- a head is still to come, or there is one with nothing but good records behind it so far
 abbrev pub HasNoFaultYet : List ℕ → Type 0
-HasNoFaultYet taken = HasNoHeadYet taken ⊎ ((format : Format) × (format_in taken ≡ Ok format) × (fault_in format taken ≡ None))
+HasNoFaultYet taken =
+    HasNoHeadYet taken ⊎ ((format : Format) × (format_in taken ≡ Ok format) × (fault_in format taken ≡ None))
 
 -- no fault is in the bytes, or they end a piece behind a good record, with good ones alone before it
 abbrev pub HasNoFaultBefore : List ℕ → Type 0
 HasNoFaultBefore taken = HasNoFaultYet taken ⊎ EndsBehindRecord taken
 
--- where the answer depends on what else the source has, it has nothing else; where reading stopped early, no fault came first
+-- where the answer depends on what else the source has, it has nothing else; where reading stopped early, no fault came
+-- first
 abbrev pub IsDecided : Result (Unit {0}) FileFault → List ℕ → Type 0 → Type 0
 IsDecided (Ok u) taken at_end = at_end
 IsDecided (Err Magic) taken at_end = length taken < 8 → at_end
@@ -64,15 +68,18 @@ IsDecided _ taken at_end = Unit {0}
 
 -- the bytes taken and the calls interrupted meanwhile are 2^40 together
 abbrev pub WasInterruptedTooOften : List ℕ → List ℕ → ℕ → ℕ → Type 0
-WasInterruptedTooOften bytes rest interruptions interruptions' = (2 ^ 40 + interruptions) + length rest ≤ length bytes + interruptions'
+WasInterruptedTooOften bytes rest interruptions interruptions' =
+    (2 ^ 40 + interruptions) + length rest ≤ length bytes + interruptions'
 
 -- fewer than 2^40 bytes were taken and fewer calls interrupted; where that is too long, at most as many
 abbrev pub IsBounded : Result (Unit {0}) FileFault → ℕ → ℕ → ℕ → Type 0
-IsBounded (Err TooLong) bytes interruptions interruptions' = (bytes ≤ 2 ^ 40) × (interruptions' ≤ 2 ^ 40 + interruptions)
+IsBounded (Err TooLong) bytes interruptions interruptions' =
+    (bytes ≤ 2 ^ 40) × (interruptions' ≤ 2 ^ 40 + interruptions)
 IsBounded _ bytes interruptions interruptions' = (bytes < 2 ^ 40) × (interruptions' < 2 ^ 40 + interruptions)
 
 -- bytes were taken, the store holds what they say, and the answer is theirs
-pub record AbsorbsFrom (left left' : Option (List ℕ)) (interruptions interruptions' : ℕ) (answer : Result (Unit {0}) FileFault) (old new : Facts) : Type 0 where
+pub record AbsorbsFrom (left left' : Option (List ℕ)) (interruptions interruptions' : ℕ)
+    (answer : Result (Unit {0}) FileFault) (old new : Facts) : Type 0 where
   pub taken : List ℕ
   pub consumed : Consumes left left' taken
   pub held : HoldsKept answer old new taken
@@ -81,7 +88,8 @@ pub record AbsorbsFrom (left left' : Option (List ℕ)) (interruptions interrupt
   pub bounded : IsBounded answer (length taken) interruptions interruptions'
 
 -- what absorbing this source with this answer does to it and to the store
-abbrev pub Absorbs : {S : Type 0} → (S → Option (List ℕ)) → (S → ℕ) → Result (Unit {0}) FileFault → S → S → Facts → Facts → Type 0
+abbrev pub Absorbs : {S : Type 0} → (S → Option (List ℕ)) → (S → ℕ) → Result (Unit {0}) FileFault → S → S → Facts
+    → Facts → Type 0
 Absorbs left interruptions answer source source' old new =
     AbsorbsFrom (left source) (left source') (interruptions source) (interruptions source') answer old new
 
@@ -89,4 +97,5 @@ Absorbs left interruptions answer source source' old new =
 abbrev pub AnswersKnown : {S : Type 0} → (S → Option (List ℕ)) → (S → ℕ) → Result (Unit {0}) FileFault → S → S → Type 0
 AnswersKnown left interruptions answer source source' =
     IfSome (left source) (λ bytes. IfSome (left source')
-    (λ rest. AnswersOutcome answer bytes (WasInterruptedTooOften bytes rest (interruptions source) (interruptions source'))))
+    (λ rest. AnswersOutcome answer bytes
+    (WasInterruptedTooOften bytes rest (interruptions source) (interruptions source'))))

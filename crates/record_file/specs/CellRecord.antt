@@ -94,7 +94,8 @@ state_of key state generation bytes =
 -- the cell that these bytes may be the spelling of
 abbrev pub candidate : List ℕ → Option (Key × Cell Value)
 candidate bytes =
-    option_and_then (λ key. option_map (λ cell. (key, cell)) (state_of key (slice_index bytes 1) (from_be_bytes w32 (take 4 (drop 4 bytes))) (drop 16 bytes)))
+    option_and_then (λ key. option_map (λ cell. (key, cell))
+    (state_of key (slice_index bytes 1) (from_be_bytes w32 (take 4 (drop 4 bytes))) (drop 16 bytes)))
     (key_of (slice_index bytes 0) (from_be_bytes w64 (take 8 (drop 8 bytes))) (slice_index bytes 2))
 
 abbrev pub if_sighting : Key × Cell Value → Option (Key × Cell Value)

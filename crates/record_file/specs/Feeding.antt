@@ -91,7 +91,8 @@ pub record AddsSightings (fed piece : List ℕ) (old new : Facts) : Type 0 where
   pub more : kept (fed ++ piece) ≡ kept fed ++ sightings
   pub held : new ≡ merge old (view_at (floor_behind fed piece) sightings)
 
--- a good record that this piece completes wanted memory; what the head and the records before it tell was merged into the store
+-- a good record that this piece completes wanted memory; what the head and the records before it tell was merged into
+-- the store
 pub record WantsMemory (fed piece : List ℕ) (old new : Facts) : Type 0 where
   pub format : Format
   pub records : List (List ℕ)
@@ -109,15 +110,18 @@ pub record WantsMemory (fed piece : List ℕ) (old new : Facts) : Type 0 where
 -- a record of the piece wanted memory, or the bytes have this fault now, and the store what came before it
 abbrev pub StopsWith : FileFault → List ℕ → List ℕ → Facts → Facts → Type 0
 StopsWith fault fed piece old new =
-    ((fault ≡ Memory) × WantsMemory fed piece old new) ⊎ ((fault_so_far (fed ++ piece) ≡ Some fault) × AddsSightings fed piece old new)
+    ((fault ≡ Memory) × WantsMemory fed piece old new)
+    ⊎ ((fault_so_far (fed ++ piece) ≡ Some fault) × AddsSightings fed piece old new)
 
 -- what a piece behind these bytes leaves
 abbrev pub FeedsBehind : List ℕ → List ℕ → Result (Unit {0}) FileFault → Absorbing → Facts → Facts → Type 0
-FeedsBehind fed piece (Ok u) a old new = WasFed a (fed ++ piece) × (fault_so_far (fed ++ piece) ≡ None) × AddsSightings fed piece old new
+FeedsBehind fed piece (Ok u) a old new =
+    WasFed a (fed ++ piece) × (fault_so_far (fed ++ piece) ≡ None) × AddsSightings fed piece old new
 FeedsBehind fed piece (Err fault) a old new = HasStopped a fault × StopsWith fault fed piece old new
 
 -- what feeding a piece answers, and what it leaves of the absorber and of the store
-pub record FeedsPiece (a : Absorbing) (piece : List ℕ) (answer : Result (Unit {0}) FileFault) (a' : Absorbing) (old new : Facts) : Type 0 where
+pub record FeedsPiece (a : Absorbing) (piece : List ℕ) (answer : Result (Unit {0}) FileFault) (a' : Absorbing)
+    (old new : Facts) : Type 0 where
   pub goes_on : (fed : List ℕ) → WasFed a fed → FeedsBehind fed piece answer a' old new
   pub stays : (fault : FileFault) → HasStopped a fault → (answer ≡ Err fault) × (a' ≡ a) × (new ≡ old)
 
@@ -148,12 +152,14 @@ raised_to (Some floor) facts = raised facts floor
 abbrev pub ending_at : Awaited → ℕ → Result (Unit {0}) FileFault
 ending_at awaited.Magic n = Err Magic
 ending_at awaited.Header n = Err (Truncated (offset_of awaited.Header))
-ending_at (awaited.Record format index last) n = if n == 0 then Ok tt else Err (Truncated (offset_of (awaited.Record format index last)))
+ending_at (awaited.Record format index last) n =
+    if n == 0 then Ok tt else Err (Truncated (offset_of (awaited.Record format index last)))
 
 -- what taking the awaited whole answers, and does to the store
 abbrev pub TakesAwaited : Awaited → List ℕ → Result Awaited FileFault → Facts → Facts → Type 0
 TakesAwaited awaited.Magic bytes answer old new = (answer ≡ behind_magic (format_in bytes)) × (new ≡ old)
-TakesAwaited awaited.Header bytes answer old new = (answer ≡ behind_header (floor_told bytes)) × (new ≡ raised_to (floor_told bytes) old)
+TakesAwaited awaited.Header bytes answer old new =
+    (answer ≡ behind_header (floor_told bytes)) × (new ≡ raised_to (floor_told bytes) old)
 TakesAwaited (awaited.Record format index last) bytes answer old new =
     AbsorbsJudged (judged format last bytes) index answer old new
     × IfOk answer (λ next. next ≡ awaited.Record format (index + 1) (key_in format bytes))
@@ -165,10 +171,12 @@ TakesTo fed piece (Err fault) part old new = StopsWith fault fed piece old new
 
 -- where they lead from wherever that is awaited
 abbrev pub TakesPiece : Awaited → List ℕ → List ℕ → Result Awaited FileFault → List ℕ → Facts → Facts → Type 0
-TakesPiece awaited part piece answer part' old new = (fed : List ℕ) → Awaits awaited part fed → TakesTo fed piece answer part' old new
+TakesPiece awaited part piece answer part' old new =
+    (fed : List ℕ) → Awaits awaited part fed → TakesTo fed piece answer part' old new
 
 -- so many bytes were taken from the front
-pub record TakesSome (awaited : Awaited) (part bytes : List ℕ) (next : Awaited) (n : ℕ) (part' : List ℕ) (old new : Facts) : Type 0 where
+pub record TakesSome (awaited : Awaited) (part bytes : List ℕ) (next : Awaited) (n : ℕ) (part' : List ℕ)
+    (old new : Facts) : Type 0 where
   pub some : 0 < n
   pub within : n ≤ length bytes
   pub short : IsShortOf next part'

@@ -57,7 +57,8 @@ floored (Some floor) = Ok (Cells (Some floor))
 
 -- what the header says of bytes that begin with its magic
 abbrev pub behind_floored : List ℕ → Result Format FileFault
-behind_floored bytes = if nat_lt (length bytes) 16 then Err (Truncated 8) else floored (floor_told (take 8 (drop 8 bytes)))
+behind_floored bytes =
+    if nat_lt (length bytes) 16 then Err (Truncated 8) else floored (floor_told (take 8 (drop 8 bytes)))
 
 -- the format whose head the bytes begin with, or what is wrong with their head
 abbrev pub format_in : List ℕ → Result Format FileFault

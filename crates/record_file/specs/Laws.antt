@@ -44,21 +44,26 @@ pub record IsWritable (r : Report) : Type 0 where
 -- 272 bytes spell exactly the report whose record they are
 abbrev pub ReportsHaveOneSpelling : Type 0
 ReportsHaveOneSpelling =
-    (bytes : List ℕ) (r : Report) → length bytes ≡ 272 → AreBytes bytes → IsWritable r → (report_of bytes ≡ Some r) ↔ (bytes ≡ report_bytes r)
+    (bytes : List ℕ) (r : Report) → length bytes ≡ 272 → AreBytes bytes → IsWritable r → (report_of bytes ≡ Some r)
+    ↔ (bytes ≡ report_bytes r)
 
 -- good records and a part of one end within the record that begins behind them
 abbrev pub TruncationIsTold : Type 0
 TruncationIsTold =
-    (format : Format) (rs : List (List ℕ)) (part : List ℕ) → IsFormat format → AreGoodRecords format None rs → 0 < length part
+    (format : Format) (rs : List (List ℕ)) (part : List ℕ) → IsFormat format → AreGoodRecords format None rs → 0
+    < length part
     → length part < record_size format → length (head_bytes format ++ (concat rs ++ part)) < 2 ^ 40
-    → outcome (head_bytes format ++ (concat rs ++ part)) ≡ Err (Truncated (head_size format + record_size format * length rs))
+    → outcome (head_bytes format ++ (concat rs ++ part))
+    ≡ Err (Truncated (head_size format + record_size format * length rs))
 
 -- of good records and a bad one the bad one's fault is told, with its index, whatever follows it
 abbrev pub FirstBadRecordIsTold : Type 0
 FirstBadRecordIsTold =
-    (format : Format) (rs : List (List ℕ)) (r rest : List ℕ) (f : ℕ → FileFault) → IsFormat format → AreGoodRecords format None rs
+    (format : Format) (rs : List (List ℕ)) (r rest : List ℕ) (f : ℕ → FileFault) → IsFormat format
+    → AreGoodRecords format None rs
     → length r ≡ record_size format → judged format (last_key format None rs) r ≡ Err f
-    → length (head_bytes format ++ (concat rs ++ r)) ≤ 2 ^ 40 → outcome (head_bytes format ++ (concat rs ++ (r ++ rest))) ≡ Err (f (length rs))
+    → length (head_bytes format ++ (concat rs ++ r)) ≤ 2 ^ 40
+    → outcome (head_bytes format ++ (concat rs ++ (r ++ rest))) ≡ Err (f (length rs))
 
 -- the file of these records
 abbrev pub report_file : List (List ℕ) → List ℕ
@@ -72,7 +77,8 @@ pub record IsReportFile (bytes : List ℕ) (rs : List (List ℕ)) : Type 0 where
 
 -- a file of reports is accepted exactly where it is that
 abbrev pub ReportFilesAreAccepted : Type 0
-ReportFilesAreAccepted = (bytes : List ℕ) → ((format_in bytes ≡ Ok Reports) × (outcome bytes ≡ Ok tt)) ↔ ((rs : List (List ℕ)) × IsReportFile bytes rs)
+ReportFilesAreAccepted = (bytes : List ℕ) → ((format_in bytes ≡ Ok Reports) × (outcome bytes ≡ Ok tt))
+    ↔ ((rs : List (List ℕ)) × IsReportFile bytes rs)
 
 -- both of these are accepted, have the whole file's floor, and keep together what it keeps
 pub record AreParts (whole front back : List ℕ) : Type 0 where

@@ -26,17 +26,20 @@ pub record ReadsPieces (pieces : List (List ℕ)) (answer : Result (Unit {0}) Fi
 -- pieces give what reading their bytes gives
 abbrev pub PiecesAreRead : Type 0
 PiecesAreRead =
-    (pieces : List (List ℕ)) (answer : Result (Unit {0}) FileFault) (old new : Facts) → ReadsPieces pieces answer old new
+    (pieces : List (List ℕ)) (answer : Result (Unit {0}) FileFault) (old new : Facts)
+    → ReadsPieces pieces answer old new
     → (answer ≡ outcome (concat pieces)) × (new ≡ merge old (facts_in (concat pieces)))
 
 -- they give what all of their bytes give at once
 abbrev pub CutsChangeNothing : Type 0
 CutsChangeNothing =
-    (pieces : List (List ℕ)) (answer whole_answer : Result (Unit {0}) FileFault) (old new whole_new : Facts) → ReadsPieces pieces answer old new
+    (pieces : List (List ℕ)) (answer whole_answer : Result (Unit {0}) FileFault) (old new whole_new : Facts)
+    → ReadsPieces pieces answer old new
     → ReadsPieces (concat pieces ∷ []) whole_answer old whole_new → (answer ≡ whole_answer) × (new ≡ whole_new)
 
 -- the fault that bytes have stays, whatever follows them, and nothing more is kept, nor a greater floor told
 abbrev pub FaultsStay : Type 0
 FaultsStay =
     (bytes rest : List ℕ) (fault : FileFault) → fault_so_far bytes ≡ Some fault
-    → (fault_so_far (bytes ++ rest) ≡ Some fault) × (kept (bytes ++ rest) ≡ kept bytes) × (floor_in (bytes ++ rest) ≡ floor_in bytes)
+    → (fault_so_far (bytes ++ rest) ≡ Some fault) × (kept (bytes ++ rest) ≡ kept bytes)
+    × (floor_in (bytes ++ rest) ≡ floor_in bytes)

@@ -37,7 +37,8 @@ is_at_told (Some floor) cell = is_kept floor cell
 -- a cell tells itself, if it is not below the file's floor and its key comes after the last one's
 abbrev pub of_cell : Option ℕ → Option Key → Option (Key × Cell Value) → Judgement
 of_cell head_floor last None = Err BadCell
-of_cell head_floor last (Some e) = if is_at_told head_floor e.1 then (if is_above last e.0 then Ok (e ∷ []) else Err CellOrder) else Err BadCell
+of_cell head_floor last (Some e) =
+    if is_at_told head_floor e.1 then (if is_above last e.0 then Ok (e ∷ []) else Err CellOrder) else Err BadCell
 
 -- what a record tells where that key was the last one's, or why it is bad
 abbrev pub judged : Format → Option Key → List ℕ → Judgement
@@ -71,7 +72,8 @@ fault_or index (Err f) later = Some (f index)
 -- the fault of the first bad record, where that key was the last one's and records count from this index
 abbrev pub first_fault : Format → Option Key → ℕ → List (List ℕ) → Option FileFault
 first_fault format last index [] = None
-first_fault format last index (r ∷ rs) = fault_or index (judged format last r) (first_fault format (key_in format r) (index + 1) rs)
+first_fault format last index (r ∷ rs) =
+    fault_or index (judged format last r) (first_fault format (key_in format r) (index + 1) rs)
 
 -- what a good record tells, and what comes later
 abbrev pub sightings_then : Judgement → List (Key × Cell Value) → List (Key × Cell Value)
@@ -86,14 +88,16 @@ sightings_by format last (r ∷ rs) = sightings_then (judged format last r) (sig
 -- whole records, each of them good behind the ones before it
 abbrev pub AreGoodRecords : Format → Option Key → List (List ℕ) → Type 0
 AreGoodRecords format last [] = Unit {0}
-AreGoodRecords format last (r ∷ rs) = (length r ≡ record_size format) × IsOk (judged format last r) × AreGoodRecords format (key_in format r) rs
+AreGoodRecords format last (r ∷ rs) =
+    (length r ≡ record_size format) × IsOk (judged format last r) × AreGoodRecords format (key_in format r) rs
 
 -- how a file of this format ends that has so many bytes and no bad record
 unfoldable pub ending : Format → ℕ → Result (Unit {0}) FileFault
 ending format bytes =
     let behind = bytes - head_size format in
     let size = record_size format in
-    if nat_le (2 ^ 40) bytes then Err TooLong else (if behind % size == 0 then Ok tt else Err (Truncated (head_size format + size * (behind / size))))
+    if nat_le (2 ^ 40) bytes then Err TooLong else
+    (if behind % size == 0 then Ok tt else Err (Truncated (head_size format + size * (behind / size))))
 
 abbrev pub fault_first : Option FileFault → Result (Unit {0}) FileFault → Result (Unit {0}) FileFault
 fault_first None otherwise = otherwise

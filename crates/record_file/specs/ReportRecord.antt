@@ -39,13 +39,19 @@ context_guid (About guid) = guid
 -- the record of a report
 abbrev pub report_bytes : Report → List ℕ
 report_bytes r =
-    to_be_bytes w32 r.generation ++ (context_byte r.context ∷ context_port r.context ∷ 0 ∷ 0 ∷ (to_be_bytes w64 (context_guid r.context) ++ r.bytes))
+    to_be_bytes w32 r.generation
+    ++ (context_byte r.context ∷ context_port r.context ∷ 0 ∷ 0 ∷ (to_be_bytes w64 (context_guid r.context) ++ r.bytes))
 
 -- the report that 272 bytes spell, if they spell one
 unfoldable pub report_of : List ℕ → Option Report
 report_of bytes =
     if (slice_index bytes 6 == 0) && (slice_index bytes 7 == 0) then
-    option_map (λ context. record { generation = from_be_bytes w32 (take 4 bytes); context = context; bytes = drop 16 bytes })
+    option_map (λ context. record {
+      generation = from_be_bytes w32 (take 4 bytes);
+      context = context;
+      bytes =
+          drop 16 bytes;
+    })
     (context_of (slice_index bytes 4) (slice_index bytes 5) (from_be_bytes w64 (take 8 (drop 8 bytes))))
     else None
 

@@ -15,9 +15,11 @@ use Rattle.record_file.specs.StoreFile.{cells_file}
 
 -- bytes spell exactly the sighting that is written as they are
 abbrev pub RecordsAreSpellings : Type 0
-RecordsAreSpellings = (bytes : List ℕ) (e : Key × Cell Value) → (cell_of bytes ≡ Some e) ↔ (IsSighting e × (bytes ≡ record_bytes e))
+RecordsAreSpellings =
+    (bytes : List ℕ) (e : Key × Cell Value) → (cell_of bytes ≡ Some e) ↔ (IsSighting e × (bytes ≡ record_bytes e))
 
--- the store file of facts in range, which tells their floor or, where that is 1, may tell none, in fewer than 2^40 bytes
+-- the store file of facts in range, which tells their floor or, where that is 1, may tell none, in fewer than 2^40
+-- bytes
 pub record IsStoreFile (head_floor : Option ℕ) (bytes : List ℕ) (facts : Facts) : Type 0 where
   pub whole : bytes ≡ cells_file head_floor (cells_of facts)
   pub sound : IsFormat (Cells head_floor)
@@ -28,7 +30,8 @@ pub record IsStoreFile (head_floor : Option ℕ) (bytes : List ℕ) (facts : Fac
 -- bytes with the head of a store file are accepted exactly where they are the store file of some facts
 abbrev pub StoreFilesAreAccepted : Type 0
 StoreFilesAreAccepted =
-    (head_floor : Option ℕ) (bytes : List ℕ) → ((format_in bytes ≡ Ok (Cells head_floor)) × (outcome bytes ≡ Ok tt)) ↔ ((facts : Facts) × IsStoreFile head_floor bytes facts)
+    (head_floor : Option ℕ) (bytes : List ℕ) → ((format_in bytes ≡ Ok (Cells head_floor)) × (outcome bytes ≡ Ok tt))
+    ↔ ((facts : Facts) × IsStoreFile head_floor bytes facts)
 
 -- what is kept of a file is the cells of its facts, and what it says is these facts
 pub record IsReadBack (bytes : List ℕ) (facts : Facts) : Type 0 where
@@ -38,7 +41,8 @@ pub record IsReadBack (bytes : List ℕ) (facts : Facts) : Type 0 where
 
 -- each store file is
 abbrev pub FactsAreReadBack : Type 0
-FactsAreReadBack = (head_floor : Option ℕ) (bytes : List ℕ) (facts : Facts) → IsStoreFile head_floor bytes facts → IsReadBack bytes facts
+FactsAreReadBack = (head_floor : Option ℕ) (bytes : List ℕ) (facts : Facts) → IsStoreFile head_floor bytes facts
+    → IsReadBack bytes facts
 
 -- a file that is accepted, and tells its floor
 pub record IsFlooredFile (bytes : List ℕ) : Type 0 where
@@ -47,10 +51,12 @@ pub record IsFlooredFile (bytes : List ℕ) : Type 0 where
 
 -- two of them that say the same are equal: facts have one spelling
 abbrev pub FactsHaveOneSpelling : Type 0
-FactsHaveOneSpelling = (bytes others : List ℕ) → IsFlooredFile bytes → IsFlooredFile others → facts_in bytes ≡ facts_in others → bytes ≡ others
+FactsHaveOneSpelling = (bytes others : List ℕ) → IsFlooredFile bytes → IsFlooredFile others → facts_in bytes
+    ≡ facts_in others → bytes ≡ others
 
 -- and whoever absorbs the whole file of some facts into an empty store holds these facts
 abbrev pub AbsorbingReadsBack : {S : Type 0} → (S → Option (List ℕ)) → (S → ℕ) → Type 0
 AbsorbingReadsBack {S} left interruptions =
-    (source source' : S) (head_floor : Option ℕ) (bytes rest : List ℕ) (facts new : Facts) → left source ≡ Some bytes → left source' ≡ Some rest
+    (source source' : S) (head_floor : Option ℕ) (bytes rest : List ℕ) (facts new : Facts) → left source ≡ Some bytes
+    → left source' ≡ Some rest
     → IsStoreFile head_floor bytes facts → Absorbs left interruptions (Ok tt) source source' no_facts new → new ≡ facts

@@ -10,10 +10,10 @@ use fact_store::Store;
 /// How many bytes `absorb` reads at a time.
 const READ_LEN: usize = 4096;
 
-/// Takes one file, of reports or of a store's cells, into the store, record after record, in
-/// constant memory of its own.
-/// The header of a store file raises the store's floor before the first record. After a fault the store holds what it
-/// held before, and the floor and the whole records that stand before the fault. Who wants all or nothing absorbs into a fresh store and merges.
+/// Takes one file, of reports or of a store's cells, into the store, record after record, in constant memory of its
+/// own. The header of a store file raises the store's floor before the first record. After a fault the store holds what
+/// it held before, and the floor and the whole records that stand before the fault. Who wants all or nothing absorbs
+/// into a fresh store and merges.
 pub fn absorb<S: Source>(source: &mut S, store: &mut Store) -> Result<(), FileFault>
     ensures read { (result ≡ Err FileFault.Read) ↔ IsTrue (S.has_failed source.new) }
     ensures absorbs { Absorbs S.left S.interruptions result

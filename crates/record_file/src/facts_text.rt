@@ -106,8 +106,8 @@ fn write_floor<W: Sink>(sink: &mut W, floor: Generation) -> Result<(), WriteFaul
     sink.write(b"\n")
 }
 
-/// Writes the line of the floor, if it is over 1, and that of each cell in the order of the keys, and flushes. It takes no
-/// memory.
+/// Writes the line of the floor, if it is over 1, and that of each cell in the order of the keys, and flushes. It takes
+/// no memory.
 pub fn write_facts<W: Sink>(sink: &mut W, store: &Store) -> Result<(), WriteFault>
     ensures writes { Writes W.written W.has_failed result sink.old sink.new (facts_text store.now) }
     ensures flushed { OnOk result (IsTrue (W.is_flushed sink.new)) }

@@ -41,7 +41,8 @@ pub fn store_files_are_accepted()
     ensures { StoreFilesAreAccepted }
 {}
 
-/// What is written of facts is read back as these facts, with their floor; a file that tells no floor, as facts at floor 1.
+/// What is written of facts is read back as these facts, with their floor; a file that tells no floor, as facts at
+/// floor 1.
 pub fn facts_are_read_back()
     ensures { FactsAreReadBack }
 {}

@@ -21,7 +21,8 @@ all_map P Q f [] all = tt
 all_map P Q f (x ∷ xs) all = (f x all.0, all_map P Q f xs all.1)
 
 -- an earlier one is related to a later one
-pub ordered_at : {T : Type 0} (R : T → T → Type 0) (xs : List T) (i j : ℕ) (x y : T) → AreOrdered R xs → i < j → slice_get xs i ≡ Some x → slice_get xs j ≡ Some y → R x y
+pub ordered_at : {T : Type 0} (R : T → T → Type 0) (xs : List T) (i j : ℕ) (x y : T) → AreOrdered R xs → i < j → slice_get xs i ≡ Some x → slice_get xs j
+    ≡ Some y → R x y
 ordered_at R [] i j x y ordered lt at later = absurd (cc)
 ordered_at R (z ∷ zs) i zero x y ordered lt at later = absurd (omega arith)
 ordered_at {T} R (z ∷ zs) zero (suc j) x y ordered lt at later = subst (λ (w : T). R w y) (some_is z x at) (all_at (R z) zs j y ordered.0 later)
@@ -54,7 +55,9 @@ if_passes p (Some x) = if p x then Some x else None
 
 -- What passes the one test is found at the index of the other: before it nothing passes, and behind one that does not pass
 -- there nothing does. The list may go on behind what is looked through.
-pub found_in_first : {T : Type 0} (R : T → T → Type 0) (test p : T → Bool) → ((x : T) → test x ≡ true → p x ≡ false) → ((x y : T) → test x ≡ false → p x ≡ false → R x y → p y ≡ false) → (xs ys : List T) (i : ℕ) → AreOrdered R xs → IsIndex test (xs ++ ys) i → find p xs ≡ if_passes p (slice_get xs i)
+pub found_in_first : {T : Type 0} (R : T → T → Type 0) (test p : T → Bool) → ((x : T) → test x ≡ true → p x ≡ false)
+    → ((x y : T) → test x ≡ false → p x ≡ false → R x y → p y ≡ false) → (xs ys : List T) (i : ℕ) → AreOrdered R xs → IsIndex test (xs ++ ys) i → find p xs
+    ≡ if_passes p (slice_get xs i)
 found_in_first R test p before behind [] ys i ordered index = refl
 found_in_first R test p before behind (x ∷ xs) ys zero ordered index = by (p x) refl
   where
@@ -68,6 +71,8 @@ found_in_first R test p before behind (x ∷ xs) ys (suc i) ordered index =
     cond-false _ _ _ (before x (index_head test x (xs ++ ys) i index))
     ∙ found_in_first R test p before behind xs ys i ordered.1 (index_tail test x (xs ++ ys) i index)
 
-pub found_at_index : {T : Type 0} (R : T → T → Type 0) (test p : T → Bool) → ((x : T) → test x ≡ true → p x ≡ false) → ((x y : T) → test x ≡ false → p x ≡ false → R x y → p y ≡ false) → (xs : List T) (i : ℕ) → AreOrdered R xs → IsIndex test xs i → find p xs ≡ if_passes p (slice_get xs i)
+pub found_at_index : {T : Type 0} (R : T → T → Type 0) (test p : T → Bool) → ((x : T) → test x ≡ true → p x ≡ false)
+    → ((x y : T) → test x ≡ false → p x ≡ false → R x y → p y ≡ false) → (xs : List T) (i : ℕ) → AreOrdered R xs → IsIndex test xs i → find p xs
+    ≡ if_passes p (slice_get xs i)
 found_at_index R test p before behind xs i ordered index =
     found_in_first R test p before behind xs [] i ordered (subst (λ l. IsIndex test l i) (sym (append-nil xs)) index)

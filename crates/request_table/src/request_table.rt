@@ -22,7 +22,11 @@ impl<T: Numbered> Model for RequestTable<T> {
 
     ghost Value = { Table T };
 
-    ghost view = { λ a. record { next = a.next; requests = a.requests.items; room = deque_capacity a.requests - deque_len a.requests } };
+    ghost view = { λ a. record {
+      next = a.next;
+      requests = a.requests.items;
+      room = deque_capacity a.requests - deque_len a.requests;
+    } };
 
     ghost invariant = { λ a. AreNumbered T.number a.requests.items a.next };
 }

@@ -71,7 +71,8 @@ if_found : (t : Bool) (roots : List ℕ) (root : ℕ) (fault : RootsLineFault) �
 if_found true roots root fault e = refl
 if_found false roots root fault e = cc
 
-if_new : (t : Bool) (roots : List ℕ) (root : ℕ) (fault : RootsLineFault) → t ≡ false → (if t then Err fault else Ok (roots ++ root ∷ [])) ≡ Ok (roots ++ root ∷ [])
+if_new : (t : Bool) (roots : List ℕ) (root : ℕ) (fault : RootsLineFault) → t ≡ false → (if t then Err fault else Ok (roots ++ root ∷ []))
+    ≡ Ok (roots ++ root ∷ [])
 if_new true roots root fault e = cc
 if_new false roots root fault e = refl
 
@@ -119,7 +120,8 @@ judged_more text rest above line later h e shorter sound =
     record {
       roots = step.next;
       read = record {
-        told = ap (λ r. then_from r (λ more. with_lines (above + 1 + 1) more (lines later))) (sym step.is) ∙ ap (with_lines (above + 1) h.roots) (sym e) ∙ h.read.told;
+        told = ap (λ r. then_from r (λ more. with_lines (above + 1 + 1) more (lines later))) (sym step.is) ∙ ap (with_lines (above + 1) h.roots) (sym e)
+            ∙ h.read.told;
         counted = omega arith;
       };
       front = h.front ++ line ∷ [];
@@ -131,8 +133,10 @@ judged_more text rest above line later h e shorter sound =
 pub fault_here : (text rest : List ℕ) (above : ℕ) (line later : List ℕ) (what : RootsTextError) → HasJudged text rest above → lines rest ≡ line ∷ lines later
     → wrong_below (take above (lines text)) (root_on line) ≡ Some what → Some (record { line = above + 1; wrong = what }) ≡ result_err (roots_of text)
 fault_here text rest above line later what h e wrong =
-    let is = wrong_is (above + 1) h.roots h.front (root_on line) what h.same (ap (λ ls. wrong_below ls (root_on line)) (sym (above_is text rest above h)) ∙ wrong) in
-    ap result_err (ap (λ r. then_from r (λ more. with_lines (above + 1 + 1) more (lines later))) (sym is) ∙ ap (with_lines (above + 1) h.roots) (sym e) ∙ h.read.told)
+    let is = wrong_is (above + 1) h.roots h.front (root_on line) what h.same (ap (λ ls. wrong_below ls (root_on line)) (sym (above_is text rest above h))
+    ∙ wrong) in
+    ap result_err (ap (λ r. then_from r (λ more. with_lines (above + 1 + 1) more (lines later))) (sym is) ∙ ap (with_lines (above + 1) h.roots) (sym e)
+    ∙ h.read.told)
 
 pub no_fault : (text rest : List ℕ) (above : ℕ) → HasJudged text rest above → lines rest ≡ [] → None ≡ result_err (roots_of text)
 no_fault text rest above h e = ap result_err (ap (with_lines (above + 1) h.roots) (sym e) ∙ h.read.told)
@@ -151,7 +155,8 @@ passed_none text root count =
 
 module _ (text rest : List ℕ) (root count passed : ℕ) (line later : List ℕ) (below : passed < count) (h : HasPassed text rest root count passed)
     (e : lines rest ≡ line ∷ lines later) where
-  one_of_them : list_any (names root) (take (count - passed) (lines rest)) ≡ (names root line || list_any (names root) (take (count - (passed + 1)) (lines later)))
+  one_of_them : list_any (names root) (take (count - passed) (lines rest))
+      ≡ (names root line || list_any (names root) (take (count - (passed + 1)) (lines later)))
   one_of_them =
       let some : count - passed ≡ suc (count - (passed + 1)) = omega arith in
       ap (λ n. list_any (names root) (take n (lines rest))) some ∙ ap (λ ls. list_any (names root) (take (suc (count - (passed + 1))) ls)) e

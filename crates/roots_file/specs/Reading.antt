@@ -27,14 +27,16 @@ abbrev pub with_line : ℕ → List ℕ → List ℕ → Result (List ℕ) Roots
 with_line number roots line = more_by number roots (root_on line)
 
 -- what follows these roots, or their fault
-abbrev pub then_from : Result (List ℕ) RootsLineFault → (List ℕ → Result (List ℕ) RootsLineFault) → Result (List ℕ) RootsLineFault
+abbrev pub then_from : Result (List ℕ) RootsLineFault → (List ℕ → Result (List ℕ) RootsLineFault)
+    → Result (List ℕ) RootsLineFault
 then_from (Ok roots) next = next roots
 then_from (Err fault) next = Err fault
 
 -- the roots with what lines say that count from a number
 abbrev pub with_lines : ℕ → List ℕ → List (List ℕ) → Result (List ℕ) RootsLineFault
 with_lines number roots [] = Ok roots
-with_lines number roots (line ∷ later) = then_from (with_line number roots line) (λ more. with_lines (number + 1) more later)
+with_lines number roots (line ∷ later) =
+    then_from (with_line number roots line) (λ more. with_lines (number + 1) more later)
 
 -- what a text says
 unfoldable pub roots_of : List ℕ → Result (List ℕ) RootsLineFault

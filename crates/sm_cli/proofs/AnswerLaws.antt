@@ -39,7 +39,8 @@ greatest_below : (floor bound : ℕ) (files : List (List ℕ)) → floor ≤ bou
     → floor_among floor files ≤ bound
 greatest_below floor bound [] h each = h
 greatest_below floor bound (f ∷ files) h each =
-    greatest_below (max floor (floor_in f)) bound files (omega (arith, h, each f (contains_here f files))) (λ file there. each file (contains_later f file files there))
+    greatest_below (max floor (floor_in f)) bound files (omega (arith, h, each f (contains_here f files)))
+    (λ file there. each file (contains_later f file files there))
 
 -- so the same files have the same greatest floor
 same_floors : (floor : ℕ) (files others : List (List ℕ)) → AreSameFiles files others → floor_among floor files ≡ floor_among floor others

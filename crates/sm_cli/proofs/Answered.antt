@@ -57,7 +57,8 @@ module _ {S : Type 0} (left : S → Option (List ℕ)) (has_failed : S → Bool)
     }
     answered (Err fault) prints a can = tt
 
-    pub not_answered : (interruptions : S → ℕ) (sink_failed : Bool) (result : Result (Unit {0}) Fault) → IfErr result (IsAnswerFault request.output facts sink_failed)
+    pub not_answered : (interruptions : S → ℕ) (sink_failed : Bool) (result : Result (Unit {0}) Fault)
+        → IfErr result (IsAnswerFault request.output facts sink_failed)
         → IfErr result (IsFaultOf left has_failed interruptions request olds (texts' ++ files') sink_failed)
     not_answered interruptions sink_failed result fails = IfErr-weaker result _ _ (λ fault why. inr (inr (inr (record {
       rule = rule;

@@ -46,20 +46,23 @@ joined_file_stands request rule floor told files others joined is =
     ∙ ap (λ n. view_at n (flat_map kept (files ++ others))) (sym after) in
     (read.accepted, ap (answer_to request.output rule) same)
 
-stand_for : (request : Invocation) (rule : RuleValue) (whole front back : List ℕ) (others : List (List ℕ)) → AreParts whole front back → StandFor request rule whole front back others
+stand_for : (request : Invocation) (rule : RuleValue) (whole front back : List ℕ) (others : List (List ℕ)) → AreParts whole front back
+    → StandFor request rule whole front back others
 stand_for request rule whole front back others parts =
     let both : max request.floor (floor_in whole) ≡ max (max request.floor (floor_in front)) (floor_in back) =
     omega (arith, parts.front_floor, parts.back_floor) in record {
       front_accepted = parts.front_accepted;
       back_accepted = parts.back_accepted;
       same = ap (λ n. answer_to request.output rule (view_at (floor_among n others) (kept whole ++ flat_map kept others))) both
-          ∙ ap (λ told. answer_to request.output rule (view_at (floor_among (max (max request.floor (floor_in front)) (floor_in back)) others) (told ++ flat_map kept others))) parts.together
+          ∙ ap (λ told. answer_to request.output rule (view_at (floor_among (max (max request.floor (floor_in front)) (floor_in back)) others) (told
+          ++ flat_map kept others))) parts.together
           ∙ ap (λ told. answer_to request.output rule (view_at (floor_among (max (max request.floor (floor_in front)) (floor_in back)) others) told))
           (append_assoc (kept front) (kept back) (flat_map kept others));
     }
 
 pub split_file_stands : SplitFileStands
-split_file_stands request rule whole front back first second others w f b = stand_for request rule whole front back others (split_reports whole front back first second w f b)
+split_file_stands request rule whole front back first second others w f b =
+    stand_for request rule whole front back others (split_reports whole front back first second w f b)
 
 pub split_store_stands : SplitStoreStands
 split_store_stands request rule told whole front back facts first second others w split f b =

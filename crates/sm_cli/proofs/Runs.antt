@@ -43,7 +43,8 @@ front_of_more [] last k h = absurd (omega arith)
 front_of_more (x ∷ xs) last zero h = refl
 front_of_more (x ∷ xs) last (suc k) h = front_of_more xs last k (omega arith)
 
-pub last_of_more : {X : Type 0} (xs : List X) (last : X) (k : ℕ) → length xs ≤ k → (x : X) → slice_get (xs ++ last ∷ []) k ≡ Some x → (k ≡ length xs) × (last ≡ x)
+pub last_of_more : {X : Type 0} (xs : List X) (last : X) (k : ℕ) → length xs ≤ k → (x : X) → slice_get (xs ++ last ∷ []) k ≡ Some x → (k ≡ length xs)
+    × (last ≡ x)
 last_of_more [] last zero h x e = (refl, cc)
 last_of_more [] last (suc k) h x e = absurd (cc)
 last_of_more (y ∷ xs) last zero h x e = absurd (omega arith)
@@ -55,10 +56,11 @@ unfolding outcome
 accepted_has_no_fault bytes h =
     elim (format_in bytes) as (λ o. format_in bytes ≡ o → outcome_as o bytes ≡ Ok tt → HasNoFaultYet bytes) [
       | Err f ↦ λ e k. absurd (cc)
-      | Ok format ↦ λ e k. (elim (fault_in format bytes) as (λ f. fault_in format bytes ≡ f → fault_first f (ending format (length bytes)) ≡ Ok tt → HasNoFaultYet bytes) [
-        | None ↦ λ d l. inr (format, e, d)
-        | Some f ↦ λ d l. absurd (cc)
-      ] refl k)
+      | Ok format ↦ λ e k.
+          (elim (fault_in format bytes) as (λ f. fault_in format bytes ≡ f → fault_first f (ending format (length bytes)) ≡ Ok tt → HasNoFaultYet bytes) [
+            | None ↦ λ d l. inr (format, e, d)
+            | Some f ↦ λ d l. absurd (cc)
+          ] refl k)
     ] refl h
 
 -- nothing is said of known bytes
@@ -75,7 +77,8 @@ inside (y ∷ xs) (suc k) x e = let i = inside xs k x e in omega arith
 
 module _ {S : Type 0} (left : S → Option (List ℕ)) (has_failed : S → Bool) where
   -- what was read of the sources before an input stays when the one there is read
-  pub reads_stay : (olds news : List S) (files : List (List ℕ)) (input : ℕ) (after : S) → length files ≡ input → AreReadAs left has_failed olds news files → AreReadAs left has_failed olds (set news input after) files
+  pub reads_stay : (olds news : List S) (files : List (List ℕ)) (input : ℕ) (after : S) → length files ≡ input → AreReadAs left has_failed olds news files
+      → AreReadAs left has_failed olds (set news input after) files
   reads_stay olds news files input after as_many before k file at =
       let r = before k file at in
       let low : k < input = let i = inside files k file at in omega arith in
@@ -90,7 +93,8 @@ module _ {S : Type 0} (left : S → Option (List ℕ)) (has_failed : S → Bool)
   -- one more source was read
   pub read_more :
       (olds news : List S) (files : List (List ℕ)) (input : ℕ) (old after : S) (file : List ℕ)
-      → length files ≡ input → AreReadAs left has_failed olds news files → slice_get olds input ≡ Some old → input < length news → IsReadAs left has_failed old after file
+      → length files ≡ input → AreReadAs left has_failed olds news files → slice_get olds input ≡ Some old → input < length news
+      → IsReadAs left has_failed old after file
       → AreReadAs left has_failed olds (set news input after) (files ++ file ∷ [])
   read_more olds news files input old after file as_many before there within read k f at =
       elim (nat_lt k (length files)) as (λ t. nat_lt k (length files) ≡ t → IsReadAt left has_failed olds (set news input after) k f) [
@@ -156,7 +160,8 @@ floor_among-more floor [] file = refl
 floor_among-more floor (f ∷ files) file = floor_among-more (max floor (floor_in f)) files file
 
 -- what one more file says is merged into what all before say
-pub facts-more : (floor : ℕ) (files : List (List ℕ)) (file : List ℕ) (facts facts' : Facts) → facts ≡ facts_of floor files → facts' ≡ merge facts (facts_in file)
+pub facts-more : (floor : ℕ) (files : List (List ℕ)) (file : List ℕ) (facts facts' : Facts) → facts ≡ facts_of floor files → facts'
+    ≡ merge facts (facts_in file)
     → facts' ≡ facts_of floor (files ++ file ∷ [])
 facts-more floor files file facts facts' e more =
     more ∙ ap (λ x. merge x (facts_in file)) e ∙ sym (view_of_both (floor_among floor files) (floor_in file) (flat_map kept files) (kept file))
@@ -169,7 +174,8 @@ facts-none floor facts facts' e up =
     up ∙ ap (λ x. raised x floor) e ∙ raising_forgets 1 floor [] ∙ at_same_floor (max 1 floor) floor (seen []) (omega arith)
 
 -- the first sources were read, the others are as they were, and the facts are what the files say
-pub record HasReadSome {S : Type 0} (left : S → Option (List ℕ)) (has_failed : S → Bool) (floor : ℕ) (olds news : List S) (input : ℕ) (facts : Facts) : Type 0 where
+pub record HasReadSome {S : Type 0} (left : S → Option (List ℕ)) (has_failed : S
+    → Bool) (floor : ℕ) (olds news : List S) (input : ℕ) (facts : Facts) : Type 0 where
   pub as_many : length news ≡ length olds
   pub untouched : (k : ℕ) → input ≤ k → slice_get news k ≡ slice_get olds k
   pub files : List (List ℕ)

@@ -1,4 +1,5 @@
--- The rule that plans go by: the text of roots is read where one is asked for, and its roots are judged once the switches are known.
+-- The rule that plans go by: the text of roots is read where one is asked for, and its roots are judged once the
+-- switches are known.
 use Rattle.std.specs.Prelude.{◌≡◌, ℕ, Bool, List, [], ◌∷◌, Option, None, Some, Ok, Err, find, not, option_and_then, option_map}
 use Rattle.record_file.specs.Whole.{IsReadWhole, FailsToRead}
 use Rattle.roots_file.specs.Reading.{roots_of}
@@ -18,7 +19,8 @@ use Rattle.sm_cli.specs.declared.text_fault.TextFault.TheVariants as texts
 abbrev pub first_unusable : (ℕ → Bool) → List ℕ → Option ℕ
 first_unusable usable roots = find (λ root. not (usable root)) roots
 
--- why no plan goes by roots of which this is the first that is no usable switch, if so: there is no root, or there is that one
+-- why no plan goes by roots of which this is the first that is no usable switch, if so: there is no root, or there is
+-- that one
 abbrev pub fault_of_first : List ℕ → Option ℕ → Option TextFault
 fault_of_first [] unusable = Some texts.NoRoot
 fault_of_first (root ∷ roots) unusable = option_map texts.NoSwitch unusable
@@ -44,7 +46,8 @@ pub record IsOneRead {S : Type 0} (olds news : List S) (read_as : S → S → Ty
   pub read : read_as old new
 
 -- the source was read to its end, and its text has no fault and names these roots
-pub record IsRoots {S : Type 0} (left : S → Option (List ℕ)) (has_failed : S → Bool) (old new : S) (roots : List ℕ) : Type 0 where
+pub record IsRoots {S : Type 0} (left : S → Option (List ℕ)) (has_failed : S
+    → Bool) (old new : S) (roots : List ℕ) : Type 0 where
   pub text : List ℕ
   pub read : IsReadWhole left has_failed old new text
   pub told : roots_of text ≡ Ok roots
@@ -55,7 +58,8 @@ IsFaultOfText text (wrong.Line fault) = roots_of text ≡ Err fault
 IsFaultOfText text wrong.Memory = (roots : List ℕ) × (roots_of text ≡ Ok roots)
 
 -- the source was read to its end, and its text is refused
-pub record RefusesRoots {S : Type 0} (left : S → Option (List ℕ)) (has_failed : S → Bool) (old new : S) (fault : RootsFault) : Type 0 where
+pub record RefusesRoots {S : Type 0} (left : S → Option (List ℕ)) (has_failed : S
+    → Bool) (old new : S) (fault : RootsFault) : Type 0 where
   pub text : List ℕ
   pub read : IsReadWhole left has_failed old new text
   pub refused : IsFaultOfText text fault
@@ -66,24 +70,29 @@ IsTextRefused left has_failed old new fault = ⊥
 
 -- why the roots are not read: of the first of the files that are named
 abbrev pub IsRootsFault : {S : Type 0} → (S → Option (List ℕ)) → (S → Bool) → (S → ℕ) → S → S → Fault → Type 0
-IsRootsFault left has_failed interruptions old new (File input fault) = (input ≡ 0) × FailsToRead left has_failed interruptions old new fault
-IsRootsFault left has_failed interruptions old new (Text input fault) = (input ≡ 0) × IsTextRefused left has_failed old new fault
+IsRootsFault left has_failed interruptions old new (File input fault) =
+    (input ≡ 0) × FailsToRead left has_failed interruptions old new fault
+IsRootsFault left has_failed interruptions old new (Text input fault) =
+    (input ≡ 0) × IsTextRefused left has_failed old new fault
 IsRootsFault left has_failed interruptions old new fault = ⊥
 
 -- the text of the roots that a rule is asked for by was read, and names these
-pub record AreRootsRead {S : Type 0} (left : S → Option (List ℕ)) (has_failed : S → Bool) (olds news : List S) (rule : RuleValue) : Type 0 where
+pub record AreRootsRead {S : Type 0} (left : S → Option (List ℕ)) (has_failed : S
+    → Bool) (olds news : List S) (rule : RuleValue) : Type 0 where
   pub roots : List ℕ
   pub read : IsOneRead olds news (λ old new. IsRoots left has_failed old new roots)
   pub is : rule ≡ Some roots
 
 -- this is the rule, and what it takes was read: a text where roots are named, else nothing
-abbrev pub IsRuleRead : {S : Type 0} → (S → Option (List ℕ)) → (S → Bool) → RuleAsked → List S → List S → RuleValue → Type 0
+abbrev pub IsRuleRead : {S : Type 0} → (S → Option (List ℕ)) → (S → Bool) → RuleAsked → List S → List S → RuleValue
+    → Type 0
 IsRuleRead left has_failed UpDown olds news rule = (news ≡ olds) × (rule ≡ None)
 IsRuleRead left has_failed Spread olds news rule = (news ≡ olds) × (rule ≡ Some [])
 IsRuleRead left has_failed SpreadFromRoots olds news rule = AreRootsRead left has_failed olds news rule
 
 -- why there is no such rule: the text is not read
-abbrev pub IsRuleFault : {S : Type 0} → (S → Option (List ℕ)) → (S → Bool) → (S → ℕ) → RuleAsked → List S → List S → Fault → Type 0
+abbrev pub IsRuleFault : {S : Type 0} → (S → Option (List ℕ)) → (S → Bool) → (S → ℕ) → RuleAsked → List S → List S
+    → Fault → Type 0
 IsRuleFault left has_failed interruptions UpDown olds news fault = ⊥
 IsRuleFault left has_failed interruptions Spread olds news fault = ⊥
 IsRuleFault left has_failed interruptions SpreadFromRoots olds news fault =

@@ -12,7 +12,8 @@ use Rattle.sm_cli.specs.declared.text_fault.TextFault.TheVariants as texts
 use Rattle.sm_cli.specs.InputRule.{IsOneRead}
 
 -- the source was read to its end, and its text has no fault and says these tables
-pub record IsTables {S : Type 0} (left : S → Option (List ℕ)) (has_failed : S → Bool) (old new : S) (held : HeldPlan) : Type 0 where
+pub record IsTables {S : Type 0} (left : S → Option (List ℕ)) (has_failed : S
+    → Bool) (old new : S) (held : HeldPlan) : Type 0 where
   pub text : List ℕ
   pub read : IsReadWhole left has_failed old new text
   pub sound : first_fault text ≡ None
@@ -28,7 +29,8 @@ IsFaultOfText text (wrong.TextLine fault) = first_fault text ≡ Some fault
 IsFaultOfText text wrong.Memory = first_fault text ≡ None
 
 -- the source was read to its end, and its text is refused
-pub record RefusesTables {S : Type 0} (left : S → Option (List ℕ)) (has_failed : S → Bool) (old new : S) (fault : TablesFault) : Type 0 where
+pub record RefusesTables {S : Type 0} (left : S → Option (List ℕ)) (has_failed : S
+    → Bool) (old new : S) (fault : TablesFault) : Type 0 where
   pub text : List ℕ
   pub read : IsReadWhole left has_failed old new text
   pub refused : IsFaultOfText text fault
@@ -39,10 +41,14 @@ IsTextRefused left has_failed old new fault = ⊥
 
 -- why the tables are not read, which are at this input
 abbrev pub IsTablesFault : {S : Type 0} → (S → Option (List ℕ)) → (S → Bool) → (S → ℕ) → ℕ → S → S → Fault → Type 0
-IsTablesFault left has_failed interruptions at old new (File input fault) = (input ≡ at) × FailsToRead left has_failed interruptions old new fault
-IsTablesFault left has_failed interruptions at old new (Text input fault) = (input ≡ at) × IsTextRefused left has_failed old new fault
+IsTablesFault left has_failed interruptions at old new (File input fault) =
+    (input ≡ at) × FailsToRead left has_failed interruptions old new fault
+IsTablesFault left has_failed interruptions at old new (Text input fault) =
+    (input ≡ at) × IsTextRefused left has_failed old new fault
 IsTablesFault left has_failed interruptions at old new fault = ⊥
 
 -- the one of these sources is not read so
-abbrev pub AreNoTables : {S : Type 0} → (S → Option (List ℕ)) → (S → Bool) → (S → ℕ) → ℕ → List S → List S → Fault → Type 0
-AreNoTables left has_failed interruptions at olds news fault = IsOneRead olds news (λ old new. IsTablesFault left has_failed interruptions at old new fault)
+abbrev pub AreNoTables : {S : Type 0} → (S → Option (List ℕ)) → (S → Bool) → (S → ℕ) → ℕ → List S → List S → Fault
+    → Type 0
+AreNoTables left has_failed interruptions at olds news fault =
+    IsOneRead olds news (λ old new. IsTablesFault left has_failed interruptions at old new fault)

@@ -22,7 +22,9 @@ pub record SayTheSame (floor : ℕ) (files others : List (List ℕ)) : Type 0 wh
 
 -- that decides the answer
 abbrev pub SightingsDecideAnswer : Type 0
-SightingsDecideAnswer = (request : Invocation) (rule : RuleValue) (files others : List (List ℕ)) → SayTheSame request.floor files others → answer_to request.output rule (facts_of request.floor files) ≡ answer_to request.output rule (facts_of request.floor others)
+SightingsDecideAnswer = (request : Invocation) (rule : RuleValue) (files others : List (List ℕ))
+    → SayTheSame request.floor files others → answer_to request.output rule (facts_of request.floor files)
+    ≡ answer_to request.output rule (facts_of request.floor others)
 
 -- two lists have the same files, in whatever order and however often
 pub record AreSameFiles (files others : List (List ℕ)) : Type 0 where
@@ -31,22 +33,38 @@ pub record AreSameFiles (files others : List (List ℕ)) : Type 0 where
 
 -- so the files may be named in any order, and again
 abbrev pub FilesDecideAnswer : Type 0
-FilesDecideAnswer = (request : Invocation) (rule : RuleValue) (files others : List (List ℕ)) → AreSameFiles files others → answer_to request.output rule (facts_of request.floor files) ≡ answer_to request.output rule (facts_of request.floor others)
+FilesDecideAnswer = (request : Invocation) (rule : RuleValue) (files others : List (List ℕ)) → AreSameFiles files others
+    → answer_to request.output rule (facts_of request.floor files)
+    ≡ answer_to request.output rule (facts_of request.floor others)
 
--- a store file that files were joined into at a floor is accepted, and stands for them at that floor, alone or among others
+-- a store file that files were joined into at a floor is accepted, and stands for them at that floor, alone or among
+-- others
 abbrev pub JoinedFileStands : Type 0
-JoinedFileStands = (request : Invocation) (rule : RuleValue) (floor : ℕ) (told : Option ℕ) (files others : List (List ℕ)) (joined : List ℕ) → IsStoreFile told joined (facts_of floor files) → (outcome joined ≡ Ok tt) × (answer_to request.output rule (facts_of request.floor (joined ∷ others)) ≡ answer_to request.output rule (facts_of (max request.floor floor) (files ++ others)))
+JoinedFileStands =
+    (request : Invocation) (rule : RuleValue) (floor : ℕ) (told : Option ℕ) (files others : List (List ℕ))
+    (joined : List ℕ) → IsStoreFile told joined (facts_of floor files) → (outcome joined ≡ Ok tt)
+    × (answer_to request.output rule (facts_of request.floor (joined ∷ others))
+    ≡ answer_to request.output rule (facts_of (max request.floor floor) (files ++ others)))
 
 -- two files are accepted, and stand for a whole one, alone or among others
-pub record StandFor (request : Invocation) (rule : RuleValue) (whole front back : List ℕ) (others : List (List ℕ)) : Type 0 where
+pub record StandFor (request : Invocation) (rule : RuleValue) (whole front back : List ℕ) (others : List (List ℕ)) :
+    Type 0 where
   pub front_accepted : outcome front ≡ Ok tt
   pub back_accepted : outcome back ≡ Ok tt
-  pub same : answer_to request.output rule (facts_of request.floor (whole ∷ others)) ≡ answer_to request.output rule (facts_of request.floor (front ∷ back ∷ others))
+  pub same : answer_to request.output rule (facts_of request.floor (whole ∷ others))
+      ≡ answer_to request.output rule (facts_of request.floor (front ∷ back ∷ others))
 
 -- so do the parts of a report file that is split between its records
 abbrev pub SplitFileStands : Type 0
-SplitFileStands = (request : Invocation) (rule : RuleValue) (whole front back : List ℕ) (first second : List (List ℕ)) (others : List (List ℕ)) → IsReportFile whole (first ++ second) → front ≡ report_file first → back ≡ report_file second → StandFor request rule whole front back others
+SplitFileStands =
+    (request : Invocation) (rule : RuleValue) (whole front back : List ℕ) (first second : List (List ℕ))
+    (others : List (List ℕ)) → IsReportFile whole (first ++ second) → front ≡ report_file first → back
+    ≡ report_file second → StandFor request rule whole front back others
 
 -- and the parts of a store file, each with the whole one's floor
 abbrev pub SplitStoreStands : Type 0
-SplitStoreStands = (request : Invocation) (rule : RuleValue) (told : Option ℕ) (whole front back : List ℕ) (facts : Facts) (first second : List (Key × Cell Value)) (others : List (List ℕ)) → IsStoreFile told whole facts → cells_of facts ≡ first ++ second → front ≡ cells_file told first → back ≡ cells_file told second → StandFor request rule whole front back others
+SplitStoreStands =
+    (request : Invocation) (rule : RuleValue) (told : Option ℕ) (whole front back : List ℕ) (facts : Facts)
+    (first second : List (Key × Cell Value)) (others : List (List ℕ)) → IsStoreFile told whole facts
+    → cells_of facts ≡ first ++ second → front ≡ cells_file told first → back ≡ cells_file told second
+    → StandFor request rule whole front back others

@@ -67,4 +67,5 @@ guid_behind (Some guid) = codes " " ++ guid_text guid
 
 abbrev pub said_of_text : TextFault → List ℕ
 said_of_text fault =
-    line_text (text_fault_line fault) ++ lid_before (text_fault_lid fault) ++ text_fault_word fault ++ guid_behind (text_fault_guid fault)
+    line_text (text_fault_line fault) ++ lid_before (text_fault_lid fault) ++ text_fault_word fault
+    ++ guid_behind (text_fault_guid fault)

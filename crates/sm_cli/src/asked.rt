@@ -36,8 +36,8 @@ pub enum Output {
     Facts,
     /// The same as a store file.
     Join,
-    /// The LID of each end port, with 2^LMC of them for each adapter port, and the forwarding blocks of each switch, that
-    /// follow from it by a rule of routing.
+    /// The LID of each end port, with 2^LMC of them for each adapter port, and the forwarding blocks of each switch,
+    /// that follow from it by a rule of routing.
     Plan(Lmc, RuleAsked),
 }
 

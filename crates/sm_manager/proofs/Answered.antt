@@ -269,11 +269,13 @@ over_by m p was_done w = record m { pending = without_number p.number m.pending;
 over_rises : (m : Manager) (p : Pending) → Rising m.counter m.pending → Rising m.counter (without_number p.number m.pending)
 over_rises m p rising = rising_filtered (λ (q : Pending). not (q.number == p.number)) 0 m.pending m.counter rising
 
-step_rises : (m : Manager) (p : Pending) (was_done : Bool) → Rising m.counter m.pending → Rising (after_step m p was_done).counter (after_step m p was_done).pending
+step_rises : (m : Manager) (p : Pending) (was_done : Bool) → Rising m.counter m.pending
+    → Rising (after_step m p was_done).counter (after_step m p was_done).pending
 step_rises m p was_done rising = by_writing m.writing
   where
     by_writing : (o : Option Writing)
-        → Rising (went_on_with (over_by m p was_done o) (noted (counts p) was_done o)).counter (went_on_with (over_by m p was_done o) (noted (counts p) was_done o)).pending
+        → Rising (went_on_with (over_by m p was_done o) (noted (counts p) was_done o)).counter
+        (went_on_with (over_by m p was_done o) (noted (counts p) was_done o)).pending
     by_writing None = over_rises m p rising
     by_writing (Some w) =
         let m1 = over_by m p was_done (Some w) in
@@ -299,13 +301,16 @@ packet_rises m bytes from None rising = by_tests (is_info_request bytes) (is_for
     by_pending (Some p) = request_rises m p (Some (status bytes)) p.purpose rising
 
     by_tests : (a b : Bool)
-        → Rising (cond a (unless_spent m (served m bytes from)) (cond b (sweep_answered m bytes m.sweep) (request_answered m bytes (pending_for m bytes)))).manager.counter
-        (cond a (unless_spent m (served m bytes from)) (cond b (sweep_answered m bytes m.sweep) (request_answered m bytes (pending_for m bytes)))).manager.pending
+        → Rising (cond a (unless_spent m (served m bytes from))
+        (cond b (sweep_answered m bytes m.sweep) (request_answered m bytes (pending_for m bytes)))).manager.counter
+        (cond a (unless_spent m (served m bytes from))
+        (cond b (sweep_answered m bytes m.sweep) (request_answered m bytes (pending_for m bytes)))).manager.pending
     by_tests true b = (serves_beside m bytes from).rising rising
     by_tests false true = (sweep_beside m bytes m.sweep).rising rising
     by_tests false false = by_pending (pending_for m bytes)
 
-timeout_rises : (m : Manager) (transaction : ℕ) → Rising m.counter m.pending → Rising (after_timeout m transaction).manager.counter (after_timeout m transaction).manager.pending
+timeout_rises : (m : Manager) (transaction : ℕ) → Rising m.counter m.pending
+    → Rising (after_timeout m transaction).manager.counter (after_timeout m transaction).manager.pending
 timeout_rises m transaction rising =
     cond_both (nat_le (2 ^ 32) transaction) (sweep_gave_up m transaction m.sweep) (request_gave_up m (with_number transaction m.pending))
     (λ (x : Called). Rising x.manager.counter x.manager.pending) (λ _. (sweep_timed_beside m transaction m.sweep).rising rising)
@@ -327,9 +332,11 @@ call_rises m (Timeout transaction) rising = timeout_rises m transaction rising
 call_rises m (Raise floor) rising = rising
 call_rises m (Merge floor sightings) rising = rising
 call_rises m (Poll lid) rising =
-    cond_both (is_none (poll_fault m)) (after_poll m lid) m (λ (x : Manager). Rising x.counter x.pending) (λ _. (asks_beside m (info_pending m.counter purpose.Poll 0) (poll_out m.counter lid) refl refl).rising rising) (λ _. rising)
+    cond_both (is_none (poll_fault m)) (after_poll m lid) m (λ (x : Manager). Rising x.counter x.pending)
+    (λ _. (asks_beside m (info_pending m.counter purpose.Poll 0) (poll_out m.counter lid) refl refl).rising rising) (λ _. rising)
 call_rises m Handover rising =
-    cond_both (is_none (handover_fault m)) (after_handover m) m (λ (x : Manager). Rising x.counter x.pending) (λ _. (hands_beside m (successor_lid m)).rising rising) (λ _. rising)
+    cond_both (is_none (handover_fault m)) (after_handover m) m (λ (x : Manager). Rising x.counter x.pending)
+    (λ _. (hands_beside m (successor_lid m)).rising rising) (λ _. rising)
 
 calls_rise : (calls : List Call) (m : Manager) → Rising m.counter m.pending → Rising (after_calls calls m).counter (after_calls calls m).pending
 calls_rise [] m rising = rising
@@ -378,7 +385,8 @@ module _ (m : Manager) (w : Writing) (writing : m.writing ≡ Some w) (first : C
   -- a step is over
   step_ends : (p : Pending) → Contains m.pending p → (was_done : Bool) → StepsOn w m (after_step m p was_done) (one_if (counts p && was_done))
   step_ends p there was_done =
-      subst (λ (o : Option Writing). StepsOn w m (went_on_with (over_by m p was_done o) (noted (counts p) was_done o)) (one_if (counts p && was_done))) (sym writing)
+      subst (λ (o : Option Writing). StepsOn w m (went_on_with (over_by m p was_done o) (noted (counts p) was_done o)) (one_if (counts p && was_done)))
+      (sym writing)
       (cond_both (no_step_waits (without_number p.number m.pending)) (phase_sent m1 w1) m1 (λ (x : Manager). StepsOn w m x (one_if (counts p && was_done)))
       (λ _. goes_on) (λ _. stands))
     where
@@ -437,7 +445,8 @@ module _ (m : Manager) (w : Writing) (writing : m.writing ≡ Some w) (first : C
             let none = ap one_if other in
             let gone = ap (how_many counts) pending in
             omega (arith, less, none, gone);
-        rising = λ r. subst (λ ps. Rising after.counter ps) (sym pending) (subst (λ n. Rising n (without_number p.number m.pending)) (sym counter) (over_rises m p r));
+        rising = λ r. subst (λ ps. Rising after.counter ps) (sym pending)
+            (subst (λ n. Rising n (without_number p.number m.pending)) (sym counter) (over_rises m p r));
       }
 
   none_done : (c b : Bool) → 0 ≡ one_if (c && (b && false))
@@ -455,7 +464,8 @@ module _ (m : Manager) (w : Writing) (writing : m.writing ≡ Some w) (first : C
   none_timed false b = refl
 
   request_ends : (p : Pending) → Contains m.pending p → (answer : Option ℕ)
-      → StepsOn w m (after_request m p answer p.purpose).manager (one_if (counts p && (is_done_by answer && is_none (after_request m p answer p.purpose).fault)))
+      → StepsOn w m (after_request m p answer p.purpose).manager (one_if (counts p
+      && (is_done_by answer && is_none (after_request m p answer p.purpose).fault)))
   request_ends p there answer = by_purpose p.purpose refl
     where
       by_purpose : (u : Purpose) → p.purpose ≡ u
@@ -474,7 +484,8 @@ module _ (m : Manager) (w : Writing) (writing : m.writing ≡ Some w) (first : C
           (λ _. subst (StepsOn w m m) (none_done (counts p) (is_done_by answer)) (from_beside m (nothing m)))
           (λ _. subst (StepsOn w m (after_step m p (is_done_by answer))) (all_done (counts p) (is_done_by answer)) (step_ends p there (is_done_by answer)))
 
-  packet_ends : (bytes : List ℕ) (from : Option ℕ) (why : Option SmpFault) → StepsOn w m (packet_taken m bytes from why).manager (one_if (does_by_packet m bytes why))
+  packet_ends : (bytes : List ℕ) (from : Option ℕ) (why : Option SmpFault)
+      → StepsOn w m (packet_taken m bytes from why).manager (one_if (does_by_packet m bytes why))
   packet_ends bytes from (Some why) = from_beside m (nothing m)
   packet_ends bytes from None = by_tests (is_info_request bytes) (is_for_sweep bytes)
     where
@@ -483,7 +494,8 @@ module _ (m : Manager) (w : Writing) (writing : m.writing ≡ Some w) (first : C
       by_pending (Some p) e = request_ends p (found_there (answers bytes) m.pending p e).0 (Some (status bytes))
 
       by_tests : (a b : Bool)
-          → StepsOn w m (cond a (unless_spent m (served m bytes from)) (cond b (sweep_answered m bytes m.sweep) (request_answered m bytes (pending_for m bytes)))).manager
+          → StepsOn w m (cond a (unless_spent m (served m bytes from))
+          (cond b (sweep_answered m bytes m.sweep) (request_answered m bytes (pending_for m bytes)))).manager
           (one_if (cond a false (cond b false (does_request m bytes (pending_for m bytes)))))
       by_tests true b = from_beside _ (serves_beside m bytes from)
       by_tests false true = from_beside _ (sweep_beside m bytes m.sweep)
@@ -492,7 +504,8 @@ module _ (m : Manager) (w : Writing) (writing : m.writing ≡ Some w) (first : C
   timeout_ends : (transaction : ℕ) → StepsOn w m (after_timeout m transaction).manager 0
   timeout_ends transaction =
       cond_both (nat_le (2 ^ 32) transaction) (sweep_gave_up m transaction m.sweep) (request_gave_up m (with_number transaction m.pending))
-      (λ (x : Called). StepsOn w m x.manager 0) (λ _. from_beside _ (sweep_timed_beside m transaction m.sweep)) (λ _. by_pending (with_number transaction m.pending) refl)
+      (λ (x : Called). StepsOn w m x.manager 0) (λ _. from_beside _ (sweep_timed_beside m transaction m.sweep))
+      (λ _. by_pending (with_number transaction m.pending) refl)
     where
       by_pending : (o : Option Pending) → with_number transaction m.pending ≡ o → StepsOn w m (request_gave_up m o).manager 0
       by_pending None e = from_beside m (nothing m)
@@ -515,9 +528,11 @@ module _ (m : Manager) (w : Writing) (writing : m.writing ≡ Some w) (first : C
   call_ends (Raise floor) begins = from_beside _ (record { writing = refl; many = refl; rising = λ r. r })
   call_ends (Merge floor sightings) begins = from_beside _ (record { writing = refl; many = refl; rising = λ r. r })
   call_ends (Poll lid) begins =
-      cond_both (is_none (poll_fault m)) (after_poll m lid) m (λ (x : Manager). StepsOn w m x 0) (λ _. from_beside _ (asks_beside m (info_pending m.counter purpose.Poll 0) (poll_out m.counter lid) refl refl)) (λ _. from_beside m (nothing m))
+      cond_both (is_none (poll_fault m)) (after_poll m lid) m (λ (x : Manager). StepsOn w m x 0)
+      (λ _. from_beside _ (asks_beside m (info_pending m.counter purpose.Poll 0) (poll_out m.counter lid) refl refl)) (λ _. from_beside m (nothing m))
   call_ends Handover begins =
-      cond_both (is_none (handover_fault m)) (after_handover m) m (λ (x : Manager). StepsOn w m x 0) (λ _. from_beside _ (hands_beside m (successor_lid m))) (λ _. from_beside m (nothing m))
+      cond_both (is_none (handover_fault m)) (after_handover m) m (λ (x : Manager). StepsOn w m x 0) (λ _. from_beside _ (hands_beside m (successor_lid m)))
+      (λ _. from_beside m (nothing m))
 
 -- all calls ---------------------------------------------------------------------------------------------
 
@@ -540,8 +555,10 @@ balanced_on total d m call b begins =
       is = s.is;
       first = s.first;
       starts = s.starts;
-      good = λ works. good s.ended s.was_done b.now.has_failed (left_of (after_call m call) s.now) (one_if (does_step m call)) s.left s.done (sym s.failed ∙ works) b.good;
-      bad = λ fails. bad s.ended s.was_done b.now.has_failed (left_of (after_call m call) s.now) (one_if (does_step m call)) s.left s.done (sym s.failed ∙ fails) b.good b.bad;
+      good = λ works. good s.ended s.was_done b.now.has_failed (left_of (after_call m call) s.now) (one_if (does_step m call)) s.left s.done (sym s.failed
+          ∙ works) b.good;
+      bad = λ fails. bad s.ended s.was_done b.now.has_failed (left_of (after_call m call) s.now) (one_if (does_step m call)) s.left s.done (sym s.failed
+          ∙ fails) b.good b.bad;
       rising = s.rising;
     }
   where
@@ -569,7 +586,8 @@ balanced_calls : (total d : ℕ) (calls : List Call) (m : Manager) → Balanced 
 balanced_calls total d [] m b begin = let same : d ≡ d + 0 = omega arith in subst (λ n. Balanced total n m) same b
 balanced_calls total d (call ∷ calls) m b begin =
     let rest = balanced_calls total (d + one_if (does_step m call)) calls (after_call m call) (balanced_on total d m call b begin.0) begin.1 in
-    let same : (d + one_if (does_step m call)) + steps_done calls (after_call m call) ≡ d + (one_if (does_step m call) + steps_done calls (after_call m call)) = omega arith in
+    let same : (d + one_if (does_step m call)) + steps_done calls (after_call m call) ≡ d + (one_if (does_step m call) + steps_done calls (after_call m call)) =
+    omega arith in
     subst (λ n. Balanced total n (after_calls calls (after_call m call))) same rest
 
 -- the end -----------------------------------------------------------------------------------------------
@@ -634,7 +652,8 @@ begins_balanced m rising e =
     record {
       now = record { later = without_empty_phases (drop 1 (without_empty_phases phases)); has_failed = false };
       is = refl;
-      first = passed_keeps (drop 1 (without_empty_phases phases)) (drop_keeps (without_empty_phases phases) (passed_keeps phases (phases_count_first m m.sweep)));
+      first = passed_keeps (drop 1 (without_empty_phases phases))
+          (drop_keeps (without_empty_phases phases) (passed_keeps phases (phases_count_first m m.sweep)));
       starts = passed_starts (drop 1 (without_empty_phases phases));
       good = λ _. omega (arith, none, fewer, sent, phase, later, all, whole);
       bad = λ fails. absurd (cc fails);

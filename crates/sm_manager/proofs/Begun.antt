@@ -55,7 +55,8 @@ first_at_most : (most : ℕ) (phases : List Phase) → AllByRecursion (λ (p : P
 first_at_most most [] all = omega arith
 first_at_most most (p ∷ phases) all = by_test (length p.steps == 0) (first_at_most most phases all.1)
   where
-    by_test : (b : Bool) → length (next_phase (without_empty_phases phases)).steps ≤ most → length (next_phase (cond b (without_empty_phases phases) (p ∷ phases))).steps ≤ most
+    by_test : (b : Bool) → length (next_phase (without_empty_phases phases)).steps ≤ most
+        → length (next_phase (cond b (without_empty_phases phases) (p ∷ phases))).steps ≤ most
     by_test true rest = rest
     by_test false rest = all.0
 

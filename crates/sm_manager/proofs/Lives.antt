@@ -66,7 +66,12 @@ module _ (m : Manager) where
 
   phase_keeps : (w : Option Writing) → Keeps m (went_on_with m w)
   phase_keeps None = record { store = refl; planning = refl }
-  phase_keeps (Some w) = cond_both (no_step_waits m.pending) (phase_sent m w) m (λ (x : Manager). Keeps m x) (λ _. record { store = refl; planning = refl }) (λ _. record { store = refl; planning = refl })
+  phase_keeps (Some w) =
+      cond_both (no_step_waits m.pending) (phase_sent m w) m (λ (x : Manager). Keeps m x) (λ _. record { store = refl; planning = refl }) (λ _. record {
+        store =
+            refl;
+        planning = refl;
+      })
 
 over_keeps : (m : Manager) (p : Pending) (was_done : Bool) → Keeps m (after_step m p was_done)
 over_keeps m p was_done =
@@ -75,7 +80,12 @@ over_keeps m p was_done =
     record { store = k.store; planning = k.planning }
 
 unless_keeps : (m : Manager) (after : Manager) → Keeps m after → Keeps m (unless_spent m after).manager
-unless_keeps m after e = cond_both (is_spent after) (refused m SequenceSpent) (done after) (λ (x : Called). Keeps m x.manager) (λ _. record { store = refl; planning = refl }) (λ _. e)
+unless_keeps m after e =
+    cond_both (is_spent after) (refused m SequenceSpent) (done after) (λ (x : Called). Keeps m x.manager) (λ _. record {
+      store = refl;
+      planning =
+          refl;
+    }) (λ _. e)
 
 telling_keeps : (m : Manager) (to : Option ℕ) (message : Option Message) → Keeps m (after_message m to message)
 telling_keeps m None message = record { store = refl; planning = refl }
@@ -100,7 +110,11 @@ module _ (m : Manager) where
   serving_keeps : (bytes : List ℕ) (from : Option ℕ) → Keeps m (served m bytes from)
   serving_keeps bytes from =
       cond_both (is_control bytes) (controlled m bytes from) (answering m bytes from (status_for bytes)) (λ (x : Manager). Keeps m x)
-      (λ _. moving_keeps bytes from (stepped m.standing.state (event.Control (number_in attribute_modifier bytes)))) (λ _. record { store = refl; planning = refl })
+      (λ _. moving_keeps bytes from (stepped m.standing.state (event.Control (number_in attribute_modifier bytes)))) (λ _. record {
+        store = refl;
+        planning =
+            refl;
+      })
 
   takes_packet : (bytes : List ℕ) (from : Option ℕ) (why : Option SmpFault) → Takes m (sightings_of_packet m bytes why) (packet_taken m bytes from why).manager
   takes_packet bytes from (Some why) = nothing_taken m m (same m)
@@ -126,7 +140,8 @@ module _ (m : Manager) where
 
   pub timeout_keeps : (transaction : ℕ) → Keeps m (after_timeout m transaction).manager
   timeout_keeps transaction =
-      cond_both (nat_le (2 ^ 32) transaction) (sweep_gave_up m transaction m.sweep) (request_gave_up m (with_number transaction m.pending)) (λ (x : Called). Keeps m x.manager)
+      cond_both (nat_le (2 ^ 32) transaction) (sweep_gave_up m transaction m.sweep) (request_gave_up m (with_number transaction m.pending))
+      (λ (x : Called). Keeps m x.manager)
       (λ _. sweep_timeout_keeps transaction m.sweep) (λ _. request_timeout_keeps (with_number transaction m.pending))
 
   taking_keeps : (packets : List Outgoing) → Keeps m (taken_of m packets).manager
@@ -148,10 +163,18 @@ module _ (m : Manager) where
 
   takes : (call : Call) → TakesIn call
   takes BeginSweep =
-      let t = stays BeginSweep (cond_both (is_none (begin_fault m)) (after_begin_sweep m) m (λ (x : Manager). Keeps m x) (λ _. record { store = refl; planning = refl }) (λ _. record { store = refl; planning = refl })) in
+      let t = stays BeginSweep (cond_both (is_none (begin_fault m)) (after_begin_sweep m) m (λ (x : Manager). Keeps m x) (λ _. record {
+        store = refl;
+        planning =
+            refl;
+      }) (λ _. record { store = refl; planning = refl })) in
       record { store = t.store; planning = t.planning }
   takes WriteSteps =
-      let t = stays WriteSteps (cond_both (is_none (writing_fault m)) (after_write_steps m) m (λ (x : Manager). Keeps m x) (λ _. record { store = refl; planning = refl }) (λ _. record { store = refl; planning = refl })) in
+      let t = stays WriteSteps (cond_both (is_none (writing_fault m)) (after_write_steps m) m (λ (x : Manager). Keeps m x) (λ _. record {
+        store =
+            refl;
+        planning = refl;
+      }) (λ _. record { store = refl; planning = refl })) in
       record { store = t.store; planning = t.planning }
   takes Take = let t = stays Take (taking_keeps m.outgoing) in record { store = t.store; planning = t.planning }
   takes (Packet bytes from) = let t = takes_packet bytes from (fault_of bytes) in record { store = t.store; planning = t.planning }
@@ -159,11 +182,19 @@ module _ (m : Manager) where
   takes (Raise floor) = record { store = raised_is_merge m.store floor; planning = refl }
   takes (Merge floor sightings) = record { store = refl; planning = refl }
   takes (Poll lid) =
-      let t = stays (Poll lid) (cond_both (is_none (poll_fault m)) (after_poll m lid) m (λ (x : Manager). Keeps m x) (λ _. record { store = refl; planning = refl }) (λ _. record { store = refl; planning = refl })) in
+      let t = stays (Poll lid) (cond_both (is_none (poll_fault m)) (after_poll m lid) m (λ (x : Manager). Keeps m x) (λ _. record {
+        store = refl;
+        planning =
+            refl;
+      }) (λ _. record { store = refl; planning = refl })) in
       record { store = t.store; planning = t.planning }
   takes Handover =
       let t = stays Handover
-      (cond_both (is_none (handover_fault m)) (after_handover m) m (λ (x : Manager). Keeps m x) (λ _. handing_keeps (successor_lid m)) (λ _. record { store = refl; planning = refl })) in
+      (cond_both (is_none (handover_fault m)) (after_handover m) m (λ (x : Manager). Keeps m x) (λ _. handing_keeps (successor_lid m)) (λ _. record {
+        store =
+            refl;
+        planning = refl;
+      })) in
       record { store = t.store; planning = t.planning }
 
   pub takes_call : (call : Call) → (after_call m call).store ≡ merge m.store (view_at (floor_in call) (sightings_of_call m call))
@@ -181,9 +212,12 @@ knows [] m floor before e = e ∙ at_same_floor floor (max floor 1) (seen before
 knows (call ∷ calls) m floor before e =
     let sightings = before ++ (sightings_of_call m call ++ taken_in calls (after_call m call)) in
     knows calls (after_call m call) (max floor (floor_in call)) (before ++ sightings_of_call m call)
-    (takes_call m call ∙ ap (λ x. merge x (view_at (floor_in call) (sightings_of_call m call))) e ∙ sym (view_of_both floor (floor_in call) before (sightings_of_call m call)))
-    ∙ ap (view_at (max (max floor (floor_in call)) (greatest_floor calls))) (append_assoc before (sightings_of_call m call) (taken_in calls (after_call m call)))
-    ∙ at_same_floor (max (max floor (floor_in call)) (greatest_floor calls)) (max floor (max (floor_in call) (greatest_floor calls))) (seen sightings) (omega arith)
+    (takes_call m call ∙ ap (λ x. merge x (view_at (floor_in call) (sightings_of_call m call))) e
+    ∙ sym (view_of_both floor (floor_in call) before (sightings_of_call m call)))
+    ∙ ap (view_at (max (max floor (floor_in call)) (greatest_floor calls)))
+    (append_assoc before (sightings_of_call m call) (taken_in calls (after_call m call)))
+    ∙ at_same_floor (max (max floor (floor_in call)) (greatest_floor calls)) (max floor (max (floor_in call) (greatest_floor calls))) (seen sightings)
+    (omega arith)
 
 pub planning_of_calls : (calls : List Call) (m : Manager) → (after_calls calls m).planning ≡ m.planning
 planning_of_calls [] m = refl
@@ -198,11 +232,13 @@ pub same_taken_in_same_plan : SameTakenInSamePlan
 same_taken_in_same_plan guid port priority guid' port' priority' planning calls calls' floors same =
     let facts =
     knows_what_it_took_in guid port priority planning calls
-    ∙ members_decide_view (greatest_floor calls) (taken_in calls (new_manager guid port priority planning)) (taken_in calls' (new_manager guid' port' priority' planning)) same
+    ∙ members_decide_view (greatest_floor calls) (taken_in calls (new_manager guid port priority planning))
+    (taken_in calls' (new_manager guid' port' priority' planning)) same
     ∙ ap (λ floor. view_at floor (taken_in calls' (new_manager guid' port' priority' planning))) floors
     ∙ sym (knows_what_it_took_in guid' port' priority' planning calls') in
     let one = after_calls calls (new_manager guid port priority planning) in
-    let plannings = planning_of_calls calls (new_manager guid port priority planning) ∙ sym (planning_of_calls calls' (new_manager guid' port' priority' planning)) in
+    let plannings = planning_of_calls calls (new_manager guid port priority planning)
+    ∙ sym (planning_of_calls calls' (new_manager guid' port' priority' planning)) in
     record {
       facts = facts;
       plan = λ i. plan_of (plannings i).rule (plannings i).lmc (cells_of (facts i));

@@ -33,6 +33,7 @@ newest_is facts g is =
     (λ y among. is.greatest y.0 y.1 (contained_get facts.found y.0 y.1 among))
 
 -- as the store tells it
-pub newest_told : (facts : Facts) (told : Option ℕ) → (IsNone told ↔ (cells_of facts ≡ [])) → IfSome told (IsNewestGeneration facts) → unwrap_or told 0 ≡ newest_held facts
+pub newest_told : (facts : Facts) (told : Option ℕ) → (IsNone told ↔ (cells_of facts ≡ [])) → IfSome told (IsNewestGeneration facts) → unwrap_or told 0
+    ≡ newest_held facts
 newest_told facts None none some = sym (ap (λ es. newest_of (map (λ e. e.1) es)) (none.0 refl))
 newest_told facts (Some g) none some = sym (newest_is facts g some)

@@ -87,7 +87,8 @@ pub whole_phase : (m : Manager) (i : ℕ) (p : Pending) (w : Writing) → AreNum
     → slice_get m.pending i ≡ Some p → is_step p ≡ true → m.writing ≡ Some w
     → no_step_waits (without_number p.number m.pending) ≡ true → count_after m ≡ length (next_phase w.later).steps
 whole_phase m i p w numbered at step is alone =
-    ap (count_with m.pending) is ∙ cond-false _ _ _ (was_alone (nat_lt 1 (how_many is_step m.pending)) (sym (left_alone m.counter m.pending i p numbered at step) ∙ alone))
+    ap (count_with m.pending) is
+    ∙ cond-false _ _ _ (was_alone (nat_lt 1 (how_many is_step m.pending)) (sym (left_alone m.counter m.pending i p numbered at step) ∙ alone))
   where
     was_alone : (b : Bool) → not b ≡ true → b ≡ false
     was_alone true e = absurd (cc)

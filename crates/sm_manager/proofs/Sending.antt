@@ -16,11 +16,13 @@ pub record HasSent (s : Sweep) (packet : List ℕ) (t : Sweep) : Type 0 where
 pub sent_one : (s : Sweep) (packet : List ℕ) → (after_next_request s).packet ≡ Some packet → HasSent s packet (after_next_request s).sweep
 sent_one s packet e = by_queue s.queued refl e
   where
-    by_queue : (queue : List Request) → s.queued ≡ queue → (after_next_request_of s queue).packet ≡ Some packet → HasSent s packet (after_next_request_of s queue).sweep
+    by_queue : (queue : List Request) → s.queued ≡ queue → (after_next_request_of s queue).packet ≡ Some packet
+        → HasSent s packet (after_next_request_of s queue).sweep
     by_queue [] is h = cc
     by_queue (r ∷ queue) is h =
         let same : packet_of s.generation r ≡ packet = same_Some _ _ h in
-        let waiting : (s.outstanding ++ r ∷ []) ++ queue ≡ s.outstanding ++ s.queued = append_assoc s.outstanding (r ∷ []) queue ∙ ap (λ q. s.outstanding ++ q) (sym is) in
+        let waiting : (s.outstanding ++ r ∷ []) ++ queue ≡ s.outstanding ++ s.queued =
+        append_assoc s.outstanding (r ∷ []) queue ∙ ap (λ q. s.outstanding ++ q) (sym is) in
         record {
           all = λ j. record s { queued = []; outstanding = waiting j };
           out = ap (requests_out s.generation) is ∙ ap (λ p. record { packet = p; to = None } ∷ requests_out s.generation queue) same;

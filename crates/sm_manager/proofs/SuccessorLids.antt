@@ -56,7 +56,8 @@ seen_is_end cells (Some s) e h = by_test (is_end_port cells s.guid s.port) refl 
   where
     by_test : (b : Bool) → is_end_port cells s.guid s.port ≡ b → cond b (Some (record { node = s.guid; port = s.port })) None ≡ Some e
         → is_end_port cells e.node e.port ≡ true
-    by_test true t i = let same : record { node = s.guid; port = s.port } ≡ e = same_Some _ _ i in subst (λ (x : EndPort). is_end_port cells x.node x.port ≡ true) same t
+    by_test true t i = let same : record { node = s.guid; port = s.port } ≡ e =
+        same_Some _ _ i in subst (λ (x : EndPort). is_end_port cells x.node x.port ≡ true) same t
     by_test false t i = absurd (cc)
 
 -- what goes to the successor

@@ -16,7 +16,8 @@ use Rattle.sm_manager.specs.Writing.{is_written, phases_by, after_write_steps}
 -- the request that a packet answers is a step that counts, the answer's status is 0, and the answer is taken
 abbrev pub does_request : Manager → List ℕ → Option Pending → Bool
 does_request m packet None = false
-does_request m packet (Some p) = counts p && (status packet == done && is_none (request_answered m packet (Some p)).fault)
+does_request m packet (Some p) =
+    counts p && (status packet == done && is_none (request_answered m packet (Some p)).fault)
 
 abbrev pub does_by_packet : Manager → List ℕ → Option SmpFault → Bool
 does_by_packet m packet (Some why) = false
@@ -60,12 +61,15 @@ abbrev pub counting_in : List Phase → ℕ
 counting_in [] = 0
 counting_in (p ∷ phases) = (if p.counts then length p.steps else 0) + counting_in phases
 
--- where a writing begins after any calls and no other one follows, it is written exactly where each of its steps that count was answered, and as done
+-- where a writing begins after any calls and no other one follows, it is written exactly where each of its steps that
+-- count was answered, and as done
 abbrev pub WrittenIsEachStepDone : Type 0
 WrittenIsEachStepDone =
     (port_guid port priority : ℕ) (planning : Planning) (before after : List Call)
     → writing_fault (after_calls before (new_manager port_guid port priority planning)) ≡ None
     → BeginNone after (after_write_steps (after_calls before (new_manager port_guid port priority planning)))
-    → (is_written (after_calls after (after_write_steps (after_calls before (new_manager port_guid port priority planning)))) ≡ true)
+    → (is_written (after_calls after
+    (after_write_steps (after_calls before (new_manager port_guid port priority planning)))) ≡ true)
     ↔ (steps_done after (after_write_steps (after_calls before (new_manager port_guid port priority planning)))
-    ≡ counting_in (phases_by (after_calls before (new_manager port_guid port priority planning)) (after_calls before (new_manager port_guid port priority planning)).sweep))
+    ≡ counting_in (phases_by (after_calls before (new_manager port_guid port priority planning))
+    (after_calls before (new_manager port_guid port priority planning)).sweep))

@@ -104,15 +104,21 @@ KnowsWhatItTookIn = (port_guid port priority : ℕ) (planning : Planning) (calls
     (after_calls calls (new_manager port_guid port priority planning)).store
     ≡ view_at (greatest_floor calls) (taken_in calls (new_manager port_guid port priority planning))
 
--- two managers that took in the same, in whatever order and however often, and have one greatest floor, one LMC and one rule of routing
--- know the same and plan the same; and where that plan has room and is in force in what an end port is joined to, each packet from each end port there for each of its LIDs arrives
+-- two managers that took in the same, in whatever order and however often, and have one greatest floor, one LMC and one
+-- rule of routing know the same and plan the same; and where that plan has room and is in force in what an end port is
+-- joined to, each packet from each end port there for each of its LIDs arrives
 pub record KnowTheSame (one other : Manager) : Type 0 where
   pub facts : one.store ≡ other.store
-  pub plan : plan_of one.planning.rule one.planning.lmc (cells_of one.store) ≡ plan_of other.planning.rule other.planning.lmc (cells_of other.store)
-  pub arrives : ¬ (IsNoRoom one.planning.lmc (cells_of one.store)) → EveryPacketArrives one.planning.rule (cells_of one.store) (plan_of one.planning.rule one.planning.lmc (cells_of one.store))
+  pub plan : plan_of one.planning.rule one.planning.lmc (cells_of one.store)
+      ≡ plan_of other.planning.rule other.planning.lmc (cells_of other.store)
+  pub arrives : ¬ (IsNoRoom one.planning.lmc (cells_of one.store))
+      → EveryPacketArrives one.planning.rule (cells_of one.store)
+      (plan_of one.planning.rule one.planning.lmc (cells_of one.store))
 
 abbrev pub SameTakenInSamePlan : Type 0
 SameTakenInSamePlan = (guid port priority guid' port' priority' : ℕ) (planning : Planning) (calls calls' : List Call) →
     greatest_floor calls ≡ greatest_floor calls' →
-    HaveSameMembers (taken_in calls (new_manager guid port priority planning)) (taken_in calls' (new_manager guid' port' priority' planning)) →
-    KnowTheSame (after_calls calls (new_manager guid port priority planning)) (after_calls calls' (new_manager guid' port' priority' planning))
+    HaveSameMembers (taken_in calls (new_manager guid port priority planning))
+    (taken_in calls' (new_manager guid' port' priority' planning)) →
+    KnowTheSame (after_calls calls (new_manager guid port priority planning))
+    (after_calls calls' (new_manager guid' port' priority' planning))

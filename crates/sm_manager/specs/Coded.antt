@@ -29,11 +29,16 @@ writing_code =
 
 abbrev pub manager_code : Coded Manager
 manager_code =
-    code_by ((Standing × ((ℕ × Planning) × Facts)) × ((Option Sweep × (List SeenManager × Option Writing)) × (ℕ × (List Pending × List Outgoing))))
+    code_by ((Standing × ((ℕ × Planning) × Facts))
+    × ((Option Sweep × (List SeenManager × Option Writing)) × (ℕ × (List Pending × List Outgoing))))
     (coded× (coded× (standing.the_row).coded (coded× (coded× coded_ℕ planning_code) facts_code))
-    (coded× (coded× (coded_option (sweep.the_row).coded) (coded× (coded_list (seen.the_row).coded) (coded_option writing_code)))
+    (coded× (coded× (coded_option (sweep.the_row).coded)
+    (coded× (coded_list (seen.the_row).coded) (coded_option writing_code)))
     (coded× coded_ℕ (coded× (coded_list (pending.the_row).coded) (coded_list (outgoing.the_row).coded)))))
-    (λ m. ((m.standing, ((m.port, m.planning), m.store)), ((m.sweep, (m.seen, m.writing)), (m.counter, (m.pending, m.outgoing)))))
+    (λ m. (
+      (m.standing, ((m.port, m.planning), m.store)),
+      ((m.sweep, (m.seen, m.writing)), (m.counter, (m.pending, m.outgoing))),
+    ))
     (λ p. record {
       standing = p.0.0;
       port = p.0.1.0.0;

@@ -43,18 +43,24 @@ poll_out number lid = record { packet = lid_routed get sm_info 0 number (replica
 -- a control as a Set with what its sender tells of itself
 abbrev pub control_out : Standing → ℕ → ℕ → Control → Outgoing
 control_out s number lid control =
-    record { packet = lid_routed set sm_info (modifier_of_control control) number (sm_info_bytes (info_of s)); to = Some lid }
+    record {
+      packet = lid_routed set sm_info (modifier_of_control control) number (sm_info_bytes (info_of s));
+      to =
+          Some lid;
+    }
 
 -- a request goes out under the next number, and waits for its answer
 abbrev pub asked : Manager → Pending → Outgoing → Manager
-asked m waits out = record m { counter = m.counter + 1; pending = m.pending ++ waits ∷ []; outgoing = m.outgoing ++ out ∷ [] }
+asked m waits out =
+    record m { counter = m.counter + 1; pending = m.pending ++ waits ∷ []; outgoing = m.outgoing ++ out ∷ [] }
 
 abbrev pub after_poll : Manager → ℕ → Manager
 after_poll m lid = asked m (info_pending m.counter purpose.Poll 0) (poll_out m.counter lid)
 
 abbrev pub control_sent : Manager → ℕ → Control → Manager
 control_sent m lid control =
-    asked m (info_pending m.counter purpose.Control (modifier_of_control control)) (control_out m.standing m.counter lid control)
+    asked m (info_pending m.counter purpose.Control (modifier_of_control control))
+    (control_out m.standing m.counter lid control)
 
 -- how many requests a message comes to; there may be none, or nobody to send it to
 abbrev pub message_count : Option ℕ → Option Message → ℕ
@@ -107,7 +113,8 @@ handover_fault m = if is_none (handover_move m).message then Some fault.NotMaste
 
 -- the state moves, and the successor is told to take over; it moves again once the successor has acknowledged
 abbrev pub handed_to : Manager → Option ℕ → Manager
-handed_to m lid = after_message (record m { standing = moved_to (handover_move m).state m.standing }) lid (handover_move m).message
+handed_to m lid =
+    after_message (record m { standing = moved_to (handover_move m).state m.standing }) lid (handover_move m).message
 
 abbrev pub after_handover : Manager → Manager
 after_handover m = handed_to m (successor_lid m)

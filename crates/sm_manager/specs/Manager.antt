@@ -19,14 +19,16 @@ use Rattle.lft_blocks.specs.Planning.{Planning}
 use Rattle.sm_state.specs.Seen.{sweep_verdict}
 use Rattle.sm_state.specs.Standing.{active_once_more, info_of, moved_by, new_standing}
 
--- A plan that is being written, or was: the phases that have not been sent, and whether a step that counts was not done.
+-- A plan that is being written, or was: the phases that have not been sent, and whether a step that counts was not
+-- done.
 pub record Writing : Type 0 where
   pub later : List Phase
   pub has_failed : Bool
 
--- What it is among the managers of its subnet, the number of the port that it sits at, how it plans, all facts that it took in, the last sweep that it began, the managers that this sweep saw, in the order in which it did, the last writing that it began, the
--- number of its next request outside sweeps, the requests outside sweeps that wait for their answers, by rising numbers,
--- and the packets that it is about to send, first in, first out.
+-- What it is among the managers of its subnet, the number of the port that it sits at, how it plans, all facts that it
+-- took in, the last sweep that it began, the managers that this sweep saw, in the order in which it did, the last
+-- writing that it began, the number of its next request outside sweeps, the requests outside sweeps that wait for their
+-- answers, by rising numbers, and the packets that it is about to send, first in, first out.
 pub record Manager : Type 0 where
   pub standing : Standing
   pub port : ℕ
@@ -108,12 +110,17 @@ next_generation facts = max (newest_held facts + 1) facts.floor
 
 -- why no sweep begins: one runs, or the newest generation is the greatest that there is
 abbrev pub begin_fault : Manager → Option ManagerFault
-begin_fault m = if is_running m.sweep then Some SweepRunning else (if newest_held m.store == 2 ^ 32 - 1 then Some GenerationsSpent else None)
+begin_fault m = if is_running m.sweep then Some SweepRunning else
+    (if newest_held m.store == 2 ^ 32 - 1 then Some GenerationsSpent else None)
 
 -- a sweep by the manager's own port, of the next generation; it has seen no manager yet
 abbrev pub after_begin_sweep : Manager → Manager
 after_begin_sweep m =
-    with_sweep (record m { standing = active_once_more m.standing; seen = [] }) (started m.port (next_generation m.store) 1)
+    with_sweep (record m {
+      standing = active_once_more m.standing;
+      seen =
+          [];
+    }) (started m.port (next_generation m.store) 1)
 
 -- other calls ------------------------------------------------------------------------------------
 

@@ -42,10 +42,15 @@ done m = record { manager = m; fault = None }
 
 -- packets -------------------------------------------------------------------------------------
 
--- the facts of an answer are merged with what is known, a manager that it shows is noted, and what it brings up goes out
+-- the facts of an answer are merged with what is known, a manager that it shows is noted, and what it brings up goes
+-- out
 abbrev pub with_answer : Manager → Sweep → List ℕ → Answer → Manager
 with_answer m s packet answer =
-    after_sweep (with_sweep (record m { store = merge m.store (view (sightings_by answer)); seen = with_seen answer m.seen }) (after_reply s packet))
+    after_sweep (with_sweep (record m {
+      store = merge m.store (view (sightings_by answer));
+      seen =
+          with_seen answer m.seen;
+    }) (after_reply s packet))
 
 abbrev pub answered_by : Manager → Sweep → List ℕ → Result Answer SweepFault → Called
 answered_by m s packet (Ok answer) = done (with_answer m s packet answer)
@@ -58,7 +63,8 @@ sweep_answered m packet (Some s) = answered_by m s packet (judged s packet)
 
 -- an answer over a directed route whose TransactionID has a generation in its high half
 abbrev pub is_for_sweep : List ℕ → Bool
-is_for_sweep packet = number_in method packet == get_resp && (is_directed packet && nat_le (2 ^ 32) (number_in transaction_id packet))
+is_for_sweep packet =
+    number_in method packet == get_resp && (is_directed packet && nat_le (2 ^ 32) (number_in transaction_id packet))
 
 -- an answer to this request
 abbrev pub answers : List ℕ → Pending → Bool
@@ -118,7 +124,8 @@ after_packet m packet from = packet_taken m packet from (fault_of packet)
 
 abbrev pub sweep_timed_out : Manager → Sweep → ℕ → Option SweepFault → Called
 sweep_timed_out m s transaction (Some why) = refused m fault.Unasked
-sweep_timed_out m s transaction None = done (after_sweep (record m { sweep = Some (sweep_after_timeout s transaction) }))
+sweep_timed_out m s transaction None =
+    done (after_sweep (record m { sweep = Some (sweep_after_timeout s transaction) }))
 
 abbrev pub sweep_gave_up : Manager → ℕ → Option Sweep → Called
 sweep_gave_up m transaction None = refused m fault.Unasked
@@ -128,7 +135,8 @@ abbrev pub request_gave_up : Manager → Option Pending → Called
 request_gave_up m None = refused m fault.Unasked
 request_gave_up m (Some p) = after_request m p None p.purpose
 
--- nothing answered a request in time: one of the sweep, whose TransactionID has its generation in the high half, or another
+-- nothing answered a request in time: one of the sweep, whose TransactionID has its generation in the high half, or
+-- another
 abbrev pub after_timeout : Manager → ℕ → Called
 after_timeout m transaction =
     if nat_le (2 ^ 32) transaction then sweep_gave_up m transaction m.sweep

@@ -30,7 +30,8 @@ number_fault counter = if nat_lt (2 ^ 32) counter then Some fault.SequenceSpent 
 abbrev pub unless_numbers : Bool → Option ManagerFault
 unless_numbers are_numbers = if are_numbers then None else Some fault.SequenceSpent
 
--- why no writing begins, out of memory aside: what goes on forbids it, there is no plan, or a phase could need a number that 32 bits do not hold
+-- why no writing begins, out of memory aside: what goes on forbids it, there is no plan, or a phase could need a number
+-- that 32 bits do not hold
 abbrev pub writing_fault : Manager → Option ManagerFault
 writing_fault m =
     or_else (write_fault m)

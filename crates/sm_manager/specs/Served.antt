@@ -24,7 +24,11 @@ answer_data s packet status = if status == done then sm_info_bytes (info_of s) e
 -- a directed request is answered by its path, and another one by the LID of its sender
 abbrev pub answer_out : Standing → List ℕ → Option ℕ → ℕ → Outgoing
 answer_out s packet from status =
-    record { packet = answer_packet packet status (answer_data s packet status); to = if is_directed packet then None else from }
+    record {
+      packet = answer_packet packet status (answer_data s packet status);
+      to =
+          if is_directed packet then None else from;
+    }
 
 abbrev pub answering : Manager → List ℕ → Option ℕ → ℕ → Manager
 answering m packet from status = record m { outgoing = m.outgoing ++ answer_out m.standing packet from status ∷ [] }
@@ -38,11 +42,13 @@ is_control packet = number_in method packet == set && not (is_directed packet)
 -- the state moves, the answer goes out, and then what the sender is told
 abbrev pub moved_on : Manager → List ℕ → Option ℕ → Transition → Manager
 moved_on m packet from move =
-    after_message (answering (record m { standing = moved_to move.state m.standing }) packet from (status_of move)) from move.message
+    after_message (answering (record m { standing = moved_to move.state m.standing }) packet from (status_of move)) from
+    move.message
 
 -- as the table of states says
 abbrev pub controlled : Manager → List ℕ → Option ℕ → Manager
-controlled m packet from = moved_on m packet from (stepped m.standing.state (event.Control (number_in attribute_modifier packet)))
+controlled m packet from =
+    moved_on m packet from (stepped m.standing.state (event.Control (number_in attribute_modifier packet)))
 
 -- any request for SMInfo --------------------------------------------------------------------------
 

@@ -24,7 +24,14 @@ use Rattle.sm_manager.specs.ManagerRequests.{counts, how_many, is_step, no_step_
 -- a step as the request of a number
 abbrev pub pending_step : ℕ → Bool → Step → Pending
 pending_step number counts s =
-    record { number = number; purpose = IsStep counts; attribute = s.attribute; modifier = s.modifier; path = Some s.path }
+    record {
+      number = number;
+      purpose = IsStep counts;
+      attribute = s.attribute;
+      modifier = s.modifier;
+      path =
+          Some s.path;
+    }
 
 -- the steps of a phase as requests, by rising numbers
 abbrev pub numbered : Bool → ℕ → List Step → List Pending
@@ -89,7 +96,8 @@ write_fault m = write_fault_with m m.sweep
 -- the phases of the plan of what it knows, over the paths of its last sweep
 abbrev pub phases_by : Manager → Option Sweep → List Phase
 phases_by m None = []
-phases_by m (Some s) = phases_of (plan_of m.planning.rule m.planning.lmc (cells_of m.store)) (cells_of m.store) s m.standing.guid m.port
+phases_by m (Some s) =
+    phases_of (plan_of m.planning.rule m.planning.lmc (cells_of m.store)) (cells_of m.store) s m.standing.guid m.port
 
 -- the first of these phases is sent
 abbrev pub begun_with : Manager → List Phase → Manager

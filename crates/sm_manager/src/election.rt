@@ -45,9 +45,10 @@ impl Manager {
         Ok(())
     }
 
-    /// Tells the greatest of the managers that the last sweep saw in Standby or Master, and that win over this one, to take
-    /// over; of equals the first that was seen. It goes to the LID of the port where it was seen. The state moves as the
-    /// table of states says: it stays Master, until that manager acknowledges. Plans LIDs, and walks what the sweep saw.
+    /// Tells the greatest of the managers that the last sweep saw in Standby or Master, and that win over this one, to
+    /// take over; of equals the first that was seen. It goes to the LID of the port where it was seen. The state moves
+    /// as the table of states says: it stays Master, until that manager acknowledges. Plans LIDs, and walks what the
+    /// sweep saw.
     ///
     /// # Errors
     ///
@@ -99,7 +100,8 @@ impl Manager {
     fn planned_lid(&self, port: EndPort) -> Result<Lid, ManagerFault>
         requires { is_end_port (cells_of self.now.store) port.node port.port ≡ true }
         ensures judged { JudgesButFor is_memory result (plan_fault self.now.planning.lmc (cells_of self.now.store)) }
-        ensures lid { IfOk result (λ lid. lid_of (lids self.now.planning.lmc (cells_of self.now.store)) port ≡ Some lid) }
+        ensures lid { IfOk result (λ lid. lid_of (lids self.now.planning.lmc (cells_of self.now.store)) port
+            ≡ Some lid) }
     {
         let lids = self.plan_lids()?;
         Ok(lids.lid_of(port).unwrap())

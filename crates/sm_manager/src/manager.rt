@@ -23,8 +23,8 @@ use std::collections::VecDeque;
 use std::marker::Model;
 use sweep::Sweep;
 
-/// A subnet manager at an adapter's port: its state, what it knows of the subnet, the last sweep that it began, and what it
-/// is about to send. Contracts see each part.
+/// A subnet manager at an adapter's port: its state, what it knows of the subnet, the last sweep that it began, and
+/// what it is about to send. Contracts see each part.
 #[derive(Drop)]
 pub struct Manager {
     pub(crate) alloc: Global,
@@ -49,14 +49,25 @@ impl Model for Manager {
 
     ghost coded = { manager_code };
 
-    ghost view = { λ a. record { standing = a.standing; port = a.port; planning = a.planning; store = a.store; sweep = a.sweep; seen = a.seen.items; writing = a.writing; counter = a.requests.counter; pending = a.requests.pending; outgoing = a.outgoing.items } };
+    ghost view = { λ a. record {
+      standing = a.standing;
+      port = a.port;
+      planning = a.planning;
+      store = a.store;
+      sweep = a.sweep;
+      seen = a.seen.items;
+      writing = a.writing;
+      counter = a.requests.counter;
+      pending = a.requests.pending;
+      outgoing = a.outgoing.items;
+    } };
 
     ghost invariant = { λ a. IsSentWhole a.sweep };
 }
 
 impl Manager {
-    /// A manager that knows nothing, at the port of a GUID and a number, and how it plans; its state is Discovering. Takes
-    /// no memory yet.
+    /// A manager that knows nothing, at the port of a GUID and a number, and how it plans; its state is Discovering.
+    /// Takes no memory yet.
     pub fn new(
         alloc: Global,
         port_guid: Guid,
@@ -80,8 +91,8 @@ impl Manager {
         }
     }
 
-    /// Begins a sweep, of the generation after the newest that is held, or of the floor where that is greater; what it asks
-    /// first goes out. The managers that the sweep before it saw are forgotten. Walks the store once.
+    /// Begins a sweep, of the generation after the newest that is held, or of the floor where that is greater; what it
+    /// asks first goes out. The managers that the sweep before it saw are forgotten. Walks the store once.
     ///
     /// # Errors
     ///
@@ -114,9 +125,9 @@ impl Manager {
         self.outgoing.pop_front()
     }
 
-    /// Forgets what is older than a generation, now and whenever it comes again. A sweep that runs goes on, and its replies
-    /// are taken, but tell nothing where it is older; the next one is not. Takes no memory. Walks the store where this floor
-    /// is greater than the one held.
+    /// Forgets what is older than a generation, now and whenever it comes again. A sweep that runs goes on, and its
+    /// replies are taken, but tell nothing where it is older; the next one is not. Takes no memory. Walks the store
+    /// where this floor is greater than the one held.
     pub fn raise_floor(&mut self, floor: Generation)
         ensures { self.new ≡ after_raise_floor self.old floor }
     {

@@ -18,18 +18,18 @@ use sweep::{Sweep, SweepFault};
 const REQUESTS_PER_REPLY: usize = 256;
 
 impl Manager {
-    /// Takes a packet that came to the manager's port, and the LID of its sender, which a packet by LIDs has. A reply that
-    /// its sweep waits for tells facts, which are taken in, or shows another manager, which is noted, and what it brings up
-    /// goes out; where the sweep is done then, the state moves by what it saw. An answer to a poll or a control ends it; one
-    /// to a step of a writing does too, and the last of a phase brings up the next phase. A request for SMInfo is answered,
-    /// and a control obeyed where the state has a move for it. The work does not grow with what is known, but for the
-    /// searches, and for the managers that a sweep saw at its end.
+    /// Takes a packet that came to the manager's port, and the LID of its sender, which a packet by LIDs has. A reply
+    /// that its sweep waits for tells facts, which are taken in, or shows another manager, which is noted, and what it
+    /// brings up goes out; where the sweep is done then, the state moves by what it saw. An answer to a poll or a
+    /// control ends it; one to a step of a writing does too, and the last of a phase brings up the next phase. A
+    /// request for SMInfo is answered, and a control obeyed where the state has a move for it. The work does not grow
+    /// with what is known, but for the searches, and for the managers that a sweep saw at its end.
     ///
     /// # Errors
     ///
-    /// `Sweep` with what is wrong with bytes that are no packet; `Unasked` for what answers nothing, requests other than
-    /// those for SMInfo among them; `Sweep` for a reply that the sweep refuses; `SequenceSpent` where there are no numbers
-    /// for what goes out; `Memory`.
+    /// `Sweep` with what is wrong with bytes that are no packet; `Unasked` for what answers nothing, requests other
+    /// than those for SMInfo among them; `Sweep` for a reply that the sweep refuses; `SequenceSpent` where there are no
+    /// numbers for what goes out; `Memory`.
     pub fn on_packet(&mut self, bytes: &[u8; 256], from: Option<Lid>) -> Result<(), ManagerFault>
         requires { HasSender bytes.now from }
         ensures judged { JudgesButFor is_memory result (after_packet self.old bytes.now from).fault }
@@ -99,7 +99,8 @@ fn refusal_of(fault: SweepFault) -> ManagerFault
     }
 }
 
-/// Why a reply is not taken where there is no room for what it may bring up: memory is wanting only if it is not refused.
+/// Why a reply is not taken where there is no room for what it may bring up: memory is wanting only if it is not
+/// refused.
 fn fault_without_room(sweep: &Sweep, smp: &Smp) -> ManagerFault
     ensures { IsFaultWithoutRoom (judged sweep.now smp.now) result }
 {

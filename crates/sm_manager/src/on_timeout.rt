@@ -9,12 +9,13 @@ use crate::manager::Manager;
 use crate::on_packet::end_sweep;
 
 impl Manager {
-    /// A request was not answered in time, and waits no more. Three polls in a row move the state; where a sweep is done by
-    /// it, the state moves by what it saw. Takes memory only where a phase of a writing ends by it.
+    /// A request was not answered in time, and waits no more. Three polls in a row move the state; where a sweep is
+    /// done by it, the state moves by what it saw. Takes memory only where a phase of a writing ends by it.
     ///
     /// # Errors
     ///
-    /// `Unasked`: no request of this TransactionID waits. `SequenceSpent` and `Memory`, where the next phase would go out.
+    /// `Unasked`: no request of this TransactionID waits. `SequenceSpent` and `Memory`, where the next phase would go
+    /// out.
     pub fn on_timeout(&mut self, transaction: u64) -> Result<(), ManagerFault>
         ensures judged { JudgesButFor is_memory result (after_timeout self.old transaction).fault }
         ensures ok { OnOk result (self.new ≡ (after_timeout self.old transaction).manager) }

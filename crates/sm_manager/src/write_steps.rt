@@ -17,14 +17,14 @@ use sm_state::SmState;
 use sweep::Sweep;
 
 impl Manager {
-    /// Begins to write the plan of what is known: each end port's LID, each switch's forwarding blocks and their top, and
-    /// then the states of ports on wires, over the paths of the last sweep. A phase goes out as a whole, and the next one
-    /// once each of its steps was answered or timed out.
+    /// Begins to write the plan of what is known: each end port's LID, each switch's forwarding blocks and their top,
+    /// and then the states of ports on wires, over the paths of the last sweep. A phase goes out as a whole, and the
+    /// next one once each of its steps was answered or timed out.
     ///
     /// # Errors
     ///
-    /// `NotMaster`, `SweepRunning`, `WritingRunning`, `NoRoom`, `SequenceSpent`, where there are fewer numbers than a phase
-    /// could need, and `Memory`, in this order.
+    /// `NotMaster`, `SweepRunning`, `WritingRunning`, `NoRoom`, `SequenceSpent`, where there are fewer numbers than a
+    /// phase could need, and `Memory`, in this order.
     pub fn write_steps(&mut self) -> Result<(), ManagerFault>
         ensures judged { JudgesButFor is_memory result (writing_fault self.old) }
         ensures ok { OnOk result (self.new ≡ after_write_steps self.old) }

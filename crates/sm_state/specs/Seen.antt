@@ -63,4 +63,5 @@ IsSuccessorOrNone managers None = managers ≡ []
 IsSuccessorOrNone managers (Some successor) = IsFirstGreatest managers successor
 
 abbrev pub SuccessorLaw : Type 0
-SuccessorLaw = (own : SmInfo) (seen : List SeenManager) → IsSuccessorOrNone (filter (is_candidate own) seen) (successor_of own seen)
+SuccessorLaw = (own : SmInfo) (seen : List SeenManager)
+    → IsSuccessorOrNone (filter (is_candidate own) seen) (successor_of own seen)

@@ -12,11 +12,19 @@ use Rattle.sm_state.specs.declared.standing.Standing.{Standing}
 
 -- one at the port of this GUID, which has done nothing
 abbrev pub new_standing : ℕ → ℕ → Standing
-new_standing guid priority = record { guid = guid; priority = priority; state = Discovering; act_count = 0; polls_lost = 0 }
+new_standing guid priority =
+    record { guid = guid; priority = priority; state = Discovering; act_count = 0; polls_lost = 0 }
 
 -- what it tells of itself; its SM_Key is 0
 abbrev pub info_of : Standing → SmInfo
-info_of s = record { guid = s.guid; sm_key = 0; act_count = s.act_count; priority = s.priority; state = number_of_state s.state }
+info_of s = record {
+  guid = s.guid;
+  sm_key = 0;
+  act_count = s.act_count;
+  priority = s.priority;
+  state =
+      number_of_state s.state;
+}
 
 abbrev pub is_in : SmState → Standing → Bool
 is_in state s = number_of_state s.state == number_of_state state

@@ -18,9 +18,11 @@ Is which e = (modifier : ℕ) × (e ≡ event.Control modifier) × (control_of_m
 -- the table has a row for the event in this state
 abbrev pub IsNamed : SmState → Event → Type 0
 IsNamed Discovering e = (e ≡ event.Outranked) ⊎ (e ≡ event.Unrivalled)
-IsNamed Standby e = Is control.Handover e ⊎ (Is control.Disable e ⊎ (Is control.Discover e ⊎ (e ≡ event.PollsUnanswered)))
+IsNamed Standby e =
+    Is control.Handover e ⊎ (Is control.Disable e ⊎ (Is control.Discover e ⊎ (e ≡ event.PollsUnanswered)))
 IsNamed NotActive e = Is control.Standby e
-IsNamed Master e = Is control.Handover e ⊎ (Is control.Acknowledge e ⊎ (Is control.Discover e ⊎ (e ≡ event.HandoverWanted)))
+IsNamed Master e =
+    Is control.Handover e ⊎ (Is control.Acknowledge e ⊎ (Is control.Discover e ⊎ (e ≡ event.HandoverWanted)))
 
 -- an event that the table does not name changes nothing
 abbrev pub NothingElseMoves : Type 0

@@ -30,8 +30,8 @@ pub fn states_are_numbered()
     ensures { StatesAreNumbered }
 {}
 
-/// Whom a master hands over to wins over each candidate that was seen before it, and none that was seen after it wins over
-/// it; where there is nobody, there is no candidate.
+/// Whom a master hands over to wins over each candidate that was seen before it, and none that was seen after it wins
+/// over it; where there is nobody, there is no candidate.
 #[tactic(auto, using(crate::proofs::Successors::successor_law))]
 pub fn successor_is_the_first_of_the_greatest()
     ensures { SuccessorLaw }

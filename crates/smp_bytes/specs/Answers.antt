@@ -12,12 +12,14 @@ has_ports packet i (port ∷ ports) = number_in (initial_path i) packet == port 
 -- over this path, or by LIDs where there is none
 abbrev pub goes_by : List ℕ → Option (List ℕ) → Bool
 goes_by packet None = not (is_directed packet)
-goes_by packet (Some path) = is_directed packet && (number_in hop_count packet == length path && has_ports packet 1 path)
+goes_by packet (Some path) =
+    is_directed packet && (number_in hop_count packet == length path && has_ports packet 1 path)
 
 -- attribute, modifier and way are these
 abbrev pub is_of : List ℕ → ℕ → ℕ → Option (List ℕ) → Bool
 is_of packet attribute modifier path =
-    number_in attribute_id packet == attribute && (number_in attribute_modifier packet == modifier && goes_by packet path)
+    number_in attribute_id packet == attribute
+    && (number_in attribute_modifier packet == modifier && goes_by packet path)
 
 -- and so is the TransactionID
 abbrev pub answers : List ℕ → ℕ → ℕ → ℕ → Option (List ℕ) → Bool

@@ -53,11 +53,13 @@ with_numbers (e ∷ entries) bytes = with_numbers entries (with_number e.field e
 
 -- a byte with some of its bits replaced: what is above them, they themselves, and what is below them
 abbrev pub replaced : Bits → ℕ → ℕ → ℕ
-replaced bits number byte = (byte / 2 ^ (bits.shift + bits.width) * 2 ^ bits.width + number) * 2 ^ bits.shift + byte % 2 ^ bits.shift
+replaced bits number byte =
+    (byte / 2 ^ (bits.shift + bits.width) * 2 ^ bits.width + number) * 2 ^ bits.shift + byte % 2 ^ bits.shift
 
 -- the bytes with a number written into some bits of one
 abbrev pub with_bits : Bits → ℕ → List ℕ → List ℕ
-with_bits bits number bytes = with_number (record { at = bits.at; len = 1 }) (replaced bits number (slice_index bytes bits.at)) bytes
+with_bits bits number bytes =
+    with_number (record { at = bits.at; len = 1 }) (replaced bits number (slice_index bytes bits.at)) bytes
 
 -- the bits stand in different bytes, or the ones above the others
 abbrev pub are_bits_apart : Bits → Bits → Bool

@@ -1,5 +1,6 @@
 -- The numbers of classes, methods, statuses and attributes.
--- InfiniBand Architecture Specification, Volume 1: management datagram header; subnet management class: methods, status, attributes.
+-- InfiniBand Architecture Specification, Volume 1: management datagram header; subnet management class: methods,
+-- status, attributes.
 use Rattle.std.specs.Prelude.{ℕ}
 
 -- classes: a packet that switches forward by the LIDs of its way, and one that carries the ports of its path

@@ -15,17 +15,20 @@ NumberIsRead = (field : Field) (number : ℕ) (bytes : List ℕ) → LiesIn fiel
 
 -- a field apart from it keeps its number
 abbrev pub FieldApartStays : Type 0
-FieldApartStays = (other field : Field) (number : ℕ) (bytes : List ℕ) → LiesIn field bytes → are_apart other field ≡ true
+FieldApartStays =
+    (other field : Field) (number : ℕ) (bytes : List ℕ) → LiesIn field bytes → are_apart other field ≡ true
     → number_in other (with_number field number bytes) ≡ number_in other bytes
 
 -- there are as many bytes as before, and each that is not of the field stays
 pub record KeepsBytesOutside (field : Field) (old new : List ℕ) : Type 0 where
   pub count : length new ≡ length old
-  pub outside : (offset : ℕ) → (offset < field.at) ⊎ (field.at + field.len ≤ offset) → slice_index new offset ≡ slice_index old offset
+  pub outside : (offset : ℕ) → (offset < field.at) ⊎ (field.at + field.len ≤ offset) → slice_index new offset
+      ≡ slice_index old offset
 
 -- so does a write into a field
 abbrev pub BytesOutsideStay : Type 0
-BytesOutsideStay = (field : Field) (number : ℕ) (bytes : List ℕ) → LiesIn field bytes → KeepsBytesOutside field bytes (with_number field number bytes)
+BytesOutsideStay = (field : Field) (number : ℕ) (bytes : List ℕ) → LiesIn field bytes
+    → KeepsBytesOutside field bytes (with_number field number bytes)
 
 -- no other bytes hold the number and are for the rest as they were
 abbrev pub WriteIsUnique : Type 0
@@ -48,11 +51,13 @@ pub record AreBitsIn (bits : Bits) (bytes : List ℕ) : Type 0 where
 
 -- a number that is written into some bits is read from them
 abbrev pub BitsAreRead : Type 0
-BitsAreRead = (bits : Bits) (number : ℕ) (bytes : List ℕ) → AreBitsIn bits bytes → number < 2 ^ bits.width → bits_in bits (with_bits bits number bytes) ≡ number
+BitsAreRead = (bits : Bits) (number : ℕ) (bytes : List ℕ) → AreBitsIn bits bytes → number < 2 ^ bits.width
+    → bits_in bits (with_bits bits number bytes) ≡ number
 
 -- bits apart from them keep their number
 abbrev pub BitsApartStay : Type 0
-BitsApartStay = (other bits : Bits) (number : ℕ) (bytes : List ℕ) → AreBitsIn bits bytes → number < 2 ^ bits.width → are_bits_apart other bits ≡ true
+BitsApartStay = (other bits : Bits) (number : ℕ) (bytes : List ℕ) → AreBitsIn bits bytes → number < 2 ^ bits.width
+    → are_bits_apart other bits ≡ true
     → bits_in other (with_bits bits number bytes) ≡ bits_in other bytes
 
 -- there are as many bytes as before, the one with the bits is still a byte, and each other stays

@@ -1,5 +1,6 @@
 -- A subnet management packet (SMP) is a list of 256 bytes: its fields, and what is wrong with bytes that are no packet.
--- InfiniBand Architecture Specification, Volume 1: management datagram header, and SMP formats, LID routed and directed route.
+-- InfiniBand Architecture Specification, Volume 1: management datagram header, and SMP formats, LID routed and directed
+-- route.
 use Rattle.std.specs.Prelude.{ℕ, ◌+◌, ◌%◌, ◌^◌, Bool, ◌&&◌, ◌||◌, not, List, nat_lt, ◌==◌, if◌then◌else◌, Option, Some, None}
 use Rattle.smp_bytes.specs.Field.{Field, Bits, number_in, bits_in}
 use Rattle.smp_bytes.specs.Header.{lid_routed_class, directed_class}
@@ -104,7 +105,8 @@ abbrev pub directed_fault_of : List ℕ → Option SmpFault
 directed_fault_of packet =
     if nat_lt max_hops (number_in hop_count packet) then Some HopCount
     else if nat_lt (number_in hop_count packet + 1) (number_in hop_pointer packet) then Some HopPointer
-    else if not (number_in dr_slid packet == permissive_lid && number_in dr_dlid packet == permissive_lid) then Some DrLid
+    else if not (number_in dr_slid packet == permissive_lid
+    && number_in dr_dlid packet == permissive_lid) then Some DrLid
     else None
 
 -- the first fault of 256 bytes, if they are no packet

@@ -56,15 +56,19 @@ pub record FitsRequest (method_number attribute modifier tid : ℕ) (payload : L
 -- a directed request holds what was given
 abbrev pub DirectedReadsBack : Type 0
 DirectedReadsBack =
-    (method_number attribute modifier tid : ℕ) (path payload : List ℕ) → FitsRequest method_number attribute modifier tid payload → length path ≤ max_hops
-    → HoldsRequest (directed method_number attribute modifier tid path payload) method_number attribute modifier tid payload
+    (method_number attribute modifier tid : ℕ) (path payload : List ℕ)
+    → FitsRequest method_number attribute modifier tid payload → length path ≤ max_hops
+    → HoldsRequest (directed method_number attribute modifier tid path payload) method_number attribute modifier tid
+    payload
     × HoldsPath (directed method_number attribute modifier tid path payload) path
 
 -- a LID-routed request holds what was given
 abbrev pub LidRoutedReadsBack : Type 0
 LidRoutedReadsBack =
-    (method_number attribute modifier tid : ℕ) (payload : List ℕ) → FitsRequest method_number attribute modifier tid payload
-    → HoldsRequest (lid_routed method_number attribute modifier tid payload) method_number attribute modifier tid payload
+    (method_number attribute modifier tid : ℕ) (payload : List ℕ)
+    → FitsRequest method_number attribute modifier tid payload
+    → HoldsRequest (lid_routed method_number attribute modifier tid payload) method_number attribute modifier tid
+    payload
     × HoldsNoPath (lid_routed method_number attribute modifier tid payload)
 
 -- neither method nor status nor attribute
@@ -86,7 +90,8 @@ pub record HoldsAnswer (request answer : List ℕ) (given : ℕ) (payload : List
 -- an answer holds what was given; in the directed class the status leaves its highest bit to the direction
 abbrev pub AnswerReadsBack : Type 0
 AnswerReadsBack =
-    (request : List ℕ) (given : ℕ) (payload : List ℕ) → length request ≡ 256 → fault_of request ≡ None → length payload ≡ 64
+    (request : List ℕ) (given : ℕ) (payload : List ℕ) → length request ≡ 256 → fault_of request ≡ None → length payload
+    ≡ 64
     → given < 2 ^ 16 → (is_directed request ≡ true → given < 2 ^ 15)
     → HoldsAnswer request (answer_packet request given payload) given payload
 

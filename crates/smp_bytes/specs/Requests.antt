@@ -21,11 +21,13 @@ path_entries hops =
 
 -- 256 bytes that hold the fields of a request, and 0 elsewhere
 abbrev pub request : ℕ → ℕ → ℕ → ℕ → ℕ → List ℕ
-request class method_number attribute modifier tid = with_numbers (request_entries class method_number attribute modifier tid) (replicate 256 0)
+request class method_number attribute modifier tid =
+    with_numbers (request_entries class method_number attribute modifier tid) (replicate 256 0)
 
 -- a request that switches forward by the LIDs of its way
 abbrev pub lid_routed : ℕ → ℕ → ℕ → ℕ → List ℕ → List ℕ
-lid_routed method_number attribute modifier tid payload = with_bytes attribute_data.at payload (request lid_routed_class method_number attribute modifier tid)
+lid_routed method_number attribute modifier tid payload =
+    with_bytes attribute_data.at payload (request lid_routed_class method_number attribute modifier tid)
 
 -- a request that leaves by the ports of a path, one after the other
 abbrev pub directed : ℕ → ℕ → ℕ → ℕ → List ℕ → List ℕ → List ℕ
@@ -40,11 +42,13 @@ answer_status packet status = if is_directed packet then 2 ^ 15 + status else st
 -- the answer to a request: another method, status and attribute, and all else as it was
 abbrev pub answer_packet : List ℕ → ℕ → List ℕ → List ℕ
 answer_packet packet status payload =
-    with_bytes attribute_data.at payload (with_number status_word (answer_status packet status) (with_number method get_resp packet))
+    with_bytes attribute_data.at payload
+    (with_number status_word (answer_status packet status) (with_number method get_resp packet))
 
 -- the status word with another status; in the directed class its highest bit, the direction, stays
 abbrev pub word_with_status : List ℕ → ℕ → ℕ
-word_with_status packet status = if is_directed packet then number_in status_word packet / 2 ^ 15 * 2 ^ 15 + status else status
+word_with_status packet status =
+    if is_directed packet then number_in status_word packet / 2 ^ 15 * 2 ^ 15 + status else status
 
 abbrev pub flag : Bool → ℕ
 flag true = 1

@@ -14,10 +14,12 @@ use Rattle.spread_labels.specs.LabelLaws.{IsSymmetric, IsGrown, IsGrownGraph}
 use Rattle.spread_labels.specs.Orders.{order, at_position, position_of, IsGrownOrder, positioned_edge, by_position, OrderLaw}
 use Rattle.spread_labels.proofs.Growing.{is_grown_order}
 
-pub position_less : (vertices : List ℕ) (s : ℕ) → Contains vertices s → (position_of vertices s < length vertices) × (at_position vertices (position_of vertices s) ≡ s)
+pub position_less : (vertices : List ℕ) (s : ℕ) → Contains vertices s → (position_of vertices s < length vertices)
+    × (at_position vertices (position_of vertices s) ≡ s)
 position_less [] s h = absurd (contains_none s h)
 position_less (x ∷ xs) s h =
-    elim (x == s) as (λ b. (x == s) ≡ b → (cond b 0 (suc (position_of xs s)) < suc (length xs)) × (at_position (x ∷ xs) (cond b 0 (suc (position_of xs s))) ≡ s)) [
+    elim (x == s) as (λ b. (x == s) ≡ b → (cond b 0 (suc (position_of xs s)) < suc (length xs))
+    × (at_position (x ∷ xs) (cond b 0 (suc (position_of xs s))) ≡ s)) [
       | true ↦ λ q. (omega arith, eqb-true x s q)
       | false ↦ λ q. (elim (contains_cases x s xs h) [
         | inl same ↦ (let e = eq-eqb x s same in absurd (cc))
@@ -68,10 +70,12 @@ module _ (edges : List (List Edge)) (vertices : List ℕ) (lead : LeadToVertices
         to = ap (at_position vertices) (sym to) ∙ p.1;
       }
 
-  placed_there : (a : ℕ) (e : Edge) → a < length vertices → Contains (edges_at edges (at_position vertices a)) e → Contains (edges_at placed a) (positioned_edge vertices e)
+  placed_there : (a : ℕ) (e : Edge) → a < length vertices → Contains (edges_at edges (at_position vertices a)) e
+      → Contains (edges_at placed a) (positioned_edge vertices e)
   placed_there a e h k =
       let row = row_at (λ s. map (positioned_edge vertices) (edges_at edges s)) vertices a h in
-      subst (λ (xs : List Edge). Contains xs (positioned_edge vertices e)) (sym row) (contains_mapped (positioned_edge vertices) (edges_at edges (at_position vertices a)) e k)
+      subst (λ (xs : List Edge). Contains xs (positioned_edge vertices e)) (sym row)
+      (contains_mapped (positioned_edge vertices) (edges_at edges (at_position vertices a)) e k)
 
   head_leads : (a b : ℕ) → Contains (heads placed a) b
       → (a < length vertices) × (b < length vertices) × Contains (heads edges (at_position vertices a)) (at_position vertices b)
@@ -88,7 +92,8 @@ module _ (edges : List (List Edge)) (vertices : List ℕ) (lead : LeadToVertices
   there_and_back : (a b : ℕ) → Contains (heads placed a) b → Contains (heads placed b) a
   there_and_back a b h =
       let l = head_leads a b h in
-      let x = contains_map (λ (y : Edge). y.to) (edges_at edges (at_position vertices b)) (at_position vertices a) (symmetric (at_position vertices a) (at_position vertices b) l.2) in
+      let x = contains_map (λ (y : Edge). y.to) (edges_at edges (at_position vertices b)) (at_position vertices a)
+      (symmetric (at_position vertices a) (at_position vertices b) l.2) in
       let e = placed_there b x.0 l.1 x.1 in
       let same : position_of vertices x.0.to ≡ a = ap (position_of vertices) x.2 ∙ position_at vertices is.once a l.0 in
       subst (λ (y : ℕ). Contains (heads placed b) y) same (contains_mapped (λ (y : Edge). y.to) (edges_at placed b) (positioned_edge vertices x.0) e)
@@ -111,7 +116,8 @@ module _ (edges : List (List Edge)) (vertices : List ℕ) (lead : LeadToVertices
       )
 
   pub position_within : (a : ℕ) → a < length edges → position_of vertices a < length placed
-  position_within a h = omega (arith, (position_less vertices a (is.all a h)).0, length_map (λ (s : ℕ). map (positioned_edge vertices) (edges_at edges s)) vertices)
+  position_within a h =
+      omega (arith, (position_less vertices a (is.all a h)).0, length_map (λ (s : ℕ). map (positioned_edge vertices) (edges_at edges s)) vertices)
 
   is_grown : IsGrown placed
   is_grown a b zero w l = absurd (let same : a ≡ b = w in omega arith)

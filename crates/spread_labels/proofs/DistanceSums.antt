@@ -25,7 +25,8 @@ quarters_in_parts sum (suc n) h =
     sym (mul-add-div_right (omega arith) (4 * q) (4 * r)) ∙ ap (λ x. x / suc n) times
 
 -- a distance below 2^64 can be added
-told_bounded : (n : ℕ) (t : DistanceSum) (o : Option ℕ) → ((x : ℕ) → o ≡ Some x → x < 2 ^ 64) → IsDistanceSumOf n t → IsDistanceSumOf (n + 1) (with_distance t o)
+told_bounded : (n : ℕ) (t : DistanceSum) (o : Option ℕ) → ((x : ℕ) → o ≡ Some x → x < 2 ^ 64) → IsDistanceSumOf n t
+    → IsDistanceSumOf (n + 1) (with_distance t o)
 told_bounded n t None h is = record { sum = is.sum; count = omega (arith, is.count) }
 told_bounded n t (Some x) h is = let below = h x refl in record { sum = omega (arith, below, is.sum); count = omega (arith, is.count) }
 

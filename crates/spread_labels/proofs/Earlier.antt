@@ -37,10 +37,12 @@ module _ (before : ℕ → ℕ → Bool) (test : ℕ → Bool) (n : ℕ) where
   -- one more number that passes, or does not
   pub earliest_passing : test n ≡ true
       → earliest_of before (filter test (numbers_from 0 (n + 1))) ≡ Some (earlier_of before (earliest_of before (filter test (numbers_from 0 n))) n)
-  earliest_passing is = ap (earliest_of before) (grown ∙ ap (λ b. filter test (numbers_from 0 n) ++ cond b (n ∷ []) []) is) ∙ earliest_more before (filter test (numbers_from 0 n)) n
+  earliest_passing is = ap (earliest_of before) (grown ∙ ap (λ b. filter test (numbers_from 0 n) ++ cond b (n ∷ []) []) is)
+      ∙ earliest_more before (filter test (numbers_from 0 n)) n
 
   pub earliest_failing : test n ≡ false → earliest_of before (filter test (numbers_from 0 (n + 1))) ≡ earliest_of before (filter test (numbers_from 0 n))
-  earliest_failing is = ap (earliest_of before) (grown ∙ ap (λ b. filter test (numbers_from 0 n) ++ cond b (n ∷ []) []) is ∙ append-nil (filter test (numbers_from 0 n)))
+  earliest_failing is =
+      ap (earliest_of before) (grown ∙ ap (λ b. filter test (numbers_from 0 n) ++ cond b (n ∷ []) []) is ∙ append-nil (filter test (numbers_from 0 n)))
 
 -- one more vertex at the stage, or at another
 pub earliest_with : (before : ℕ → ℕ → Bool) (stages : List Stage) (stage : Stage) (n : ℕ) → is_stage (stage_at stages n) stage ≡ true

@@ -62,7 +62,8 @@ module _ (before : ℕ → ℕ → Bool) (keys : AreKeys before) where
     chosen : (placed : List ℕ) (x : ℕ) (rest front : List ℕ) → filter (is_beside edges placed) (x ∷ rest) ≡ front → (y : ℕ) → Contains (x ∷ rest) y
         → IsEarlier edges before placed (choose before x rest front) y
     chosen placed x rest [] e y h = record {
-      front = λ b. absurd (contains_none y (subst (λ (ys : List ℕ). Contains ys y) e (contains_filter (is_beside edges placed) (x ∷ rest) y h (tested placed y b))));
+      front = λ b. absurd
+          (contains_none y (subst (λ (ys : List ℕ). Contains ys y) e (contains_filter (is_beside edges placed) (x ∷ rest) y h (tested placed y b))));
       alone = λ no_edge. none_before rest x y h;
     }
     chosen placed x rest (z ∷ zs) e y h =

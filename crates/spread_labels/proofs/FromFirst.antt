@@ -89,7 +89,8 @@ module _ (edges : List (List Edge)) (lead : LeadToVertices edges) (symmetric : I
         ap is_some (told a x below) ∙ together a b k x h l w ∙ sym (ap is_some (told b x below))))
 
     -- there is one, and it has a distance
-    a_first : (a : ℕ) → a < length edges → (f : ℕ) × (first_among keys (distances_from edges a) ≡ Some f) × (f < length edges) × (is_some (distance edges a f) ≡ true)
+    a_first : (a : ℕ) → a < length edges → (f : ℕ) × (first_among keys (distances_from edges a) ≡ Some f) × (f < length edges)
+        × (is_some (distance edges a f) ≡ true)
     a_first a h =
         let all = numbers_from 0 (length keys) in
         let own : has_distance a a ≡ true = ap is_some (told a a h) ∙ by_walk a a 0 h refl in
@@ -103,7 +104,8 @@ module _ (edges : List (List Edge)) (lead : LeadToVertices edges) (symmetric : I
     first_below a h = let f = a_first a h in subst (λ (o : Option ℕ). unwrap_or o a < length edges) (sym f.1) f.2
 
     -- the distance from the first of a vertex's component is that from the first of one's own
-    pub tells : (a s d : ℕ) → a < length edges → s < length edges → distance edges (first_at edges keys a) s ≡ Some d → from_first keys (distances_from edges s) ≡ d
+    pub tells : (a s d : ℕ) → a < length edges → s < length edges → distance edges (first_at edges keys a) s ≡ Some d → from_first keys (distances_from edges s)
+        ≡ d
     tells a s d h l e =
         let f = a_first a h in
         let here : distance edges f.0 s ≡ Some d = ap (λ o. distance edges (unwrap_or o a) s) (sym f.1) ∙ e in
@@ -129,7 +131,8 @@ module _ (edges : List (List Edge)) (lead : LeadToVertices edges) (symmetric : I
       all = same ∙ far.all;
       right = λ s d l e.
           let now = sym (filled s l) ∙ e in
-          elim (slice_index_or old s None) as (λ o. slice_index_or old s None ≡ o → option_or o (slice_index_or found s None) ≡ Some d → from_first keys (distances_from edges s) ≡ d) [
+          elim (slice_index_or old s None) as (λ o. slice_index_or old s None ≡ o → option_or o (slice_index_or found s None) ≡ Some d
+          → from_first keys (distances_from edges s) ≡ d) [
             | Some x ↦ λ q k. far.right s d l (q ∙ k)
             | None ↦ λ q k. tells v s d h l (sym (are.shortest s l) ∙ k)
           ] refl now;

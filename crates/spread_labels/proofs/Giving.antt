@@ -43,9 +43,11 @@ Has now s up = (m : Mark) × (known now s ≡ Some m) × (up ≡ true → m.labe
 pub length_give : (v : ℕ) (label : Label) (round : ℕ) (marks : List (Option Mark)) (e : Edge) → length (give v label round marks e) ≡ length marks
 length_give v label round marks e =
     let m = given round (nat_lt v e.to) (known marks e.to) in
-    elim (nat_lt v e.to || is_down label) as (λ b. length (cond b (slice_set marks e.to m) marks) ≡ length marks) [ true ↦ length-set marks e.to m | false ↦ refl ]
+    elim (nat_lt v e.to || is_down label) as (λ b. length (cond b (slice_set marks e.to m) marks)
+    ≡ length marks) [ true ↦ length-set marks e.to m | false ↦ refl ]
 
-pub length_give_all : (v : ℕ) (label : Label) (round : ℕ) (marks : List (Option Mark)) (es : List Edge) → length (give_all v label round marks es) ≡ length marks
+pub length_give_all : (v : ℕ) (label : Label) (round : ℕ) (marks : List (Option Mark)) (es : List Edge) → length (give_all v label round marks es)
+    ≡ length marks
 length_give_all v label round marks [] = refl
 length_give_all v label round marks (e ∷ es) = length_give_all v label round (give v label round marks e) es ∙ length_give v label round marks e
 
@@ -76,7 +78,8 @@ given_old round true m h =
     ] refl
 
 -- and one that is Up stays Up
-given_stays : (round : ℕ) (up was : Bool) (m : Mark) → (was ≡ true → m.label ≡ Up) → (n : Mark) × (given round up (Some m) ≡ Some n) × (was ≡ true → n.label ≡ Up)
+given_stays : (round : ℕ) (up was : Bool) (m : Mark) → (was ≡ true → m.label ≡ Up) → (n : Mark) × (given round up (Some m) ≡ Some n)
+    × (was ≡ true → n.label ≡ Up)
 given_stays round false was m h = (m, refl, h)
 given_stays round true was m h =
     elim (m.cost == round) as (λ b. (n : Mark) × (cond b (Some (record { cost = round; label = Up })) (Some m) ≡ Some n) × (was ≡ true → n.label ≡ Up)) [
@@ -85,7 +88,8 @@ given_stays round true was m h =
     ]
 
 -- one is given where there was none, or one of the round
-given_has : (round : ℕ) (up : Bool) (o : Option Mark) → ((m : Mark) → o ≡ Some m → m.cost ≡ round) → (n : Mark) × (given round up o ≡ Some n) × (up ≡ true → n.label ≡ Up)
+given_has : (round : ℕ) (up : Bool) (o : Option Mark) → ((m : Mark) → o ≡ Some m → m.cost ≡ round) → (n : Mark) × (given round up o ≡ Some n)
+    × (up ≡ true → n.label ≡ Up)
 given_has round true None h = (record { cost = round; label = Up }, refl, λ e. refl)
 given_has round false None h = (record { cost = round; label = Down }, refl, λ e. absurd (cc))
 given_has round false (Some m) h = (m, refl, λ e. absurd (cc))
@@ -93,7 +97,8 @@ given_has round true (Some m) h =
     let same : (m.cost == round) ≡ true = eq-eqb m.cost round (h m refl) in
     (record { cost = round; label = Up }, ap (λ b. cond b (Some (record { cost = round; label = Up })) (Some m)) same, λ e. refl)
 
-module _ (edges : List (List Edge)) (lead : LeadToVertices edges) (symmetric : IsSymmetric edges) (round : ℕ) (old : List (Option Mark)) (front : IsFront edges round old) where
+module _ (edges : List (List Edge)) (lead : LeadToVertices edges) (symmetric : IsSymmetric edges) (round : ℕ) (old : List (Option Mark))
+    (front : IsFront edges round old) where
   abbrev Amid : List (Option Mark) → Type 0
   Amid now = IsAmid edges round old now
 
@@ -160,7 +165,8 @@ module _ (edges : List (List Edge)) (lead : LeadToVertices edges) (symmetric : I
           }
         ] refl
       where
-        at_it : (s : ℕ) (m : Mark) → s < length edges → known old s ≡ None → known (after now e) s ≡ Some m → s ≡ e.to → passes e ≡ true → IsGivenTo edges round old s m
+        at_it : (s : ℕ) (m : Mark) → s < length edges → known old s ≡ None → known (after now e) s ≡ Some m → s ≡ e.to → passes e ≡ true
+            → IsGivenTo edges round old s m
         at_it s m l none k same p =
             let here = sym (at_end now e a.all (lead v e h) p) ∙ ap (known (after now e)) (sym same) ∙ k in
             elim (given_is (suc round) (nat_lt v e.to) (known now e.to) m here) [
@@ -184,7 +190,8 @@ module _ (edges : List (List Edge)) (lead : LeadToVertices edges) (symmetric : I
           ])
         ] refl
 
-    gains : (now : List (Option Mark)) (e : Edge) → Contains (edges_at edges v) e → Amid now → known old e.to ≡ None → passes e ≡ true → Has (after now e) e.to (nat_lt v e.to)
+    gains : (now : List (Option Mark)) (e : Edge) → Contains (edges_at edges v) e → Amid now → known old e.to ≡ None → passes e ≡ true
+        → Has (after now e) e.to (nat_lt v e.to)
     gains now e h a none p =
         let g = given_has (suc round) (nat_lt v e.to) (known now e.to) (λ m k. (a.new e.to m (lead v e h) none k).cost) in
         (g.0, at_end now e a.all (lead v e h) p ∙ g.1, g.2)
@@ -199,7 +206,8 @@ module _ (edges : List (List Edge)) (lead : LeadToVertices edges) (symmetric : I
     all_more now [] here a = a
     all_more now (x ∷ es) here a = all_more (after now x) es (tail_here x es here) (more now x (here x (contains_here x es)) a)
 
-    all_keep : (now : List (Option Mark)) (es : List Edge) (s : ℕ) (up : Bool) → Here es → Amid now → Has now s up → Has (give_all v mark.label (suc round) now es) s up
+    all_keep : (now : List (Option Mark)) (es : List Edge) (s : ℕ) (up : Bool) → Here es → Amid now → Has now s up
+        → Has (give_all v mark.label (suc round) now es) s up
     all_keep now [] s up here a has = has
     all_keep now (x ∷ es) s up here a has =
         let h = here x (contains_here x es) in
@@ -271,7 +279,8 @@ module _ (edges : List (List Edge)) (lead : LeadToVertices edges) (symmetric : I
   first_amid (suc k) l = by_all (give_first edges round old k) k (omega arith) (first_amid k (omega arith))
 
   -- each edge of a vertex that was marked in this round gives a mark
-  first_gains : (k v : ℕ) (m : Mark) (e : Edge) → k ≤ length edges → v < k → known old v ≡ Some m → m.cost ≡ round → Contains (edges_at edges v) e → known old e.to ≡ None
+  first_gains : (k v : ℕ) (m : Mark) (e : Edge) → k ≤ length edges → v < k → known old v ≡ Some m → m.cost ≡ round → Contains (edges_at edges v) e
+      → known old e.to ≡ None
       → (nat_lt v e.to || is_down m.label) ≡ true → Has (give_first edges round old k) e.to (nat_lt v e.to)
   first_gains zero v m e l below is now h none p = absurd (omega arith)
   first_gains (suc k) v m e l below is now h none p =
@@ -320,7 +329,8 @@ module _ (edges : List (List Edge)) (lead : LeadToVertices edges) (symmetric : I
       at_none s l none =
           let es = edges_at edges s in
           elim (list_any (ups s) es) as (λ b. list_any (ups s) es ≡ b
-          → known done s ≡ cond b (Some (record { cost = suc round; label = Up })) (cond (list_any (gives_at s old) es) (Some (record { cost = suc round; label = Down })) None)) [
+          → known done s ≡ cond b (Some (record { cost = suc round; label = Up }))
+          (cond (list_any (gives_at s old) es) (Some (record { cost = suc round; label = Down })) None)) [
             | true ↦ λ q.
                 let f = list_any_found (ups s) es q in
                 let parts = and_parts (gives_at s old f.0) (nat_lt f.0.to s) f.2 in
@@ -342,7 +352,8 @@ module _ (edges : List (List Edge)) (lead : LeadToVertices edges) (symmetric : I
                 ] refl)
           ] refl
         where
-          down : (s : ℕ) → s < length edges → known old s ≡ None → list_any (ups s) (edges_at edges s) ≡ false → (m : Mark) → known done s ≡ Some m → m.label ≡ Down
+          down : (s : ℕ) → s < length edges → known old s ≡ None → list_any (ups s) (edges_at edges s) ≡ false → (m : Mark) → known done s ≡ Some m → m.label
+              ≡ Down
           down s l none q m k =
               let i = a.new s m l none k in
               elim m.label as (λ x. m.label ≡ x → x ≡ Down) [
@@ -360,7 +371,8 @@ module _ (edges : List (List Edge)) (lead : LeadToVertices edges) (symmetric : I
           ] refl
 
 -- the marks after a round are such a front
-pub is_front : (edges : List (List Edge)) (t : ℕ) → LeadToVertices edges → (round : ℕ) (marks : List (Option Mark)) → AreMarksAfter edges t round marks → IsFront edges round marks
+pub is_front : (edges : List (List Edge)) (t : ℕ) → LeadToVertices edges → (round : ℕ) (marks : List (Option Mark)) → AreMarksAfter edges t round marks
+    → IsFront edges round marks
 is_front edges t lead round marks a = record {
   all = a.all;
   older = λ s m l h. not_later edges t round s m (sym (a.each s l) ∙ h);
@@ -372,7 +384,8 @@ is_front edges t lead round marks a = record {
 
 -- so a round more, written over the marks, is one
 pub a_round_given : {Z : Type 0} (edges : List (List Edge)) → LeadToVertices edges → IsSymmetric edges → (round : ℕ)
-    → (marks : Vec (Option Mark) Z) (seen new : List (Option Mark)) → seen ≡ marks.items → length seen ≡ marks.len → new ≡ give_first edges round seen (length edges)
+    → (marks : Vec (Option Mark) Z) (seen new : List (Option Mark)) → seen ≡ marks.items → length seen ≡ marks.len → new
+    ≡ give_first edges round seen (length edges)
     → IsFront edges round marks.items → IsRound edges (suc round) marks.items (length edges) (with_items marks new).items
 a_round_given edges lead symmetric round marks seen new same long made front =
     let are : new ≡ give_first edges round marks.items (length edges) = made ∙ ap (λ ms. give_first edges round ms (length edges)) same in

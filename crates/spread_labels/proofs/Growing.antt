@@ -68,7 +68,8 @@ module _ (edges : List (List Edge)) where
 
     module _ (before : ℕ → ℕ → Bool) where
       chosen : (placed : List ℕ) (x : ℕ) (rest : List ℕ) → Parts placed (x ∷ rest) → (front : List ℕ) → filter (is_beside edges placed) (x ∷ rest) ≡ front
-          → Contains (x ∷ rest) (choose before x rest front) × ((b n : ℕ) → Contains placed b → Walk (heads edges) (choose before x rest front) b n → Beside edges placed (choose before x rest front))
+          → Contains (x ∷ rest) (choose before x rest front) × ((b n : ℕ) → Contains placed b → Walk (heads edges) (choose before x rest front) b n
+          → Beside edges placed (choose before x rest front))
       chosen placed x rest parts [] e = (
         earliest_there before rest x,
         λ b n k w. absurd (no_walk placed (x ∷ rest) parts none n (earliest before x rest) b (earliest_there before rest x) k w),
@@ -126,7 +127,8 @@ module _ (edges : List (List Edge)) where
           (i.1, are_next n (s ∷ placed) (without s (x ∷ rest)) (moved placed (x ∷ rest) s parts i.0))
 
       -- all that are left are placed, and no others
-      pub all_placed : (n : ℕ) (placed rest : List ℕ) → Parts placed rest → length rest ≤ n → (y : ℕ) → Contains rest y → Contains (grown_behind edges before n placed rest) y
+      pub all_placed : (n : ℕ) (placed rest : List ℕ) → Parts placed rest → length rest ≤ n → (y : ℕ) → Contains rest y
+          → Contains (grown_behind edges before n placed rest) y
       all_placed zero placed [] parts l y h = h
       all_placed zero placed (x ∷ rest) parts l y h = absurd (omega arith)
       all_placed (suc n) placed [] parts l y h = absurd (contains_none y h)
@@ -247,7 +249,8 @@ module _ (edges : List (List Edge)) (lead : LeadToVertices edges) (before : ℕ 
         (numbers_there (length edges) 0 s (omega arith) (omega arith));
     vertex = λ i h.
         at_first.within (at_position (order edges before) i)
-        (no_others edges lead before (length edges) [] (numbers_from 0 (length edges)) at_first (at_position (order edges before) i) (contains_at (order edges before) i h));
+        (no_others edges lead before (length edges) [] (numbers_from 0 (length edges)) at_first (at_position (order edges before) i)
+        (contains_at (order edges before) i h));
     once = λ i j h l. (by_index i h).once j l;
     grown = λ i j n h l w.
         let g = (by_index i h).grown (at_position (order edges before) j) n (inr (j, l, refl)) w in

@@ -19,9 +19,11 @@ less k l h =
     ]
 
 tested : (k l : VertexKey) → Less k l → key_less k l ≡ true
-tested k l (inl distance_class) = ap (λ b. b || ((k.distance_class == l.distance_class) && nat_lt k.distance l.distance)) (lt-ltb k.distance_class l.distance_class distance_class)
+tested k l (inl distance_class) =
+    ap (λ b. b || ((k.distance_class == l.distance_class) && nat_lt k.distance l.distance)) (lt-ltb k.distance_class l.distance_class distance_class)
 tested k l (inr both) =
-    (λ i. nat_lt k.distance_class l.distance_class || (eq-eqb k.distance_class l.distance_class both.0 i && lt-ltb k.distance l.distance both.1 i)) ∙ or_true (nat_lt k.distance_class l.distance_class)
+    (λ i. nat_lt k.distance_class l.distance_class || (eq-eqb k.distance_class l.distance_class both.0 i && lt-ltb k.distance l.distance both.1 i))
+    ∙ or_true (nat_lt k.distance_class l.distance_class)
   where
     or_true : (b : Bool) → (b || true) ≡ true
     or_true true = refl
@@ -134,6 +136,8 @@ pub keys_tell_apart : KeysTellApart
 keys_tell_apart keys = record {
   not_itself = λ a. decide (before_by keys a a) (λ h. itself (key_at keys a) a (in_turn keys a a (before keys a a h)));
   trans = λ a b c x y.
-      is_before keys a c (from_turn keys a c (turns (key_at keys a) (key_at keys b) (key_at keys c) a b c (in_turn keys a b (before keys a b x)) (in_turn keys b c (before keys b c y))));
+      is_before keys a c
+      (from_turn keys a c (turns (key_at keys a) (key_at keys b) (key_at keys c) a b c (in_turn keys a b (before keys a b x))
+      (in_turn keys b c (before keys b c y))));
   total = λ a b apart not_so. is_before keys b a (one_is_before keys a b apart (λ h. let t : true ≡ false = sym h ∙ not_so in absurd (cc)));
 }

@@ -87,7 +87,8 @@ module _ (edges : List (List Edge)) (t : ℕ) (marks : Marks) (are : AreMarks ed
           | inl same ↦ (record { cost = down.0; label = Down }, ap marks same ∙ down.1)
           | inr (inl less) ↦
               let g = grown d s (k + down.0) (walk_reverse (heads edges) symmetric (k + down.0) s d over) less in
-              let x = contains_map (λ (y : Edge). y.to) (edges_at edges g.0.to) d (symmetric d g.0.to (contains_mapped (λ (y : Edge). y.to) (edges_at edges d) g.0 g.1)) in
+              let x = contains_map (λ (y : Edge). y.to) (edges_at edges g.0.to) d
+              (symmetric d g.0.to (contains_mapped (λ (y : Edge). y.to) (edges_at edges d) g.0 g.1)) in
               let p = gains g.0.to x.0 down.0 (record { edge = x.1; label = Down; labelled = ap marks x.2 ∙ down.1; up_or_down = inr refl }) in
               let nearer : g.0.to < d = g.2 in
               elim p.0.label as (λ l. marks g.0.to ≡ Some (record { cost = p.0.cost; label = l }) → Labelled s) [

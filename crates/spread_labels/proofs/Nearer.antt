@@ -64,7 +64,8 @@ module _ (edges : List (List Edge)) (t : ℕ) (all : List (Option Mark)) (lead :
       let same : (suc r == m.cost) ≡ true = eq-eqb (suc r) m.cost (sym c) in
       ap (is_nearer_by s e (Some m)) g.labelled ∙ ap (λ b. b && (nat_lt e.to s || is_down g.label)) same ∙ known_gives s e to g.up_or_down
 
-  nearer_at : (s : ℕ) (o : Option Mark) → marks edges t s ≡ o → filter (λ e. is_nearer_by s e o (marks edges t e.to)) (edges_at edges s) ≡ candidates_by edges t s o
+  nearer_at : (s : ℕ) (o : Option Mark) → marks edges t s ≡ o → filter (λ e. is_nearer_by s e o (marks edges t e.to)) (edges_at edges s)
+      ≡ candidates_by edges t s o
   nearer_at s None is = none_pass (λ e. is_nearer_by s e None (marks edges t e.to)) (edges_at edges s) (λ e. not_nearer s e (marks edges t e.to))
   nearer_at s (Some m) is = by_cost m.cost refl
     where
@@ -79,7 +80,8 @@ module _ (edges : List (List Edge)) (t : ℕ) (all : List (Option Mark)) (lead :
               ] refl
       by_cost (suc r) c =
           same_filter (λ e. is_nearer_by s e (Some m) (marks edges t e.to)) (gives (marks_after edges t r) s) (edges_at edges s)
-          (λ e h. alike (is_nearer_by s e (Some m) (marks edges t e.to)) (gives (marks_after edges t r) s e) (nearer_gives s m r is c e h) (gives_nearer s m r is c e h))
+          (λ e h. alike (is_nearer_by s e (Some m) (marks edges t e.to)) (gives (marks_after edges t r) s e) (nearer_gives s m r is c e h)
+          (gives_nearer s m r is c e h))
 
   pub nearer_are_candidates : (s : ℕ) → s < length edges → filter (is_nearer s all) (edges_at edges s) ≡ candidates edges t s
   nearer_are_candidates s l =

@@ -35,24 +35,29 @@ pub distances_are : (edges : List (List Edge)) (s : ℕ) (ds : List (Option ℕ)
 distances_are edges s ds are = made_all (distance edges s) (length edges) ds None are.all are.shortest
 
 -- what was made of the first elements, and one more
-pub mapped_more : {X Y : Type 0} (f : X → Y) (xs : List X) (i : ℕ) (d : X) → i < length xs → map f (take (i + 1) xs) ≡ map f (take i xs) ++ f (get_or xs i d) ∷ []
+pub mapped_more : {X Y : Type 0} (f : X → Y) (xs : List X) (i : ℕ) (d : X) → i < length xs → map f (take (i + 1) xs) ≡ map f (take i xs) ++ f (get_or xs i d)
+    ∷ []
 mapped_more f xs i d h = ap (map f) (take_more xs i d h) ∙ map-append f (take i xs) (get_or xs i d ∷ [])
 
 -- levels, by distance sums
 pub levels_are : (edges : List (List Edge)) (leaves : List ℕ) (distance_sums : List DistanceSum) → AreDistanceSums edges leaves distance_sums
     → map (λ t. unwrap_or t.near 0) distance_sums ≡ levels_of edges leaves
 levels_are edges leaves distance_sums are =
-    made_all (level_of edges leaves) (length edges) (map (λ t. unwrap_or t.near 0) distance_sums) 0 (length_map (λ (t : DistanceSum). unwrap_or t.near 0) distance_sums ∙ are.all)
-    (λ i h. get_or-map (λ (t : DistanceSum). unwrap_or t.near 0) distance_sums i no_distances 0 (omega (arith, are.all)) ∙ ap (λ t. unwrap_or t.near 0) (are.each i h))
+    made_all (level_of edges leaves) (length edges) (map (λ t. unwrap_or t.near 0) distance_sums) 0
+    (length_map (λ (t : DistanceSum). unwrap_or t.near 0) distance_sums ∙ are.all)
+    (λ i h. get_or-map (λ (t : DistanceSum). unwrap_or t.near 0) distance_sums i no_distances 0 (omega (arith, are.all))
+    ∙ ap (λ t. unwrap_or t.near 0) (are.each i h))
 
 -- what is made alike of each number below a bound
 pub made_alike : (f g : ℕ → ℕ) (n : ℕ) → ((i : ℕ) → i < n → f i ≡ g i) → map f (numbers_from 0 n) ≡ map g (numbers_from 0 n)
 made_alike f g n same = made_all g n (map f (numbers_from 0 n)) 0 (numbers_long f 0 n) (λ i h. made_at f n i 0 h ∙ same i h)
 
 -- distance classes, by distance sums
-pub distance_classes_are : (edges : List (List Edge)) (leaves roots : List ℕ) (near_roots near_leaves : List DistanceSum) → AreDistanceSums edges roots near_roots
+pub distance_classes_are : (edges : List (List Edge)) (leaves roots : List ℕ) (near_roots near_leaves : List DistanceSum)
+    → AreDistanceSums edges roots near_roots
     → AreDistanceSums edges leaves near_leaves
     → map (distance_class_at near_roots near_leaves) (numbers_from 0 (length near_roots)) ≡ distance_classes_of edges leaves roots
 distance_classes_are edges leaves roots near_roots near_leaves one other =
     ap (λ n. map (distance_class_at near_roots near_leaves) (numbers_from 0 n)) one.all
-    ∙ made_alike (distance_class_at near_roots near_leaves) (distance_class_of edges leaves roots) (length edges) (λ s h. ap₂ distance_class_by (one.each s h) (other.each s h))
+    ∙ made_alike (distance_class_at near_roots near_leaves) (distance_class_of edges leaves roots) (length edges)
+    (λ s h. ap₂ distance_class_by (one.each s h) (other.each s h))

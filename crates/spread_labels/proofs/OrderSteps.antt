@@ -81,7 +81,8 @@ beside_one stages v s h =
           (beside_itself stages v (stage_at stages v) h refl ∙ ap (λ b. touched b (stage_at stages v)) (sym (eq-eqb v v refl)))
       | inr other ↦
           let elsewhere : stage_at (slice_set stages v Beside) s ≡ stage_at stages s = get_or-set_other stages v s Beside Left (λ e. other (sym e)) in
-          (elim (is_stage (stage_at stages v) Left) as (λ b. stage_at (cond b (slice_set stages v Beside) stages) s ≡ stage_at stages s) [ true ↦ elsewhere | false ↦ refl ])
+          (elim (is_stage (stage_at stages v) Left) as (λ b. stage_at (cond b (slice_set stages v Beside) stages) s
+          ≡ stage_at stages s) [ true ↦ elsewhere | false ↦ refl ])
           ∙ sym (untouched (stage_at stages s)) ∙ ap (λ b. touched b (stage_at stages s)) (sym (unequal v s other))
     ]
 
@@ -165,7 +166,8 @@ module _ (edges : List (List Edge)) (before : ℕ → ℕ → Bool) (stages : Li
   next_by (y ∷ ys) all left is same x rest e = ap (λ l. Some (choose before x rest l)) (is ∙ ap (filter (is_beside edges placed)) e)
 
   -- the next vertex is the first of those that are left
-  pub next_is : (x : ℕ) (rest : List ℕ) → vertices_left edges stages ≡ x ∷ rest → next_at before stages (length edges) ≡ Some (next_placed edges before placed x rest)
+  pub next_is : (x : ℕ) (rest : List ℕ) → vertices_left edges stages ≡ x ∷ rest → next_at before stages (length edges)
+      ≡ Some (next_placed edges before placed x rest)
   next_is x rest e =
       next_by (filter (λ s. is_stage (stage_at stages s) Beside) (numbers_from 0 (length edges))) (vertices_left edges stages)
       (filter (λ s. is_stage (stage_at stages s) Left) (numbers_from 0 (length edges))) front others x rest e
@@ -235,14 +237,16 @@ module _ (edges : List (List Edge)) (before : ℕ → ℕ → Bool) (lead : Lead
         there : list_any (λ e. e.to == s) (edges_at edges v) ≡ true → list_any (λ e. v == e.to) (edges_at edges s) ≡ true
         there h =
             let f = list_any_found (λ (e : Edge). e.to == s) (edges_at edges v) h in
-            let to : Contains (heads edges v) s = subst (λ (k : ℕ). Contains (heads edges v) k) (eqb-true f.0.to s f.2) (contains_mapped (λ (e : Edge). e.to) (edges_at edges v) f.0 f.1) in
+            let to : Contains (heads edges v) s =
+            subst (λ (k : ℕ). Contains (heads edges v) k) (eqb-true f.0.to s f.2) (contains_mapped (λ (e : Edge). e.to) (edges_at edges v) f.0 f.1) in
             let from = contains_map (λ (e : Edge). e.to) (edges_at edges s) v (symmetric v s to) in
             list_any_at (λ (e : Edge). v == e.to) (edges_at edges s) from.0 from.1 (eq-eqb v from.0.to (sym from.2))
 
         here : list_any (λ e. v == e.to) (edges_at edges s) ≡ true → list_any (λ e. e.to == s) (edges_at edges v) ≡ true
         here h =
             let f = list_any_found (λ (e : Edge). v == e.to) (edges_at edges s) h in
-            let to : Contains (heads edges s) v = subst (λ (k : ℕ). Contains (heads edges s) k) (sym (eqb-true v f.0.to f.2)) (contains_mapped (λ (e : Edge). e.to) (edges_at edges s) f.0 f.1) in
+            let to : Contains (heads edges s) v =
+            subst (λ (k : ℕ). Contains (heads edges s) k) (sym (eqb-true v f.0.to f.2)) (contains_mapped (λ (e : Edge). e.to) (edges_at edges s) f.0 f.1) in
             let from = contains_map (λ (e : Edge). e.to) (edges_at edges v) s (symmetric s v to) in
             list_any_at (λ (e : Edge). e.to == s) (edges_at edges v) from.0 from.1 (eq-eqb from.0.to s from.2)
 
@@ -258,7 +262,8 @@ module _ (edges : List (List Edge)) (before : ℕ → ℕ → Bool) (lead : Lead
         → is_stage (stage_at (moved stages v) s) Beside ≡ is_beside edges (v ∷ placed) s
     fronts_then placed fronts s l unplaced =
         let still : is_stage (cond (v == s) Placed (stage_at stages s)) Placed ≡ false =
-        sym (still_placed (list_any (λ e. e.to == s) (edges_at edges v)) (cond (v == s) Placed (stage_at stages s))) ∙ sym (ap (λ st. is_stage st Placed) (stage_then s)) ∙ unplaced in
+        sym (still_placed (list_any (λ e. e.to == s) (edges_at edges v)) (cond (v == s) Placed (stage_at stages s)))
+        ∙ sym (ap (λ st. is_stage st Placed) (stage_then s)) ∙ unplaced in
         let other : (v == s) ≡ false = not_it (v == s) (stage_at stages s) still in
         let was : is_stage (stage_at stages s) Placed ≡ false = ap (λ b. is_stage (cond b Placed (stage_at stages s)) Placed) (sym other) ∙ still in
         ap (λ st. is_stage st Beside) (stage_then s)
@@ -273,14 +278,17 @@ module _ (edges : List (List Edge)) (before : ℕ → ℕ → Bool) (lead : Lead
 
   -- a vertex more
   pub grows : (n : ℕ) (done done' : List ℕ) (stages stages' : List Stage) (v : ℕ) → IsGrowing edges before (suc n) done stages
-      → next_at before stages (length edges) ≡ Some v → v < length edges → done' ≡ done ++ v ∷ [] → stages' ≡ moved stages v → IsGrowing edges before n done' stages'
+      → next_at before stages (length edges) ≡ Some v → v < length edges → done' ≡ done ++ v ∷ [] → stages' ≡ moved stages v
+      → IsGrowing edges before n done' stages'
   grows n done done' stages stages' v g is within more then =
-      subst (λ (l : List ℕ). IsGrowing edges before n l stages') (sym more) (subst (IsGrowing edges before n (done ++ v ∷ [])) (sym then) (at_left (vertices_left edges stages) refl))
+      subst (λ (l : List ℕ). IsGrowing edges before n l stages') (sym more)
+      (subst (IsGrowing edges before n (done ++ v ∷ [])) (sym then) (at_left (vertices_left edges stages) refl))
     where
       at_left : (left : List ℕ) → vertices_left edges stages ≡ left → IsGrowing edges before n (done ++ v ∷ []) (moved stages v)
       at_left [] e = let other : Some v ≡ None = sym is ∙ none_is edges before stages g.placed g.fronts e in absurd (cc)
       at_left (x ∷ rest) e =
-          let same : next_placed edges before g.placed x rest ≡ v = same_Some (next_placed edges before g.placed x rest) v (sym (next_is edges before stages g.placed g.fronts x rest e) ∙ is) in
+          let same : next_placed edges before g.placed x rest ≡ v =
+          same_Some (next_placed edges before g.placed x rest) v (sym (next_is edges before stages g.placed g.fronts x rest e) ∙ is) in
           record {
             placed = v ∷ g.placed;
             so_far = g.so_far
@@ -302,7 +310,8 @@ module _ (edges : List (List Edge)) (before : ℕ → ℕ → Bool) (lead : Lead
       none_grows (suc k) = refl
 
       at_left : (left : List ℕ) → vertices_left edges stages ≡ left → IsGrowing edges before n done stages
-      at_left (x ∷ rest) e = let other : Some (next_placed edges before g.placed x rest) ≡ None = sym (next_is edges before stages g.placed g.fronts x rest e) ∙ is in absurd (cc)
+      at_left (x ∷ rest) e = let other : Some (next_placed edges before g.placed x rest) ≡ None =
+          sym (next_is edges before stages g.placed g.fronts x rest e) ∙ is in absurd (cc)
       at_left [] e = record {
         placed = g.placed;
         so_far = g.so_far ∙ ap (λ l. done ++ grown_behind edges before (suc n) g.placed l) e ∙ ap (λ l. done ++ l) (sym (none_grows n))
@@ -322,7 +331,8 @@ begins edges before n stages count is =
       fronts = λ s l unplaced. ap (λ st. is_stage st Beside) (get_or-replicate (length edges) s Left Left l) ∙ sym (beside_nothing (edges_at edges s));
     }))
   where
-    all_open : (xs : List ℕ) → ((s : ℕ) → Contains xs s → is_open (replicate (length edges) Left) s ≡ true) → filter (is_open (replicate (length edges) Left)) xs ≡ xs
+    all_open : (xs : List ℕ) → ((s : ℕ) → Contains xs s → is_open (replicate (length edges) Left) s ≡ true)
+        → filter (is_open (replicate (length edges) Left)) xs ≡ xs
     all_open [] h = refl
     all_open (x ∷ xs) h =
         (λ i. cond (h x (contains_here x xs) i) (x ∷ filter (is_open (replicate (length edges) Left)) xs) (filter (is_open (replicate (length edges) Left)) xs))
@@ -337,5 +347,6 @@ begins edges before n stages count is =
     beside_nothing (e ∷ es) = beside_nothing es
 
 -- the end
-pub grown_up : (edges : List (List Edge)) (before : ℕ → ℕ → Bool) (done : List ℕ) (stages : List Stage) → IsGrowing edges before 0 done stages → done ≡ order edges before
+pub grown_up : (edges : List (List Edge)) (before : ℕ → ℕ → Bool) (done : List ℕ) (stages : List Stage) → IsGrowing edges before 0 done stages → done
+    ≡ order edges before
 grown_up edges before done stages g = sym (g.so_far ∙ append-nil done)

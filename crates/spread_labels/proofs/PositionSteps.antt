@@ -16,7 +16,8 @@ positions_are n vertices positions stand all written = record {
 }
 
 -- edges by the positions that were written
-pub edges_positioned : (n : ℕ) (vertices positions : List ℕ) → ArePositions n vertices positions → (es : List Edge) → ((e : Edge) → Contains es e → Contains vertices e.to)
+pub edges_positioned : (n : ℕ) (vertices positions : List ℕ) → ArePositions n vertices positions → (es : List Edge)
+    → ((e : Edge) → Contains es e → Contains vertices e.to)
     → map (to_position positions) es ≡ map (positioned_edge vertices) es
 edges_positioned n vertices positions are [] stand = refl
 edges_positioned n vertices positions are (e ∷ es) stand =

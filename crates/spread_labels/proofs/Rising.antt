@@ -77,7 +77,8 @@ module _ (edges : List (List Edge)) (lead : LeadToVertices edges) where
     where
       with_mark : (t s : ℕ) (e : Edge) → Contains (candidates edges t s) e → (m : (n : Mark) × (marks edges t s ≡ Some n)) × IsStep edges t s m.0 e
       with_mark t s e h =
-          elim (marks edges t s) as (λ o. marks edges t s ≡ o → Contains (candidates_by edges t s o) e → (m : (n : Mark) × (marks edges t s ≡ Some n)) × IsStep edges t s m.0 e) [
+          elim (marks edges t s) as (λ o. marks edges t s ≡ o → Contains (candidates_by edges t s o) e → (m : (n : Mark) × (marks edges t s ≡ Some n))
+          × IsStep edges t s m.0 e) [
             | None ↦ λ k c. absurd (contains_none e c)
             | Some m ↦ λ k c. ((m, k), step_at edges t s m k e h)
           ] refl h

@@ -34,7 +34,8 @@ ups_given s marks known [] all = refl
 ups_given s marks known (e ∷ es) all =
     let rest = ups_given s marks known es (λ x h. all x (contains_later e x es h)) in
     ap (λ o. (gives_from s e o && nat_lt e.to s) || list_any (λ x. gives_at s marks x && nat_lt x.to s) es) (all e (contains_here e es))
-    ∙ (elim (gives known s e) as (λ b. ((b && nat_lt e.to s) || list_any (λ x. gives_at s marks x && nat_lt x.to s) es) ≡ leads_up s (cond b (e ∷ filter (gives known s) es) (filter (gives known s) es))) [
+    ∙ (elim (gives known s e) as (λ b. ((b && nat_lt e.to s) || list_any (λ x. gives_at s marks x && nat_lt x.to s) es)
+    ≡ leads_up s (cond b (e ∷ filter (gives known s) es) (filter (gives known s) es))) [
       | true ↦ ap (λ b. nat_lt e.to s || b) rest
       | false ↦ rest
     ])
@@ -63,7 +64,8 @@ given_by round s marks known es all =
 pub same_filter : {X : Type 0} (p q : X → Bool) (xs : List X) → ((x : X) → Contains xs x → p x ≡ q x) → filter p xs ≡ filter q xs
 same_filter p q [] same = refl
 same_filter p q (x ∷ xs) same =
-    (λ i. cond (same x (contains_here x xs) i) (x ∷ same_filter p q xs (λ y h. same y (contains_later x y xs h)) i) (same_filter p q xs (λ y h. same y (contains_later x y xs h)) i))
+    (λ i. cond (same x (contains_here x xs) i) (x
+    ∷ same_filter p q xs (λ y h. same y (contains_later x y xs h)) i) (same_filter p q xs (λ y h. same y (contains_later x y xs h)) i))
 
 none_gives : (round other s : ℕ) (es : List Edge) → mark_by round s es ≡ None → mark_by other s es ≡ None
 none_gives round other s [] e = refl
@@ -90,10 +92,13 @@ module _ (edges : List (List Edge)) (t : ℕ) (lead : LeadToVertices edges) wher
         elim (mark_by (suc round) s (givers edges (after round) s)) as (λ o. mark_by (suc round) s (givers edges (after round) s) ≡ o → o ≡ None) [
           | None ↦ λ e. refl
           | Some m ↦ λ e.
-              let here : slice_index_or marks s None ≡ Some m = a.each s h ∙ ap (λ o. mark_or o (mark_by (suc round) s (givers edges (after round) s))) is ∙ e in
-              let old : is_of (suc round) (slice_index_or marks s None) ≡ true = ap (is_of (suc round)) here ∙ eq-eqb m.cost (suc round) (cost_by (suc round) s (givers edges (after round) s) m e) in
+              let here : slice_index_or marks s None ≡ Some m =
+              a.each s h ∙ ap (λ o. mark_or o (mark_by (suc round) s (givers edges (after round) s))) is ∙ e in
+              let old : is_of (suc round) (slice_index_or marks s None) ≡ true =
+              ap (is_of (suc round)) here ∙ eq-eqb m.cost (suc round) (cost_by (suc round) s (givers edges (after round) s) m e) in
               let long : s < length marks = omega (arith, a.all) in
-              let f = list_any_at (is_of (suc round)) marks (slice_index_or marks s None) (s, long, get_or_default marks s (slice_index_or marks s None) None long) old in
+              let f = list_any_at (is_of (suc round)) marks (slice_index_or marks s None)
+              (s, long, get_or_default marks s (slice_index_or marks s None) None long) old in
               absurd (cc)
         ] refl
       where
@@ -137,7 +142,8 @@ starts edges t marks h is = record {
   all = length-set marks t (Some (record { cost = 0; label = Down })) ∙ ap length is ∙ length-replicate (length edges) None;
   each = λ s l. elim (cases_eq s t) [
     | inl same ↦ subst (λ (k : ℕ). slice_index_or (slice_set marks t (Some (record { cost = 0; label = Down }))) k None ≡ marks_after edges t 0 k) (sym same)
-        (get_or-set_same marks t (Some (record { cost = 0; label = Down })) None (omega (arith, ap length is, length-replicate {A = Option Mark} (length edges) None))
+        (get_or-set_same marks t (Some (record { cost = 0; label = Down })) None
+        (omega (arith, ap length is, length-replicate {A = Option Mark} (length edges) None))
         ∙ ap (λ b. cond b (Some (record { cost = 0; label = Down })) None) (sym (eq-eqb t t refl)))
     | inr other ↦ get_or-set_other marks t s (Some (record { cost = 0; label = Down })) None other
         ∙ ap (λ l. slice_index_or l s None) is ∙ get_or-replicate (length edges) s None None l

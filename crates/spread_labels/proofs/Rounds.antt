@@ -95,7 +95,8 @@ module _ (edges : List (List Edge)) (t : ℕ) where
         | false ↦ λ q k. absurd (none-some m k)
       ] refl e
   made (suc r) s m e =
-      elim (after r s) as (λ o. after r s ≡ o → mark_or o (mark_by (suc r) s (givers edges (after r) s)) ≡ Some m → (m.cost ≤ suc r) × (after m.cost s ≡ Some m)) [
+      elim (after r s) as (λ o. after r s ≡ o → mark_or o (mark_by (suc r) s (givers edges (after r) s)) ≡ Some m → (m.cost ≤ suc r)
+      × (after m.cost s ≡ Some m)) [
         | Some n ↦ λ q k. let i = made r s m (q ∙ k) in (omega (arith, i.0), i.1)
         | None ↦ λ q k.
             let c = (made_by (suc r) s (givers edges (after r) s) m k).cost in
@@ -139,7 +140,8 @@ module _ (edges : List (List Edge)) (t : ℕ) where
       some_mark (x ∷ es) h = (_, refl)
 
   -- an edge gives a label to a vertex without one only from the last round
-  pub newest : (r s : ℕ) (e : Edge) → after r s ≡ None → Contains (edges_at edges s) e → gives (after r) s e ≡ true → (m : Mark) × (after r e.to ≡ Some m) × (m.cost ≡ r)
+  pub newest : (r s : ℕ) (e : Edge) → after r s ≡ None → Contains (edges_at edges s) e → gives (after r) s e ≡ true → (m : Mark) × (after r e.to ≡ Some m)
+      × (m.cost ≡ r)
   newest r s e none h g =
       let k = given_known s e (after r e.to) g in
       let a = made r e.to k.0 k.1 in
@@ -176,7 +178,8 @@ module _ (edges : List (List Edge)) (t : ℕ) where
       ]
 
   -- the edges that gave the label lead to a cost one less
-  pub gave : (n s : ℕ) (m : Mark) (r : ℕ) → after n s ≡ Some m → m.cost ≡ suc r → (e : Edge) → Contains (givers edges (after r) s) e → Gives edges (after n) s e r
+  pub gave : (n s : ℕ) (m : Mark) (r : ℕ) → after n s ≡ Some m → m.cost ≡ suc r → (e : Edge) → Contains (givers edges (after r) s) e
+      → Gives edges (after n) s e r
   gave n s m r e c x h =
       let i = made n s m e in
       let g = after_gives n s x r (omega (arith, i.0)) h in

@@ -12,10 +12,16 @@ abbrev keys : List ℕ
 keys = 2 ∷ 5 ∷ 1 ∷ 3 ∷ 0 ∷ 4 ∷ []
 
 abbrev sample : List (List Edge)
-sample = (record { port = 1; to = 1 } ∷ record { port = 2; to = 3 } ∷ record { port = 3; to = 4 } ∷ record { port = 4; to = 3 } ∷ []) ∷ (record { port = 1; to = 0 } ∷ record { port = 2; to = 2 } ∷ record { port = 3; to = 3 } ∷ []) ∷ (record { port = 1; to = 1 } ∷ []) ∷ (record { port = 1; to = 0 } ∷ record { port = 2; to = 4 } ∷ record { port = 3; to = 1 } ∷ record { port = 4; to = 0 } ∷ []) ∷ (record { port = 1; to = 3 } ∷ record { port = 2; to = 0 } ∷ []) ∷ ([]) ∷ []
+sample = (record { port = 1; to = 1 } ∷ record { port = 2; to = 3 } ∷ record { port = 3; to = 4 } ∷ record { port = 4; to = 3 } ∷ [])
+    ∷ (record { port = 1; to = 0 } ∷ record { port = 2; to = 2 } ∷ record { port = 3; to = 3 } ∷ []) ∷ (record { port = 1; to = 1 } ∷ [])
+    ∷ (record { port = 1; to = 0 } ∷ record { port = 2; to = 4 } ∷ record { port = 3; to = 1 } ∷ record { port = 4; to = 0 } ∷ [])
+    ∷ (record { port = 1; to = 3 } ∷ record { port = 2; to = 0 } ∷ []) ∷ ([]) ∷ []
 
 abbrev placed : List (List Edge)
-placed = (record { port = 1; to = 2 } ∷ record { port = 2; to = 1 } ∷ []) ∷ (record { port = 1; to = 3 } ∷ record { port = 2; to = 2 } ∷ record { port = 3; to = 0 } ∷ record { port = 4; to = 2 } ∷ []) ∷ (record { port = 1; to = 1 } ∷ record { port = 2; to = 0 } ∷ record { port = 3; to = 3 } ∷ record { port = 4; to = 1 } ∷ []) ∷ (record { port = 1; to = 1 } ∷ record { port = 2; to = 4 } ∷ record { port = 3; to = 2 } ∷ []) ∷ (record { port = 1; to = 3 } ∷ []) ∷ ([]) ∷ []
+placed = (record { port = 1; to = 2 } ∷ record { port = 2; to = 1 } ∷ [])
+    ∷ (record { port = 1; to = 3 } ∷ record { port = 2; to = 2 } ∷ record { port = 3; to = 0 } ∷ record { port = 4; to = 2 } ∷ [])
+    ∷ (record { port = 1; to = 1 } ∷ record { port = 2; to = 0 } ∷ record { port = 3; to = 3 } ∷ record { port = 4; to = 1 } ∷ [])
+    ∷ (record { port = 1; to = 1 } ∷ record { port = 2; to = 4 } ∷ record { port = 3; to = 2 } ∷ []) ∷ (record { port = 1; to = 3 } ∷ []) ∷ ([]) ∷ []
 
 sample_order : order sample (λ a b. nat_lt (slice_index_or keys a 0) (slice_index_or keys b 0)) ≡ (4 ∷ 0 ∷ 3 ∷ 1 ∷ 2 ∷ 5 ∷ [])
 sample_order = refl

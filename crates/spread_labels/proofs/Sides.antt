@@ -27,7 +27,8 @@ module _ (test : ℕ → Edge → Bool) where
   in_row edges a e h t =
       subst (λ (xs : List Edge). Contains xs e) (sym (row_from edges 0 a a (omega arith))) (contains_filter (test a) (edges_at edges a) e h t)
 
-  from_row : (edges : List (List Edge)) (a : ℕ) (e : Edge) → Contains (edges_at (rows_from test 0 edges) a) e → Contains (edges_at edges a) e × (test a e ≡ true)
+  from_row : (edges : List (List Edge)) (a : ℕ) (e : Edge) → Contains (edges_at (rows_from test 0 edges) a) e → Contains (edges_at edges a) e
+      × (test a e ≡ true)
   from_row edges a e h = contains-from_filter (test a) (edges_at edges a) e (subst (λ (xs : List Edge). Contains xs e) (row_from edges 0 a a (omega arith)) h)
 
 abbrev is_up : ℕ → Edge → Bool
@@ -55,7 +56,8 @@ module _ (edges : List (List Edge)) (symmetric : IsSymmetric edges) where
       let f = from_row is_up edges a e.0 e.1 in
       let x = back a e.0 f.0 in
       let less : e.0.to < x.0.to = omega (arith, x.2, ltb-true e.0.to a f.1) in
-      let there = contains_mapped (λ (y : Edge). y.to) (edges_at (downs_of edges) e.0.to) x.0 (in_row is_down edges e.0.to x.0 x.1 (lt-ltb e.0.to x.0.to less)) in
+      let there = contains_mapped (λ (y : Edge). y.to) (edges_at (downs_of edges) e.0.to) x.0 (in_row is_down edges e.0.to x.0 x.1 (lt-ltb e.0.to x.0.to less))
+      in
       subst (λ (y : ℕ). Contains (heads (downs_of edges) b) y) x.2 (subst (λ (y : ℕ). Contains (heads (downs_of edges) y) x.0.to) e.2 there)
 
   are_slopes : AreSlopes (ups_of edges) (downs_of edges)
@@ -76,7 +78,8 @@ module _ (edges : List (List Edge)) (symmetric : IsSymmetric edges) where
   descends : (es : List Edge) (s u : ℕ) → DescendsBy edges s es u → Descends (slopes_of edges) s es u
   descends [] s u c = c
   descends (e ∷ es) s u c = (
-    subst (λ (xs : List Edge). Contains xs e) (sym (downs_indexed (ups_of edges) (downs_of edges) are_slopes s)) (in_row is_down edges s e c.0 (lt-ltb s e.to c.1)),
+    subst (λ (xs : List Edge). Contains xs e) (sym (downs_indexed (ups_of edges) (downs_of edges) are_slopes s))
+        (in_row is_down edges s e c.0 (lt-ltb s e.to c.1)),
     descends es e.to u c.2,
   )
 

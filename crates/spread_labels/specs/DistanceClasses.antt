@@ -40,7 +40,8 @@ distance_class_by roots leaves = unwrap_or roots.near (quarters_of leaves.sum le
 
 -- by the distance sums of all vertices
 abbrev pub distance_class_at : List DistanceSum → List DistanceSum → ℕ → ℕ
-distance_class_at roots leaves s = distance_class_by (slice_index_or roots s no_distances) (slice_index_or leaves s no_distances)
+distance_class_at roots leaves s =
+    distance_class_by (slice_index_or roots s no_distances) (slice_index_or leaves s no_distances)
 
 -- the distance class of a vertex
 abbrev pub distance_class_of : List (List Edge) → List ℕ → List ℕ → ℕ → ℕ
@@ -72,4 +73,5 @@ pub record AreDistanceSums (edges : List (List Edge)) (some : List ℕ) (distanc
 -- each with the distance at its index
 pub record AreWithDistances (old new : List DistanceSum) (distances : List (Option ℕ)) : Type 0 where
   pub all : length new ≡ length old
-  pub each : (s : ℕ) → s < length old → slice_index_or new s no_distances ≡ with_distance (slice_index_or old s no_distances) (slice_index_or distances s None)
+  pub each : (s : ℕ) → s < length old → slice_index_or new s no_distances
+      ≡ with_distance (slice_index_or old s no_distances) (slice_index_or distances s None)

@@ -23,5 +23,6 @@ grown edges before = by_position edges (order edges before)
 abbrev pub EveryPairLaw : Type 0
 EveryPairLaw = (edges : List (List Edge)) (before : ℕ → ℕ → Bool) → LeadToVertices edges → IsSymmetric edges
     → (home : ℕ → ℕ) (pick : ℕ → ℕ → Edge) → PicksCandidates (grown edges before) home pick
-    → (lid s t n : ℕ) → s < length edges → t < length edges → Walk (heads edges) s t n → home lid ≡ position_of (order edges before) t
+    → (lid s t n : ℕ) → s < length edges → t < length edges → Walk (heads edges) s t n → home lid
+    ≡ position_of (order edges before) t
     → HasWay (grown edges before) (pick lid) (home lid) (position_of (order edges before) s)

@@ -18,11 +18,14 @@ by_distance_class distance_classes = map (λ c. record { distance_class = c; dis
 
 -- the earliest of the vertices that have a distance
 abbrev pub first_among : List VertexKey → List (Option ℕ) → Option ℕ
-first_among keys distances = earliest_of (before_by keys) (filter (λ a. is_some (slice_index_or distances a None)) (numbers_from 0 (length keys)))
+first_among keys distances =
+    earliest_of (before_by keys)
+    (filter (λ a. is_some (slice_index_or distances a None)) (numbers_from 0 (length keys)))
 
 -- how far it is
 abbrev pub from_first : List VertexKey → List (Option ℕ) → ℕ
-from_first keys distances = unwrap_or (option_and_then (λ a. slice_index_or distances a None) (first_among keys distances)) 0
+from_first keys distances =
+    unwrap_or (option_and_then (λ a. slice_index_or distances a None) (first_among keys distances)) 0
 
 -- the first of a vertex's component
 abbrev pub first_at : List (List Edge) → List VertexKey → ℕ → ℕ
@@ -31,16 +34,24 @@ first_at edges keys s = unwrap_or (first_among keys (distances_from edges s)) s
 -- how far vertices are from the first of their component, of the first so many each
 pub record AreFar (edges : List (List Edge)) (keys : List VertexKey) (count : ℕ) (far : List (Option ℕ)) : Type 0 where
   pub all : length far ≡ length edges
-  pub right : (s d : ℕ) → s < length edges → slice_index_or far s None ≡ Some d → from_first keys (distances_from edges s) ≡ d
+  pub right : (s d : ℕ) → s < length edges → slice_index_or far s None ≡ Some d
+      → from_first keys (distances_from edges s) ≡ d
   pub known : (s : ℕ) → s < count → is_some (slice_index_or far s None) ≡ true
 
 -- where there is no distance yet, the one that was found
 abbrev pub FillsIn : List (Option ℕ) → List (Option ℕ) → List (Option ℕ) → Type 0
-FillsIn far found new = EachIndex new (λ k. slice_index_or new k None ≡ option_or (slice_index_or far k None) (slice_index_or found k None))
+FillsIn far found new =
+    EachIndex new (λ k. slice_index_or new k None ≡ option_or (slice_index_or far k None) (slice_index_or found k None))
 
--- the key of a vertex: its distance class, and the distance from the first of its component, by distance class and then by number
+-- the key of a vertex: its distance class, and the distance from the first of its component, by distance class and then
+-- by number
 abbrev pub key_of : List (List Edge) → List ℕ → ℕ → VertexKey
-key_of edges distance_classes s = record { distance_class = slice_index distance_classes s; distance = from_first (by_distance_class distance_classes) (distances_from edges s) }
+key_of edges distance_classes s =
+    record {
+      distance_class = slice_index distance_classes s;
+      distance =
+          from_first (by_distance_class distance_classes) (distances_from edges s);
+    }
 
 -- the key of each vertex
 abbrev pub keys_of : List (List Edge) → List ℕ → List VertexKey

@@ -21,7 +21,8 @@ given round up (Some m) = if up && (m.cost == round) then Some (record { cost = 
 -- v gives a mark to the vertex to which an edge of it leads, where the edge back leads up, or v is labelled Down
 abbrev pub give : ℕ → Label → ℕ → List (Option Mark) → Edge → List (Option Mark)
 give v label round marks e =
-    if nat_lt v e.to || is_down label then slice_set marks e.to (given round (nat_lt v e.to) (slice_index_or marks e.to None)) else marks
+    if nat_lt v e.to
+    || is_down label then slice_set marks e.to (given round (nat_lt v e.to) (slice_index_or marks e.to None)) else marks
 
 -- over each of these edges
 abbrev pub give_all : ℕ → Label → ℕ → List (Option Mark) → List Edge → List (Option Mark)
@@ -51,9 +52,11 @@ is_left (Some m) = false
 abbrev pub known : List (Option Mark) → ℕ → Option Mark
 known marks s = slice_index_or marks s None
 
--- no mark is of a later round, and where an edge gives a mark to a vertex without one it leads to a vertex that was marked in this round
+-- no mark is of a later round, and where an edge gives a mark to a vertex without one it leads to a vertex that was
+-- marked in this round
 pub record IsFront (edges : List (List Edge)) (round : ℕ) (old : List (Option Mark)) : Type 0 where
   pub all : length old ≡ length edges
   pub older : (s : ℕ) (m : Mark) → s < length edges → known old s ≡ Some m → m.cost ≤ round
-  pub newest : (s : ℕ) (e : Edge) → s < length edges → known old s ≡ None → Contains (edges_at edges s) e → gives_at s old e ≡ true
+  pub newest : (s : ℕ) (e : Edge) → s < length edges → known old s ≡ None → Contains (edges_at edges s) e
+      → gives_at s old e ≡ true
       → (m : Mark) × (known old e.to ≡ Some m) × (m.cost ≡ round)

@@ -23,20 +23,23 @@ pub record IsGiven (edges : List (List Edge)) (marks : Marks) (s round : ℕ) (l
   pub when_up : label ≡ Up → edge.to < s
   pub when_down : label ≡ Down → (e : Edge) → Gives edges marks s e round → s ≤ e.to
 
--- the labels and costs towards a target: the target is Down at no cost; each other vertex with a label has it from its edges,
--- at one more than their least cost; from one without no edge gives
+-- the labels and costs towards a target: the target is Down at no cost; each other vertex with a label has it from its
+-- edges, at one more than their least cost; from one without no edge gives
 pub record AreMarks (edges : List (List Edge)) (t : ℕ) (marks : Marks) : Type 0 where
   pub target : marks t ≡ Some (record { cost = 0; label = Down })
-  pub other : (s : ℕ) (m : Mark) → s ≢ t → marks s ≡ Some m → (round : ℕ) × (m.cost ≡ suc round) × IsGiven edges marks s round m.label
+  pub other : (s : ℕ) (m : Mark) → s ≢ t → marks s ≡ Some m → (round : ℕ) × (m.cost ≡ suc round)
+      × IsGiven edges marks s round m.label
   pub without : (s : ℕ) → marks s ≡ None → (e : Edge) (cost : ℕ) → Gives edges marks s e cost → ⊥
 
 -- what the rounds compute is that
 abbrev pub LabelledLaw : Type 0
-LabelledLaw = (edges : List (List Edge)) (t : ℕ) → LeadToVertices edges → t < length edges → AreMarks edges t (marks edges t)
+LabelledLaw = (edges : List (List Edge)) (t : ℕ) → LeadToVertices edges → t < length edges
+    → AreMarks edges t (marks edges t)
 
 -- and nothing else is that
 abbrev pub UniqueLaw : Type 0
-UniqueLaw = (edges : List (List Edge)) (t : ℕ) (one other : Marks) → AreMarks edges t one → AreMarks edges t other → (s : ℕ) → one s ≡ other s
+UniqueLaw = (edges : List (List Edge)) (t : ℕ) (one other : Marks) → AreMarks edges t one → AreMarks edges t other
+    → (s : ℕ) → one s ≡ other s
 
 -- each edge has one back
 abbrev pub IsSymmetric : List (List Edge) → Type 0
@@ -52,8 +55,8 @@ pub record IsGrownGraph (edges : List (List Edge)) : Type 0 where
   pub symmetric : IsSymmetric edges
   pub grown : IsGrown edges
 
--- the vertices of the target's component have labels and no others have, and each cost is that of a walk and less than the
--- number of vertices
+-- the vertices of the target's component have labels and no others have, and each cost is that of a walk and less than
+-- the number of vertices
 pub record AreReached (edges : List (List Edge)) (t : ℕ) : Type 0 where
   pub component : (s n : ℕ) → Walk (heads edges) s t n → (m : Mark) × (marks edges t s ≡ Some m)
   pub no_other : (s : ℕ) (m : Mark) → marks edges t s ≡ Some m → Walk (heads edges) s t m.cost
@@ -62,7 +65,8 @@ pub record AreReached (edges : List (List Edge)) (t : ℕ) : Type 0 where
 abbrev pub ReachedLaw : Type 0
 ReachedLaw = (edges : List (List Edge)) (t : ℕ) → IsGrownGraph edges → t < length edges → AreReached edges t
 
--- an edge from a vertex with this label to one of a cost one less: up, or down to one labelled Down, and from Down only the latter
+-- an edge from a vertex with this label to one of a cost one less: up, or down to one labelled Down, and from Down only
+-- the latter
 pub record IsStep (edges : List (List Edge)) (t s : ℕ) (m : Mark) (e : Edge) : Type 0 where
   pub edge : Contains (edges_at edges s) e
   pub to : Mark
@@ -75,7 +79,8 @@ pub record IsStep (edges : List (List Edge)) (t s : ℕ) (m : Mark) (e : Edge) :
 pub record AreCandidates (edges : List (List Edge)) (t s : ℕ) (m : Mark) : Type 0 where
   pub some : s ≢ t → (e : Edge) × Contains (candidates edges t s) e
   pub steps : (e : Edge) → Contains (candidates edges t s) e → IsStep edges t s m e
-  pub all : (e : Edge) (cost : ℕ) → m.cost ≡ suc cost → Gives edges (marks edges t) s e cost → Contains (candidates edges t s) e
+  pub all : (e : Edge) (cost : ℕ) → m.cost ≡ suc cost → Gives edges (marks edges t) s e cost
+      → Contains (candidates edges t s) e
 
 abbrev pub CandidatesLaw : Type 0
 CandidatesLaw = (edges : List (List Edge)) (t s : ℕ) (m : Mark) → marks edges t s ≡ Some m → AreCandidates edges t s m

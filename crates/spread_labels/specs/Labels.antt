@@ -1,4 +1,5 @@
--- Labels towards a target, in rounds. Vertices are numbers by their position in an order: up is to a lesser number, down to a greater one.
+-- Labels towards a target, in rounds. Vertices are numbers by their position in an order: up is to a lesser number,
+-- down to a greater one.
 use Rattle.std.specs.Prelude.{ℕ, zero, suc, Bool, true, false, ◌||◌, ◌==◌, nat_lt}
 use Rattle.std.specs.Prelude.{List, [], ◌∷◌, filter, length, Option, None, Some, if◌then◌else◌}
 use Rattle.std.specs.List.{list_any}
@@ -42,11 +43,12 @@ abbrev pub mark_or : Option Mark → Option Mark → Option Mark
 mark_or None other = other
 mark_or (Some m) other = Some m
 
--- the labels after so many rounds: at first the target alone is Down; at each round a vertex without a label gets one from the
--- edges that give, by the labels of the round before
+-- the labels after so many rounds: at first the target alone is Down; at each round a vertex without a label gets one
+-- from the edges that give, by the labels of the round before
 abbrev pub marks_after : List (List Edge) → ℕ → ℕ → ℕ → Option Mark
 marks_after edges t zero s = if s == t then Some (record { cost = 0; label = Down }) else None
-marks_after edges t (suc round) s = mark_or (marks_after edges t round s) (mark_by (suc round) s (givers edges (marks_after edges t round) s))
+marks_after edges t (suc round) s =
+    mark_or (marks_after edges t round s) (mark_by (suc round) s (givers edges (marks_after edges t round) s))
 
 -- the labels after as many rounds as there are vertices
 abbrev pub marks : List (List Edge) → ℕ → ℕ → Option Mark

@@ -28,9 +28,11 @@ greatest n (m ∷ ms) = greatest (max n m) ms
 
 -- the width of a level: the most edges to higher vertices that a vertex of it has, and at least 1
 abbrev pub width_of : List (List Edge) → List ℕ → ℕ → ℕ
-width_of edges levels h = greatest 1 (map (rises_at edges levels) (filter (λ s. slice_index levels s == h) (numbers_from 0 (length edges))))
+width_of edges levels h =
+    greatest 1 (map (rises_at edges levels) (filter (λ s. slice_index levels s == h) (numbers_from 0 (length edges))))
 
--- the digit weight of a level: the product of the widths of the lesser levels, and no more than 65536, over which no LID is
+-- the digit weight of a level: the product of the widths of the lesser levels, and no more than 65536, over which no
+-- LID is
 abbrev pub digit_weight_of : List (List Edge) → List ℕ → ℕ → ℕ
 digit_weight_of edges levels zero = 1
 digit_weight_of edges levels (suc h) = min (digit_weight_of edges levels h * width_of edges levels h) 65536

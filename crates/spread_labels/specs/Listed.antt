@@ -1,4 +1,5 @@
--- Marks in two lists: of each vertex one more than its cost, which is 0 where it has no mark, and whether it is marked Down.
+-- Marks in two lists: of each vertex one more than its cost, which is 0 where it has no mark, and whether it is marked
+-- Down.
 use Rattle.std.specs.Prelude.{ℕ, zero, suc, Bool, false, List, [], ◌∷◌, Option, None, Some, if◌then◌else◌}
 use Rattle.spread_labels.specs.declared.label.Label.TheVariants.{Up, Down}
 use Rattle.spread_labels.specs.declared.label.Mark.{Mark}

@@ -1,5 +1,5 @@
--- The grown order: next comes the earliest of the vertices that have an edge to one placed; where none has, the earliest of all
--- that are left.
+-- The grown order: next comes the earliest of the vertices that have an edge to one placed; where none has, the
+-- earliest of all that are left.
 use Rattle.std.specs.Prelude.{◌≡◌, ◌≢◌, true, false, ◌<◌, ℕ, zero, suc, Bool, not}
 use Rattle.std.specs.Prelude.{◌==◌, List, [], ◌∷◌, map, filter, length, Contains, slice_index_or, if◌then◌else◌}
 use Rattle.std.specs.List.{list_any}
@@ -39,7 +39,8 @@ grown_behind edges before zero placed rest = []
 grown_behind edges before (suc n) placed [] = []
 grown_behind edges before (suc n) placed (x ∷ rest) =
     next_placed edges before placed x rest
-    ∷ grown_behind edges before n (next_placed edges before placed x rest ∷ placed) (without (next_placed edges before placed x rest) (x ∷ rest))
+    ∷ grown_behind edges before n (next_placed edges before placed x rest
+    ∷ placed) (without (next_placed edges before placed x rest) (x ∷ rest))
 
 abbrev pub order : List (List Edge) → (ℕ → ℕ → Bool) → List ℕ
 order edges before = grown_behind edges before (length edges) [] (numbers_from 0 (length edges))
@@ -61,8 +62,10 @@ pub record IsGrownOrder (edges : List (List Edge)) (vertices : List ℕ) : Type 
   pub all : (s : ℕ) → s < length edges → Contains vertices s
   pub vertex : (i : ℕ) → i < length vertices → at_position vertices i < length edges
   pub once : (i j : ℕ) → i < length vertices → j < i → at_position vertices j ≡ at_position vertices i → ⊥
-  pub grown : (i j n : ℕ) → i < length vertices → j < i → Walk (heads edges) (at_position vertices i) (at_position vertices j) n
-      → (e : Edge) × Contains (edges_at edges (at_position vertices i)) e × ((k : ℕ) × (k < i) × (at_position vertices k ≡ e.to))
+  pub grown : (i j n : ℕ) → i < length vertices → j < i
+      → Walk (heads edges) (at_position vertices i) (at_position vertices j) n
+      → (e : Edge) × Contains (edges_at edges (at_position vertices i)) e
+      × ((k : ℕ) × (k < i) × (at_position vertices k ≡ e.to))
 
 -- the graph with its vertices numbered by their positions
 abbrev pub positioned_edge : List ℕ → Edge → Edge
@@ -77,7 +80,8 @@ pub record Grows (edges : List (List Edge)) (before : ℕ → ℕ → Bool) : Ty
   pub graph : IsGrownGraph (by_position edges (order edges before))
 
 abbrev pub OrderLaw : Type 0
-OrderLaw = (edges : List (List Edge)) (before : ℕ → ℕ → Bool) → LeadToVertices edges → IsSymmetric edges → Grows edges before
+OrderLaw = (edges : List (List Edge)) (before : ℕ → ℕ → Bool) → LeadToVertices edges → IsSymmetric edges
+    → Grows edges before
 
 -- the keys tell any two vertices apart
 pub record AreKeys (before : ℕ → ℕ → Bool) : Type 0 where
@@ -85,7 +89,8 @@ pub record AreKeys (before : ℕ → ℕ → Bool) : Type 0 where
   pub trans : (a b c : ℕ) → before a b ≡ true → before b c ≡ true → before a c ≡ true
   pub total : (a b : ℕ) → a ≢ b → before a b ≡ false → before b a ≡ true
 
--- s is placed before y with reason: where y is beside one placed, s is too and is earlier; and where s is not, it is earlier
+-- s is placed before y with reason: where y is beside one placed, s is too and is earlier; and where s is not, it is
+-- earlier
 pub record IsEarlier (edges : List (List Edge)) (before : ℕ → ℕ → Bool) (placed : List ℕ) (s y : ℕ) : Type 0 where
   pub front : Beside edges placed y → Beside edges placed s × (before y s ≡ false)
   pub alone : (Beside edges placed s → ⊥) → before y s ≡ false
@@ -93,7 +98,9 @@ pub record IsEarlier (edges : List (List Edge)) (before : ℕ → ℕ → Bool) 
 -- so is each vertex before each that comes later
 abbrev pub AreEarlier : List (List Edge) → (ℕ → ℕ → Bool) → List ℕ → List ℕ → Type 0
 AreEarlier edges before placed [] = Unit {0}
-AreEarlier edges before placed (s ∷ ss) = ((y : ℕ) → Contains ss y → IsEarlier edges before placed s y) × AreEarlier edges before (s ∷ placed) ss
+AreEarlier edges before placed (s ∷ ss) =
+    ((y : ℕ) → Contains ss y → IsEarlier edges before placed s y) × AreEarlier edges before (s ∷ placed) ss
 
 abbrev pub KeysLaw : Type 0
-KeysLaw = (edges : List (List Edge)) (before : ℕ → ℕ → Bool) → LeadToVertices edges → AreKeys before → AreEarlier edges before [] (order edges before)
+KeysLaw = (edges : List (List Edge)) (before : ℕ → ℕ → Bool) → LeadToVertices edges → AreKeys before
+    → AreEarlier edges before [] (order edges before)

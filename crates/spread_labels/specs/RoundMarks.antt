@@ -24,9 +24,11 @@ is_of round None = false
 is_of round (Some m) = m.cost == round
 
 -- these are the marks of the first vertices after a round more
-pub record IsRound (edges : List (List Edge)) (round : ℕ) (old : List (Option Mark)) (count : ℕ) (new : List (Option Mark)) : Type 0 where
+pub record IsRound (edges : List (List Edge)) (round : ℕ) (old : List (Option Mark)) (count : ℕ)
+    (new : List (Option Mark)) : Type 0 where
   pub all : length new ≡ count
-  pub each : (s : ℕ) → s < count → slice_index_or new s None ≡ mark_or (slice_index_or old s None) (mark_at round s old (edges_at edges s))
+  pub each : (s : ℕ) → s < count → slice_index_or new s None
+      ≡ mark_or (slice_index_or old s None) (mark_at round s old (edges_at edges s))
 
 -- these are the marks after so many rounds
 pub record AreMarksAfter (edges : List (List Edge)) (target round : ℕ) (marks : List (Option Mark)) : Type 0 where

@@ -26,7 +26,8 @@ earlier_of before None y = y
 earlier_of before (Some x) y = if before y x then y else x
 
 abbrev pub earliest_at : (ℕ → ℕ → Bool) → List Stage → Stage → ℕ → Option ℕ
-earliest_at before stages stage n = earliest_of before (filter (λ s. is_stage (stage_at stages s) stage) (numbers_from 0 n))
+earliest_at before stages stage n =
+    earliest_of before (filter (λ s. is_stage (stage_at stages s) stage) (numbers_from 0 n))
 
 -- the earliest of those beside, and where there is none of all that are left
 abbrev pub first_of : Option ℕ → Option ℕ → Option ℕ

@@ -50,7 +50,8 @@ pub record Way (edges : List (List Edge)) (pick : ℕ → Edge) (t s n : ℕ) : 
 
 -- for each LID and vertex with a label towards the LID's home some candidate is picked
 abbrev pub PicksCandidates : List (List Edge) → (ℕ → ℕ) → (ℕ → ℕ → Edge) → Type 0
-PicksCandidates edges home pick = (lid s : ℕ) (m : Mark) → marks edges (home lid) s ≡ Some m → s ≢ home lid → Contains (candidates edges (home lid) s) (pick lid s)
+PicksCandidates edges home pick = (lid s : ℕ) (m : Mark) → marks edges (home lid) s ≡ Some m → s ≢ home lid
+    → Contains (candidates edges (home lid) s) (pick lid s)
 
 -- whichever candidates are picked, from each vertex with a label they make such a way to the home
 abbrev pub WaysLaw : Type 0
@@ -67,7 +68,8 @@ channels_along n s (e ∷ es) = channel_number n s e.to ∷ channels_along n e.t
 
 -- up and then down, whatever the target, the LID and what is picked, channel numbers rise
 abbrev pub ChannelsLaw : Type 0
-ChannelsLaw = (edges : List (List Edge)) → LeadToVertices edges → (s u t : ℕ) (ups downs : List Edge) → Climbs edges s ups u → Descends edges u downs t
+ChannelsLaw = (edges : List (List Edge)) → LeadToVertices edges → (s u t : ℕ) (ups downs : List Edge)
+    → Climbs edges s ups u → Descends edges u downs t
     → IsStrictlyIncreasing (channels_along (length edges) s (ups ++ downs))
 
 -- a channel: a vertex and an edge of it
@@ -88,4 +90,5 @@ MayWaitInTurn edges (suc n) a b = (c : Channel) × MayWait edges a c × MayWaitI
 
 -- over all targets together, none wait in a credit loop
 abbrev pub NoCycleLaw : Type 0
-NoCycleLaw = (edges : List (List Edge)) → LeadToVertices edges → (n : ℕ) (a : Channel) → MayWaitInTurn edges (suc n) a a → ⊥
+NoCycleLaw = (edges : List (List Edge)) → LeadToVertices edges → (n : ℕ) (a : Channel) → MayWaitInTurn edges (suc n) a a
+    → ⊥

@@ -6,8 +6,8 @@ use crate::label_lists::MarkLists;
 use port_graph::Edge;
 use std::alloc::AllocError;
 
-/// Finds, of the edges of a vertex, those that gave it its mark, in their order: they replace what was found before. There
-/// are none at the target and where there is no mark. Takes a step for each edge.
+/// Finds, of the edges of a vertex, those that gave it its mark, in their order: they replace what was found before.
+/// There are none at the target and where there is no mark. Takes a step for each edge.
 pub fn candidates(
     found: &mut Vec<Edge>,
     edges: &[Edge],

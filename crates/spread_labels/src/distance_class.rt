@@ -23,8 +23,8 @@ pub(crate) struct DistanceSum {
 /// What vertices are ordered and led by.
 #[derive(Drop)]
 pub struct Grades {
-    /// The distance class of each vertex: its distance from the nearest root, where its component has one, else four times its mean distance
-    /// from the leaf vertices of its component, cut off, and 0 where there are none.
+    /// The distance class of each vertex: its distance from the nearest root, where its component has one, else four
+    /// times its mean distance from the leaf vertices of its component, cut off, and 0 where there are none.
     pub distance_classes: Vec<u128>,
     /// The level of each vertex: its distance from the nearest leaf vertex, and 0 where its component has none.
     pub levels: Vec<usize>,
@@ -40,7 +40,8 @@ pub fn grade(
     requires lead { LeadToVertices edges.now }
     requires leaves { All (λ a. a < length edges.now) leaves.now }
     requires roots { All (λ a. a < length edges.now) roots.now }
-    ensures distance_classes { IfOk result (λ grades. grades.distance_classes.items ≡ distance_classes_of edges.now leaves.now roots.now) }
+    ensures distance_classes { IfOk result (λ grades. grades.distance_classes.items
+        ≡ distance_classes_of edges.now leaves.now roots.now) }
     ensures levels { IfOk result (λ grades. grades.levels.items ≡ levels_of edges.now leaves.now) }
 {
     let near_roots = distance_sums(alloc, edges, roots)?;

@@ -21,9 +21,9 @@ pub(crate) enum Stage {
     Placed,
 }
 
-/// The vertices in their grown order: next comes the one of the earliest key among those with an edge to one that is placed; where
-/// there is none, the earliest of all that are left. Of equal keys the lesser vertex's is earlier. Takes a step for each pair of
-/// vertices and for each edge.
+/// The vertices in their grown order: next comes the one of the earliest key among those with an edge to one that is
+/// placed; where there is none, the earliest of all that are left. Of equal keys the lesser vertex's is earlier. Takes
+/// a step for each pair of vertices and for each edge.
 pub fn grown_order(
     alloc: Global,
     edges: &Adjacency,

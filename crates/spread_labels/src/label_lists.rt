@@ -52,7 +52,8 @@ impl MarkLists {
         self.steps[vertex]
     }
 
-    /// Whether an edge of a vertex that is marked at this cost, which is not 0, gave it its mark: it leads up, or to one marked
+    /// Whether an edge of a vertex that is marked at this cost, which is not 0, gave it its mark: it leads up, or to
+    /// one marked
     /// `Down`, at a cost one less.
     pub(crate) fn is_nearer(&self, edge: &Edge, vertex: usize, cost: usize) -> bool
         requires lead { edge.now.to < length self.now }

@@ -11,11 +11,12 @@ use crate::label_lists::MarkLists;
 use port_graph::{Adjacency, Edge};
 use std::alloc::{AllocError, Global};
 
-/// The mark of each vertex, where it has a way to the target; the vertices are numbered by their position in an order, and up
-/// is to a lesser number. At first the target alone is `Down`, at cost 0. At each round a vertex without a mark gets one
-/// where an edge of it leads up to a vertex that was marked before the round, or down to one that was marked `Down`: `Up`
-/// where one of these edges leads up, and else `Down`. Takes a step for each vertex in each round, and one or two for each edge of the
-/// vertices that the last round marked or of those that are left, whichever are fewer; there are as many rounds as the greatest cost, and one.
+/// The mark of each vertex, where it has a way to the target; the vertices are numbered by their position in an order,
+/// and up is to a lesser number. At first the target alone is `Down`, at cost 0. At each round a vertex without a mark
+/// gets one where an edge of it leads up to a vertex that was marked before the round, or down to one that was marked
+/// `Down`: `Up` where one of these edges leads up, and else `Down`. Takes a step for each vertex in each round, and one
+/// or two for each edge of the vertices that the last round marked or of those that are left, whichever are fewer;
+/// there are as many rounds as the greatest cost, and one.
 pub fn marks(alloc: Global, edges: &Adjacency, target: usize) -> Result<MarkLists, AllocError>
     requires vertex { target < length edges.now }
     requires lead { LeadToVertices edges.now }
@@ -51,8 +52,8 @@ fn in_rounds(
     Ok(marks)
 }
 
-/// The marks after the round that follows this one: the vertices that this round gave marks give them, or those that are left take
-/// them, whichever are fewer.
+/// The marks after the round that follows this one: the vertices that this round gave marks give them, or those that
+/// are left take them, whichever are fewer.
 fn after_round(
     alloc: Global,
     edges: &Adjacency,

@@ -29,8 +29,8 @@ pub fn candidates_law()
     ensures { CandidatesLaw }
 {}
 
-/// By the marks of all vertices the candidates of a vertex are its edges that lead to a cost one less: up, or down to one
-/// marked `Down`.
+/// By the marks of all vertices the candidates of a vertex are its edges that lead to a cost one less: up, or down to
+/// one marked `Down`.
 pub fn candidates_are_nearer()
     ensures { CandidatesAreNearer }
 {}
@@ -57,7 +57,8 @@ pub fn order_law()
     ensures { OrderLaw }
 {}
 
-/// Distance classes, distances and vertices, the first that differ, order the vertices strictly, and tell any two apart.
+/// Distance classes, distances and vertices, the first that differ, order the vertices strictly, and tell any two
+/// apart.
 pub fn keys_tell_apart()
     ensures { KeysTellApart }
 {}

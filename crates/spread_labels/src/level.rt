@@ -16,7 +16,8 @@ pub(crate) fn near_or_0(
     alloc: Global,
     distance_sums: &[DistanceSum],
 ) -> Result<Vec<usize>, AllocError>
-    ensures { IfOk result (λ found. found.items ≡ map (λ distance_sum. unwrap_or distance_sum.near 0) distance_sums.now) }
+    ensures { IfOk result (λ found. found.items
+        ≡ map (λ distance_sum. unwrap_or distance_sum.near 0) distance_sums.now) }
 {
     distance_sums
         .iter()
@@ -24,8 +25,9 @@ pub(crate) fn near_or_0(
         .collect(alloc)
 }
 
-/// The digit weight of the level of each vertex: the product of the widths of all lesser levels, and at most 65536. The width of a level is
-/// the most edges to higher vertices that a vertex of it has, and at least 1. Takes a step for each edge at each level.
+/// The digit weight of the level of each vertex: the product of the widths of all lesser levels, and at most 65536. The
+/// width of a level is the most edges to higher vertices that a vertex of it has, and at least 1. Takes a step for each
+/// edge at each level.
 pub fn digit_weights(
     alloc: Global,
     edges: &Adjacency,

@@ -9,8 +9,8 @@ use crate::vertex_key::VertexKey;
 use port_graph::{Adjacency, distances};
 use std::alloc::{AllocError, Global};
 
-/// The key of each vertex: its distance class, and its distance from the first of its component, which is the one of the least distance class, and of
-/// those the least. Takes two searches in breadth for each component.
+/// The key of each vertex: its distance class, and its distance from the first of its component, which is the one of
+/// the least distance class, and of those the least. Takes two searches in breadth for each component.
 pub fn keys(
     alloc: Global,
     edges: &Adjacency,

@@ -89,9 +89,11 @@ module _ (graph : List SwitchEdges) (good : IsGraph graph) where
       omega (arith, index_within w.wire.to w.to_switch, to)
 
   -- a wire is an edge at the index of its switch
-  pub edge_there : (g : ℕ) (e : Edge) → IsSwitch graph g → Contains (wires_at graph g) e → Contains (edges_at (by_index graph) (index g)) (positioned_edge guids e)
+  pub edge_there : (g : ℕ) (e : Edge) → IsSwitch graph g → Contains (wires_at graph g) e
+      → Contains (edges_at (by_index graph) (index g)) (positioned_edge guids e)
   edge_there g e is h =
-      subst (λ (xs : List Edge). Contains xs (positioned_edge guids e)) (sym (rows (positioned_edge guids) graph g is)) (contains_mapped (positioned_edge guids) (wires_at graph g) e h)
+      subst (λ (xs : List Edge). Contains xs (positioned_edge guids e)) (sym (rows (positioned_edge guids) graph g is))
+      (contains_mapped (positioned_edge guids) (wires_at graph g) e h)
 
   head_there : (g h : ℕ) → IsSwitch graph g → Contains (neighbors graph g) h → Contains (heads (by_index graph) (index g)) (index h)
   head_there g h is n =

@@ -46,11 +46,16 @@ module _ (graph : List SwitchEdges) (keys : List VertexKey) (good : IsGraph grap
   -- the position of a switch is a position, and has the switch
   pub position_within : (g : ℕ) → IsSwitch graph g → position graph keys g < length (by_positions graph keys)
   position_within g is =
-      omega (arith, (position_less positions (position_of (guids_of graph) g) (grows.all (position_of (guids_of graph) g) (index_within graph good g is))).0, all_positioned)
+      omega (
+        arith,
+        (position_less positions (position_of (guids_of graph) g) (grows.all (position_of (guids_of graph) g) (index_within graph good g is))).0,
+        all_positioned,
+      )
 
   pub switch_at_position : (g : ℕ) → IsSwitch graph g → switch_there graph keys (position graph keys g) ≡ g
   switch_at_position g is =
-      ap (at_position (guids_of graph)) (position_less positions (position_of (guids_of graph) g) (grows.all (position_of (guids_of graph) g) (index_within graph good g is))).1
+      ap (at_position (guids_of graph))
+      (position_less positions (position_of (guids_of graph) g) (grows.all (position_of (guids_of graph) g) (index_within graph good g is))).1
       ∙ switch_of_index graph good g is
 
   index_below : (p : ℕ) → p < length (by_positions graph keys) → at_position positions p < length (guids_of graph)
@@ -59,7 +64,8 @@ module _ (graph : List SwitchEdges) (keys : List VertexKey) (good : IsGraph grap
   -- the switch at a position has that position
   pub position_of_switch : (p : ℕ) → p < length (by_positions graph keys) → position graph keys (switch_there graph keys p) ≡ p
   position_of_switch p h =
-      ap (position_of positions) (index_of_switch graph good (at_position positions p) (index_below p h)) ∙ position_at positions grows.once p (omega (arith, all_positioned))
+      ap (position_of positions) (index_of_switch graph good (at_position positions p) (index_below p h))
+      ∙ position_at positions grows.once p (omega (arith, all_positioned))
 
   -- what has a position is a switch
   pub switch_inside : (g : ℕ) → position graph keys g < length (by_positions graph keys) → IsSwitch graph g
@@ -89,5 +95,6 @@ module _ (graph : List SwitchEdges) (keys : List VertexKey) (good : IsGraph grap
       record {
         within = omega (arith, l.position, all_positioned);
         to_within = omega (arith, l.within, all_positioned);
-        wire = subst (λ (y : Edge). Contains (wires_at graph (switch_there graph keys p)) y) (same_edge w.wire e.port (switch_there graph keys e.to) port to) w.there;
+        wire = subst (λ (y : Edge). Contains (wires_at graph (switch_there graph keys p)) y) (same_edge w.wire e.port (switch_there graph keys e.to) port to)
+            w.there;
       }

@@ -40,7 +40,8 @@ pub record AreSoFar (by : Grading) (lids : List ℕ) (marks : List (Option Mark)
   pub each : (i : ℕ) → i < count → slice_index_or rows i [] ≡ row_at by lids marks (slice_index positions i)
 
 -- one more is
-pub row_more : (by : Grading) (lids : List ℕ) (marks : List (Option Mark)) (positions : List ℕ) (i : ℕ) (row : List (Option ℕ)) (old new : List (List (Option ℕ)))
+pub row_more : (by : Grading) (lids : List ℕ) (marks : List (Option Mark)) (positions : List ℕ) (i : ℕ) (row : List (Option ℕ))
+    (old new : List (List (Option ℕ)))
     → i < length by.graph → new ≡ slice_set old i row → row ≡ row_at by lids marks (slice_index positions i)
     → AreSoFar by lids marks positions i old → AreSoFar by lids marks positions (i + 1) new
 row_more by lids marks positions i row old new h is are so = subst (AreSoFar by lids marks positions (i + 1)) (sym is) (record {
@@ -87,7 +88,8 @@ module _ (by : Grading) (good : IsGraph by.graph) where
       ≡ ports_between (spread_at by) lids (switch_at by.graph target) (switch_at by.graph i)
   ports_are lids target i marks t h are =
       let sp : Spreading = record { keys = by.keys; number = number_there by } in
-      let nearer : filter (is_nearer (position_of order i) marks) (edges_at edges (position_of order i)) ≡ candidates edges (position_of order target) (position_of order i) =
+      let nearer : filter (is_nearer (position_of order i) marks) (edges_at edges (position_of order i))
+      ≡ candidates edges (position_of order target) (position_of order i) =
       candidates_are_nearer edges (position_of order target) marks lead (position_there target t) are (position_of order i) (position_there i h) in
       ap (ports_among by lids (position_of order i)) nearer
       ∙ (λ j. map (λ lid. option_map (λ (e : Edge). e.port) (edge_to by.graph sp lid (position_of_switch i h j) (position_of_switch target t j))) lids)
@@ -108,7 +110,8 @@ module _ (by : Grading) (good : IsGraph by.graph) where
   -- once all rows are there, they are the ports towards the target
   pub rows_are_there : (lids : List ℕ) (target : ℕ) (marks : List (Option Mark)) (positions : List ℕ) (rows : List (List (Option ℕ))) → target < length by.graph
       → length positions ≡ length by.graph → ((i : ℕ) → i < length by.graph → slice_index positions i ≡ position_of order i)
-      → AreMarksAfter edges (position_of order target) (length edges) marks → AreSoFar by lids marks positions (length by.graph) rows → rows ≡ ports_towards by lids target
+      → AreMarksAfter edges (position_of order target) (length edges) marks → AreSoFar by lids marks positions (length by.graph) rows → rows
+      ≡ ports_towards by lids target
   rows_are_there lids target marks positions rows t all each are so =
       ext_get_or [] rows (map (row_at by lids marks) positions) (so.all ∙ sym all ∙ sym (length_map (row_at by lids marks) positions))
       (λ i h. so.each i (omega (arith, so.all)) ∙ sym (get_or-map (row_at by lids marks) positions i 0 [] (omega (arith, so.all, all))))
@@ -142,7 +145,8 @@ greatest_is_one edges levels h =
 
 pub digit_weight_positive : (edges : List (List Edge)) (levels : List ℕ) (h : ℕ) → 0 < digit_weight_of edges levels h
 digit_weight_positive edges levels zero = omega arith
-digit_weight_positive edges levels (suc h) = at_least_one (digit_weight_of edges levels h) (width_of edges levels h) (digit_weight_positive edges levels h) (greatest_is_one edges levels h)
+digit_weight_positive edges levels (suc h) =
+    at_least_one (digit_weight_of edges levels h) (width_of edges levels h) (digit_weight_positive edges levels h) (greatest_is_one edges levels h)
 
 -- some number passes where one does, and none where none does
 pub any_there : (f : ℕ → Bool) (a n k : ℕ) → k < n → f (a + k) ≡ true → list_any f (range_with_len a n) ≡ true

@@ -178,9 +178,11 @@ module _ (graph : List SwitchEdges) (by : Spreading) (good : IsGraph graph) wher
   reaches : (s t : ℕ) → IsSwitch graph s → IsSwitch graph t → in_one_component graph s t ≡ true → (n : ℕ) × ((spread graph by).cost s t ≡ Some n)
   reaches s t is it e =
       let walk = walk_between graph good s t is e in
-      let placed = walk_by_positions (by_index graph) (order_by_keys graph by.keys) (leads_below graph good) (there_and_back graph good) (grows graph by.keys good)
+      let placed = walk_by_positions (by_index graph) (order_by_keys graph by.keys) (leads_below graph good) (there_and_back graph good)
+      (grows graph by.keys good)
       walk.0 (position_of (guids_of graph) s) (position_of (guids_of graph) t) (index_within graph good s is) walk.1 in
-      let m = (reached_in_words edges (position_at t) (is_grown_graph graph by.keys good) (position_within graph by.keys good t it)).component (position_at s) walk.0 placed in
+      let m = (reached_in_words edges (position_at t) (is_grown_graph graph by.keys good) (position_within graph by.keys good t it)).component (position_at s)
+      walk.0 placed in
       (m.0.cost, ap (option_map (λ (x : Mark). x.cost)) m.1)
 
 pub spread_is_routing : SpreadIsRouting

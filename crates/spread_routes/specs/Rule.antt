@@ -1,4 +1,5 @@
--- A rule that spreads routes over the wires: by marks in an order that grows, and by a choice among the edges that gave a switch its mark.
+-- A rule that spreads routes over the wires: by marks in an order that grows, and by a choice among the edges that gave
+-- a switch its mark.
 use Rattle.std.specs.Prelude.{ℕ, List, map, length, Option, option_map}
 use Rattle.port_graph.specs.declared.edge.Edge.{Edge}
 use Rattle.spread_labels.specs.declared.vertex_key.VertexKey.{VertexKey}
@@ -13,7 +14,8 @@ use Rattle.subnet_view.specs.Graph.{guids_of}
 use Rattle.subnet_view.specs.GraphLaws.{IsGraph}
 use Rattle.subnet_view.specs.Routing.{Routing, IsRouting}
 
--- what the rule is handed: the key of each switch, by rising GUID, and a number by which a packet for a LID takes one of some edges of the switch at a position
+-- what the rule is handed: the key of each switch, by rising GUID, and a number by which a packet for a LID takes one
+-- of some edges of the switch at a position
 pub record Spreading : Type 0 where
   pub keys : List VertexKey
   pub number : ℕ → ℕ → List Edge → ℕ
@@ -49,9 +51,11 @@ edge_to graph by lid p q = taken by lid p (candidates (by_positions graph by.key
 -- the rule: the port of that edge; the cost and the channels by positions
 abbrev pub spread : List SwitchEdges → Spreading → Routing
 spread graph by = record {
-  next = λ lid s t. option_map (λ e. e.port) (edge_to graph by lid (position graph by.keys s) (position graph by.keys t));
+  next = λ lid s t.
+      option_map (λ e. e.port) (edge_to graph by lid (position graph by.keys s) (position graph by.keys t));
   cost = λ s t. cost (by_positions graph by.keys) (position graph by.keys t) (position graph by.keys s);
-  channel = λ a b. channel_number (length (by_positions graph by.keys)) (position graph by.keys a) (position graph by.keys b);
+  channel = λ a b.
+      channel_number (length (by_positions graph by.keys)) (position graph by.keys a) (position graph by.keys b);
 }
 
 -- that is a rule of routing, whatever the keys, and whatever edges the LIDs take

@@ -40,7 +40,8 @@ lid_digit_there by p = lid_digit_at by.graph by.levels (at_position (order_by_ke
 abbrev pub goes_higher : Grading → ℕ → List Edge → Bool
 goes_higher by p edges = list_any (λ e. nat_lt (level_there by p) (level_there by e.to)) edges
 
--- the number of a LID at a switch: where it can go higher a digit of the LID, by the digit weight of the level, else the LID; moved by the offset
+-- the number of a LID at a switch: where it can go higher a digit of the LID, by the digit weight of the level, else
+-- the LID; moved by the offset
 abbrev pub number_by : LidDigit → Bool → ℕ → ℕ
 number_by lid_digit higher lid = (if higher then lid / lid_digit.digit_weight else lid) + lid_digit.offset
 
@@ -58,12 +59,18 @@ indices_of graph guids = filter (λ i. nat_lt i (length graph)) (map (position_o
 
 -- the keys of switches by the distance classes that the leaf switches and the roots give
 abbrev pub keys_by : List SwitchEdges → List ℕ → List ℕ → List VertexKey
-keys_by graph leaves roots = keys_of (by_index graph) (distance_classes_of (by_index graph) (indices_of graph leaves) (indices_of graph roots))
+keys_by graph leaves roots =
+    keys_of (by_index graph) (distance_classes_of (by_index graph) (indices_of graph leaves) (indices_of graph roots))
 
 -- what the leaf switches and the roots give
 abbrev pub grading_of : List SwitchEdges → List ℕ → List ℕ → Grading
 grading_of graph leaves roots =
-    record { graph = graph; keys = keys_by graph leaves roots; levels = levels_of (by_index graph) (indices_of graph leaves) }
+    record {
+      graph = graph;
+      keys = keys_by graph leaves roots;
+      levels =
+          levels_of (by_index graph) (indices_of graph leaves);
+    }
 
 -- the whole rule
 unfoldable pub spread_by : List SwitchEdges → List ℕ → List ℕ → Routing
@@ -71,4 +78,5 @@ spread_by graph leaves roots = spread_at (grading_of graph leaves roots)
 
 -- it is a rule of routing
 abbrev pub SpreadByIsRouting : Type 0
-SpreadByIsRouting = (graph : List SwitchEdges) (leaves roots : List ℕ) → IsGraph graph → IsRouting graph (spread_by graph leaves roots)
+SpreadByIsRouting =
+    (graph : List SwitchEdges) (leaves roots : List ℕ) → IsGraph graph → IsRouting graph (spread_by graph leaves roots)

@@ -16,11 +16,13 @@ abbrev pub no_lid_digit : LidDigit
 no_lid_digit = record { level = 0; digit_weight = 1; offset = 0 }
 
 -- the edges by positions, the position of each switch, and the LID digit at each position
-pub record IsByPositions (by : Grading) (edges : List (List Edge)) (positions : List ℕ) (lid_digits : List LidDigit) : Type 0 where
+pub record IsByPositions (by : Grading) (edges : List (List Edge)) (positions : List ℕ) (lid_digits : List LidDigit) :
+    Type 0 where
   pub is_graph : IsGraph by.graph
   pub by_position : edges ≡ by_positions by.graph by.keys
   pub all_positions : length positions ≡ length by.graph
-  pub position : (i : ℕ) → i < length by.graph → slice_index positions i ≡ position_of (order_by_keys by.graph by.keys) i
+  pub position : (i : ℕ) → i < length by.graph → slice_index positions i
+      ≡ position_of (order_by_keys by.graph by.keys) i
   pub all_lid_digits : length lid_digits ≡ length edges
   pub lid_digit : (p : ℕ) → p < length edges → slice_index_or lid_digits p no_lid_digit ≡ lid_digit_there by p
 

@@ -8,7 +8,8 @@ use smp_bytes::{Guid, PortNum};
 use std::alloc::{AllocError, Global};
 use subnet_view::{Wires, is_usable, port_count};
 
-/// Of the usable switches those that an adapter port is wired to, by rising GUID. Takes two searches for each port of a switch.
+/// Of the usable switches those that an adapter port is wired to, by rising GUID. Takes two searches for each port of a
+/// switch.
 pub fn leaf_switches(alloc: Global, wires: &Wires, guids: &[Guid]) -> Result<Vec<Guid>, AllocError>
     requires { guids.now ≡ switches (cells_of wires.now) }
     ensures { IfOk result (λ found. found.items ≡ leaf_switches_of (cells_of wires.now)) }

@@ -99,9 +99,10 @@ impl<'g> Spread<'g> {
         })
     }
 
-    /// The ports by which packets for these LIDs leave each switch, by rising GUID, for the one at an index: they replace
-    /// what the rows held. None at that one, and where no way leads there. Takes a step for each edge, and for each switch in each of
-    /// as many rounds as the greatest cost; and then one for each edge and for each LID at each switch.
+    /// The ports by which packets for these LIDs leave each switch, by rising GUID, for the one at an index: they
+    /// replace what the rows held. None at that one, and where no way leads there. Takes a step for each edge, and for
+    /// each switch in each of as many rounds as the greatest cost; and then one for each edge and for each LID at each
+    /// switch.
     pub fn ports_to(
         &self,
         alloc: Global,
@@ -123,8 +124,8 @@ impl<'g> Spread<'g> {
         Ok(())
     }
 
-    /// The ports that LIDs take at the switch at a position, by these marks, instead of what the row held. The edges that gave its mark
-    /// replace those that were found before.
+    /// The ports that LIDs take at the switch at a position, by these marks, instead of what the row held. The edges
+    /// that gave its mark replace those that were found before.
     fn ports_at(
         &self,
         marks: &MarkLists,

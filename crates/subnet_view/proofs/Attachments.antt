@@ -27,7 +27,8 @@ usable_end cells g p e s =
 pub attached_law : AttachedLaw
 attached_law cells g p h q = (
   λ e.
-      elim (is_switch_node cells g) as (λ t. is_switch_node cells g ≡ t → cond t None (option_and_then (λ r. cond (is_switch_node cells r.0) (Some r) None) (across cells g p)) ≡ Some (h, q) → IsAttached cells g p h q) [
+      elim (is_switch_node cells g) as (λ t. is_switch_node cells g ≡ t
+      → cond t None (option_and_then (λ r. cond (is_switch_node cells r.0) (Some r) None) (across cells g p)) ≡ Some (h, q) → IsAttached cells g p h q) [
         | true ↦ λ s k. absurd (cc)
         | false ↦ λ s k.
             let i = kept (λ (r : ℕ × ℕ). is_switch_node cells r.0) (across cells g p) (h, q) k in

@@ -95,7 +95,8 @@ module _ (guids : List ℕ) (row_of : ℕ → List Edge) where
   AreRows rows i = IsMapped row_of guids (map (map (by_guid guids)) rows) i
 
   -- one more switch's row
-  pub one_row : (rows : List (List Edge)) (i g : ℕ) (row : List Edge) → i < length guids → g ≡ get_or guids i g → AreRows rows i → map (by_guid guids) row ≡ row_of g
+  pub one_row : (rows : List (List Edge)) (i g : ℕ) (row : List Edge) → i < length guids → g ≡ get_or guids i g → AreRows rows i → map (by_guid guids) row
+      ≡ row_of g
       → AreRows (rows ++ row ∷ []) (i + 1)
   one_row rows i g row h item e is =
       subst (λ (xs : List (List Edge)). IsMapped row_of guids xs (i + 1))

@@ -54,7 +54,8 @@ module _ (cells : Cells) where
   abbrev found : List (ℕ × EndPort)
   found = filter_map (guid_and_port cells) cells
 
-  ordered_is : (x : ℕ × EndPort) → Contains (in_order found) x → (is_end_port_number cells x.1.node x.1.port ≡ true) × (port_guid_of cells x.1.node x.1.port ≡ Some x.0)
+  ordered_is : (x : ℕ × EndPort) → Contains (in_order found) x → (is_end_port_number cells x.1.node x.1.port ≡ true)
+      × (port_guid_of cells x.1.node x.1.port ≡ Some x.0)
   ordered_is x h = let i = taken_from (guid_and_port cells) cells x (was_ordered found x h) in found_is i.0.0 i.0.1 x i.2
 
   listed_is : (e : EndPort) → Contains (end_ports cells) e → IsEndPort cells e.node e.port
@@ -67,7 +68,8 @@ module _ (cells : Cells) where
   is_listed : (e : EndPort) → IsEndPort cells e.node e.port → Contains (end_ports cells) e
   is_listed e h =
       let both = and_parts (is_end_port_number cells e.node e.port) (is_some (port_guid_of cells e.node e.port)) (test_from_end_port cells e.node e.port h) in
-      elim (find key_cmp (PortGuid e.node e.port) cells) as (λ o. find key_cmp (PortGuid e.node e.port) cells ≡ o → is_some (guid_in (value_in o)) ≡ true → Contains (end_ports cells) e) [
+      elim (find key_cmp (PortGuid e.node e.port) cells) as (λ o. find key_cmp (PortGuid e.node e.port) cells ≡ o → is_some (guid_in (value_in o)) ≡ true
+      → Contains (end_ports cells) e) [
         | None ↦ λ q s. absurd (cc)
         | Some c ↦ λ q s. (elim (guid_in (value_in (Some c))) as (λ o. guid_in (value_in (Some c)) ≡ o → is_some o ≡ true → Contains (end_ports cells) e) [
           | None ↦ λ r t. absurd (cc)
@@ -76,7 +78,8 @@ module _ (cells : Cells) where
               let taken : guid_and_port cells (PortGuid e.node e.port, c) ≡ Some (guid, e) =
               ap (λ t. cond t (option_map (λ guid. (guid, e)) (port_guid_of cells e.node e.port)) None) both.0 ∙ ap (option_map (λ guid. (guid, e))) known in
               contains_map (λ x. x.1) (in_order found) (guid, e)
-              (is_ordered found (guid, e) (is_taken (guid_and_port cells) cells (PortGuid e.node e.port, c) (guid, e) (found_in (PortGuid e.node e.port) cells c q) taken))
+              (is_ordered found (guid, e)
+              (is_taken (guid_and_port cells) cells (PortGuid e.node e.port, c) (guid, e) (found_in (PortGuid e.node e.port) cells c q) taken))
         ] refl s)
       ] refl both.1
 
@@ -101,5 +104,6 @@ module _ (cells : Cells) where
 pub end_ports_law : EndPortsLaw
 end_ports_law facts = (
   λ e. (listed_is (cells_of facts) e, is_listed (cells_of facts) e),
-  in_pairs (cells_of facts) (in_order (found (cells_of facts))) (in_order_rises (found (cells_of facts)) (found_apart facts)) (λ x h. (ordered_is (cells_of facts) x h).1),
+  in_pairs (cells_of facts) (in_order (found (cells_of facts))) (in_order_rises (found (cells_of facts)) (found_apart facts))
+      (λ x h. (ordered_is (cells_of facts) x h).1),
 )

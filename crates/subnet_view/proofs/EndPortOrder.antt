@@ -46,15 +46,18 @@ pub one_way : (x y : ℕ × EndPort) → port_cmp x y ≡ Less → port_cmp y x 
 one_way x y h k = not_before_itself x (port_total.trans x y x h k)
 
 -- rising lists with the same members are the same
-pub rises_once : (xs ys : List (ℕ × EndPort)) → Rises xs → Rises ys → ((x : ℕ × EndPort) → Contains xs x → Contains ys x) → ((x : ℕ × EndPort) → Contains ys x → Contains xs x) → xs ≡ ys
+pub rises_once : (xs ys : List (ℕ × EndPort)) → Rises xs → Rises ys → ((x : ℕ × EndPort) → Contains xs x → Contains ys x)
+    → ((x : ℕ × EndPort) → Contains ys x → Contains xs x) → xs ≡ ys
 rises_once [] [] r s h k = refl
 rises_once [] (y ∷ ys) r s h k = absurd (contains_none y (k y (contains_here y ys)))
 rises_once (x ∷ xs) [] r s h k = absurd (contains_none x (h x (contains_here x xs)))
 rises_once (x ∷ xs) (y ∷ ys) r s h k =
     let same : x ≡ y = first (contains_cases y x ys (h x (contains_here x xs))) (contains_cases x y xs (k y (contains_here y ys))) in
     let rest = rises_once xs ys r.1 s.1
-    (λ z m. later z (contains_cases y z ys (h z (contains_later x z xs m))) (λ e. not_before_itself x (subst (λ (w : ℕ × EndPort). port_cmp x w ≡ Less) (sym e ∙ sym same) (r.0 z m))))
-    (λ z m. later' z (contains_cases x z xs (k z (contains_later y z ys m))) (λ e. not_before_itself y (subst (λ (w : ℕ × EndPort). port_cmp y w ≡ Less) (sym e ∙ same) (s.0 z m)))) in
+    (λ z m. later z (contains_cases y z ys (h z (contains_later x z xs m))) (λ e. not_before_itself x (subst (λ (w : ℕ × EndPort). port_cmp x w ≡ Less) (sym e
+    ∙ sym same) (r.0 z m))))
+    (λ z m. later' z (contains_cases x z xs (k z (contains_later y z ys m))) (λ e. not_before_itself y (subst (λ (w : ℕ × EndPort). port_cmp y w ≡ Less) (sym e
+    ∙ same) (s.0 z m)))) in
     λ i. same i ∷ rest i
   where
     first : (y ≡ x) ⊎ Contains ys x → (x ≡ y) ⊎ Contains xs y → x ≡ y
@@ -83,7 +86,8 @@ rises_far : (xs : List (ℕ × EndPort)) → Apart xs
     → ((i j : ℕ) (d : ℕ × EndPort) → i ≤ j → j < length xs → is_lt (port_cmp (get_or xs j d) (get_or xs i d)) ≡ false) → Rises xs
 rises_far [] a far = tt
 rises_far (x ∷ xs) a far = (
-  λ y h. from_not_less x y (λ e. a.0 (contains_as xs (sym e) h)) (ap (λ z. is_lt (port_cmp z x)) (sym h.2) ∙ far 0 (suc h.0) y (omega arith) (omega (arith, h.1))),
+  λ y h. from_not_less x y (λ e. a.0 (contains_as xs (sym e) h)) (ap (λ z. is_lt (port_cmp z x)) (sym h.2)
+      ∙ far 0 (suc h.0) y (omega arith) (omega (arith, h.1))),
   rises_far xs a.1 (λ i j d p q. far (suc i) (suc j) d (omega arith) (omega arith)),
 )
 
@@ -200,6 +204,7 @@ in_order_rises (x ∷ xs) a = rises_put x (in_order xs) (in_order_rises xs a.1) 
 -- a sorted permutation is the list in order
 pub sorted_is_in_order : (xs ys : List (ℕ × EndPort)) → Apart xs → IsPermutation xs ys → IsSorted port_cmp ys → ys ≡ in_order xs
 sorted_is_in_order xs ys a p up =
-    rises_once ys (in_order xs) (rises_far ys (apart_permutation xs ys p a) (sorted_far _ (ranks_by nat_list_cmp_total port_numbers) ys up)) (in_order_rises xs a)
+    rises_once ys (in_order xs) (rises_far ys (apart_permutation xs ys p a) (sorted_far _ (ranks_by nat_list_cmp_total port_numbers) ys up))
+    (in_order_rises xs a)
     (λ x h. is_ordered xs x (Contains-permutation ys xs x (IsPermutation-sym xs ys p) h))
     (λ x h. Contains-permutation xs ys x p (was_ordered xs x h))

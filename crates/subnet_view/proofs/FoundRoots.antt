@@ -39,7 +39,8 @@ module _ (graph : List SwitchEdges) where
   first_more [] root v =
       elim (distance graph root v) as (λ o. cond (is_some o) (Some root) None ≡ option_map (λ d. root) o) [ None ↦ refl | Some d ↦ refl ]
   first_more (x ∷ roots) root v =
-      elim (in_one_component graph x v) as (λ t. cond t (Some x) (first (roots ++ root ∷ []) v) ≡ option_or (cond t (Some x) (first roots v)) (reached root v)) [
+      elim (in_one_component graph x v) as (λ t. cond t (Some x) (first (roots ++ root ∷ []) v)
+      ≡ option_or (cond t (Some x) (first roots v)) (reached root v)) [
         | true ↦ refl
         | false ↦ first_more roots root v
       ]
@@ -78,9 +79,11 @@ module _ (graph : List SwitchEdges) where
       all_none (c ∷ cs) = ap (λ (xs : List (Option ℕ)). None ∷ xs) (all_none cs)
 
   -- a switch is the root of those that it reaches and that have none yet
-  pub roots_filled : (n : ℕ) (roots found new : List (Option ℕ)) → n < length guids → AreRootsOf graph n roots → found ≡ map (distance graph (get_or guids n 0)) guids
+  pub roots_filled : (n : ℕ) (roots found new : List (Option ℕ)) → n < length guids → AreRootsOf graph n roots → found
+      ≡ map (distance graph (get_or guids n 0)) guids
       → length new ≡ length roots
-      → ((k : ℕ) → k < length new → get_or new k None ≡ option_or (get_or roots k None) (option_map (λ d. get_or guids n 0) (get_or found k None))) → AreRootsOf graph (n + 1) new
+      → ((k : ℕ) → k < length new → get_or new k None ≡ option_or (get_or roots k None) (option_map (λ d. get_or guids n 0) (get_or found k None)))
+      → AreRootsOf graph (n + 1) new
   roots_filled n roots found new h are is same each =
       let before = take n guids in
       let root = get_or guids n 0 in
@@ -103,18 +106,21 @@ module _ (graph : List SwitchEdges) (good : IsGraph graph) where
       (Contains-append_left (take n (guids_of graph)) (drop n (guids_of graph)) root h)
 
   -- a switch that has a root is none: all that it reaches have one
-  pub roots_passed : (n : ℕ) (roots : List (Option ℕ)) → n < length (guids_of graph) → AreRootsOf graph n roots → is_some (get_or roots n None) ≡ true → AreRootsOf graph (n + 1) roots
+  pub roots_passed : (n : ℕ) (roots : List (Option ℕ)) → n < length (guids_of graph) → AreRootsOf graph n roots → is_some (get_or roots n None) ≡ true
+      → AreRootsOf graph (n + 1) roots
   roots_passed n roots h are some =
       let guids = guids_of graph in
       let before = take n guids in
       let root = get_or guids n 0 in
-      let it = one_there graph before root (ap is_some (sym (get_or-map (first_root graph before) guids n 0 None h) ∙ ap (λ xs. get_or xs n None) (sym are)) ∙ some) in
+      let it = one_there graph before root (ap is_some (sym (get_or-map (first_root graph before) guids n 0 None h) ∙ ap (λ xs. get_or xs n None) (sym are))
+      ∙ some) in
       are ∙ map_same (first_root graph before) (first_root graph (take (n + 1) guids)) guids
       (λ v k. reaches v it.0 it.1 it.2 ∙ sym (ap (λ rs. first_root graph rs v) (one_more graph n h) ∙ first_more graph before root v))
     where
       reaches : (v other : ℕ) → Contains (take n (guids_of graph)) other → in_one_component graph other (get_or (guids_of graph) n 0) ≡ true
           → first_root graph (take n (guids_of graph)) v
-          ≡ option_or (first_root graph (take n (guids_of graph)) v) (option_map (λ d. get_or (guids_of graph) n 0) (distance graph (get_or (guids_of graph) n 0) v))
+          ≡ option_or (first_root graph (take n (guids_of graph)) v)
+          (option_map (λ d. get_or (guids_of graph) n 0) (distance graph (get_or (guids_of graph) n 0) v))
       reaches v other there joined =
           let before = take n (guids_of graph) in
           let root = get_or (guids_of graph) n 0 in

@@ -121,7 +121,8 @@ wire_is_edge cells g p h k x =
     let there : edge_at cells g p ≡ Some e = ap (option_and_then edge) x.wire ∙ ap (λ t. cond t (Some e) None) x.is_switch in
     elim (edges_listed cells (switches cells) g) [
       | at_switch i same ↦
-          subst (λ (xs : List Edge). Contains xs e) (sym same) (contains_filter_map (edge_at cells g) (range_with_len 1 (port_count_of cells g)) p e listed there)
+          subst (λ (xs : List Edge). Contains xs e) (sym same) (contains_filter_map (edge_at cells g) (range_with_len 1 (port_count_of cells g)) p e listed
+          there)
       | elsewhere none i ↦ absurd (none k)
     ]
 

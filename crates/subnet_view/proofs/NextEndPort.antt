@@ -51,28 +51,31 @@ next_more last None ends end new none =
     ] refl
 next_more last (Some next) ends end new n =
     elim (is_after last end) as (λ t. is_after last end ≡ t → IsNext last (ends ++ end ∷ []) (cond (t && comes_before end next) (Some end) (Some next))) [
-      | true ↦ λ q. (elim (comes_before end next) as (λ t. comes_before end next ≡ t → IsNext last (ends ++ end ∷ []) (cond (true && t) (Some end) (Some next))) [
-        | true ↦ λ r. record {
-          among = Contains-push ends end;
-          behind = q;
-          nearest = λ x h a. (elim (Contains-push_cases ends end x h) [
-            | inl k ↦ (elim (n.nearest x k a) [ inl e ↦ inr (ap (comes_before end) e ∙ r) | inr l ↦ inr (before_all end next x r l) ])
-            | inr e ↦ inl (sym e)
-          ]);
-        }
-        | false ↦ λ r. record {
-          among = Contains-append_left ends (end ∷ []) next n.among;
-          behind = n.behind;
-          nearest = λ x h a. (elim (Contains-push_cases ends end x h) [
-            | inl k ↦ n.nearest x k a
-            | inr e ↦ inr (ap is_lt (from_not_less next x (λ s. new (contains_as ends (s ∙ sym e) n.among)) (ap (λ (y : ℕ × EndPort). is_lt (port_cmp y next)) (sym e) ∙ r)))
-          ]);
-        }
-      ] refl)
+      | true ↦ λ q. (elim (comes_before end next) as (λ t. comes_before end next ≡ t
+          → IsNext last (ends ++ end ∷ []) (cond (true && t) (Some end) (Some next))) [
+            | true ↦ λ r. record {
+              among = Contains-push ends end;
+              behind = q;
+              nearest = λ x h a. (elim (Contains-push_cases ends end x h) [
+                | inl k ↦ (elim (n.nearest x k a) [ inl e ↦ inr (ap (comes_before end) e ∙ r) | inr l ↦ inr (before_all end next x r l) ])
+                | inr e ↦ inl (sym e)
+              ]);
+            }
+            | false ↦ λ r. record {
+              among = Contains-append_left ends (end ∷ []) next n.among;
+              behind = n.behind;
+              nearest = λ x h a. (elim (Contains-push_cases ends end x h) [
+                | inl k ↦ n.nearest x k a
+                | inr e ↦ inr (ap is_lt
+                    (from_not_less next x (λ s. new (contains_as ends (s ∙ sym e) n.among)) (ap (λ (y : ℕ × EndPort). is_lt (port_cmp y next)) (sym e) ∙ r)))
+              ]);
+            }
+          ] refl)
       | false ↦ λ q. record {
         among = Contains-append_left ends (end ∷ []) next n.among;
         behind = n.behind;
-        nearest = λ x h a. (elim (Contains-push_cases ends end x h) [ inl k ↦ n.nearest x k a | inr e ↦ absurd (both_ways _ (ap (is_after last) (sym e) ∙ q) a) ]);
+        nearest = λ x h a.
+            (elim (Contains-push_cases ends end x h) [ inl k ↦ n.nearest x k a | inr e ↦ absurd (both_ways _ (ap (is_after last) (sym e) ∙ q) a) ]);
       }
     ] refl
 
@@ -101,7 +104,8 @@ module _ (facts : Facts) where
   none_left : (xs : Ends) (last : Option (ℕ × EndPort)) → ((x : ℕ × EndPort) → Contains xs x → is_after last x ≡ false) → filter (is_after last) xs ≡ []
   none_left [] last h = refl
   none_left (x ∷ xs) last h =
-      ap (λ t. cond t (x ∷ filter (is_after last) xs) (filter (is_after last) xs)) (h x (contains_here x xs)) ∙ none_left xs last (λ y k. h y (contains_later x y xs k))
+      ap (λ t. cond t (x ∷ filter (is_after last) xs) (filter (is_after last) xs)) (h x (contains_here x xs))
+      ∙ none_left xs last (λ y k. h y (contains_later x y xs k))
 
   -- the nearest one, and then what comes after it
   module _ (last : Option (ℕ × EndPort)) (end : ℕ × EndPort) (n : IsNearest last (found_end_ports facts) end) where
@@ -114,25 +118,30 @@ module _ (facts : Facts) where
       rises (Some end),
     )
 
-    to_near : (x : ℕ × EndPort) → Contains (filter (is_after last) (in_order (found_end_ports facts))) x → Contains (end ∷ filter (is_after (Some end)) (in_order (found_end_ports facts))) x
+    to_near : (x : ℕ × EndPort) → Contains (filter (is_after last) (in_order (found_end_ports facts))) x
+        → Contains (end ∷ filter (is_after (Some end)) (in_order (found_end_ports facts))) x
     to_near x h =
         let f = contains-from_filter (is_after last) (in_order (found_end_ports facts)) x h in
         elim (n.nearest x (was_ordered (found_end_ports facts) x f.0) f.1) [
           | inl e ↦ contains_first (filter (is_after (Some end)) (in_order (found_end_ports facts))) (sym e)
-          | inr l ↦ contains_later end x (filter (is_after (Some end)) (in_order (found_end_ports facts))) (contains_filter (is_after (Some end)) (in_order (found_end_ports facts)) x f.0 l)
+          | inr l ↦ contains_later end x (filter (is_after (Some end)) (in_order (found_end_ports facts)))
+              (contains_filter (is_after (Some end)) (in_order (found_end_ports facts)) x f.0 l)
         ]
 
-    from_near : (x : ℕ × EndPort) → Contains (end ∷ filter (is_after (Some end)) (in_order (found_end_ports facts))) x → Contains (filter (is_after last) (in_order (found_end_ports facts))) x
+    from_near : (x : ℕ × EndPort) → Contains (end ∷ filter (is_after (Some end)) (in_order (found_end_ports facts))) x
+        → Contains (filter (is_after last) (in_order (found_end_ports facts))) x
     from_near x h =
         elim (contains_cases end x (filter (is_after (Some end)) (in_order (found_end_ports facts))) h) [
-          | inl e ↦ contains_filter (is_after last) (in_order (found_end_ports facts)) x (contains_as (in_order (found_end_ports facts)) e (is_ordered (found_end_ports facts) end n.among)) (ap (is_after last) (sym e) ∙ n.behind)
+          | inl e ↦ contains_filter (is_after last) (in_order (found_end_ports facts)) x
+              (contains_as (in_order (found_end_ports facts)) e (is_ordered (found_end_ports facts) end n.among)) (ap (is_after last) (sym e) ∙ n.behind)
           | inr k ↦ let f = contains-from_filter (is_after (Some end)) (in_order (found_end_ports facts)) x k in
               contains_filter (is_after last) (in_order (found_end_ports facts)) x f.0 (follows x f.1)
         ]
 
     pub near_first : ports_after (cells_of facts) last ≡ end ∷ ports_after (cells_of facts) (Some end)
     near_first =
-        after_is last ∙ rises_once (filter (is_after last) (in_order (found_end_ports facts))) (end ∷ filter (is_after (Some end)) (in_order (found_end_ports facts)))
+        after_is last ∙ rises_once (filter (is_after last) (in_order (found_end_ports facts))) (end
+        ∷ filter (is_after (Some end)) (in_order (found_end_ports facts)))
         (rises last) near_rises to_near from_near
 
   pub next_is_first : (last next : Option (ℕ × EndPort)) → IsNext last (found_end_ports facts) next
@@ -143,24 +152,30 @@ module _ (facts : Facts) where
 -- a walk of the cells ---------------------------------------------------------------
 
 module _ (facts : Facts) (given left rest : Cells) (s : Key × Cell Value) (all : given ++ left ≡ cells_of facts) (next_cell : left ≡ s ∷ rest) where
-  one_more : filter_map (guid_and_port (cells_of facts)) (given ++ s ∷ []) ≡ filter_map (guid_and_port (cells_of facts)) given ++ cons_option (guid_and_port (cells_of facts) s) []
+  one_more : filter_map (guid_and_port (cells_of facts)) (given ++ s ∷ []) ≡ filter_map (guid_and_port (cells_of facts)) given
+      ++ cons_option (guid_and_port (cells_of facts) s) []
   one_more = filter_map-append (guid_and_port (cells_of facts)) given (s ∷ [])
 
   -- a cell that is no end port's is passed
-  pub passed : (last next : Option (ℕ × EndPort)) → guid_and_port (cells_of facts) s ≡ None → IsNext last (filter_map (guid_and_port (cells_of facts)) given) next
+  pub passed : (last next : Option (ℕ × EndPort)) → guid_and_port (cells_of facts) s ≡ None
+      → IsNext last (filter_map (guid_and_port (cells_of facts)) given) next
       → IsNext last (filter_map (guid_and_port (cells_of facts)) (given ++ s ∷ [])) next
   passed last next none n =
-      let same = one_more ∙ ap (λ o. filter_map (guid_and_port (cells_of facts)) given ++ cons_option o []) none ∙ append-nil (filter_map (guid_and_port (cells_of facts)) given) in
+      let same = one_more ∙ ap (λ o. filter_map (guid_and_port (cells_of facts)) given ++ cons_option o []) none
+      ∙ append-nil (filter_map (guid_and_port (cells_of facts)) given) in
       subst (λ (ends : List (ℕ × EndPort)). IsNext last ends next) (sym same) n
 
   -- an end port's is taken
-  pub met : (last next : Option (ℕ × EndPort)) (end : ℕ × EndPort) → Some end ≡ guid_and_port (cells_of facts) s → IsNext last (filter_map (guid_and_port (cells_of facts)) given) next
+  pub met : (last next : Option (ℕ × EndPort)) (end : ℕ × EndPort) → Some end ≡ guid_and_port (cells_of facts) s
+      → IsNext last (filter_map (guid_and_port (cells_of facts)) given) next
       → IsNext last (filter_map (guid_and_port (cells_of facts)) (given ++ s ∷ [])) (nearer last next end)
   met last next end some n =
       let ends = filter_map (guid_and_port (cells_of facts)) given in
       let others = filter_map (guid_and_port (cells_of facts)) rest in
       let same = one_more ∙ ap (λ o. ends ++ cons_option o []) (sym some) in
-      let whole = ap (filter_map (guid_and_port (cells_of facts))) (sym all ∙ ap (λ (cs : Cells). given ++ cs) next_cell) ∙ filter_map-append (guid_and_port (cells_of facts)) given (s ∷ rest)
+      let whole = ap (filter_map (guid_and_port (cells_of facts))) (sym all ∙ ap (λ (cs : Cells). given ++ cs) next_cell)
+      ∙ filter_map-append (guid_and_port (cells_of facts)) given (s ∷ rest)
       ∙ ap (λ o. ends ++ cons_option o others) (sym some) in
       let apart = subst (λ (xs : List (ℕ × EndPort)). Apart xs) whole (found_apart facts) in
-      subst (λ (xs : List (ℕ × EndPort)). IsNext last xs (nearer last next end)) (sym same) (next_more last next ends end (before_apart ends others end apart) n)
+      subst (λ (xs : List (ℕ × EndPort)). IsNext last xs (nearer last next end)) (sym same)
+      (next_more last next ends end (before_apart ends others end apart) n)

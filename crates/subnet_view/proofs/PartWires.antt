@@ -97,11 +97,13 @@ module _ {cells : Cells} {f : Fabric} {origin : NodePort} (told : IsTold cells f
   -- an edge of facts is the fabric's wire out of that port, to the switch that facts name
   pub edge_in_fabric : {index g p h : ℕ} → SwitchIn f origin index g → IsEdge cells g p h → SwitchWire f origin index p h
   edge_in_fabric {index = index} {g = g} {p = p} {h = h} s x =
-      let within : IsJoinedTo f origin (vertex_of f (port_at index p)) = subst (IsJoinedTo f origin) (sym (switch_port_vertex s (port_at index p) refl)) s.joined in
+      let within : IsJoinedTo f origin (vertex_of f (port_at index p)) =
+      subst (IsJoinedTo f origin) (sym (switch_port_vertex s (port_at index p) refl)) s.joined in
       let is_told : IsToldWire cells s.node.guid p h x.end_port =
       subst (λ (n : ℕ). IsToldWire cells n p h x.end_port) (sym s.guid) ((wire_law cells g p h x.end_port).0 x.wire) in
       let w : HasWire (IsJoinedTo f origin) f g p h x.end_port =
-      subst (λ (n : ℕ). HasWire (IsJoinedTo f origin) f n p h x.end_port) s.guid (told.covers.wires_there (port_at index p) s.node s.at within h x.end_port is_told) in
+      subst (λ (n : ℕ). HasWire (IsJoinedTo f origin) f n p h x.end_port) s.guid
+      (told.covers.wires_there (port_at index p) s.node s.at within h x.end_port is_told) in
       let out_end = vertex_is_end f w.from (told.is_fabric.cabled w.from w.to w.wire.cable) in
       let same_guid : w.from_named.node.guid ≡ s.node.guid = w.from_named.guid_is ∙ sym s.guid in
       let out_index : w.from.node ≡ index =

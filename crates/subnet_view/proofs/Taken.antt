@@ -43,7 +43,8 @@ module _ {X Y : Type 0} (f : X → Option Y) where
 pub found_in : (key : Key) (cells : Cells) (c : Cell Value) → find key_cmp key cells ≡ Some c → Contains cells (key, c)
 found_in key [] c e = absurd (cc)
 found_in key (x ∷ cells) c e =
-    elim (eq_by_cmp key_cmp key x.0) as (λ t. eq_by_cmp key_cmp key x.0 ≡ t → cond t (Some x.1) (find key_cmp key cells) ≡ Some c → Contains (x ∷ cells) (key, c)) [
+    elim (eq_by_cmp key_cmp key x.0) as (λ t. eq_by_cmp key_cmp key x.0 ≡ t → cond t (Some x.1) (find key_cmp key cells) ≡ Some c
+    → Contains (x ∷ cells) (key, c)) [
       | true ↦ λ q k.
           let same : key ≡ x.0 = key_exact key x.0 (equal_from_test (key_cmp key x.0) q) in
           let cell : x.1 ≡ c = cc in

@@ -18,7 +18,8 @@ abbrev pub IsMapped : {X Y : Type 0} → (X → Y) → List X → List Y → ℕ
 IsMapped f xs done i = done ++ map f (drop i xs) ≡ map f xs
 
 -- one more item
-pub mapped_more : {X Y : Type 0} (f : X → Y) (xs : List X) (done : List Y) (i : ℕ) (x : X) → i < length xs → x ≡ get_or xs i x → IsMapped f xs done i → IsMapped f xs (done ++ f x ∷ []) (i + 1)
+pub mapped_more : {X Y : Type 0} (f : X → Y) (xs : List X) (done : List Y) (i : ℕ) (x : X) → i < length xs → x ≡ get_or xs i x → IsMapped f xs done i
+    → IsMapped f xs (done ++ f x ∷ []) (i + 1)
 mapped_more f xs done i x h is e =
     append_assoc done (f x ∷ []) (map f (drop (i + 1) xs)) ∙ sym (ap (λ ys. done ++ map f ys) (next_item xs i x h is)) ∙ e
 

@@ -51,7 +51,8 @@ named g p (Some q) e = ap (λ (x : ℕ × ℕ). Some x) (same_port g p q e)
 -- the test says just that
 pub linked : (cells : Cells) (g p : ℕ) (q : ℕ × ℕ) → across cells g p ≡ Some q → IsLinked cells g p q
 linked cells g p q e =
-    elim (link_of cells g p) as (λ o. link_of cells g p ≡ o → option_and_then (λ x. cond (is_wire cells g p x) (Some x) None) o ≡ Some q → IsLinked cells g p q) [
+    elim (link_of cells g p) as (λ o. link_of cells g p ≡ o → option_and_then (λ x. cond (is_wire cells g p x) (Some x) None) o ≡ Some q
+    → IsLinked cells g p q) [
       | None ↦ λ k f. absurd (cc)
       | Some x ↦ λ k f. (elim (is_wire cells g p x) as (λ t. is_wire cells g p x ≡ t → cond t (Some x) None ≡ Some q → IsLinked cells g p q) [
         | true ↦ λ w h.
@@ -75,14 +76,24 @@ linked cells g p q e =
 pub across_from : (cells : Cells) (g p : ℕ) (q : ℕ × ℕ) → IsLinked cells g p q → across cells g p ≡ Some q
 across_from cells g p q l =
     let back : option_map_or (is_at g p) (link_of cells q.0 q.1) false ≡ true = ap (λ o. option_map_or (is_at g p) o false) l.named_back ∙ at_itself g p in
-    let w : is_wire cells g p q ≡ true = and_both ((not (is_at g p q) && is_wire_end cells g p) && is_wire_end cells q.0 q.1) (option_map_or (is_at g p) (link_of cells q.0 q.1) false) (and_both (not (is_at g p q) && is_wire_end cells g p) (is_wire_end cells q.0 q.1) (and_both (not (is_at g p q)) (is_wire_end cells g p) l.apart l.here) l.there) back in
+    let w : is_wire cells g p q ≡ true =
+    and_both ((not (is_at g p q) && is_wire_end cells g p)
+    && is_wire_end cells q.0 q.1) (option_map_or (is_at g p) (link_of cells q.0 q.1) false) (and_both (not (is_at g p q)
+    && is_wire_end cells g p) (is_wire_end cells q.0 q.1) (and_both (not (is_at g p q)) (is_wire_end cells g p) l.apart l.here) l.there) back in
     ap (option_and_then (λ x. cond (is_wire cells g p x) (Some x) None)) l.named_there ∙ ap (λ t. cond t (Some q) None) w
 
 -- the wire in the other end leads back
 pub across_back : (cells : Cells) (g p : ℕ) (q : ℕ × ℕ) → across cells g p ≡ Some q → across cells q.0 q.1 ≡ Some (g, p)
 across_back cells g p q e =
     let l = linked cells g p q e in
-    across_from cells q.0 q.1 (g, p) (record { named_there = l.named_back; named_back = l.named_there; apart = turned g p q l.apart; here = l.there; there = l.here })
+    across_from cells q.0 q.1 (g, p) (record {
+      named_there = l.named_back;
+      named_back = l.named_there;
+      apart = turned g p q l.apart;
+      here = l.there;
+      there =
+          l.here;
+    })
 
 -- whatever the ends are called
 pub wires_go_both_ways : WiresGoBothWays

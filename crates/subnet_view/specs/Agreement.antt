@@ -54,19 +54,23 @@ pub record TellsEndPort (cells : Cells) (node : fabric.Node) (p : ℕ) : Type 0 
   pub port_guid : port_guid_of cells node.guid p ≡ Some (node.port_guid p)
   pub cap : IsTrue (is_switch node.kind) → cap_of cells node.guid ≡ Some node.cap
 
--- the facts tell the end ports of the part and their nodes, and the wires in its ports, as they are; of what is not of the part they may tell anything,
--- such as nodes that are gone
+-- the facts tell the end ports of the part and their nodes, and the wires in its ports, as they are; of what is not of
+-- the part they may tell anything, such as nodes that are gone
 pub record Covers (part : Part) (cells : Cells) (f : Fabric) : Type 0 where
-  pub guids_distinct : (p q : NodePort) (a b : fabric.Node) → IsEndPortIn part f p a → IsEndPortIn part f q b → a.guid ≡ b.guid → p.node ≡ q.node
-  pub tells_end_ports : (port : NodePort) (node : fabric.Node) → IsEndPortIn part f port node → TellsEndPort cells node port.port
+  pub guids_distinct : (p q : NodePort) (a b : fabric.Node) → IsEndPortIn part f p a → IsEndPortIn part f q b → a.guid
+      ≡ b.guid → p.node ≡ q.node
+  pub tells_end_ports : (port : NodePort) (node : fabric.Node) → IsEndPortIn part f port node
+      → TellsEndPort cells node port.port
   pub wires_told : (g p h q : ℕ) → HasWire part f g p h q → IsWire cells g p h q
   pub wires_there : (port : NodePort) (node : fabric.Node) → IsNodeAt f port.node node → part (vertex_of f port)
       → (h q : ℕ) → IsWire cells node.guid port.port h q → HasWire part f node.guid port.port h q
 
 -- the facts tell the end ports of the part and their nodes, its switches and its wires, and no others
 pub record AgreesOn (part : Part) (cells : Cells) (f : Fabric) : Type 0 where
-  pub guids_distinct : (p q : NodePort) (a b : fabric.Node) → IsEndPortIn part f p a → IsEndPortIn part f q b → a.guid ≡ b.guid → p.node ≡ q.node
-  pub tells_end_ports : (port : NodePort) (node : fabric.Node) → IsEndPortIn part f port node → TellsEndPort cells node port.port
+  pub guids_distinct : (p q : NodePort) (a b : fabric.Node) → IsEndPortIn part f p a → IsEndPortIn part f q b → a.guid
+      ≡ b.guid → p.node ≡ q.node
+  pub tells_end_ports : (port : NodePort) (node : fabric.Node) → IsEndPortIn part f port node
+      → TellsEndPort cells node port.port
   pub end_ports_exist : (g p : ℕ) → IsEndPort cells g p → HasEndPort part f g p
   pub switches_exist : (g : ℕ) → IsUsable cells g → HasEndPort part f g 0
   pub wires : (g p h q : ℕ) → IsWire cells g p h q ↔ HasWire part f g p h q

@@ -24,7 +24,9 @@ is_end_port cells g p = is_end_port_number cells g p && is_some (port_guid_of ce
 
 -- the end port of a cell with its port GUID, where the cell is an end port's GUID
 abbrev pub guid_and_port : Cells → Key × Cell Value → Option (ℕ × EndPort)
-guid_and_port cells ((PortGuid g p), c) = if is_end_port_number cells g p then option_map (λ guid. (guid, record { node = g; port = p })) (port_guid_of cells g p) else None
+guid_and_port cells ((PortGuid g p), c) =
+    if is_end_port_number cells g p then option_map (λ guid. (guid, record { node = g; port = p }))
+    (port_guid_of cells g p) else None
 guid_and_port cells (_, c) = None
 
 -- port GUID, node GUID and port
@@ -70,7 +72,8 @@ IsNodeWith cells g kind ports = node_of cells g ≡ Some (kind, ports)
 
 -- an end port in words
 abbrev pub IsEndPort : Cells → ℕ → ℕ → Type 0
-IsEndPort cells g p = (kind : NodeType) × (ports : ℕ) × IsNodeWith cells g kind ports × MatchBool (is_switch kind) (p ≡ 0) ((1 ≤ p) × (p ≤ ports)) × IsSome (port_guid_of cells g p)
+IsEndPort cells g p = (kind : NodeType) × (ports : ℕ) × IsNodeWith cells g kind ports
+    × MatchBool (is_switch kind) (p ≡ 0) ((1 ≤ p) × (p ≤ ports)) × IsSome (port_guid_of cells g p)
 
 -- the test says what the words say
 abbrev pub EndPortLaw : Type 0
@@ -78,7 +81,8 @@ EndPortLaw = (cells : Cells) (g p : ℕ) → IsTrue (is_end_port cells g p) ↔ 
 
 -- by port GUID, node GUID and port
 abbrev pub ComesBefore : Cells → EndPort → EndPort → Type 0
-ComesBefore cells a b = (m n : ℕ) → port_guid_of cells a.node a.port ≡ Some m → port_guid_of cells b.node b.port ≡ Some n → IsTrue (comes_before (m, a) (n, b))
+ComesBefore cells a b = (m n : ℕ) → port_guid_of cells a.node a.port ≡ Some m → port_guid_of cells b.node b.port
+    ≡ Some n → IsTrue (comes_before (m, a) (n, b))
 
 -- the list has the end ports, and nothing else
 abbrev pub HasEndPorts : Cells → List EndPort → Type 0
@@ -86,4 +90,5 @@ HasEndPorts cells ports = (e : EndPort) → Contains ports e ↔ IsEndPort cells
 
 -- the end ports, each once, in their order
 abbrev pub EndPortsLaw : Type 0
-EndPortsLaw = (facts : Facts) → HasEndPorts (cells_of facts) (end_ports (cells_of facts)) × AllPairs (ComesBefore (cells_of facts)) (end_ports (cells_of facts))
+EndPortsLaw = (facts : Facts) → HasEndPorts (cells_of facts) (end_ports (cells_of facts))
+    × AllPairs (ComesBefore (cells_of facts)) (end_ports (cells_of facts))

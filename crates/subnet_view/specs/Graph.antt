@@ -8,7 +8,9 @@ use Rattle.subnet_view.specs.SwitchEdges.{SwitchEdges}
 
 -- the wire in a port, where it leads to a switch
 abbrev pub edge_at : Cells → ℕ → ℕ → Option Edge
-edge_at cells g p = option_and_then (λ q. if is_switch_node cells q.0 then Some (record { port = p; to = q.0 }) else None) (across cells g p)
+edge_at cells g p =
+    option_and_then (λ q. if is_switch_node cells q.0 then Some (record { port = p; to = q.0 }) else None)
+    (across cells g p)
 
 -- the wires of a switch to switches, by rising port
 abbrev pub edges_of : Cells → ℕ → List Edge

@@ -99,4 +99,5 @@ HasSwitches cells guids = (g : ℕ) → Contains guids g ↔ IsUsable cells g
 
 -- the usable switches, each once, by rising GUID
 abbrev pub SwitchesLaw : Type 0
-SwitchesLaw = (facts : Facts) → HasSwitches (cells_of facts) (switches (cells_of facts)) × AllPairs (λ a b. a < b) (switches (cells_of facts))
+SwitchesLaw = (facts : Facts) → HasSwitches (cells_of facts) (switches (cells_of facts))
+    × AllPairs (λ a b. a < b) (switches (cells_of facts))

@@ -5,4 +5,5 @@ use Rattle.std.specs.Option.{option_or}
 -- where there is no root yet, this one where there is a distance from it
 abbrev pub FillsIn : List (Option ℕ) → List (Option ℕ) → ℕ → List (Option ℕ) → Type 0
 FillsIn roots distances root new =
-    EachIndex new (λ k. slice_index_or new k None ≡ option_or (slice_index_or roots k None) (option_map (λ d. root) (slice_index_or distances k None)))
+    EachIndex new (λ k. slice_index_or new k None
+    ≡ option_or (slice_index_or roots k None) (option_map (λ d. root) (slice_index_or distances k None)))

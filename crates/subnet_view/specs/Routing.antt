@@ -1,4 +1,5 @@
--- What every rule of routing between switches keeps: its ports lead within a component, no switch comes twice, and channels rise.
+-- What every rule of routing between switches keeps: its ports lead within a component, no switch comes twice, and
+-- channels rise.
 use Rattle.std.specs.Prelude.{◌≡◌, ◌≢◌, ℕ, ◌==◌, true, false, List, [], ◌∷◌, map, length, AllPairs, Contains, Option, Some}
 use Rattle.std.specs.List.Sorted.{IsStrictlyIncreasing}
 use Rattle.port_graph.specs.declared.edge.Edge.{Edge}
@@ -7,7 +8,8 @@ use Rattle.subnet_view.specs.Graph.{edges_at}
 use Rattle.subnet_view.specs.GraphLaws.{IsSwitch}
 use Rattle.subnet_view.specs.Components.{in_one_component}
 
--- a rule: the port by which a packet for a LID leaves a switch for another, the wires that it then takes, and the numbers of channels
+-- a rule: the port by which a packet for a LID leaves a switch for another, the wires that it then takes, and the
+-- numbers of channels
 pub record Routing : Type 0 where
   pub next : ℕ → ℕ → ℕ → Option ℕ
   pub cost : ℕ → ℕ → Option ℕ
@@ -21,7 +23,8 @@ Passes graph s (e ∷ es) = Contains (edges_at graph s) e × Passes graph e.to e
 -- wires by the rule's ports for a LID, as far as the switch t
 abbrev pub FollowsRule : Routing → ℕ → ℕ → ℕ → List Edge → Type 0
 FollowsRule rule lid t s [] = s ≡ t
-FollowsRule rule lid t s (e ∷ es) = ((s == t) ≡ false) × (rule.next lid s t ≡ Some e.port) × FollowsRule rule lid t e.to es
+FollowsRule rule lid t s (e ∷ es) =
+    ((s == t) ≡ false) × (rule.next lid s t ≡ Some e.port) × FollowsRule rule lid t e.to es
 
 -- the switches of a way, from the first on
 abbrev pub stops : ℕ → List Edge → List ℕ
@@ -43,5 +46,6 @@ pub record Leads (graph : List SwitchEdges) (rule : Routing) (lid s t n : ℕ) :
 
 -- each switch of a component has a cost to each other, and the rule leads there over as many wires
 pub record IsRouting (graph : List SwitchEdges) (rule : Routing) : Type 0 where
-  pub reaches : (s t : ℕ) → IsSwitch graph s → IsSwitch graph t → in_one_component graph s t ≡ true → (n : ℕ) × (rule.cost s t ≡ Some n)
+  pub reaches : (s t : ℕ) → IsSwitch graph s → IsSwitch graph t → in_one_component graph s t ≡ true → (n : ℕ)
+      × (rule.cost s t ≡ Some n)
   pub leads : (lid s t n : ℕ) → IsSwitch graph s → rule.cost s t ≡ Some n → Leads graph rule lid s t n

@@ -45,7 +45,8 @@ is_end_read r g p = let node = node_of r.nodes g in is_up r.ports g p && is_coun
 
 -- the same of a cell, with where its link leads
 abbrev pub end_read : PortReader → Key × Cell Value → Option ((ℕ × ℕ) × (ℕ × ℕ))
-end_read r ((Link g p), c) = if is_end_read r g p then option_map (λ q. ((g, p), q)) (peer_in (value_in (Some c))) else None
+end_read r ((Link g p), c) =
+    if is_end_read r g p then option_map (λ q. ((g, p), q)) (peer_in (value_in (Some c))) else None
 end_read r (_, c) = None
 
 -- what is known of a port was not passed

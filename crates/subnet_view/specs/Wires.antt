@@ -8,7 +8,8 @@ use Rattle.subnet_view.specs.EndPorts.{is_end_port, IsNodeWith}
 
 -- a port that can have a wire: up, from 1 to the node's count, and of a usable switch or an end port
 abbrev pub is_wire_end : Cells → ℕ → ℕ → Bool
-is_wire_end cells g p = is_up cells g p && is_port_of cells g p && (if is_switch_node cells g then is_usable cells g else is_end_port cells g p)
+is_wire_end cells g p = is_up cells g p && is_port_of cells g p
+    && (if is_switch_node cells g then is_usable cells g else is_end_port cells g p)
 
 -- the port p of the node g
 abbrev pub is_at : ℕ → ℕ → ℕ × ℕ → Bool
@@ -16,7 +17,8 @@ is_at g p q = g == q.0 && p == q.1
 
 -- two different ports that can have a wire and whose links name each other
 abbrev pub is_wire : Cells → ℕ → ℕ → ℕ × ℕ → Bool
-is_wire cells g p q = not (is_at g p q) && is_wire_end cells g p && is_wire_end cells q.0 q.1 && option_map_or (is_at g p) (link_of cells q.0 q.1) false
+is_wire cells g p q = not (is_at g p q) && is_wire_end cells g p && is_wire_end cells q.0 q.1
+    && option_map_or (is_at g p) (link_of cells q.0 q.1) false
 
 -- the other end of the wire in a port
 abbrev pub across : Cells → ℕ → ℕ → Option (ℕ × ℕ)
@@ -24,13 +26,16 @@ across cells g p = option_and_then (λ q. if is_wire cells g p q then Some q els
 
 -- the switch and the port of it that the wire in an adapter port leads to
 abbrev pub attached : Cells → ℕ → ℕ → Option (ℕ × ℕ)
-attached cells g p = if is_switch_node cells g then None else option_and_then (λ q. if is_switch_node cells q.0 then Some q else None) (across cells g p)
+attached cells g p =
+    if is_switch_node cells g then None else option_and_then (λ q. if is_switch_node cells q.0 then Some q else None)
+    (across cells g p)
 
 -- the laws of these words: -----------------------------------------------------------
 
 -- a port that can have a wire, in words
 abbrev pub CanHaveWire : Cells → ℕ → ℕ → Type 0
-CanHaveWire cells g p = (kind : NodeType) × (ports : ℕ) × IsNodeWith cells g kind ports × (1 ≤ p) × (p ≤ ports) × IsTrue (is_up cells g p) × MatchBool (is_switch kind) (IsSome (cap_of cells g)) (IsSome (port_guid_of cells g p))
+CanHaveWire cells g p = (kind : NodeType) × (ports : ℕ) × IsNodeWith cells g kind ports × (1 ≤ p) × (p ≤ ports)
+    × IsTrue (is_up cells g p) × MatchBool (is_switch kind) (IsSome (cap_of cells g)) (IsSome (port_guid_of cells g p))
 
 -- a wire in words
 pub record IsWire (cells : Cells) (g p h q : ℕ) : Type 0 where

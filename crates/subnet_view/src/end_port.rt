@@ -57,7 +57,8 @@ fn listed_end_ports(alloc: Global, store: &Store) -> Result<Vec<EndPort>, AllocE
 
 /// The end ports with their port GUIDs, in their order.
 fn sorted_end_ports(alloc: Global, store: &Store) -> Result<Vec<(Guid, EndPort)>, AllocError>
-    ensures { IfOk result (λ sorted. sorted.items ≡ in_order (filter_map (guid_and_port (cells_of store.now)) (cells_of store.now))) }
+    ensures { IfOk result (λ sorted. sorted.items
+        ≡ in_order (filter_map (guid_and_port (cells_of store.now)) (cells_of store.now))) }
 {
     let mut found = found_end_ports(alloc, store)?;
     sort(&mut found);
@@ -66,7 +67,8 @@ fn sorted_end_ports(alloc: Global, store: &Store) -> Result<Vec<(Guid, EndPort)>
 
 /// The end ports with their port GUIDs, in the order of keys.
 fn found_end_ports(alloc: Global, store: &Store) -> Result<Vec<(Guid, EndPort)>, AllocError>
-    ensures { IfOk result (λ found. found.items ≡ filter_map (guid_and_port (cells_of store.now)) (cells_of store.now)) }
+    ensures { IfOk result (λ found. found.items
+        ≡ filter_map (guid_and_port (cells_of store.now)) (cells_of store.now)) }
 {
     let mut found = Vec::new(alloc);
     for sighting in store.cells() {

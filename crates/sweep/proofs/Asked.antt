@@ -38,7 +38,8 @@ pub numbered_both : (next : ℕ) (first later : List Asking) → numbered next (
 numbered_both next [] later = let e : next ≡ next + 0 = omega arith in ap (λ n. numbered n later) e
 numbered_both next (a ∷ first) later =
     let e : next + 1 + length first ≡ next + suc (length first) = omega arith in
-    ap (λ rest. record { number = next; question = a.question; path = a.path; context = a.context } ∷ rest) (numbered_both (next + 1) first later ∙ ap (λ n. numbered (next + 1) first ++ numbered n later) e)
+    ap (λ rest. record { number = next; question = a.question; path = a.path; context = a.context } ∷ rest) (numbered_both (next + 1) first later
+    ∙ ap (λ n. numbered (next + 1) first ++ numbered n later) e)
 
 pub length_numbered : (next : ℕ) (asked : List Asking) → length (numbered next asked) ≡ length asked
 length_numbered next [] = refl
@@ -65,17 +66,20 @@ asked_none s e = record { next = omega arith; outstanding = refl; queued = sym e
 
 -- ports ----------------------------------------------------------------------------------------
 
-ports_suc : (port n : ℕ) (path : List ℕ) (context : Context) → port_questions port (suc n) path context ≡ port_questions port n path context ++ record { question = ask.Port (port + n); path = path; context = context } ∷ []
+ports_suc : (port n : ℕ) (path : List ℕ) (context : Context) → port_questions port (suc n) path context ≡ port_questions port n path context
+    ++ record { question = ask.Port (port + n); path = path; context = context } ∷ []
 ports_suc port zero path context =
     let e : port ≡ port + 0 = omega arith in
     ap (λ k. record { question = ask.Port k; path = path; context = context } ∷ []) e
 ports_suc port (suc n) path context =
     let e : port + 1 + n ≡ port + suc n = omega arith in
     ap (λ rest. record { question = ask.Port port; path = path; context = context } ∷ rest)
-    (ports_suc (port + 1) n path context ∙ ap (λ k. port_questions (port + 1) n path context ++ record { question = ask.Port k; path = path; context = context } ∷ []) e)
+    (ports_suc (port + 1) n path context ∙ ap (λ k. port_questions (port + 1) n path context ++ record { question = ask.Port k; path = path; context = context }
+    ∷ []) e)
 
 -- from the management port on
-pub ports_more : (n : ℕ) (path : List ℕ) (context : Context) → port_questions 0 (n + 1) path context ≡ port_questions 0 n path context ++ record { question = ask.Port n; path = path; context = context } ∷ []
+pub ports_more : (n : ℕ) (path : List ℕ) (context : Context) → port_questions 0 (n + 1) path context ≡ port_questions 0 n path context
+    ++ record { question = ask.Port n; path = path; context = context } ∷ []
 ports_more n path context =
     let e : 0 + n ≡ n = omega arith in
     ap (λ k. port_questions 0 k path context) (plus_one n) ∙ ports_suc 0 n path context
@@ -87,7 +91,8 @@ length_ports port (suc n) path context = ap suc (length_ports (port + 1) n path 
 
 -- a new vertex ----------------------------------------------------------------------------------
 
-pub switch_questions : (v : Vertex) → is_switch v.kind ≡ true → vertex_questions v ≡ record { question = ask.Switch; path = v.path; context = About v.guid } ∷ port_questions 0 (v.ports + 1) v.path (About v.guid)
+pub switch_questions : (v : Vertex) → is_switch v.kind ≡ true → vertex_questions v ≡ record { question = ask.Switch; path = v.path; context = About v.guid }
+    ∷ port_questions 0 (v.ports + 1) v.path (About v.guid)
 switch_questions v e = cond-true _ _ _ e
 
 pub length_switch : (v : Vertex) → is_switch v.kind ≡ true → length (vertex_questions v) ≡ v.ports + 2

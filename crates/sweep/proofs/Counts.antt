@@ -37,7 +37,8 @@ less : (s : Sweep) (r : Request) (i : ℕ) → Rises s → slice_get s.outstandi
 less s r i rising at =
     let within : i < length s.outstanding = slice_get_within s.outstanding i r at in
     let gone : without_number r.number s.outstanding ≡ remove s.outstanding i =
-    without_at s.outstanding i r (ordered_first (λ (a : Request) (b : Request). a.number < b.number) s.outstanding s.queued (rising_ordered 0 (s.outstanding ++ s.queued) s.next rising)) at in
+    without_at s.outstanding i r (ordered_first (λ (a : Request) (b : Request). a.number
+    < b.number) s.outstanding s.queued (rising_ordered 0 (s.outstanding ++ s.queued) s.next rising)) at in
     record {
       less = ap (λ l. length l + 1) gone ∙ length-remove s.outstanding i within;
       rising =
@@ -76,7 +77,8 @@ replies s packet r rising e =
       count = omega (arith, one.less, more, count);
     }
 
-hears_as : (s : Sweep) (packet : List ℕ) (f : Option SmpFault) (o : Option Request) → request_of s packet ≡ o → (answer : Answer) → judged_as s packet f ≡ Ok answer → Rises s → Steps s (after_reply_to s packet o) 1
+hears_as : (s : Sweep) (packet : List ℕ) (f : Option SmpFault) (o : Option Request) → request_of s packet ≡ o → (answer : Answer) → judged_as s packet f
+    ≡ Ok answer → Rises s → Steps s (after_reply_to s packet o) 1
 hears_as s packet (Some why) o e answer ok rising = absurd (cc)
 hears_as s packet None None e answer ok rising = absurd (cc (ap (judged_for s packet) e, ok))
 hears_as s packet None (Some r) e answer ok rising = replies s packet r rising e
@@ -85,7 +87,8 @@ hears : (s : Sweep) (packet : List ℕ) (j : Result Answer SweepFault) → judge
 hears s packet (Ok answer) e rising = hears_as s packet (fault_of packet) (request_of s packet) refl answer e rising
 hears s packet (Err why) e rising = stays s rising
 
-times_out : (s : Sweep) (transaction : ℕ) (o : Option Request) → request_with s.generation transaction s.outstanding ≡ o → Rises s → Steps s (after_timeout_of s o) 0
+times_out : (s : Sweep) (transaction : ℕ) (o : Option Request) → request_with s.generation transaction s.outstanding ≡ o → Rises s
+    → Steps s (after_timeout_of s o) 0
 times_out s transaction None e rising = stays s rising
 times_out s transaction (Some r) e rising =
     let at = found_somewhere (λ (q : Request). transaction_of s.generation q.number == transaction) s.outstanding r e in

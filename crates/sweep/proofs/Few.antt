@@ -60,7 +60,8 @@ vertex_few v ports = by (is_switch v.kind) refl
     by true e = let long = length_switch v e in let most = ports e in omega (arith, long, most)
     by false e = let long = length_adapter v e in omega (arith, long)
 
-vertex_if : (path : List ℕ) (v : Vertex) (t : Bool) → (t ≡ false → length (vertex_questions v) ≤ 256) → length (questions path (if t then Nothing else NewVertex v)) ≤ 256
+vertex_if : (path : List ℕ) (v : Vertex) (t : Bool) → (t ≡ false → length (vertex_questions v) ≤ 256)
+    → length (questions path (if t then Nothing else NewVertex v)) ≤ 256
 vertex_if path v true few = omega arith
 vertex_if path v false few = few refl
 
@@ -74,11 +75,13 @@ again_few s path info first =
     vertex_if path (vertex_of path info first.kind first.ports) (is_switch first.kind || known)
     (λ e. vertex_few (vertex_of path info first.kind first.ports) (λ t. absurd (cc (first_half (is_switch first.kind) known e, t))))
 
-anew_few : (context : Context) (path : List ℕ) (info : NodeInfo) (k : Option NodeType) → kind_fault context info k ≡ None → length (questions path (found_anew path info k)) ≤ 256
+anew_few : (context : Context) (path : List ℕ) (info : NodeInfo) (k : Option NodeType) → kind_fault context info k ≡ None
+    → length (questions path (found_anew path info k)) ≤ 256
 anew_few context path info None e = absurd (cc)
 anew_few context path info (Some kind) e = vertex_few (vertex_of path info kind info.num_ports) (λ t. kind_in_range context info kind e)
 
-node_few : (s : Sweep) (context : Context) (path : List ℕ) (info : NodeInfo) (first : Option Vertex) → kind_fault context info (type_of_number info.node_type) ≡ None → length (questions path (node_found_of s path info first)) ≤ 256
+node_few : (s : Sweep) (context : Context) (path : List ℕ) (info : NodeInfo) (first : Option Vertex) → kind_fault context info (type_of_number info.node_type)
+    ≡ None → length (questions path (node_found_of s path info first)) ≤ 256
 node_few s context path info None e = anew_few context path info (type_of_number info.node_type) e
 node_few s context path info (Some first) e = again_few s path info first
 
@@ -109,23 +112,28 @@ port_few s path (Some guid) port info = port_found_few path (port_finding_of s p
 
 -- what any reply brings up ---------------------------------------------------------------------
 
-node_kind_fault : (context : Context) (packet : List ℕ) → (number_in attribute_id packet == node_info) ≡ true → attribute_fault context packet ≡ None → kind_fault context (node_info_of packet) (type_of_number (node_info_of packet).node_type) ≡ None
+node_kind_fault : (context : Context) (packet : List ℕ) → (number_in attribute_id packet == node_info) ≡ true → attribute_fault context packet ≡ None
+    → kind_fault context (node_info_of packet) (type_of_number (node_info_of packet).node_type) ≡ None
 node_kind_fault context packet e f =
-    no_fault (not (fits_node_info context (number_in hop_count packet))) fault.Context _ (sym (cond-true (number_in attribute_id packet == node_info) _ _ e) ∙ f)
+    no_fault (not (fits_node_info context (number_in hop_count packet))) fault.Context _ (sym (cond-true (number_in attribute_id packet == node_info) _ _ e)
+    ∙ f)
 
 no_attribute : (report : Report) → report_fault report ≡ None → attribute_fault report.context report.bytes ≡ None
 no_attribute report f =
     or_else_none (packet_fault report.bytes) (attribute_fault report.context report.bytes) (no_fault (report.generation == 0) fault.Generation _ f)
 
-few_of : (s : Sweep) (r : Request) (packet : List ℕ) (q : Question) → (number_in attribute_id packet == attribute_asked q) ≡ true → fault_by q (report_for s r packet) ≡ None → length (questions r.path (finding_of s r packet q)) ≤ 256
+few_of : (s : Sweep) (r : Request) (packet : List ℕ) (q : Question) → (number_in attribute_id packet == attribute_asked q) ≡ true
+    → fault_by q (report_for s r packet) ≡ None → length (questions r.path (finding_of s r packet q)) ≤ 256
 few_of s r packet ask.Node e f =
-    node_few s r.context r.path (node_info_of packet) (first_vertex s.reached (node_info_of packet).node_guid) (node_kind_fault r.context packet e (no_attribute (report_for s r packet) f))
+    node_few s r.context r.path (node_info_of packet) (first_vertex s.reached (node_info_of packet).node_guid)
+    (node_kind_fault r.context packet e (no_attribute (report_for s r packet) f))
 few_of s r packet ask.Switch e f = omega arith
 few_of s r packet (ask.Port port) e f = port_few s r.path (about_of r.context) port (payload_of packet)
 few_of s r packet (ask.Manager guid port) e f = omega arith
 
 -- of a reply without a fault
-pub few_questions : (s : Sweep) (r : Request) (packet : List ℕ) → is_for packet r ≡ true → fault_for s r packet ≡ None → length (questions r.path (finding s r packet)) ≤ 256
+pub few_questions : (s : Sweep) (r : Request) (packet : List ℕ) → is_for packet r ≡ true → fault_for s r packet ≡ None
+    → length (questions r.path (finding s r packet)) ≤ 256
 few_questions s r packet e f = few_of s r packet r.question (and_parts _ _ e).0 f
 
 -- a path goes on only where it can --------------------------------------------------------------
@@ -145,7 +153,8 @@ reach_anew path info (Some kind) = tt
 
 reach_node : (s : Sweep) (path : List ℕ) (info : NodeInfo) (first : Option Vertex) → IsWithinReach path (node_found_of s path info first)
 reach_node s path info None = reach_anew path info (type_of_number info.node_type)
-reach_node s path info (Some first) = reach_if path (vertex_of path info first.kind first.ports) (is_switch first.kind || is_some (vertex_at s.reached info.node_guid info.local_port_num))
+reach_node s path info (Some first) =
+    reach_if path (vertex_of path info first.kind first.ports) (is_switch first.kind || is_some (vertex_at s.reached info.node_guid info.local_port_num))
 
 reach_port : (s : Sweep) (path : List ℕ) (about : Option ℕ) (port : ℕ) (info : List ℕ) → IsWithinReach path (port_found s path about port info)
 reach_port s path None port info = tt

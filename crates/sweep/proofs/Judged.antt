@@ -36,7 +36,8 @@ reply_judged s r packet positive parses =
     ∙ ap (λ (f : Option SmpFault). or_else (or_else (option_map Smp f) (answer_fault packet)) (attribute_fault r.context packet)) parses
 
 -- and so is the reply to a request, where it isn't one of SMInfo
-pub fault_is_reply : (s : Sweep) (r : Request) (packet : List ℕ) (q : Question) → ((guid port : ℕ) → q ≡ ask.Manager guid port → ⊥) → 0 < s.generation → fault_of packet ≡ None
+pub fault_is_reply : (s : Sweep) (r : Request) (packet : List ℕ) (q : Question) → ((guid port : ℕ) → q ≡ ask.Manager guid port → ⊥) → 0 < s.generation
+    → fault_of packet ≡ None
     → fault_by q (report_for s r packet) ≡ reply_fault r.context packet
 fault_is_reply s r packet ask.Node other positive parses = reply_judged s r packet positive parses
 fault_is_reply s r packet ask.Switch other positive parses = reply_judged s r packet positive parses

@@ -96,7 +96,8 @@ pub record Remains (rs : List Request) (sent i : ℕ) (r : Request) : Type 0 whe
   pub within : sent - 1 ≤ length (remove rs i)
   pub some : 0 < sent
 
-pub remains : (rs : List Request) (sent i next : ℕ) (r : Request) → AreRising 0 (take sent rs ++ drop sent rs) next → sent ≤ length rs → slice_get (take sent rs) i ≡ Some r → Remains rs sent i r
+pub remains : (rs : List Request) (sent i next : ℕ) (r : Request) → AreRising 0 (take sent rs ++ drop sent rs) next → sent ≤ length rs
+    → slice_get (take sent rs) i ≡ Some r → Remains rs sent i r
 remains rs sent i next r rising le at =
     let xs : List Request = take sent rs in
     let ys : List Request = drop sent rs in
@@ -105,7 +106,8 @@ remains rs sent i next r rising le at =
     let count = length-remove xs i lt in
     let n : sent - 1 ≡ length (remove xs i) = omega (arith, count, long) in
     let whole : remove rs i ≡ remove xs i ++ ys = ap (λ l. remove l i) (sym (take-append-drop sent rs)) ∙ remove-append_left xs ys i lt in
-    let gone : without_number r.number xs ≡ remove xs i = without_at xs i r (ordered_first (λ a b. a.number < b.number) xs ys (rising_ordered 0 (xs ++ ys) next rising)) at in
+    let gone : without_number r.number xs ≡ remove xs i =
+    without_at xs i r (ordered_first (λ a b. a.number < b.number) xs ys (rising_ordered 0 (xs ++ ys) next rising)) at in
     record {
       first = ap (λ l. take (sent - 1) l) whole ∙ ap (λ k. take k (remove xs i ++ ys)) n ∙ take-append_seam (remove xs i) ys ∙ sym gone;
       later = ap (λ l. drop (sent - 1) l) whole ∙ ap (λ k. drop k (remove xs i ++ ys)) n ∙ drop-append_seam (remove xs i) ys;

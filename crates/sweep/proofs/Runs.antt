@@ -21,13 +21,22 @@ Rises least s = AreRising least s.queued s.next
 abbrev GoOut : ℕ → List ℕ → Type 0
 GoOut least numbers = AllByRecursion (λ n. least ≤ n) numbers × AreOrdered (λ a b. a < b) numbers
 
-sends : (s : Sweep) (least : ℕ) (events : List Event) (q : List Request) → s.queued ≡ q → Rises least s → ((t : Sweep) (l : ℕ) → Rises l t → GoOut l (numbers_sent t events)) → GoOut least (first_number q ++ numbers_sent (after_next_request_of s q).sweep events)
+sends : (s : Sweep) (least : ℕ) (events : List Event) (q : List Request) → s.queued ≡ q → Rises least s
+    → ((t : Sweep) (l : ℕ) → Rises l t → GoOut l (numbers_sent t events))
+    → GoOut least (first_number q ++ numbers_sent (after_next_request_of s q).sweep events)
 sends s least events [] e rising rest = rest s least rising
 sends s least events (r ∷ q) e rising rest =
     let split : AreRising least (r ∷ q) s.next = subst (λ (l : List Request). AreRising least l s.next) e rising in
     let later = rest (after_next_request_of s (r ∷ q)).sweep (r.number + 1) split.1 in (
-      (split.0, all_map (λ n. r.number + 1 ≤ n) (λ n. least ≤ n) (λ n h. omega (arith, h, split.0)) (numbers_sent (after_next_request_of s (r ∷ q)).sweep events) later.0),
-      (all_map (λ n. r.number + 1 ≤ n) (λ n. r.number < n) (λ n h. omega (arith, h)) (numbers_sent (after_next_request_of s (r ∷ q)).sweep events) later.0, later.1),
+      (
+        split.0,
+        all_map (λ n. r.number + 1 ≤ n) (λ n. least
+            ≤ n) (λ n h. omega (arith, h, split.0)) (numbers_sent (after_next_request_of s (r ∷ q)).sweep events) later.0,
+      ),
+      (
+        all_map (λ n. r.number + 1 ≤ n) (λ n. r.number < n) (λ n h. omega (arith, h)) (numbers_sent (after_next_request_of s (r ∷ q)).sweep events) later.0,
+        later.1,
+      ),
     )
 
 replied_rises : (s : Sweep) (packet : List ℕ) (least : ℕ) (o : Option Request) → Rises least s → Rises least (after_reply_to s packet o)
@@ -47,7 +56,8 @@ go_out [] s least rising = (tt, tt)
 go_out (Sends ∷ events) s least rising = sends s least events s.queued refl rising (λ t l h. go_out events t l h)
 go_out (Hears packet ∷ events) s least rising = go_out events (heard s packet (judged s packet)) least (heard_rises s packet least (judged s packet) rising)
 go_out (TimesOut transaction ∷ events) s least rising =
-    go_out events (after_timeout_of s (request_with s.generation transaction s.outstanding)) least (timed_out_rises s least (request_with s.generation transaction s.outstanding) rising)
+    go_out events (after_timeout_of s (request_with s.generation transaction s.outstanding)) least
+    (timed_out_rises s least (request_with s.generation transaction s.outstanding) rising)
 
 pub numbers_rise : NumbersRise
 numbers_rise origin generation first events =

@@ -65,7 +65,8 @@ vertices_ordered Nothing reached ordered = ordered
 vertices_ordered (NewVertex v) reached ordered = placed_ordered vertex_key v reached ordered
 vertices_ordered (Port found) reached ordered = ordered
 
-state_ordered : (guid port : ℕ) (state : Option PortState) (states : List SeenState) → AreInOrder state_key states → AreInOrder state_key (with_state_of guid port state states)
+state_ordered : (guid port : ℕ) (state : Option PortState) (states : List SeenState) → AreInOrder state_key states
+    → AreInOrder state_key (with_state_of guid port state states)
 state_ordered guid port None states ordered = ordered
 state_ordered guid port (Some state) states ordered = placed_ordered state_key (record { guid = guid; port = port; state = state }) states ordered
 
@@ -101,7 +102,8 @@ pub record HasPut (f : Finding) (old new : Discovered) : Type 0 where
   pub states : new.states ≡ with_state f old.states
   pub too_far : new.too_far ≡ old.too_far + too_far_by f
 
-module _ (s : Sweep) (packet : List ℕ) (accepted : Accepted) (ok : IsAccepted s packet accepted) (mid new : SweepRequests) (before after : Discovered) (ready : IsReady s mid before) (taken : HasTaken accepted.index accepted.finding mid new) where
+module _ (s : Sweep) (packet : List ℕ) (accepted : Accepted) (ok : IsAccepted s packet accepted) (mid new : SweepRequests) (before after : Discovered)
+    (ready : IsReady s mid before) (taken : HasTaken accepted.index accepted.finding mid new) where
   same_request : taken.request ≡ ok.request
   same_request = some_is taken.request ok.request (sym taken.waited ∙ ap (λ l. slice_get l accepted.index) ready.outstanding ∙ ok.waits)
 
@@ -128,16 +130,34 @@ module _ (s : Sweep) (packet : List ℕ) (accepted : Accepted) (ok : IsAccepted 
       omega (arith, ap length queued_then, count, both, ok.few)
 
   pub valid_then : IsSweep s → HasPut accepted.finding before after
-      → IsSweep (record s { next = new.next; queued = new.queued; outstanding = new.outstanding; reached = after.reached; states = after.states; too_far = after.too_far })
+      → IsSweep (record s {
+        next = new.next;
+        queued = new.queued;
+        outstanding = new.outstanding;
+        reached = after.reached;
+        states = after.states;
+        too_far =
+            after.too_far;
+      })
   valid_then valid put =
-      valid_ended s (record s { next = new.next; queued = new.queued; outstanding = new.outstanding; reached = after.reached; states = after.states; too_far = after.too_far }) accepted.index ok.request (questions ok.request.path accepted.finding) valid
+      valid_ended s (record s {
+        next = new.next;
+        queued = new.queued;
+        outstanding = new.outstanding;
+        reached = after.reached;
+        states = after.states;
+        too_far =
+            after.too_far;
+      }) accepted.index ok.request (questions ok.request.path accepted.finding) valid
       (record {
         waited = ok.waits;
         next = next_then;
         fits = omega (arith, next_then, ok.number);
         outstanding = outstanding_then;
         queued = queued_then;
-        reached = subst (AreInOrder vertex_key) (sym (put.reached ∙ ap (with_vertex accepted.finding) ready.reached)) (vertices_ordered accepted.finding s.reached valid.reached);
-        states = subst (AreInOrder state_key) (sym (put.states ∙ ap (with_state accepted.finding) ready.states)) (states_ordered accepted.finding s.states valid.states);
+        reached = subst (AreInOrder vertex_key) (sym (put.reached ∙ ap (with_vertex accepted.finding) ready.reached))
+            (vertices_ordered accepted.finding s.reached valid.reached);
+        states = subst (AreInOrder state_key) (sym (put.states ∙ ap (with_state accepted.finding) ready.states))
+            (states_ordered accepted.finding s.states valid.states);
         counted = let once = too_far_once accepted.finding in omega (arith, put.too_far, ready.too_far, once);
       })

@@ -49,7 +49,8 @@ pub record HasEnded (s t : Sweep) (index : ℕ) (r : Request) (asked : List Aski
 pub valid_ended : (s t : Sweep) (index : ℕ) (r : Request) (asked : List Asking) → IsSweep s → HasEnded s t index r asked → IsSweep t
 valid_ended s t index r asked valid ended =
     let within : index < length s.outstanding = slice_get_within s.outstanding index r ended.waited in
-    let ordered = ordered_first (λ (a : Request) (b : Request). a.number < b.number) s.outstanding s.queued (rising_ordered 0 (s.outstanding ++ s.queued) s.next valid.rising) in
+    let ordered = ordered_first (λ (a : Request) (b : Request). a.number
+    < b.number) s.outstanding s.queued (rising_ordered 0 (s.outstanding ++ s.queued) s.next valid.rising) in
     let gone : without_number r.number s.outstanding ≡ remove s.outstanding index = without_at s.outstanding index r ordered ended.waited in
     let left : remove (s.outstanding ++ s.queued) index ≡ remove s.outstanding index ++ s.queued = remove-append_left s.outstanding s.queued index within in
     let all : t.outstanding ++ t.queued ≡ remove (s.outstanding ++ s.queued) index ++ numbered s.next asked =

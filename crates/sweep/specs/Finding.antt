@@ -67,7 +67,8 @@ is_start (port ∷ path) = false
 -- a port of a switch, but not its management port, nor the one that leads back
 abbrev pub is_way_on : Sweep → ℕ → ℕ → Bool
 is_way_on s guid port =
-    option_map_or (λ first. is_switch first.kind && (not (port == 0) && not (port == first.arrival))) (first_vertex s.reached guid) false
+    option_map_or (λ first. is_switch first.kind
+    && (not (port == 0) && not (port == first.arrival))) (first_vertex s.reached guid) false
 
 -- the port that the sweep goes out by, or one of a switch
 abbrev pub goes_by : Sweep → List ℕ → ℕ → ℕ → Bool
@@ -138,7 +139,8 @@ port_questions port (suc more) path context =
 abbrev pub vertex_questions : Vertex → List Asking
 vertex_questions v =
     if is_switch v.kind
-    then record { question = ask.Switch; path = v.path; context = About v.guid } ∷ port_questions 0 (v.ports + 1) v.path (About v.guid)
+    then record { question = ask.Switch; path = v.path; context = About v.guid }
+    ∷ port_questions 0 (v.ports + 1) v.path (About v.guid)
     else record { question = ask.Port v.port; path = v.path; context = About v.guid } ∷ []
 
 -- the manager at the port, over the same path
@@ -151,12 +153,14 @@ manager_questions path found =
 -- the node across the port, over the path with the port at its end
 abbrev pub onward_questions : List ℕ → ℕ → ℕ → Onward → List Asking
 onward_questions path guid port Stays = []
-onward_questions path guid port Leads = record { question = ask.Node; path = path ++ port ∷ []; context = Via guid port } ∷ []
+onward_questions path guid port Leads =
+    record { question = ask.Node; path = path ++ port ∷ []; context = Via guid port } ∷ []
 onward_questions path guid port TooFar = []
 
 -- the manager before the node across
 abbrev pub port_found_questions : List ℕ → PortFinding → List Asking
-port_found_questions path found = manager_questions path found ++ onward_questions path found.guid found.port found.onward
+port_found_questions path found =
+    manager_questions path found ++ onward_questions path found.guid found.port found.onward
 
 abbrev pub questions : List ℕ → Finding → List Asking
 questions path Nothing = []
@@ -173,7 +177,8 @@ with_vertex (Port found) reached = reached
 -- a reserved number is no state
 abbrev pub with_state_of : ℕ → ℕ → Option PortState → List SeenState → List SeenState
 with_state_of guid port None states = states
-with_state_of guid port (Some state) states = placed state_key (record { guid = guid; port = port; state = state }) states
+with_state_of guid port (Some state) states =
+    placed state_key (record { guid = guid; port = port; state = state }) states
 
 abbrev pub with_state : Finding → List SeenState → List SeenState
 with_state Nothing states = states
@@ -193,7 +198,12 @@ too_far_by (Port found) = one_too_far found.onward
 -- with what was found, and the questions that it brings up
 abbrev pub with_finding : Sweep → List ℕ → Finding → Sweep
 with_finding s path found =
-    record (asking s (questions path found)) { reached = with_vertex found s.reached; states = with_state found s.states; too_far = s.too_far + too_far_by found }
+    record (asking s (questions path found)) {
+      reached = with_vertex found s.reached;
+      states =
+          with_state found s.states;
+      too_far = s.too_far + too_far_by found;
+    }
 
 -- a path goes on only where it is not at its greatest length
 abbrev pub IsPathWithinReach : List ℕ → Onward → Type 0

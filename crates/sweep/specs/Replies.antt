@@ -27,7 +27,8 @@ is_for packet r = is_of packet (attribute_asked r.question) (modifier_asked r.qu
 -- and so is the TransactionID
 abbrev pub belongs : ℕ → List ℕ → Request → Bool
 belongs generation packet r =
-    answers packet (transaction_of generation r.number) (attribute_asked r.question) (modifier_asked r.question) (Some r.path)
+    answers packet (transaction_of generation r.number) (attribute_asked r.question) (modifier_asked r.question)
+    (Some r.path)
 
 -- the request that waits for this reply
 abbrev pub request_of : Sweep → List ℕ → Option Request
@@ -88,7 +89,8 @@ sightings_by (Seen guid port info) = []
 -- the request has ended, and what its reply brings up is queued
 abbrev pub after_reply_to : Sweep → List ℕ → Option Request → Sweep
 after_reply_to s packet None = s
-after_reply_to s packet (Some r) = with_finding (record s { outstanding = without_number r.number s.outstanding }) r.path (finding s r packet)
+after_reply_to s packet (Some r) =
+    with_finding (record s { outstanding = without_number r.number s.outstanding }) r.path (finding s r packet)
 
 -- the sweep after a reply that it takes
 abbrev pub after_reply : Sweep → List ℕ → Sweep

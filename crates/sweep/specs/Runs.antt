@@ -40,7 +40,8 @@ numbers_sent s (e ∷ events) = number_sent s e ++ numbers_sent (step s e) event
 
 -- they rise, so no number is used twice
 abbrev pub NumbersRise : Type 0
-NumbersRise = (origin generation first : ℕ) (events : List Event) → AreOrdered (λ a b. a < b) (numbers_sent (started origin generation first) events)
+NumbersRise = (origin generation first : ℕ) (events : List Event)
+    → AreOrdered (λ a b. a < b) (numbers_sent (started origin generation first) events)
 
 -- how many replies are taken
 abbrev pub taken_by : Result Answer SweepFault → ℕ
@@ -70,4 +71,5 @@ unended s = s.unanswered + (length s.outstanding + length s.queued)
 abbrev pub EachCounts : Type 0
 EachCounts =
     (origin generation first : ℕ) (events : List Event) →
-    first + replies_taken (started origin generation first) events + unended (after (started origin generation first) events) ≡ (after (started origin generation first) events).next
+    first + replies_taken (started origin generation first) events
+    + unended (after (started origin generation first) events) ≡ (after (started origin generation first) events).next

@@ -17,8 +17,9 @@ use Rattle.request_table.specs.Numbers as numbers
 use Rattle.sweep.specs.Order.{AreInOrder, found_at}
 
 -- The port that it goes out by and its generation; the number of the next request; the requests that are to be sent and
--- those that wait for a reply, both first in, first out; the vertices that were reached and the states of ports that were
--- seen, in the order of GUIDs and ports; how many requests were not answered, and how many ports lead further than a path.
+-- those that wait for a reply, both first in, first out; the vertices that were reached and the states of ports that
+-- were seen, in the order of GUIDs and ports; how many requests were not answered, and how many ports lead further than
+-- a path.
 pub record Sweep : Type 0 where
   pub origin : ℕ
   pub generation : ℕ
@@ -51,7 +52,8 @@ transaction_of generation number = generation * 2 ^ 32 + number
 -- a Get over the request's path, with no data
 abbrev pub packet_of : ℕ → Request → List ℕ
 packet_of generation r =
-    directed get (attribute_asked r.question) (modifier_asked r.question) (transaction_of generation r.number) r.path (replicate 64 0)
+    directed get (attribute_asked r.question) (modifier_asked r.question) (transaction_of generation r.number) r.path
+    (replicate 64 0)
 
 -- what comes up is asked ----------------------------------------------------------------
 
@@ -64,7 +66,8 @@ pub record Asking : Type 0 where
 -- the questions as requests, by rising numbers
 abbrev pub numbered : ℕ → List Asking → List Request
 numbered number [] = []
-numbered number (a ∷ asked) = record { number = number; question = a.question; path = a.path; context = a.context } ∷ numbered (number + 1) asked
+numbered number (a ∷ asked) =
+    record { number = number; question = a.question; path = a.path; context = a.context } ∷ numbered (number + 1) asked
 
 -- with these questions at the end of the queue, numbered on from the last
 abbrev pub asking : Sweep → List Asking → Sweep
@@ -102,7 +105,11 @@ pub record Sent : Type 0 where
 abbrev pub after_next_request_of : Sweep → List Request → Sent
 after_next_request_of s [] = record { sweep = s; packet = None }
 after_next_request_of s (r ∷ queued) =
-    record { sweep = record s { queued = queued; outstanding = s.outstanding ++ r ∷ [] }; packet = Some (packet_of s.generation r) }
+    record {
+      sweep = record s { queued = queued; outstanding = s.outstanding ++ r ∷ [] };
+      packet =
+          Some (packet_of s.generation r);
+    }
 
 -- the first of the queue goes out, and waits for its reply from then on
 abbrev pub after_next_request : Sweep → Sent
@@ -118,11 +125,13 @@ request_with generation transaction requests = find (λ r. transaction_of genera
 
 -- only a request that waits can time out
 abbrev pub timeout_fault : Sweep → ℕ → Option SweepFault
-timeout_fault s transaction = if is_some (request_with s.generation transaction s.outstanding) then None else Some NotOutstanding
+timeout_fault s transaction =
+    if is_some (request_with s.generation transaction s.outstanding) then None else Some NotOutstanding
 
 abbrev pub after_timeout_of : Sweep → Option Request → Sweep
 after_timeout_of s None = s
-after_timeout_of s (Some r) = record s { outstanding = without_number r.number s.outstanding; unanswered = s.unanswered + 1 }
+after_timeout_of s (Some r) =
+    record s { outstanding = without_number r.number s.outstanding; unanswered = s.unanswered + 1 }
 
 -- a request that timed out waits no more, and counts as one that was not answered
 abbrev pub after_timeout : Sweep → ℕ → Sweep

@@ -30,7 +30,13 @@ impl Model for Discovered {
 
     ghost Value = { Discovered };
 
-    ghost view = { λ a. record { reached = a.vertices.items; states = a.seen.items; too_far = a.too_far; vertex_room = vec_capacity a.vertices - vec_len a.vertices; state_room = a.seen.room } };
+    ghost view = { λ a. record {
+      reached = a.vertices.items;
+      states = a.seen.items;
+      too_far = a.too_far;
+      vertex_room = vec_capacity a.vertices - vec_len a.vertices;
+      state_room = a.seen.room;
+    } };
 }
 
 /// By GUID, and under one GUID by port.

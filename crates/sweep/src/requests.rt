@@ -38,7 +38,12 @@ impl Model for SweepRequests {
 
     ghost Value = { SweepRequests };
 
-    ghost view = { λ a. record { next = a.table.next; outstanding = take a.sent a.table.requests; queued = drop a.sent a.table.requests; room = a.table.room } };
+    ghost view = { λ a. record {
+      next = a.table.next;
+      outstanding = take a.sent a.table.requests;
+      queued = drop a.sent a.table.requests;
+      room = a.table.room;
+    } };
 
     ghost invariant = { λ a. a.sent ≤ length a.table.requests };
 }

@@ -30,9 +30,31 @@ impl Model for Sweep {
 
     ghost Value = { Sweep };
 
-    ghost view = { λ a. record { origin = a.origin; generation = a.generation; next = a.requests.next; queued = a.requests.queued; outstanding = a.requests.outstanding; reached = a.found.reached; states = a.found.states; unanswered = a.unanswered; too_far = a.found.too_far } };
+    ghost view = { λ a. record {
+      origin = a.origin;
+      generation = a.generation;
+      next = a.requests.next;
+      queued = a.requests.queued;
+      outstanding = a.requests.outstanding;
+      reached = a.found.reached;
+      states = a.found.states;
+      unanswered = a.unanswered;
+      too_far = a.found.too_far;
+    } };
 
-    ghost invariant = { λ a. IsSweep (record { origin = a.origin; generation = a.generation; next = a.requests.next; queued = a.requests.queued; outstanding = a.requests.outstanding; reached = a.found.reached; states = a.found.states; unanswered = a.unanswered; too_far = a.found.too_far }) };
+    ghost invariant = { λ a. IsSweep (record {
+      origin = a.origin;
+      generation = a.generation;
+      next = a.requests.next;
+      queued =
+          a.requests.queued;
+      outstanding = a.requests.outstanding;
+      reached = a.found.reached;
+      states =
+          a.found.states;
+      unanswered = a.unanswered;
+      too_far = a.found.too_far;
+    }) };
 }
 
 impl Sweep {

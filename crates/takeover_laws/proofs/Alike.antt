@@ -106,7 +106,8 @@ module _ (x y : Facts) (alike : IsAlike (cells_of x) (cells_of y)) where
       (λ e h. ((end_ports_law y).0 e).1 ((alike.end_ports e.node e.port).0 (((end_ports_law x).0 e).0 h)))
       (λ e h. ((end_ports_law x).0 e).1 ((alike.end_ports e.node e.port).1 (((end_ports_law y).0 e).0 h)))
     where
-      clash : (a b : EndPort) → Contains (end_ports (cells_of x)) a → Contains (end_ports (cells_of x)) b → ComesBefore (cells_of x) a b → ComesBefore (cells_of y) b a → ⊥
+      clash : (a b : EndPort) → Contains (end_ports (cells_of x)) a → Contains (end_ports (cells_of x)) b → ComesBefore (cells_of x) a b
+          → ComesBefore (cells_of y) b a → ⊥
       clash a b h k before after =
           let (m, one) = guid_in_x x a h in
           let (n, other) = guid_in_x x b k in

@@ -78,7 +78,8 @@ module _ {start : Simulation} {seat : NodePort} (cables : AreCables start) (coun
     r : Request
     r = (swept.accepted_as cables counts can cabled s sound bytes is answer taken).request
 
-    by_question : (request : Request) → IsFor bytes request → directed_end (fabric_of start) seat request.path ≡ Some (is_answer AnySends (LidSo start) start seat bytes lids
+    by_question : (request : Request) → IsFor bytes request → directed_end (fabric_of start) seat request.path
+        ≡ Some (is_answer AnySends (LidSo start) start seat bytes lids
         (swept.accepted_as cables counts can cabled s sound bytes is answer taken).good.directed
         (swept.accepted_as cables counts can cabled s sound bytes is answer taken).good.returning).is.end
         → (q : Question) → request.question ≡ q → (context : Context) → Asks (fabric_of start) seat request.path q context
@@ -107,9 +108,11 @@ module _ {start : Simulation} {seat : NodePort} (cables : AreCables start) (coun
         let said = back.is.tells (sym (same_status AnySends (LidSo start) start seat bytes back) ∙ good.done_is)
         (sym (same_attribute AnySends (LidSo start) start seat bytes back) ∙ attribute) asks.to.node here in
         let means : port_asked asks.to.node (number_in attribute_modifier back.answer) back.is.end.port ≡ number_in attribute_modifier bytes =
-        (λ j. port_asked asks.to.node ((sym (same_modifier AnySends (LidSo start) start seat bytes back) ∙ modifier) j) (sym (ap (λ (p : NodePort). p.port) ends) j))
+        (λ j. port_asked asks.to.node ((sym (same_modifier AnySends (LidSo start) start seat bytes back)
+        ∙ modifier) j) (sym (ap (λ (p : NodePort). p.port) ends) j))
         ∙ asks.means ∙ sym modifier in
-        let lid : f.base_lid (record { node = asks.to.end.node; port = number_in attribute_modifier bytes }) ≡ number_in base_lid (bytes_in attribute_data bytes) =
+        let lid : f.base_lid (record { node = asks.to.end.node; port = number_in attribute_modifier bytes })
+        ≡ number_in base_lid (bytes_in attribute_data bytes) =
         (λ j. f.base_lid (record { node = (ap (λ (p : NodePort). p.node) ends) j; port = sym means j })) ∙ sym said
         ∙ sym (ap (number_in base_lid) (same_data AnySends (LidSo start) start seat bytes back)) in
         subst (AllByRecursion (IsTrueClaim (fabric_of start))) (sym (ap (λ n. cond (n == node_info) (sightings_by_node_info s.generation (About guid) bytes)

@@ -119,13 +119,15 @@ module _ (g p : ℕ) where
 
 -- what is known of a LID ---------------------------------------------------------------------------
 
-module _ (f : Fabric) (distinct : AreGuidsDistinct f) (told : Sightings) (all : AllByRecursion (IsTrueSighting f) told) (claims : AllByRecursion (IsTrueClaim f) told)
+module _ (f : Fabric) (distinct : AreGuidsDistinct f) (told : Sightings) (all : AllByRecursion (IsTrueSighting f) told)
+    (claims : AllByRecursion (IsTrueClaim f) told)
     (g p id : ℕ) (node : fabric.Node) (has : HasNode f g id node) where
   abbrev lid : ℕ
   lid = f.base_lid (record { node = id; port = p })
 
   only : (v : Value) → IsTrueOf f (Claim g p) v → IsTrueClaimOf f (Claim g p) v → v ≡ Lid (f.base_lid (record { node = id; port = p }))
-  only (Lid n) t (at, other, is, same) = let there = same_node f distinct is has in ap Lid (sym same ∙ ap (λ k. f.base_lid (record { node = k; port = p })) there.0)
+  only (Lid n) t (at, other, is, same) = let there =
+      same_node f distinct is has in ap Lid (sym same ∙ ap (λ k. f.base_lid (record { node = k; port = p })) there.0)
   only (Kind kind ports) t c = absurd t
   only (Guid guid) t c = absurd t
   only (Peer peer port) t c = absurd t
@@ -189,7 +191,8 @@ module _ {f : Fabric} {seat : NodePort} (can : CanBeSwept f seat) (is_fabric : I
       let (n, walk) = is.in_part in
       let r = was_reached can is_fabric at_seat seat_there s told c none all port node is.node_there (all_reached n seat port seat_reached walk) in
       let (other, there, its_number) = is.end_port in
-      let number : IsEndPortNumber node port.port = subst (λ (x : fabric.Node). IsEndPortNumber x port.port) (same_Some _ _ (sym there ∙ is.node_there)) its_number in
+      let number : IsEndPortNumber node port.port =
+      subst (λ (x : fabric.Node). IsEndPortNumber x port.port) (same_Some _ _ (sym there ∙ is.node_there)) its_number in
       let kind : r.v.kind ≡ node.kind = r.covers.kind ∙ ap (λ (x : fabric.Node). x.kind) r.same in
       subst (λ x. HasKey told (Port x port.port)) r.guid
       (answered_port can is_fabric at_seat seat_there s told c none all r.v r.covers port.port
@@ -282,5 +285,6 @@ swept_claims_are_true w generation first events begins all lids whole = swept_cl
 
 pub takeovers_change_nothing : TakeoversChangeNothing
 takeovers_change_nothing rule lmc facts w generation first events begins all has_room agrees holds lids whole =
-    held_plan (IsJoinedTo (fabric_of w.scene.fabric) w.seat) (fabric_of w.scene.fabric) rule lmc facts (facts_of (after_sweep_events events w).reports) has_room agrees
+    held_plan (IsJoinedTo (fabric_of w.scene.fabric) w.seat) (fabric_of w.scene.fabric) rule lmc facts (facts_of (after_sweep_events events w).reports) has_room
+    agrees
     (done_sweeps_are_complete w generation first events begins all whole).at_first holds (swept_claims w generation first begins events all lids whole)

@@ -87,7 +87,11 @@ starts =
 abbrev sweeping_with : ℕ → Managing
 sweeping_with generation =
     record beginning {
-      manager = with_sweep (record (new_manager 17 1 0 its_planning) { standing = active_once_more (new_manager 17 1 0 its_planning).standing; seen = [] }) (started 1 generation 1);
+      manager = with_sweep (record (new_manager 17 1 0 its_planning) {
+        standing = active_once_more (new_manager 17 1 0 its_planning).standing;
+        seen =
+            [];
+      }) (started 1 generation 1);
     }
 
 may_begin : begin_fault (new_manager 17 1 0 its_planning) ≡ None
@@ -95,7 +99,8 @@ may_begin = ap (λ n. if n == 2 ^ 32 - 1 then Some GenerationsSpent else None) n
 
 begun : after_manager_event beginning Begin ≡ sweeping_with 1
 begun =
-    ap (λ o. record beginning { manager = if is_none o then after_begin_sweep (new_manager 17 1 0 its_planning) else new_manager 17 1 0 its_planning }) may_begin
+    ap (λ o. record beginning { manager = if is_none o then after_begin_sweep (new_manager 17 1 0 its_planning) else new_manager 17 1 0 its_planning })
+    may_begin
     ∙ ap (λ n. sweeping_with (max (n + 1) 1)) nothing_newest
 
 -- so many deliveries of a packet
@@ -188,7 +193,8 @@ holds_at zero p node there number =
     first same = subst (λ (n : fabric.Node). HoldsPlanAt plan (fabric_of network) (port 0 p) n) same
         (by_port p (subst (λ (n : fabric.Node). IsEndPortNumber n p) (sym same) number))
       where
-        by_port : (p : ℕ) → IsEndPortNumber (node_of (with_lid (bare_agent 0) 1 2)) p → HoldsPlanAt plan (fabric_of network) (port 0 p) (node_of (with_lid (bare_agent 0) 1 2))
+        by_port : (p : ℕ) → IsEndPortNumber (node_of (with_lid (bare_agent 0) 1 2)) p
+            → HoldsPlanAt plan (fabric_of network) (port 0 p) (node_of (with_lid (bare_agent 0) 1 2))
         by_port zero within = absurd (omega (arith, within.0))
         by_port (suc zero) within = record { lids = refl; top = λ switch. absurd (cc); blocks = λ b block e. absurd (no_block_first b block e) }
         by_port (suc (suc p)) within = absurd (omega (arith, within.1))
@@ -216,7 +222,8 @@ holds_at (suc (suc zero)) p node there number = third (same_Some _ _ there)
     third same = subst (λ (n : fabric.Node). HoldsPlanAt plan (fabric_of network) (port 2 p) n) same
         (by_port p (subst (λ (n : fabric.Node). IsEndPortNumber n p) (sym same) number))
       where
-        by_port : (p : ℕ) → IsEndPortNumber (node_of (with_lid (bare_agent 2) 1 7)) p → HoldsPlanAt plan (fabric_of network) (port 2 p) (node_of (with_lid (bare_agent 2) 1 7))
+        by_port : (p : ℕ) → IsEndPortNumber (node_of (with_lid (bare_agent 2) 1 7)) p
+            → HoldsPlanAt plan (fabric_of network) (port 2 p) (node_of (with_lid (bare_agent 2) 1 7))
         by_port zero within = absurd (omega (arith, within.0))
         by_port (suc zero) within = record { lids = refl; top = λ switch. absurd (cc); blocks = λ b block e. absurd (no_block_last b block e) }
         by_port (suc (suc p)) within = absurd (omega (arith, within.1))
@@ -344,7 +351,8 @@ keeps = all_keep plan (fabric_of network) (port 0 1) (phases_from cells) after (
 
 abbrev to_agents : List ManagerEvent
 to_agents =
-    trip 0 0 ++ (trip 1 0 ++ (trip 2 1 ++ (trip 3 1 ++ (trip 4 1 ++ (trip 5 1 ++ (trip 6 1 ++ (trip 7 2 ++ (trip 8 2 ++ (Take ∷ Send 9 ∷ deliveries 2 18)))))))))
+    trip 0 0 ++ (trip 1 0
+    ++ (trip 2 1 ++ (trip 3 1 ++ (trip 4 1 ++ (trip 5 1 ++ (trip 6 1 ++ (trip 7 2 ++ (trip 8 2 ++ (Take ∷ Send 9 ∷ deliveries 2 18)))))))))
 
 abbrev answers_it : ManagerEvent
 answers_it = Around (SendFrom (port 2 1) (Answer 9 0 (replicate 64 0)))
@@ -362,7 +370,8 @@ at_is = ap (after_manager_events between) begun
 
 kept_then : AllKeep (plan_at swept) (own_sets beginning swept) after (after_manager_event swept Write)
 kept_then =
-    keeps_by beginning swept its_planning (Some (sweep_in swept.manager.sweep)) cells after planning_is (sweep_there swept.manager.sweep has_swept) known may_write keeps
+    keeps_by beginning swept its_planning (Some (sweep_in swept.manager.sweep)) cells after planning_is (sweep_there swept.manager.sweep has_swept) known
+    may_write keeps
 
 run : IsWritingRun beginning [] between after
 run =
@@ -394,7 +403,8 @@ sweeps =
 agrees : AgreesOn (IsJoinedTo (fabric_of network) (port 0 1)) (cells_of swept.manager.store) (fabric_of network)
 agrees =
     subst (λ (x : Managing). AgreesOn (IsJoinedTo (fabric_of network) (port 0 1)) (cells_of x.manager.store) (fabric_of network)) at_is
-    (found_agrees beginning [] between after run sweeps.knew_nothing sweeps.alone sweeps.sweep sweeps.is_last sweeps.lids_before sweeps.lids_between sweeps.whole)
+    (found_agrees beginning [] between after run sweeps.knew_nothing sweeps.alone sweeps.sweep sweeps.is_last sweeps.lids_before sweeps.lids_between
+    sweeps.whole)
 
 takes_over : TakesOver swept.manager.store beginning [] between after
 takes_over =
@@ -403,9 +413,11 @@ takes_over =
       has_room = subst (λ (x : Managing). ¬ (IsNoRoom x.manager.planning.lmc (cells_of swept.manager.store))) (sym at_is)
           (subst (λ (p : Planning). ¬ (IsNoRoom p.lmc (cells_of swept.manager.store))) (sym planning_is) has_room);
       agrees = agrees;
-      holds = subst (λ (x : Managing). HoldsPlan (IsJoinedTo (fabric_of network) (port 0 1)) (plan_by_it x.manager.planning swept.manager.store) (fabric_of network))
+      holds = subst (λ (x : Managing). HoldsPlan (IsJoinedTo (fabric_of network) (port 0 1)) (plan_by_it x.manager.planning swept.manager.store)
+          (fabric_of network))
           (sym at_is)
-          (subst (λ (p : Planning). HoldsPlan (IsJoinedTo (fabric_of network) (port 0 1)) (plan_by_it p swept.manager.store) (fabric_of network)) (sym planning_is)
+          (subst (λ (p : Planning). HoldsPlan (IsJoinedTo (fabric_of network) (port 0 1)) (plan_by_it p swept.manager.store) (fabric_of network))
+          (sym planning_is)
           (subst (λ c. HoldsPlan (IsJoinedTo (fabric_of network) (port 0 1)) (plan_of up_and_down 0 c) (fabric_of network)) (sym known) holds_plan));
     }
 

@@ -42,7 +42,8 @@ abbrev pub network : Simulation
 network = record bare { agents = agents }
 
 -- an end port that is not down has its LID
-is_port_with : (kind : NodeType) (lid : ℕ) (is_sm : Bool) → lid < lid_end → (types.is_switch kind ≡ true → is_sm ≡ false) → (state : PortState) → state ≢ NoChange
+is_port_with : (kind : NodeType) (lid : ℕ) (is_sm : Bool) → lid < lid_end → (types.is_switch kind ≡ true → is_sm ≡ false) → (state : PortState)
+    → state ≢ NoChange
     → IsPort kind (record { base_lid = lid; lmc = 0; master_sm_lid = 0; state = state; is_sm = is_sm })
 is_port_with kind lid is_sm low no_sm state known = record { state = known; base_lid = low; is_sm = no_sm }
 

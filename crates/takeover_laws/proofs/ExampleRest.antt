@@ -52,21 +52,24 @@ record IsTold (id p : ℕ) (node : fabric.Node) : Type 0 where
 told_at : (id p : ℕ) (node : fabric.Node) → IsNodeAt (fabric_of network) id node → IsEndPortNumber node p → IsTold id p node
 unfolding cabled_at fresh_agent
 told_at zero p node there number =
-    subst (λ (n : fabric.Node). IsTold 0 p n) (same_Some _ _ there) (by_port p (subst (λ (n : fabric.Node). IsEndPortNumber n p) (sym (same_Some _ _ there)) number))
+    subst (λ (n : fabric.Node). IsTold 0 p n) (same_Some _ _ there)
+    (by_port p (subst (λ (n : fabric.Node). IsEndPortNumber n p) (sym (same_Some _ _ there)) number))
   where
     by_port : (p : ℕ) → IsEndPortNumber (node_of (with_lid (bare_agent 0) 1 2)) p → IsTold 0 p (node_of (with_lid (bare_agent 0) 1 2))
     by_port zero within = absurd (omega (arith, within.0))
     by_port (suc zero) within = record { tells = record { kind = refl; port_guid = refl; cap = λ switch. absurd (cc) }; holds = refl }
     by_port (suc (suc p)) within = absurd (omega (arith, within.1))
 told_at (suc zero) p node there number =
-    subst (λ (n : fabric.Node). IsTold 1 p n) (same_Some _ _ there) (by_port p (subst (λ (n : fabric.Node). IsEndPortNumber n p) (sym (same_Some _ _ there)) number))
+    subst (λ (n : fabric.Node). IsTold 1 p n) (same_Some _ _ there)
+    (by_port p (subst (λ (n : fabric.Node). IsEndPortNumber n p) (sym (same_Some _ _ there)) number))
   where
     by_port : (p : ℕ) → IsEndPortNumber (node_of (record (with_lid (bare_agent 1) 0 5) { table = table; top = 7 })) p
         → IsTold 1 p (node_of (record (with_lid (bare_agent 1) 0 5) { table = table; top = 7 }))
     by_port zero is = record { tells = record { kind = refl; port_guid = refl; cap = λ switch. refl }; holds = refl }
     by_port (suc p) is = absurd (omega (arith, is))
 told_at (suc (suc zero)) p node there number =
-    subst (λ (n : fabric.Node). IsTold 2 p n) (same_Some _ _ there) (by_port p (subst (λ (n : fabric.Node). IsEndPortNumber n p) (sym (same_Some _ _ there)) number))
+    subst (λ (n : fabric.Node). IsTold 2 p n) (same_Some _ _ there)
+    (by_port p (subst (λ (n : fabric.Node). IsEndPortNumber n p) (sym (same_Some _ _ there)) number))
   where
     by_port : (p : ℕ) → IsEndPortNumber (node_of (with_lid (bare_agent 2) 1 7)) p → IsTold 2 p (node_of (with_lid (bare_agent 2) 1 7))
     by_port zero within = absurd (omega (arith, within.0))
@@ -91,7 +94,8 @@ takes_rest =
           ≡ Some (range_at (fabric_of network) q)) (sym at_is)
           (subst (λ (p : Planning). range_of (plan_by_it p (view before_cut)).given (record { node = node.guid; port = q.port })
           ≡ Some (range_at (fabric_of network) q)) (sym planning_is)
-          (subst (λ c. range_of (plan_of up_and_down 0 c).given (record { node = node.guid; port = q.port }) ≡ Some (range_at (fabric_of network) q)) (sym known)
+          (subst (λ c. range_of (plan_of up_and_down 0 c).given (record { node = node.guid; port = q.port })
+          ≡ Some (range_at (fabric_of network) q)) (sym known)
           (told q node is).holds));
     }
 

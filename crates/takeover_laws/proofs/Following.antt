@@ -69,7 +69,8 @@ pub record IsFollowed (fab : Fabric) (after : Managing) (u : Sweeping) : Type 0 
   pub lids : LidsStay fab events u
 
 -- what is nothing to the manager's sweep
-quiet_followed : (fab : Fabric) (w after : Managing) (u : Sweeping) → SeenKeeping fab w.scene after.scene → after.seat ≡ w.seat → KeepsSweep w.manager after.manager → Follows w u
+quiet_followed : (fab : Fabric) (w after : Managing) (u : Sweeping) → SeenKeeping fab w.scene after.scene → after.seat ≡ w.seat
+    → KeepsSweep w.manager after.manager → Follows w u
     → IsFollowed fab after u
 quiet_followed fab w after u seen seat keeps f =
     record {
@@ -100,7 +101,8 @@ module _ (fab : Fabric) (start : Simulation) (seat : NodePort) (plan : PlanValue
   -- a reply that the sweep takes ---------------------------------------------------------------------------------
 
   module _ (w : Managing) (u : Sweeping) (f : Follows w u) (bytes : List ℕ) (answer : Answer) (taken : judged u.sweep bytes ≡ Ok answer) where
-    reply_follows : (which : ℕ) (h : Handed) → slice_get w.scene.handed which ≡ Some h → h.packet.bytes ≡ bytes → is_same_port h.at w.seat ≡ true → HasLidsOf fab w.scene
+    reply_follows : (which : ℕ) (h : Handed) → slice_get w.scene.handed which ≡ Some h → h.packet.bytes ≡ bytes → is_same_port h.at w.seat ≡ true
+        → HasLidsOf fab w.scene
         → (after : Manager) → after ≡ (answered_by w.manager u.sweep bytes (Ok answer)).manager → IsFollowed fab (record w { manager = after }) u
     reply_follows which h there bytes_are same lids after after_is =
         record {
@@ -135,7 +137,11 @@ module _ (fab : Fabric) (start : Simulation) (seat : NodePort) (plan : PlanValue
             ∙ ap (sweeping.with_answer u bytes) taken
 
         all : HasAskedAll (record u { sweep = after_reply u.sweep bytes; reports = u.reports ++ reports_of answer })
-            (after_sweep_events (asks (after_reply u.sweep bytes).queued) (record u { sweep = after_reply u.sweep bytes; reports = u.reports ++ reports_of answer }))
+            (after_sweep_events (asks (after_reply u.sweep bytes).queued) (record u {
+              sweep = after_reply u.sweep bytes;
+              reports = u.reports
+                  ++ reports_of answer;
+            }))
         all = asks_all (after_reply u.sweep bytes).queued (record u { sweep = after_reply u.sweep bytes; reports = u.reports ++ reports_of answer }) refl
 
   -- events ---------------------------------------------------------------------------------------------------------
@@ -174,7 +180,8 @@ module _ (fab : Fabric) (start : Simulation) (seat : NodePort) (plan : PlanValue
       by_port false e = quiet_followed fab w w u (nothing_seen fab w.scene) refl (kept w.manager) f
       by_port true e = by_fault e (fault_of h.packet.bytes)
 
-  timed_followed : (w : Managing) (transaction : ℕ) (u : Sweeping) → Follows w u → HasLidsOf fab w.scene → IsFollowed fab (record w { manager = (after_timeout w.manager transaction).manager }) u
+  timed_followed : (w : Managing) (transaction : ℕ) (u : Sweeping) → Follows w u → HasLidsOf fab w.scene
+      → IsFollowed fab (record w { manager = (after_timeout w.manager transaction).manager }) u
   timed_followed w transaction u f now =
       cond_both (nat_le (2 ^ 32) transaction) _ _ (λ (x : Called). IsFollowed fab (record w { manager = x.manager }) u)
       (λ _. subst (λ o. IsFollowed fab (record w { manager = (sweep_gave_up w.manager transaction o).manager }) u) (sym f.sweep)
@@ -210,7 +217,8 @@ module _ (fab : Fabric) (start : Simulation) (seat : NodePort) (plan : PlanValue
   pub event_followed : (w : Managing) (event : ManagerEvent) (u : Sweeping) → Goes start seat plan ⊥ w → BeginsNoSweep w event → CanBe seat event → Follows w u
       → HasLidsOf fab w.scene → HasLidsOf fab (after_manager_event w event).scene → IsFollowed fab (after_manager_event w event) u
   event_followed w (Around event) u g quiet can_be f now lids =
-      quiet_followed fab w (after_manager_event w (Around event)) u (event_seen fab start seat plan ⊥ w.manager.counter [] w (Around event) g.fair can_be lids) refl
+      quiet_followed fab w (after_manager_event w (Around event)) u (event_seen fab start seat plan ⊥ w.manager.counter [] w (Around event) g.fair can_be lids)
+      refl
       (kept w.manager) f
   event_followed w Begin u g quiet can_be f now lids =
       quiet_followed fab w (after_manager_event w Begin) u (nothing_seen fab w.scene) refl
@@ -230,7 +238,11 @@ module _ (fab : Fabric) (start : Simulation) (seat : NodePort) (plan : PlanValue
   event_followed w (Hear which) u g quiet can_be f now lids = heard_followed w which (slice_get w.scene.handed which) u refl g f now
   event_followed w (TimeOut transaction) u g quiet can_be f now lids = timed_followed w transaction u f now
   event_followed w (Raise floor) u g quiet can_be f now lids =
-      quiet_followed fab w (after_manager_event w (Raise floor)) u (nothing_seen fab w.scene) refl (record { sweep = refl; store = raised_same w.manager.store floor quiet }) f
+      quiet_followed fab w (after_manager_event w (Raise floor)) u (nothing_seen fab w.scene) refl (record {
+        sweep = refl;
+        store =
+            raised_same w.manager.store floor quiet;
+      }) f
   event_followed w (Merge floor sightings) u g quiet can_be f now lids =
       quiet_followed fab w (after_manager_event w (Merge floor sightings)) u (nothing_seen fab w.scene) refl
       (record {
@@ -243,4 +255,5 @@ module _ (fab : Fabric) (start : Simulation) (seat : NodePort) (plan : PlanValue
       (cond_both (is_none (poll_fault w.manager)) _ _ (KeepsSweep w.manager) (λ _. record { sweep = refl; store = refl }) (λ _. kept w.manager)) f
   event_followed w HandOver u g quiet can_be f now lids =
       quiet_followed fab w (after_manager_event w HandOver) u (nothing_seen fab w.scene) refl
-      (cond_both (is_none (handover_fault w.manager)) _ _ (KeepsSweep w.manager) (λ _. handed_keeps w.manager (successor_lid w.manager)) (λ _. kept w.manager)) f
+      (cond_both (is_none (handover_fault w.manager)) _ _ (KeepsSweep w.manager) (λ _. handed_keeps w.manager (successor_lid w.manager)) (λ _. kept w.manager))
+      f

@@ -136,7 +136,8 @@ module _ (start : Simulation) (plan : PlanValue) (part : Part) where
 
   -- each switch of the part is one of the plan's
   abbrev pub AreListed : Type 0
-  AreListed = (port : NodePort) (node : Node) → IsEndPortIn part (fabric_of start) port node → types.is_switch node.kind ≡ true → Contains (switches_of plan) node.guid
+  AreListed = (port : NodePort) (node : Node) → IsEndPortIn part (fabric_of start) port node → types.is_switch node.kind ≡ true
+      → Contains (switches_of plan) node.guid
 
   -- each agent keeps what it holds of the plan
   abbrev pub AgentsKeep : Simulation → Simulation → Type 0
@@ -145,7 +146,8 @@ module _ (start : Simulation) (plan : PlanValue) (part : Part) where
   module _ (listed : AreListed) (s after : Simulation) (along : IsAlong start s) (keep : AgentsKeep s after) (held : HeldOn s) where
     pub held_later : HeldOn after
     held_later port node end =
-        let (a, there, seen) = agent_seen s port.node node (ap (λ (ns : List Node). slice_get ns port.node) (sym (nodes_along start s along)) ∙ end.node_there) in
+        let (a, there, seen) =
+        agent_seen s port.node node (ap (λ (ns : List Node). slice_get ns port.node) (sym (nodes_along start s along)) ∙ end.node_there) in
         let (b, now, keeps) = keep port.node a there in
         let same : node ≡ node_of a = node_of_agent start s along port.node node a end.node_there there in
         let guid : node.guid ≡ a.node.guid = ap (λ (n : Node). n.guid) same in
@@ -197,7 +199,8 @@ module _ (start : Simulation) (plan : PlanValue) (part : Part) where
       by_id false other = (
         a,
         ap (λ (xs : List Agent). slice_get xs id) asks.asked.agents
-            ∙ changed_other s.agents (port_of asks.flight.whereabouts).node id (λ x. (after_answer x asks.request (port_of asks.flight.whereabouts).port).agent) (eqb-false _ _ other)
+            ∙ changed_other s.agents (port_of asks.flight.whereabouts).node id (λ x. (after_answer x asks.request (port_of asks.flight.whereabouts).port).agent)
+            (eqb-false _ _ other)
             ∙ there,
         itself plan a,
       )
@@ -209,7 +212,8 @@ module _ (start : Simulation) (plan : PlanValue) (part : Part) where
             (after_answer a asks.request (port_of asks.flight.whereabouts).port).agent,
             ap (slice_get (after_deliver s n).fabric.agents) (sym same)
                 ∙ ap (λ (xs : List Agent). slice_get xs (port_of asks.flight.whereabouts).node) asks.asked.agents
-                ∙ changed_at_id s.agents (port_of asks.flight.whereabouts).node a (λ x. (after_answer x asks.request (port_of asks.flight.whereabouts).port).agent) here,
+                ∙ changed_at_id s.agents (port_of asks.flight.whereabouts).node a
+                (λ x. (after_answer x asks.request (port_of asks.flight.whereabouts).port).agent) here,
             answered_keeps plan a asks.request (port_of asks.flight.whereabouts).port is_agent asks.asked.whole most
                 (carries start s seat plan along n asks.flight asks.request asks.asked all a here),
           )
@@ -246,4 +250,5 @@ holds_now start s plan seat along held port node end =
   where
     at_first : fabrics.IsEndPort (fabric_of start) port
     at_first =
-        subst (λ (ns : List Node). (n : Node) × (slice_get ns port.node ≡ Some n) × fabrics.IsEndPortNumber n port.port) (sym (nodes_along start s along)) end.end_port
+        subst (λ (ns : List Node). (n : Node) × (slice_get ns port.node ≡ Some n)
+        × fabrics.IsEndPortNumber n port.port) (sym (nodes_along start s along)) end.end_port

@@ -56,7 +56,8 @@ module _ {start : Simulation} (cables : AreCables start) (counts : (id : ℕ) �
 
     agent : (x : Agent) × (agent_at s (port_of flight.whereabouts).node ≡ Some x)
     agent =
-        let parts = and_parts (nat_le 1 (port_of flight.whereabouts).port) (nat_le (port_of flight.whereabouts).port (port_count s (port_of flight.whereabouts).node)) asked.port in
+        let parts = and_parts (nat_le 1 (port_of flight.whereabouts).port)
+        (nat_le (port_of flight.whereabouts).port (port_count s (port_of flight.whereabouts).node)) asked.port in
         let from_one : 1 ≤ (port_of flight.whereabouts).port = leb-true _ _ parts.0 in
         let to_count : (port_of flight.whereabouts).port ≤ port_count s (port_of flight.whereabouts).node = leb-true _ _ parts.1 in
         agent_by_port s (port_of flight.whereabouts).node (omega (arith, from_one, to_count))
@@ -69,15 +70,20 @@ module _ {start : Simulation} (cables : AreCables start) (counts : (id : ℕ) �
         ∙ ap (λ ns. slice_get ns (port_of flight.whereabouts).node) (sym along.nodes)
         ∙ slice_get-map (λ (x : Agent). x.node) s.agents (port_of flight.whereabouts).node
         ∙ ap (option_map (λ (x : Agent). x.node)) agent.1 in
-        by_start (slice_get start.agents (port_of flight.whereabouts).node) named (sym (slice_get-map node_of start.agents (port_of flight.whereabouts).node) ∙ there)
+        by_start (slice_get start.agents (port_of flight.whereabouts).node) named (sym (slice_get-map node_of start.agents (port_of flight.whereabouts).node)
+        ∙ there)
       where
-        by_start : (m : Option Agent) → option_map (λ (x : Agent). x.node) m ≡ Some agent.0.node → option_map node_of m ≡ Some node → node.kind ≡ agent.0.node.kind
+        by_start : (m : Option Agent) → option_map (λ (x : Agent). x.node) m ≡ Some agent.0.node → option_map node_of m ≡ Some node → node.kind
+            ≡ agent.0.node.kind
         by_start None e h = absurd (cc)
-        by_start (Some b) e h = ap (λ (x : fabric.Node). x.kind) (sym (same_Some (node_of b) node h)) ∙ ap (λ (x : AgentNode). x.kind) (same_Some b.node agent.0.node e)
+        by_start (Some b) e h =
+            ap (λ (x : fabric.Node). x.kind) (sym (same_Some (node_of b) node h)) ∙ ap (λ (x : AgentNode). x.kind) (same_Some b.node agent.0.node e)
 
     told_by : (m : Option Agent) → m ≡ Some agent.0 → LidSo start (port_of flight.whereabouts) (port_of flight.whereabouts)
         (option_map_or (λ x. (after_answer x request (port_of flight.whereabouts).port).packet) m request)
-    told_by m e = subst (λ o. LidSo start (port_of flight.whereabouts) (port_of flight.whereabouts) (option_map_or (λ x. (after_answer x request (port_of flight.whereabouts).port).packet) o request)) (sym e) of_agent
+    told_by m e = subst
+        (λ o. LidSo start (port_of flight.whereabouts) (port_of flight.whereabouts)
+        (option_map_or (λ x. (after_answer x request (port_of flight.whereabouts).port).packet) o request)) (sym e) of_agent
       where
         of_agent : LidSo start (port_of flight.whereabouts) (port_of flight.whereabouts) (after_answer agent.0 request (port_of flight.whereabouts).port).packet
         of_agent status_is attribute node there =
@@ -85,10 +91,12 @@ module _ {start : Simulation} (cables : AreCables start) (counts : (id : ℕ) �
             let at = port_of flight.whereabouts in
             let told = lid_told a request at.port (agent_there s.agents at.node a along.agents agent.1) asked.whole status_is attribute in
             let after : agent_at (after_deliver s n).fabric at.node ≡ Some (after_answer a request at.port).agent =
-            ap (λ (xs : List Agent). slice_get xs at.node) asked.agents ∙ changed_at_id s.agents at.node a (λ x. (after_answer x request at.port).agent) agent.1 in
+            ap (λ (xs : List Agent). slice_get xs at.node) asked.agents
+            ∙ changed_at_id s.agents at.node a (λ x. (after_answer x request at.port).agent) agent.1 in
             let modifier = number_in attribute_modifier (after_answer a request at.port).packet in
             let port = port_asked (node_of a) modifier at.port in
-            let held : (fabric_of (after_deliver s n).fabric).base_lid (record { node = at.node; port = port }) ≡ base_lid_at (after_answer a request at.port).agent port =
+            let held : (fabric_of (after_deliver s n).fabric).base_lid (record { node = at.node; port = port })
+            ≡ base_lid_at (after_answer a request at.port).agent port =
             ap (λ o. option_map_or (λ x. base_lid_at x port) o 0) after in
             told ∙ sym held ∙ lids (record { node = at.node; port = port })
             ∙ ap (λ k. (fabric_of start).base_lid (record { node = at.node; port = cond (types.is_switch k) modifier at.port })) (sym (kind_same node there))
@@ -107,7 +115,8 @@ module _ {start : Simulation} (cables : AreCables start) (counts : (id : ℕ) �
         handed = k.handed;
       }
 
-  manager_known : (h : Handed) (given : ℕ) (payload : List ℕ) (origin : NodePort) → number_in attribute_id (answer_packet h.packet.bytes given payload) ≡ sm_info
+  manager_known : (h : Handed) (given : ℕ) (payload : List ℕ) (origin : NodePort) → number_in attribute_id (answer_packet h.packet.bytes given payload)
+      ≡ sm_info
       → LidSo start origin h.at (answer_packet h.packet.bytes given payload)
   manager_known h given payload origin is_sm_info status_is attribute node there =
       let clash : sm_info ≡ port_info = sym is_sm_info ∙ attribute in absurd (omega (arith, clash))

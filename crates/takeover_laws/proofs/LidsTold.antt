@@ -75,7 +75,8 @@ module _ (a : Agent) (packet : List ℕ) (arrival : ℕ) where
         ap (number_in base_lid) (sym payload_is) ∙ lid_written (port_at b port) arrival (omega (arith, low)) ∙ ap (base_lid_at b) port_is
 
     pub lid_told : number_in base_lid (bytes_in attribute_data (after_answer a packet arrival).packet)
-        ≡ base_lid_at (after_answer a packet arrival).agent (port_asked (node_of a) (number_in attribute_modifier (after_answer a packet arrival).packet) arrival)
+        ≡ base_lid_at (after_answer a packet arrival).agent (port_asked (node_of a) (number_in attribute_modifier (after_answer a packet arrival).packet)
+        arrival)
     lid_told =
         let told = (after_request a packet arrival).told in
         let holds = answers_hold a packet arrival is whole in
@@ -83,8 +84,10 @@ module _ (a : Agent) (packet : List ℕ) (arrival : ℕ) where
         let then = now payload told_is in
         let b = (after_request a packet arrival).agent in
         let payload_is = holds.attribute_data ∙ ap (λ t. payload_told t packet) told_is in
-        let attribute = number_in-alike attribute_id (after_answer a packet arrival).packet packet (λ id from less. holds.kept id (inr (inl (omega (arith, from), omega (arith, less))))) in
-        let modifier = number_in-alike attribute_modifier (after_answer a packet arrival).packet packet (λ id from less. holds.kept id (inr (inl (omega (arith, from), omega (arith, less))))) in
+        let attribute = number_in-alike attribute_id (after_answer a packet arrival).packet packet
+        (λ id from less. holds.kept id (inr (inl (omega (arith, from), omega (arith, less))))) in
+        let modifier = number_in-alike attribute_modifier (after_answer a packet arrival).packet packet
+        (λ id from less. holds.kept id (inr (inl (omega (arith, from), omega (arith, less))))) in
         ap (number_in base_lid) payload_is
         ∙ by_meant _ b (number_in attribute_modifier packet) payload (then.keeps.is_agent is) (port_meant b (number_in attribute_modifier packet) arrival) refl
         (sym (get_of-port_info b packet arrival (sym attribute ∙ attribute_is)) ∙ then.told)

@@ -51,7 +51,8 @@ module _ (z : Cells) (g p : ℕ) where
 
   edge_is : edge_at z g p ≡ edge_by (is_usable z) (across z g p)
   edge_is =
-      by_wire (λ q. cond (is_switch_node z q.0) (Some (record { port = p; to = q.0 })) None) (λ q. cond (is_usable z q.0) (Some (record { port = p; to = q.0 })) None)
+      by_wire (λ q. cond (is_switch_node z q.0) (Some (record { port = p; to = q.0 })) None)
+      (λ q. cond (is_usable z q.0) (Some (record { port = p; to = q.0 })) None)
       (λ q w. ap (λ b. cond b (Some (record { port = p; to = q.0 })) None) (end_usable z q.0 q.1 w.second))
 
   abbrev far_by : (ℕ → Bool) → Option (ℕ × ℕ) → Option (ℕ × ℕ)
@@ -140,7 +141,8 @@ module _ (x y : Facts) (alike : IsAlike (cells_of x) (cells_of y)) where
     with_kept_same earlier (e ∷ rest) before after =
         let here = after e (contains_here e rest) in
         let fits = fitting_same e here in
-        let first : (c : ℕ) → list_any (claims lmc (cells_of x) (range_at lmc e c)) earlier ≡ list_any (claims lmc (cells_of y) (range_at lmc e c)) earlier = λ c.
+        let first : (c : ℕ) → list_any (claims lmc (cells_of x) (range_at lmc e c)) earlier ≡ list_any (claims lmc (cells_of y) (range_at lmc e c)) earlier =
+        λ c.
         list_any_same (claims lmc (cells_of x) (range_at lmc e c)) (claims lmc (cells_of y) (range_at lmc e c)) earlier
         (λ d h. ap (λ o. option_map_or (λ n. meets (range_at lmc e c) (range_at lmc d n)) o false) (fitting_same d (before d h))) in
         let rest_same = with_kept_same (e ∷ earlier) rest

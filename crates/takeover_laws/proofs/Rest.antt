@@ -206,7 +206,8 @@ rest_is_served given w before between after t =
                 let named : ◌≡◌ {A = EndPort} (record { node = has.named.node.guid; port = has.port.port }) e =
                 λ i. record { node = has.named.guid_is i; port = has.named.port_is i } in
                 let lid_same : f.base_lid has.port ≡ lid =
-                lid_in (lids lmc (cells_of given)) e lid (fabrics.range_at f has.port) lid_is (ap (λ x. option_map (λ l. (l, lmc_of (lids lmc (cells_of given)) x)) (lid_of (lids lmc (cells_of given)) x)) (sym named) ∙ held_there) in
+                lid_in (lids lmc (cells_of given)) e lid (fabrics.range_at f has.port) lid_is
+                (ap (λ x. option_map (λ l. (l, lmc_of (lids lmc (cells_of given)) x)) (lid_of (lids lmc (cells_of given)) x)) (sym named) ∙ held_there) in
                 ap (λ (x : EndPort). claim_of (cells_of found) x.node x.port) (sym named) ∙ claim ∙ ap (λ n. Some n) lid_same;
             in_room = room_stays lmc given found f part t.has_room agrees t.tells;
           }) e there;

@@ -25,7 +25,8 @@ module _ (Sends : NodePort → List ℕ → Type 0) (Tells : NodePort → NodePo
     same_modifier = same attribute_modifier (inr (omega arith, omega arith))
 
     pub same_data : bytes_in attribute_data bytes ≡ bytes_in attribute_data r.answer
-    same_data = bytes_in-alike attribute_data bytes r.answer (omega (arith, r.count)) (omega (arith, r.is.count)) (λ id from less. r.kept id (inr (omega (arith, from), omega (arith, less))))
+    same_data = bytes_in-alike attribute_data bytes r.answer (omega (arith, r.count)) (omega (arith, r.is.count))
+        (λ id from less. r.kept id (inr (omega (arith, from), omega (arith, less))))
 
     pub same_status : status bytes ≡ status r.answer
     same_status =

@@ -203,14 +203,17 @@ held_plan part f rule lmc x y has_room a b holds claims =
     claimed : ClaimLids lmc (cells_of x) (cells_of y)
     claimed e lid q =
         let there = given-from_lid (lids lmc (cells_of x)) e lid q in
-        let listed = contains_in e (ports-lids lmc (cells_of x) has_room) (contains_map (λ (g : EndPort × ℕ). g.0) (lids lmc (cells_of x)).ports (e, lid) there) in
+        let listed = contains_in e (ports-lids lmc (cells_of x) has_room) (contains_map (λ (g : EndPort × ℕ). g.0) (lids lmc (cells_of x)).ports (e, lid) there)
+        in
         let has = a.end_ports_exist e.node e.port (((end_ports_law x).0 e).0 listed) in
         let held = (holds has.port has.named.node (inside part f e.node e.port has)).lids in
         let same : range_of (lids lmc (cells_of x)) e ≡ Some (range_at f has.port) =
         named_so part f e.node e.port has (λ n p. range_of (lids lmc (cells_of x)) (record { node = n; port = p }) ≡ Some (range_at f has.port)) held in
-        let range : range_of (lids lmc (cells_of x)) e ≡ Some (lid, lmc_of (lids lmc (cells_of x)) e) = ap (option_map (λ l. (l, lmc_of (lids lmc (cells_of x)) e))) q in
+        let range : range_of (lids lmc (cells_of x)) e ≡ Some (lid, lmc_of (lids lmc (cells_of x)) e) =
+        ap (option_map (λ l. (l, lmc_of (lids lmc (cells_of x)) e))) q in
         let pair = same_Some _ _ (sym same ∙ range) in
-        named_so part f e.node e.port has (λ n p. claim_of (cells_of y) n p ≡ Some (f.base_lid has.port)) (claims has.port has.named.node (inside part f e.node e.port has))
+        named_so part f e.node e.port has (λ n p. claim_of (cells_of y) n p
+        ≡ Some (f.base_lid has.port)) (claims has.port has.named.node (inside part f e.node e.port has))
         ∙ ap (λ (r : ℕ × ℕ). Some r.0) pair
 
 pub held_plans_are_planned : HeldPlansArePlanned

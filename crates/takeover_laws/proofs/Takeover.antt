@@ -272,18 +272,21 @@ module _ (w : Managing) (before between after : List ManagerEvent) (run : IsWrit
 pub seat_ends : (facts : Facts) (w : Managing) (before between after : List ManagerEvent) → TakesOver facts w before between after
     → fabrics.IsEndPort (fabric_of w.scene.fabric) w.seat
 seat_ends facts w before between after t =
-    seat_is_end w before between after t.sweeps.run t.sweeps.knew_nothing t.sweeps.alone t.sweeps.sweep t.sweeps.is_last t.sweeps.lids_before t.sweeps.lids_between
+    seat_is_end w before between after t.sweeps.run t.sweeps.knew_nothing t.sweeps.alone t.sweeps.sweep t.sweeps.is_last t.sweeps.lids_before
+    t.sweeps.lids_between
 
 pub takeover_changes_nothing : TakeoverChangesNothing
 takeover_changes_nothing facts w before between after t =
     let planning = planning_at w before between in
-    let plan_is = same w before between after t.sweeps.run t.sweeps.knew_nothing t.sweeps.alone t.sweeps.sweep t.sweeps.is_last t.sweeps.lids_before t.sweeps.lids_between facts t.sweeps.whole t.has_room t.agrees t.holds in
+    let plan_is = same w before between after t.sweeps.run t.sweeps.knew_nothing t.sweeps.alone t.sweeps.sweep t.sweeps.is_last t.sweeps.lids_before
+    t.sweeps.lids_between facts t.sweeps.whole t.has_room t.agrees t.holds in
     record {
       same_plan = plan_is;
       arrived = pings_arrive planning.rule planning.lmc facts w.scene.fabric w.seat t.has_room t.sweeps.run.starts.quiet.fabric
           (seat_ends facts w before between after t) t.agrees t.holds;
       arrives = λ written. subst
-          (λ p. EachPingArrives planning.rule (cells_of (at_writing w before between).manager.store) p (at_end w before between after).scene.fabric w.seat) plan_is
+          (λ p. EachPingArrives planning.rule (cells_of (at_writing w before between).manager.store) p (at_end w before between after).scene.fabric w.seat)
+          plan_is
           (pings_arrive_once_written w before between after
           (record {
             run = t.sweeps.run;

@@ -39,7 +39,8 @@ use Rattle.takeover_laws.proofs.HeldOn.{AreListed, HeldOn, delivery_keeps, held_
 use Rattle.takeover_laws.proofs.Listed.{are_listed}
 use Rattle.takeover_laws.proofs.Takeover.{seat_ends, takeover_changes_nothing}
 
-module _ (start : Simulation) (seat : NodePort) (plan : PlanValue) (listed : AreListed start plan (IsJoinedTo (fabric_of start) seat)) (ground : Ground start seat) where
+module _ (start : Simulation) (seat : NodePort) (plan : PlanValue) (listed : AreListed start plan (IsJoinedTo (fabric_of start) seat))
+    (ground : Ground start seat) where
   abbrev HeldIn : Simulation → Type 0
   HeldIn s = HeldOn start plan (IsJoinedTo (fabric_of start) seat) s
 
@@ -69,16 +70,19 @@ module _ (start : Simulation) (seat : NodePort) (plan : PlanValue) (listed : Are
 
     -- where each Set carries the plan's values
     pub around_held : (event : Event)
-        → ((serial : ℕ) → event ≡ Deliver serial → (at : NodePort) (a : Agent) (packet : List ℕ) → TakesSet w.fabric serial at a packet → Carries plan a at.port packet)
+        → ((serial : ℕ) → event ≡ Deliver serial → (at : NodePort) (a : Agent) (packet : List ℕ) → TakesSet w.fabric serial at a packet
+        → Carries plan a at.port packet)
         → HeldIn w.fabric → HeldIn (after_event w event).fabric
     around_held (Deliver n) carry h =
         held_later start plan (IsJoinedTo (fabric_of start) seat) listed w.fabric (after_deliver w.fabric n).fabric c.fabric.along
         (delivery_keeps start plan (IsJoinedTo (fabric_of start) seat) w.fabric seat c.fabric.along n (carry n refl)
         (agents_after AnySends (SaysSo start) ground.cables ground.counts c.fabric.along c.fabric.is c.fabric.flights n)) h
     around_held (Lose n) carry h =
-        keeps_still (after_lose w.fabric n).fabric (lost_agents AnySends (SaysSo start) ground.cables ground.counts c.fabric.along c.fabric.is c.fabric.flights n) h
+        keeps_still (after_lose w.fabric n).fabric (lost_agents AnySends (SaysSo start) ground.cables ground.counts c.fabric.along c.fabric.is c.fabric.flights
+        n) h
     around_held (Repeat n) carry h =
-        keeps_still (after_repeat w.fabric n).fabric (repeated_agents AnySends (SaysSo start) ground.cables ground.counts c.fabric.along c.fabric.is c.fabric.flights n) h
+        keeps_still (after_repeat w.fabric n).fabric (repeated_agents AnySends (SaysSo start) ground.cables ground.counts c.fabric.along c.fabric.is
+        c.fabric.flights n) h
     around_held (SendFrom at sending_it) carry h = keeps_still (sent w at sending_it).fabric (sending_still at sending_it) h
 
   -- whatever happens to the manager ------------------------------------------------------------------------------
@@ -151,7 +155,8 @@ module _ (given : Facts) (w : Managing) (before between after : List ManagerEven
   ground = held.ground w before between after t.takes.sweeps.run
 
   listed : AreListed w.scene.fabric (plan_by_it (planning_at w before between) given) (IsJoinedTo (fabric_of w.scene.fabric) w.seat)
-  listed = are_listed (planning_at w before between).rule (planning_at w before between).lmc given w.scene.fabric (IsJoinedTo (fabric_of w.scene.fabric) w.seat) t.takes.agrees
+  listed = are_listed (planning_at w before between).rule (planning_at w before between).lmc given w.scene.fabric (IsJoinedTo (fabric_of w.scene.fabric) w.seat)
+      t.takes.agrees
 
   abbrev Held : Simulation → Type 0
   Held s = HeldOn w.scene.fabric (plan_by_it (planning_at w before between) given) (IsJoinedTo (fabric_of w.scene.fabric) w.seat) s
@@ -174,19 +179,23 @@ module _ (given : Facts) (w : Managing) (before between after : List ManagerEven
   -- once a sweep began
   swept_along : (events : List ManagerEvent) (x : Managing) → Goes w.scene.fabric w.seat (plan_at (at_writing w before between)) ⊥ x
       → All (CanBe w.seat) events → AllCarry (plan_by_it (planning_at w before between) given) events x → Held x.scene.fabric
-      → InUseAlong (planning_at w before between).rule given (plan_by_it (planning_at w before between) given) w.seat events x × Held (after_manager_events events x).scene.fabric
+      → InUseAlong (planning_at w before between).rule given (plan_by_it (planning_at w before between) given) w.seat events x
+      × Held (after_manager_events events x).scene.fabric
   swept_along [] x g all carry h = (now x.scene g.fair.scene h, h)
   swept_along (event ∷ events) x g all carry h =
       let rest = swept_along events (after_manager_event x event)
-      (event_goes w.scene.fabric w.seat (plan_at (at_writing w before between)) (held.ground w before between after t.takes.sweeps.run) ⊥ x event (inr (λ none. none)) g
+      (event_goes w.scene.fabric w.seat (plan_at (at_writing w before between)) (held.ground w before between after t.takes.sweeps.run) ⊥ x event
+      (inr (λ none. none)) g
       (All-head (CanBe w.seat) event events all)) (All-tail (CanBe w.seat) event events all) carry.1
       (next x event g.fair.scene carry.0 h) in
       ((now x.scene g.fair.scene h, rest.0), rest.1)
 
   -- before one does
-  before_along : (events : List ManagerEvent) (x : Managing) → SweepsFirst events x → Goes w.scene.fabric w.seat (plan_at (at_writing w before between)) (Unit {0}) x
+  before_along : (events : List ManagerEvent) (x : Managing) → SweepsFirst events x
+      → Goes w.scene.fabric w.seat (plan_at (at_writing w before between)) (Unit {0}) x
       → All (CanBe w.seat) events → AllCarry (plan_by_it (planning_at w before between) given) events x → Held x.scene.fabric
-      → InUseAlong (planning_at w before between).rule given (plan_by_it (planning_at w before between) given) w.seat events x × Held (after_manager_events events x).scene.fabric
+      → InUseAlong (planning_at w before between).rule given (plan_by_it (planning_at w before between) given) w.seat events x
+      × Held (after_manager_events events x).scene.fabric
   before_along [] x first g all carry h = (now x.scene g.fair.scene h, h)
   before_along (event ∷ events) x (inl begins) g all carry h =
       let rest = swept_along events (after_manager_event x event)
@@ -195,7 +204,8 @@ module _ (given : Facts) (w : Managing) (before between after : List ManagerEven
       ((now x.scene g.fair.scene h, rest.0), rest.1)
   before_along (event ∷ events) x (inr (quiet, first)) g all carry h =
       let rest = before_along events (after_manager_event x event) first
-      (event_goes w.scene.fabric w.seat (plan_at (at_writing w before between)) (held.ground w before between after t.takes.sweeps.run) (Unit {0}) x event (inl quiet) g
+      (event_goes w.scene.fabric w.seat (plan_at (at_writing w before between)) (held.ground w before between after t.takes.sweeps.run) (Unit {0}) x event
+      (inl quiet) g
       (All-head (CanBe w.seat) event events all)) (All-tail (CanBe w.seat) event events all) carry.1
       (next x event g.fair.scene carry.0 h) in
       ((now x.scene g.fair.scene h, rest.0), rest.1)
@@ -213,7 +223,8 @@ module _ (given : Facts) (w : Managing) (before between after : List ManagerEven
   own_carry x event c keep serial e at a packet takes =
       subst (λ p. Carries p a at.port packet) plan_is
       (elim (subst (KeepsPlan (plan_at (at_writing w before between)) (own_sets w (at_writing w before between)) x.scene.fabric) e keep at a packet takes) [
-        | inl own ↦ held.owns w before between after t.takes.sweeps.run t.takes.sweeps.sweep t.takes.sweeps.is_last x.scene.fabric c.fabric.along at a packet takes.there own
+        | inl own ↦ held.owns w before between after t.takes.sweeps.run t.takes.sweeps.sweep t.takes.sweeps.is_last x.scene.fabric c.fabric.along at a packet
+            takes.there own
         | inr it ↦ it
       ])
 

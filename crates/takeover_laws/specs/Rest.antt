@@ -33,41 +33,51 @@ RaisedManagersKnowNothing = (w : Managing) (floor : ℕ) → 1 < floor → newes
 
 -- LIDs ---------------------------------------------------------------------------------------------------
 
--- the second view has some of the first's end ports, which claim the LIDs that they have there, and room for all of these
+-- the second view has some of the first's end ports, which claim the LIDs that they have there, and room for all of
+-- these
 pub record IsRestOf (lmc : ℕ) (x y : Cells) : Type 0 where
   pub had : (e : EndPort) → Contains (end_ports y) e → Contains (end_ports x) e
-  pub claimed : (e : EndPort) (lid : ℕ) → Contains (end_ports y) e → lid_of (lids lmc x) e ≡ Some lid → claim_of y e.node e.port ≡ Some lid
+  pub claimed : (e : EndPort) (lid : ℕ) → Contains (end_ports y) e → lid_of (lids lmc x) e ≡ Some lid
+      → claim_of y e.node e.port ≡ Some lid
   pub in_room : (top : ℕ) → top_of (lids lmc x) ≡ Some top → top < room y
 
 -- such end ports keep their LIDs, whichever are gone
 abbrev pub LidsOutlast : Type 0
-LidsOutlast = (lmc : ℕ) (x y : Facts) → ¬ (IsNoRoom lmc (cells_of x)) → ¬ (IsNoRoom lmc (cells_of y)) → IsRestOf lmc (cells_of x) (cells_of y)
-    → (e : EndPort) → Contains (end_ports (cells_of y)) e → lid_of (lids lmc (cells_of y)) e ≡ lid_of (lids lmc (cells_of x)) e
+LidsOutlast = (lmc : ℕ) (x y : Facts) → ¬ (IsNoRoom lmc (cells_of x)) → ¬ (IsNoRoom lmc (cells_of y))
+    → IsRestOf lmc (cells_of x) (cells_of y)
+    → (e : EndPort) → Contains (end_ports (cells_of y)) e → lid_of (lids lmc (cells_of y)) e
+    ≡ lid_of (lids lmc (cells_of x)) e
 
 -- a takeover of the rest ---------------------------------------------------------------------------------
 
--- earlier facts tell of each end port that is joined to a seat, and it holds the LID of their plan; they may tell of others, which are gone
+-- earlier facts tell of each end port that is joined to a seat, and it holds the LID of their plan; they may tell of
+-- others, which are gone
 pub record TakesRest (held : Facts) (w : Managing) (before between after : List ManagerEvent) : Type 0 where
   pub sweeps : SweepsAlone w before between after
   pub has_room : ¬ (IsNoRoom (planning_at w before between).lmc (cells_of held))
-  pub tells : (port : NodePort) (node : fabric.Node) → IsEndPortIn (IsJoinedTo (fabric_of w.scene.fabric) w.seat) (fabric_of w.scene.fabric) port node
+  pub tells : (port : NodePort) (node : fabric.Node)
+      → IsEndPortIn (IsJoinedTo (fabric_of w.scene.fabric) w.seat) (fabric_of w.scene.fabric) port node
       → TellsEndPort (cells_of held) node port.port
-  pub holds : (port : NodePort) (node : fabric.Node) → IsEndPortIn (IsJoinedTo (fabric_of w.scene.fabric) w.seat) (fabric_of w.scene.fabric) port node
+  pub holds : (port : NodePort) (node : fabric.Node)
+      → IsEndPortIn (IsJoinedTo (fabric_of w.scene.fabric) w.seat) (fabric_of w.scene.fabric) port node
       → range_of (plan_by_it (planning_at w before between) held).given (record { node = node.guid; port = port.port })
       ≡ Some (range_at (fabric_of w.scene.fabric) port)
 
 -- what is written gives each end port that is there the LID that it had, and once it is written pings arrive among them
 pub record IsServed (held : Facts) (w : Managing) (before between after : List ManagerEvent) : Type 0 where
   pub lids_stay : (e : EndPort) → Contains (end_ports (cells_of (at_writing w before between).manager.store)) e
-      → lid_of (plan_at (at_writing w before between)).given e ≡ lid_of (plan_by_it (planning_at w before between) held).given e
+      → lid_of (plan_at (at_writing w before between)).given e
+      ≡ lid_of (plan_by_it (planning_at w before between) held).given e
   pub arrives : is_written (at_end w before between after).manager ≡ true
-      → EachPingArrives (planning_at w before between).rule (cells_of (at_writing w before between).manager.store) (plan_at (at_writing w before between))
+      → EachPingArrives (planning_at w before between).rule (cells_of (at_writing w before between).manager.store)
+      (plan_at (at_writing w before between))
       (at_end w before between after).scene.fabric w.seat
 
 -- so is the rest of a subnet served, whatever is gone
 abbrev pub RestIsServed : Type 0
 RestIsServed =
-    (held : Facts) (w : Managing) (before between after : List ManagerEvent) → TakesRest held w before between after → IsServed held w before between after
+    (held : Facts) (w : Managing) (before between after : List ManagerEvent) → TakesRest held w before between after
+    → IsServed held w before between after
 
 -- there is a manager that takes over a rest so: one that was just made
 pub record SomeManagerServesTheRest : Type 0 where

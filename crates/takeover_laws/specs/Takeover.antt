@@ -26,7 +26,8 @@ use Rattle.takeover_laws.specs.Claims.{HasLidsOf}
 -- at each moment of what happens each port has the LID that it has in this fabric
 abbrev pub LidsStayAround : Fabric → List ManagerEvent → Managing → Type 0
 LidsStayAround f [] w = Unit {0}
-LidsStayAround f (event ∷ events) w = HasLidsOf f (after_manager_event w event).scene × LidsStayAround f events (after_manager_event w event)
+LidsStayAround f (event ∷ events) w =
+    HasLidsOf f (after_manager_event w event).scene × LidsStayAround f events (after_manager_event w event)
 
 -- how the manager plans when its writing begins
 abbrev pub planning_at : Managing → List ManagerEvent → List ManagerEvent → Planning
@@ -49,7 +50,8 @@ pub record SweepsAlone (w : Managing) (before between after : List ManagerEvent)
   pub whole : IsWhole sweep
   -- until the writing no port gets another LID
   pub lids_before : LidsStayAround (fabric_of w.scene.fabric) before w
-  pub lids_between : LidsStayAround (fabric_of w.scene.fabric) between (after_manager_event (after_manager_events before w) Begin)
+  pub lids_between : LidsStayAround (fabric_of w.scene.fabric) between
+      (after_manager_event (after_manager_events before w) Begin)
 
 -- It does so on a subnet that holds a plan.
 pub record TakesOver (held : Facts) (w : Managing) (before between after : List ManagerEvent) : Type 0 where
@@ -57,20 +59,25 @@ pub record TakesOver (held : Facts) (w : Managing) (before between after : List 
   -- all that is joined to its seat is as these facts say, and holds their plan by the manager's rule and LMC
   pub has_room : ¬ (IsNoRoom (planning_at w before between).lmc (cells_of held))
   pub agrees : AgreesOn (IsJoinedTo (fabric_of w.scene.fabric) w.seat) (cells_of held) (fabric_of w.scene.fabric)
-  pub holds : HoldsPlan (IsJoinedTo (fabric_of w.scene.fabric) w.seat) (plan_by_it (planning_at w before between) held) (fabric_of w.scene.fabric)
+  pub holds : HoldsPlan (IsJoinedTo (fabric_of w.scene.fabric) w.seat) (plan_by_it (planning_at w before between) held)
+      (fabric_of w.scene.fabric)
 
--- What it is about to write is what is there: the same LIDs, and each block as it is. Pings arrived before it came, and arrive once it has written.
+-- What it is about to write is what is there: the same LIDs, and each block as it is. Pings arrived before it came, and
+-- arrive once it has written.
 pub record ChangesNothing (held : Facts) (w : Managing) (before between after : List ManagerEvent) : Type 0 where
   pub same_plan : plan_at (at_writing w before between) ≡ plan_by_it (planning_at w before between) held
-  pub arrived : EachPingArrives (planning_at w before between).rule (cells_of held) (plan_by_it (planning_at w before between) held) w.scene.fabric w.seat
+  pub arrived : EachPingArrives (planning_at w before between).rule (cells_of held)
+      (plan_by_it (planning_at w before between) held) w.scene.fabric w.seat
   pub arrives : is_written (at_end w before between after).manager ≡ true
-      → EachPingArrives (planning_at w before between).rule (cells_of (at_writing w before between).manager.store) (plan_by_it (planning_at w before between) held)
+      → EachPingArrives (planning_at w before between).rule (cells_of (at_writing w before between).manager.store)
+      (plan_by_it (planning_at w before between) held)
       (at_end w before between after).scene.fabric w.seat
 
 -- a takeover changes nothing
 abbrev pub TakeoverChangesNothing : Type 0
 TakeoverChangesNothing =
-    (held : Facts) (w : Managing) (before between after : List ManagerEvent) → TakesOver held w before between after → ChangesNothing held w before between after
+    (held : Facts) (w : Managing) (before between after : List ManagerEvent) → TakesOver held w before between after
+    → ChangesNothing held w before between after
 
 -- between its writes, too --------------------------------------------------------------------------------
 
@@ -88,9 +95,10 @@ AllCarry plan [] w = Unit {0}
 AllCarry plan (event ∷ events) w = Carrying plan w event × AllCarry plan events (after_manager_event w event)
 
 -- what is joined to a seat holds the plan of facts, and each ping there for each LID of it arrives
-pub record IsInUse (rule : RuleValue) (facts : Facts) (plan : PlanValue) (s : Simulation) (seat : NodePort) : Type 0 where
-  pub holds : HoldsPlan (IsJoinedTo (fabric_of s) seat) plan (fabric_of s)
-  pub arrive : EachPingArrives rule (cells_of facts) plan s seat
+pub record IsInUse (rule : RuleValue) (facts : Facts) (plan : PlanValue) (s : Simulation) (seat : NodePort) : Type 0
+  where
+    pub holds : HoldsPlan (IsJoinedTo (fabric_of s) seat) plan (fabric_of s)
+    pub arrive : EachPingArrives rule (cells_of facts) plan s seat
 
 -- so it is at each moment of what happens
 abbrev pub InUseAlong : RuleValue → Facts → PlanValue → NodePort → List ManagerEvent → Managing → Type 0
@@ -98,23 +106,29 @@ InUseAlong rule facts plan seat [] w = IsInUse rule facts plan w.scene.fabric se
 InUseAlong rule facts plan seat (event ∷ events) w =
     IsInUse rule facts plan w.scene.fabric seat × InUseAlong rule facts plan seat events (after_manager_event w event)
 
--- a takeover while each Set carries the values of the plan that is held: until the writing begins; from then on the run asks for it
+-- a takeover while each Set carries the values of the plan that is held: until the writing begins; from then on the run
+-- asks for it
 pub record TakesOverQuietly (held : Facts) (w : Managing) (before between after : List ManagerEvent) : Type 0 where
   pub takes : TakesOver held w before between after
   pub carry_before : AllCarry (plan_by_it (planning_at w before between) held) before w
-  pub carry_between : AllCarry (plan_by_it (planning_at w before between) held) between (after_manager_event (after_manager_events before w) Begin)
+  pub carry_between : AllCarry (plan_by_it (planning_at w before between) held) between
+      (after_manager_event (after_manager_events before w) Begin)
 
 -- at each moment before the sweep, until the writing, and between its Sets
 pub record IsInUseThroughout (held : Facts) (w : Managing) (before between after : List ManagerEvent) : Type 0 where
-  pub until_sweep : InUseAlong (planning_at w before between).rule held (plan_by_it (planning_at w before between) held) w.seat before w
-  pub until_writing : InUseAlong (planning_at w before between).rule held (plan_by_it (planning_at w before between) held) w.seat between
+  pub until_sweep : InUseAlong (planning_at w before between).rule held (plan_by_it (planning_at w before between) held)
+      w.seat before w
+  pub until_writing : InUseAlong (planning_at w before between).rule held
+      (plan_by_it (planning_at w before between) held) w.seat between
       (after_manager_event (after_manager_events before w) Begin)
-  pub while_writing : InUseAlong (planning_at w before between).rule held (plan_by_it (planning_at w before between) held) w.seat after (at_first_steps w before between)
+  pub while_writing : InUseAlong (planning_at w before between).rule held
+      (plan_by_it (planning_at w before between) held) w.seat after (at_first_steps w before between)
 
 -- what is held stays held, and every ping arrives before, between and after the writes
 abbrev pub PingsArriveThroughout : Type 0
 PingsArriveThroughout =
-    (held : Facts) (w : Managing) (before between after : List ManagerEvent) → TakesOverQuietly held w before between after
+    (held : Facts) (w : Managing) (before between after : List ManagerEvent)
+    → TakesOverQuietly held w before between after
     → IsInUseThroughout held w before between after
 
 -- there is a manager that takes over so: one that was just made

@@ -75,10 +75,9 @@ pub fn takeover_changes_nothing()
     ensures { TakeoverChangesNothing }
 {}
 
-/// Where each Set that an agent takes until the writing carries that plan's values, and each later one
-/// that is not the writing's own, the subnet holds the plan at each moment: before the sweep, until the writing and between
-/// its Sets; and at each moment every ping from an end port there, for each LID of the plan, reaches
-/// the owner of the LID.
+/// Where each Set that an agent takes until the writing carries that plan's values, and each later one that is not the
+/// writing's own, the subnet holds the plan at each moment: before the sweep, until the writing and between its Sets;
+/// and at each moment every ping from an end port there, for each LID of the plan, reaches the owner of the LID.
 pub fn pings_arrive_throughout()
     ensures { PingsArriveThroughout }
 {}

@@ -119,7 +119,8 @@ name_then (b ∷ name) rest e f =
 pub digit_apart : (b c : ℕ) → digit_value c ≡ 36 → digit_value b < 36 → (b == c) ≡ false
 digit_apart b c e h = differs b c (λ same. let past : digit_value b ≡ 36 = ap digit_value same ∙ e in omega arith)
 
-pub digits_all : (base : ℕ) (p : ℕ → Bool) (word : List ℕ) → base ≤ 36 → ((b : ℕ) → digit_value b < 36 → p b ≡ true) → AllDigits base word → list_all p word ≡ true
+pub digits_all : (base : ℕ) (p : ℕ → Bool) (word : List ℕ) → base ≤ 36 → ((b : ℕ) → digit_value b < 36 → p b ≡ true) → AllDigits base word → list_all p word
+    ≡ true
 digits_all base p [] few passes all = refl
 digits_all base p (b ∷ word) few passes all =
     let small : digit_value b < base = all.0 in

@@ -11,7 +11,8 @@ digit_of base b = if is_digit b base then Some (digit_value b) else None
 
 -- the number that a word writes in this base: digits, however many, and nothing else
 abbrev pub number_of : ℕ → List ℕ → Option ℕ
-number_of base word = if nat_le 1 (length word) && list_all (λ b. is_digit b base) word then Some (digits_value base word) else None
+number_of base word =
+    if nat_le 1 (length word) && list_all (λ b. is_digit b base) word then Some (digits_value base word) else None
 
 -- the number, where it is from 1 up to the most
 abbrev pub up_to : ℕ → ℕ → Option ℕ
@@ -23,4 +24,5 @@ count_of most word = option_map (up_to most) (number_of 10 word)
 
 -- a GUID: '0x' and up to sixteen hex digits
 abbrev pub guid_of : List ℕ → Option ℕ
-guid_of word = if bytes_eq (take 2 word) (codes "0x") && nat_le (length word) 18 then number_of 16 (drop 2 word) else None
+guid_of word = if bytes_eq (take 2 word) (codes "0x")
+    && nat_le (length word) 18 then number_of 16 (drop 2 word) else None

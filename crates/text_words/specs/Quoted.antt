@@ -29,4 +29,5 @@ bracketed_port word = option_and_then (count_of 254) (option_and_then alone (enc
 -- a name in quotes, and at once behind it a port in brackets
 abbrev pub named_port : List ℕ → Option (List ℕ × Option ℕ)
 named_port word =
-    option_and_then (λ x. option_and_then (λ name. option_map (λ port. (name, port)) (bracketed_port x.1)) (name_in x.0)) (enclosed 34 34 word)
+    option_and_then (λ x. option_and_then (λ name. option_map (λ port. (name, port)) (bracketed_port x.1))
+    (name_in x.0)) (enclosed 34 34 word)

@@ -11,10 +11,12 @@ abbrev pub onto_first : ℕ → List (List ℕ) → List (List ℕ)
 onto_first b [] = (b ∷ []) ∷ []
 onto_first b (line ∷ later) = (b ∷ line) ∷ later
 
--- the lines of a text: each ends with a line feed, before which a carriage return belongs to the end; the last may end with the text
+-- the lines of a text: each ends with a line feed, before which a carriage return belongs to the end; the last may end
+-- with the text
 abbrev pub lines : List ℕ → List (List ℕ)
 lines [] = []
-lines (b ∷ bytes) = if b == 10 then [] ∷ lines bytes else (if b == 13 && begins_with 10 bytes then lines bytes else onto_first b (lines bytes))
+lines (b ∷ bytes) = if b == 10 then []
+    ∷ lines bytes else (if b == 13 && begins_with 10 bytes then lines bytes else onto_first b (lines bytes))
 
 -- a blank or a tab
 abbrev pub is_blank : ℕ → Bool

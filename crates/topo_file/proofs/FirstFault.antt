@@ -50,19 +50,23 @@ seen (Ok told) = Ok (names_of told.nodes)
 seen (Err fault) = Err fault
 
 tested : (a b : Bool) (number : ℕ) (before : Lines) (node : Node)
-    → seen ((if a then Err (Name number) else (if b then Ok (before.nodes ++ node ∷ []) else Err (TooManyNodes number))) >>= λ nodes. Ok (record before { nodes = nodes }))
+    → seen ((if a then Err (Name number) else (if b then Ok (before.nodes ++ node ∷ []) else Err (TooManyNodes number))) >>= λ nodes. Ok
+    (record before { nodes = nodes }))
     ≡ (if a then Err (Name number) else (if b then Ok (names_of before.nodes ++ Some node.name ∷ []) else Err (TooManyNodes number)))
 tested true b number before node = refl
 tested false true number before node = ap Ok (names_more before.nodes node)
 tested false false number before node = refl
 
 node_same : (number : ℕ) (before : Lines) (node : Result Node TopoFault)
-    → seen (node >>= with_node number before.nodes >>= λ nodes. Ok (record before { nodes = nodes })) ≡ (node >>= λ n. with_new_name number (names_of before.nodes) n.name)
+    → seen (node >>= with_node number before.nodes >>= λ nodes. Ok (record before { nodes = nodes }))
+    ≡ (node >>= λ n. with_new_name number (names_of before.nodes) n.name)
 node_same number before (Err fault) = refl
 node_same number before (Ok node) =
     tested (is_some (id_of before.nodes node.name)) (nat_lt (length before.nodes) 1024) number before node
-    ∙ ap (λ a. if a then Err (Name number) else (if nat_lt (length before.nodes) 1024 then Ok (names_of before.nodes ++ Some node.name ∷ []) else Err (TooManyNodes number))) (sym (used_same before.nodes node.name))
-    ∙ ap (λ n. if is_used (names_of before.nodes) node.name then Err (Name number) else (if nat_lt n 1024 then Ok (names_of before.nodes ++ Some node.name ∷ []) else Err (TooManyNodes number))) (sym (names_count before.nodes))
+    ∙ ap (λ a. if a then Err (Name number) else (if nat_lt (length before.nodes) 1024 then Ok (names_of before.nodes ++ Some node.name
+    ∷ []) else Err (TooManyNodes number))) (sym (used_same before.nodes node.name))
+    ∙ ap (λ n. if is_used (names_of before.nodes) node.name then Err (Name number) else (if nat_lt n 1024 then Ok (names_of before.nodes ++ Some node.name
+    ∷ []) else Err (TooManyNodes number))) (sym (names_count before.nodes))
 
 link_same : (number : ℕ) (nodes : List Node) (links : List LinkAt) (link : LinkLine)
     → seen (with_link_line number (length nodes) links link >>= λ now. Ok (record { nodes = nodes; links = now })) ≡ below_node number (names_of nodes)
@@ -81,10 +85,12 @@ then_same : (told : Result Lines TopoFault) (names : Result (List (Option (List 
 then_same (Ok now) names f g e h = h now ∙ ap (λ r. fault_of (r >>= g)) e
 then_same (Err fault) names f g e h = ap (λ r. fault_of (r >>= g)) e
 
-lines_same : (number : ℕ) (before : Lines) (ls : List (List ℕ)) → fault_of (with_lines number before ls) ≡ fault_of (with_names number (names_of before.nodes) ls)
+lines_same : (number : ℕ) (before : Lines) (ls : List (List ℕ)) → fault_of (with_lines number before ls)
+    ≡ fault_of (with_names number (names_of before.nodes) ls)
 lines_same number before [] = refl
 lines_same number before (l ∷ ls) =
-    then_same (with_line number before (line_of l)) (with_name number (names_of before.nodes) (line_of l)) (λ now. with_lines (number + 1) now ls) (λ now. with_names (number + 1) now ls)
+    then_same (with_line number before (line_of l)) (with_name number (names_of before.nodes) (line_of l)) (λ now. with_lines (number
+    + 1) now ls) (λ now. with_names (number + 1) now ls)
     (line_same number before (line_of l)) (λ now. lines_same (number + 1) now ls)
 
 -- the lines so far left these names, and their fault is that of the lines to come
@@ -139,12 +145,15 @@ line_plain number before None = tt
 line_plain number before (Some line.Empty) = tt
 line_plain number before (Some (line.Node node)) =
     plain_then (node_of number node >>= with_node number before.nodes) _
-    (plain_then (node_of number node) (with_node number before.nodes) (node_plain number node node.ports node.cap) (with_plain number before.nodes)) (λ nodes. tt)
-line_plain number before (Some (line.Link link)) = plain_then (with_link_line number (length before.nodes) before.links link) _ (below_plain number (length before.nodes) before.links link) (λ links. tt)
+    (plain_then (node_of number node) (with_node number before.nodes) (node_plain number node node.ports node.cap) (with_plain number before.nodes))
+    (λ nodes. tt)
+line_plain number before (Some (line.Link link)) =
+    plain_then (with_link_line number (length before.nodes) before.links link) _ (below_plain number (length before.nodes) before.links link) (λ links. tt)
 
 lines_plain : (number : ℕ) (before : Lines) (ls : List (List ℕ)) → IsPlain (with_lines number before ls)
 lines_plain number before [] = tt
-lines_plain number before (l ∷ ls) = plain_then (with_line number before (line_of l)) _ (line_plain number before (line_of l)) (λ now. lines_plain (number + 1) now ls)
+lines_plain number before (l ∷ ls) =
+    plain_then (with_line number before (line_of l)) _ (line_plain number before (line_of l)) (λ now. lines_plain (number + 1) now ls)
 
 -- what is answered ------------------------------------------------------------------------------
 
@@ -166,7 +175,9 @@ told_fault (Err f) fault e = cc
 -- the first fault of the lines is the first of the text
 pub first_refuses : (text : List ℕ) (fault : TopoFault) → first_line_fault text ≡ Some fault → IsRefused fault (topology_of text)
 unfolding first_line_fault topology_of
-first_refuses text fault e = refused_then fault (nodes_of_lines (lines text)) topology_in (refuses fault (nodes_of_lines (lines text)) (told_fault (nodes_of_lines (lines text)) fault e))
+first_refuses text fault e =
+    refused_then fault (nodes_of_lines (lines text)) topology_in
+    (refuses fault (nodes_of_lines (lines text)) (told_fault (nodes_of_lines (lines text)) fault e))
 
 -- and it is never out of memory
 pub first_plain : (text : List ℕ) → first_line_fault text ≡ Some Memory → ⊥

@@ -166,7 +166,8 @@ pub found_at : (nodes : List Node) (name : List ℕ) (o : Option ℕ) → o ≡ 
 found_at nodes name o e = subst (λ (p : Option ℕ). IsFound nodes name p) (sym e) (found_is nodes name)
 
 -- what has an id is a node as a topology may have it
-pub listed_is_node : (nodes : List Node) (id : ℕ) (found : Option (Bor Node)) → All IsNode nodes → option_copied found ≡ slice_get nodes id → IfSome found (λ n. IsNode n.now)
+pub listed_is_node : (nodes : List Node) (id : ℕ) (found : Option (Bor Node)) → All IsNode nodes → option_copied found ≡ slice_get nodes id
+    → IfSome found (λ n. IsNode n.now)
 listed_is_node nodes id None are e = tt
 listed_is_node nodes id (Some n) are e =
     subst IsNode (get_or_from_slice_get nodes id n.now n.now (sym e)) (are id n.now (slice_get_within nodes id n.now (sym e)))

@@ -16,7 +16,8 @@ abbrev pub fault_of : {T : Type 0} → Result T TopoFault → Option TopoFault
 fault_of (Ok value) = None
 fault_of (Err fault) = Some fault
 
--- the first fault of a text's lines, apart from those of its links: a peer or a port that is not there, or a port with two links
+-- the first fault of a text's lines, apart from those of its links: a peer or a port that is not there, or a port with
+-- two links
 unfoldable pub first_line_fault : List ℕ → Option TopoFault
 first_line_fault text = fault_of (nodes_of_lines (lines text))
 
@@ -45,7 +46,8 @@ with_name number names (Some (line.Link link)) = below_node number names
 -- and those of lines that count from this number
 abbrev pub with_names : ℕ → List (Option (List ℕ)) → List (List ℕ) → Result (List (Option (List ℕ))) TopoFault
 with_names number names [] = Ok names
-with_names number names (line ∷ later) = with_name number names (line_of line) >>= λ now. with_names (number + 1) now later
+with_names number names (line ∷ later) =
+    with_name number names (line_of line) >>= λ now. with_names (number + 1) now later
 
 -- a call left these names, or answered the fault
 abbrev pub Leaves : {T : Type 0} → Result T TopoFault → Result (Unit {0}) TopoFault → T → Type 0

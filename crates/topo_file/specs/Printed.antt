@@ -14,7 +14,8 @@ use Rattle.topo_file.specs.Reading.{topology_of}
 abbrev pub node_words : Node → List (List ℕ)
 node_words node =
     (if is_switch node.kind then codes "Switch" else codes "Hca") ∷ decimal node.ports ∷ quoted_text node.name
-    ∷ codes "guid" ∷ (codes "0x" ++ guid_text node.guid) ∷ (if is_switch node.kind then codes "cap" ∷ decimal node.cap ∷ [] else [])
+    ∷ codes "guid" ∷ (codes "0x" ++ guid_text node.guid)
+    ∷ (if is_switch node.kind then codes "cap" ∷ decimal node.cap ∷ [] else [])
 
 -- the name of the node of an id
 abbrev pub name_at : List Node → ℕ → List ℕ
@@ -31,7 +32,8 @@ links_at links id = filter (λ link. link.one.node == id) links
 -- the lines of the nodes from an id on, each with its links below it
 abbrev pub lines_from : Layout → ℕ → List Node → List (List (List ℕ))
 lines_from t id [] = []
-lines_from t id (node ∷ later) = node_words node ∷ (map (link_words t.nodes) (links_at t.links id) ++ lines_from t (suc id) later)
+lines_from t id (node ∷ later) =
+    node_words node ∷ (map (link_words t.nodes) (links_at t.links id) ++ lines_from t (suc id) later)
 
 -- the text of a topology: each node in its order, and below it the links whose first end is there
 abbrev pub topology_text : Layout → List ℕ

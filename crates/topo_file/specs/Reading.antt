@@ -67,12 +67,17 @@ with_line number before (Some (line.Link link)) =
 -- what lines add that count from this number
 abbrev pub with_lines : ℕ → Lines → List (List ℕ) → Result Lines TopoFault
 with_lines number before [] = Ok before
-with_lines number before (line ∷ later) = with_line number before (line_of line) >>= λ now. with_lines (number + 1) now later
+with_lines number before (line ∷ later) =
+    with_line number before (line_of line) >>= λ now. with_lines (number + 1) now later
 
 -- the port of the node of an id, where the node has it
 abbrev pub port_at : List Node → ℕ → Option ℕ → Option NodePort
 port_at nodes id port =
-    option_and_then (λ p. option_and_then (λ node. if nat_le p node.ports then Some (record { node = id; port = p }) else None)
+    option_and_then (λ p. option_and_then (λ node. if nat_le p node.ports then Some (record {
+      node = id;
+      port =
+          p;
+    }) else None)
     (slice_get nodes id)) port
 
 abbrev pub link_between : ℕ → Option NodePort → Option NodePort → Result Cable TopoFault
@@ -82,7 +87,8 @@ link_between number None other = Err (Port number)
 
 abbrev pub link_to : List Node → LinkAt → Option ℕ → Result Cable TopoFault
 link_to nodes at None = Err (Peer at.line)
-link_to nodes at (Some id) = link_between at.line (port_at nodes at.node at.link.port) (port_at nodes id at.link.peer_port)
+link_to nodes at (Some id) =
+    link_between at.line (port_at nodes at.node at.link.port) (port_at nodes id at.link.peer_port)
 
 -- the link that a line tells
 abbrev pub link_of : List Node → LinkAt → Result Cable TopoFault
@@ -96,7 +102,8 @@ is_end p found = option_map_or (is_same_port p) found false
 abbrev pub with_link : ℕ → List Cable → Cable → Result (List Cable) TopoFault
 with_link number links link =
     if is_end link.other (other_end links link.one) then Ok links
-    else (if is_some (other_end links link.one) || is_some (other_end links link.other) then Err (Linked number) else Ok (links ++ link ∷ []))
+    else (if is_some (other_end links link.one)
+    || is_some (other_end links link.other) then Err (Linked number) else Ok (links ++ link ∷ []))
 
 -- the links with those that the lines tell
 abbrev pub with_links : List Node → List Cable → List LinkAt → Result (List Cable) TopoFault

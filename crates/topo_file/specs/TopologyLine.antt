@@ -14,7 +14,8 @@ use Rattle.text_words.specs.Quoted.{quoted_name, bracketed_port, named_port}
 -- a switch or a channel adapter
 abbrev pub kind_of : List ℕ → Option NodeType
 kind_of word =
-    if bytes_eq word (codes "Switch") then Some Switch else (if bytes_eq word (codes "Hca") || bytes_eq word (codes "Ca") then Some ChannelAdapter else None)
+    if bytes_eq word (codes "Switch") then Some Switch else (if bytes_eq word (codes "Hca")
+    || bytes_eq word (codes "Ca") then Some ChannelAdapter else None)
 
 -- how many entries a switch's table has: 1024, or what follows 'cap'; an adapter has none
 abbrev pub cap_of : NodeType → List (List ℕ) → Option (Option ℕ)
@@ -29,7 +30,8 @@ cap_of Router _ = None
 abbrev pub node_line : NodeType → List (List ℕ) → Option NodeLine
 node_line kind (ports ∷ name ∷ word ∷ guid ∷ rest) =
     if bytes_eq word (codes "guid") then
-    option_and_then (λ p. option_and_then (λ n. option_and_then (λ g. option_map (λ c. record { kind = kind; ports = p; name = n; guid = g; cap = c })
+    option_and_then (λ p. option_and_then
+    (λ n. option_and_then (λ g. option_map (λ c. record { kind = kind; ports = p; name = n; guid = g; cap = c })
     (cap_of kind rest)) (guid_of guid)) (quoted_name name)) (count_of 254 ports)
     else None
 node_line kind _ = None
@@ -37,7 +39,8 @@ node_line kind _ = None
 -- a link: a port, and the peer's name with the peer's port
 abbrev pub link_line : List (List ℕ) → Option LinkLine
 link_line (port ∷ end ∷ []) =
-    option_and_then (λ p. option_map (λ x. record { port = p; peer = x.0; peer_port = x.1 }) (named_port end)) (bracketed_port port)
+    option_and_then (λ p. option_map (λ x. record { port = p; peer = x.0; peer_port = x.1 }) (named_port end))
+    (bracketed_port port)
 link_line _ = None
 
 abbrev pub line_of_kind : Option NodeType → List (List ℕ) → Option TopologyLine

@@ -137,7 +137,8 @@ module _ (ranks : List (Option ℕ)) where
         }
 
   -- what is sorted by rank and index is an order
-  pub sorted_is_order : (sorted : List (ℕ × ℕ)) (order : List ℕ) → IsPermutation (ranked ranks) sorted → IsSorted pair_cmp sorted → order ≡ map (λ x. x.1) sorted → IsOrder ranks order
+  pub sorted_is_order : (sorted : List (ℕ × ℕ)) (order : List ℕ) → IsPermutation (ranked ranks) sorted → IsSorted pair_cmp sorted → order
+      ≡ map (λ x. x.1) sorted → IsOrder ranks order
   sorted_is_order sorted order moved rises e = subst (IsOrder ranks) (sym e) (is_order sorted moved rises)
 
 -- nothing goes before itself
@@ -151,7 +152,8 @@ names_each_once ranks order is =
       within = λ p h. omega (arith, is.within p h, is.all);
       apart = λ p q h k e. (elim (cases_order p q) [
         | inl same ↦ same
-        | inr (inl l) ↦ absurd (before_itself ranks (slice_index order q) (ap (λ (x : ℕ). goes_before ranks x (slice_index order q)) (sym e) ∙ is.rises p q l k))
+        | inr (inl l) ↦ absurd (before_itself ranks (slice_index order q) (ap (λ (x : ℕ). goes_before ranks x (slice_index order q)) (sym e)
+            ∙ is.rises p q l k))
         | inr (inr l) ↦ absurd (before_itself ranks (slice_index order p) (ap (λ (x : ℕ). goes_before ranks x (slice_index order p)) e ∙ is.rises q p l h))
       ]);
     }

@@ -39,7 +39,8 @@ module _ (ranks : List (Option ℕ)) where
   not_itself a e = never_below (rank a) a (lex_below (rank a) a (rank a) a e)
 
   not_both : (a b : ℕ) → goes_before ranks a b ≡ true → goes_before ranks b a ≡ true → ⊥
-  not_both a b e f = never_below (rank a) a (lex_below_trans (rank a) a (rank b) b (rank a) a (lex_below (rank a) a (rank b) b e) (lex_below (rank b) b (rank a) a f))
+  not_both a b e f =
+      never_below (rank a) a (lex_below_trans (rank a) a (rank b) b (rank a) a (lex_below (rank a) a (rank b) b e) (lex_below (rank b) b (rank a) a f))
 
 module _ (ranks : List (Option ℕ)) (order : List ℕ) (is : IsOrder ranks order) where
   -- positions are as their switches
@@ -72,8 +73,10 @@ module _ (graph : List SwitchEdges) (good : IsGraph graph) where
   -- the order of indices is that of their switches
   by_rank : (a b : ℕ) → a < length guids → b < length guids → goes_before ranks a b ≡ is_before graph (switch_at graph a) (switch_at graph b)
   by_rank a b h k =
-      let ra : unwrap_or (get_or ranks a None) 0 ≡ unwrap_or (rank_of graph (get_or guids a 0)) 0 = ap (λ o. unwrap_or o 0) (get_or-map (rank_of graph) guids a 0 None h) in
-      let rb : unwrap_or (get_or ranks b None) 0 ≡ unwrap_or (rank_of graph (get_or guids b 0)) 0 = ap (λ o. unwrap_or o 0) (get_or-map (rank_of graph) guids b 0 None k) in
+      let ra : unwrap_or (get_or ranks a None) 0 ≡ unwrap_or (rank_of graph (get_or guids a 0)) 0 =
+      ap (λ o. unwrap_or o 0) (get_or-map (rank_of graph) guids a 0 None h) in
+      let rb : unwrap_or (get_or ranks b None) 0 ≡ unwrap_or (rank_of graph (get_or guids b 0)) 0 =
+      ap (λ o. unwrap_or o 0) (get_or-map (rank_of graph) guids b 0 None k) in
       let lt = both_ways (nat_lt a b) (nat_lt (get_or guids a 0) (get_or guids b 0))
       (λ e. lt-ltb (get_or guids a 0) (get_or guids b 0) (AllPairs-from_increasing guids good.rising a b 0 (ltb-true a b e) k))
       (λ e. (elim (cases_order a b) [
@@ -91,13 +94,15 @@ module _ (graph : List SwitchEdges) (good : IsGraph graph) where
     many = length_map (rank_of graph) guids
 
     -- a lesser position is that of a switch before it
-    before_test : (p j : ℕ) → p < length order → j < length guids → is_before graph (switch_at graph j) (switch_at_position graph order p) ≡ nat_lt (position j) p
+    before_test : (p j : ℕ) → p < length order → j < length guids → is_before graph (switch_at graph j) (switch_at_position graph order p)
+        ≡ nat_lt (position j) p
     before_test p j h k =
         let b = position_back ranks order is positions are j (omega (arith, many)) in
         sym (position_test ranks order is (position j) p b.1 h ∙ ap (λ x. goes_before ranks x (get_or order p 0)) b.0
         ∙ by_rank j (get_or order p 0) k (omega (arith, is.within p h, many)))
 
-    after_test : (p j : ℕ) → p < length order → j < length guids → is_before graph (switch_at_position graph order p) (switch_at graph j) ≡ nat_lt p (position j)
+    after_test : (p j : ℕ) → p < length order → j < length guids → is_before graph (switch_at_position graph order p) (switch_at graph j)
+        ≡ nat_lt p (position j)
     after_test p j h k =
         let b = position_back ranks order is positions are j (omega (arith, many)) in
         sym (position_test ranks order is p (position j) h b.1 ∙ ap (goes_before ranks (get_or order p 0)) b.0
@@ -111,7 +116,8 @@ module _ (graph : List SwitchEdges) (good : IsGraph graph) where
         ap edge (ap (λ k. get_or guids k 0) (sym b.0))
 
     -- the wires up and down of the switch at a position
-    pub row_at_position : (p : ℕ) (es : List Edge) → p < length order → LeadBelow (length graph) es → map (by_guid guids) es ≡ edges_at graph (switch_at_position graph order p)
+    pub row_at_position : (p : ℕ) (es : List Edge) → p < length order → LeadBelow (length graph) es → map (by_guid guids) es
+        ≡ edges_at graph (switch_at_position graph order p)
         → IsAtPosition graph order p (ups_from p (map (at_position positions) es)) (downs_from p (map (at_position positions) es))
     row_at_position p es h lead same =
         let s = switch_at_position graph order p in
@@ -135,7 +141,8 @@ module _ (graph : List SwitchEdges) (good : IsGraph graph) where
 module _ (graph : List SwitchEdges) (order : List ℕ) where
   -- the wires of the switches at the first positions
   abbrev pub AreAtPositionsTo : ℕ → List (List Edge) → List (List Edge) → Type 0
-  AreAtPositionsTo n ups downs = (length ups ≡ n) × (length downs ≡ n) × ((p : ℕ) → p < n → IsAtPosition graph order p (edges_by_index ups p) (edges_by_index downs p))
+  AreAtPositionsTo n ups downs =
+      (length ups ≡ n) × (length downs ≡ n) × ((p : ℕ) → p < n → IsAtPosition graph order p (edges_by_index ups p) (edges_by_index downs p))
 
   -- the wires of the switch at one more position
   pub one_more_position : (n : ℕ) (ups downs : List (List Edge)) (up down : List Edge) → AreAtPositionsTo n ups downs → IsAtPosition graph order n up down

@@ -61,14 +61,19 @@ module _ (graph : List SwitchEdges) (good : IsGraph graph) (order positions : Li
   names_apart p q h k e =
       let once = names_each_once (map (rank_of graph) guids) order is in
       once.apart p q h k
-      (apart_by_index guids good.rising (get_or order p 0) (get_or order q 0) (omega (arith, once.within p h, as_many)) (omega (arith, once.within q k, as_many)) e)
+      (apart_by_index guids good.rising (get_or order p 0) (get_or order q 0) (omega (arith, once.within p h, as_many))
+      (omega (arith, once.within q k, as_many)) e)
 
   -- the edges of the switch at a position lead to those at the positions of its edges
   up_from : (p : ℕ) (e : Edge) → p < length order → Contains (edges_by_index ups p) e → Contains (ups_at (slopes_of graph) (name p)) (by_position graph order e)
-  up_from p e h k = subst (λ (es : List Edge). Contains es (by_position graph order e)) (sym (by.each p h).up) (in_map (by_position graph order) (edges_by_index ups p) e k)
+  up_from p e h k =
+      subst (λ (es : List Edge). Contains es (by_position graph order e)) (sym (by.each p h).up) (in_map (by_position graph order) (edges_by_index ups p) e k)
 
-  down_from : (p : ℕ) (e : Edge) → p < length order → Contains (edges_by_index downs p) e → Contains (downs_at (slopes_of graph) (name p)) (by_position graph order e)
-  down_from p e h k = subst (λ (es : List Edge). Contains es (by_position graph order e)) (sym (by.each p h).down) (in_map (by_position graph order) (edges_by_index downs p) e k)
+  down_from : (p : ℕ) (e : Edge) → p < length order → Contains (edges_by_index downs p) e
+      → Contains (downs_at (slopes_of graph) (name p)) (by_position graph order e)
+  down_from p e h k =
+      subst (λ (es : List Edge). Contains es (by_position graph order e)) (sym (by.each p h).down)
+      (in_map (by_position graph order) (edges_by_index downs p) e k)
 
   -- a wire up from one position is there as a wire down to it
   back_up : (a b : ℕ) → Contains (heads downs a) b → Contains (heads ups b) a
@@ -137,7 +142,8 @@ module _ (graph : List SwitchEdges) (good : IsGraph graph) (order positions : Li
       (λ j h. let b = position_back (map (rank_of graph) guids) order is positions are j (omega (arith, length_map (rank_of graph) guids)) in
       sym (get_or-map name positions j 0 0 (omega (arith, are.all, as_many)) ∙ ap (λ k. get_or guids k 0) b.0))
 
-  port_at_positions : (s t : ℕ) → Contains positions s → Contains positions t → next_port (slopes_of graph) (name s) (name t) ≡ next_port (indexed ups downs) s t
+  port_at_positions : (s t : ℕ) → Contains positions s → Contains positions t → next_port (slopes_of graph) (name s) (name t)
+      ≡ next_port (indexed ups downs) s t
   port_at_positions s t h k =
       let all = all_indexed ups downs are_slopes in
       next_port_renamed name (slopes_of graph) (indexed ups downs) (renamed name (slopes_of graph) ups downs are_slopes are_named) s t
@@ -149,7 +155,8 @@ module _ (graph : List SwitchEdges) (good : IsGraph graph) (order positions : Li
       let rows : List ℕ → List (List (Option ℕ)) = λ gs. map (λ t. map (λ s. next_port (slopes_of graph) s t) gs) gs in
       let row : ℕ → List (Option ℕ) = λ t. map (λ s. next_port (slopes_of graph) s t) (map name positions) in
       sym (ap rows switches_at_positions ∙ map_moved row name (λ t. map (λ s. next_port (indexed ups downs) s t) positions) positions
-      (λ t h. map_moved (λ s. next_port (slopes_of graph) s (name t)) name (λ s. next_port (indexed ups downs) s t) positions (λ s k. port_at_positions s t k h)))
+      (λ t h. map_moved (λ s. next_port (slopes_of graph) s (name t)) name (λ s. next_port (indexed ups downs) s t) positions
+      (λ s k. port_at_positions s t k h)))
 
 -- target by target ------------------------------------------------------------------------
 
@@ -163,7 +170,8 @@ module _ (ups downs : List (List Edge)) (positions : List ℕ) (within : All (λ
       (λ p h. are.next p (subst (λ (q : ℕ). q < length ups) h.2 (within h.0 p h.1)))
 
   -- the ports to one more target
-  pub one_more_target : (i : ℕ) (rows : List (List (Option ℕ))) (found : List (Option ℕ)) → i < length positions → AreNextPorts ups downs (get_or positions i 0) found
+  pub one_more_target : (i : ℕ) (rows : List (List (Option ℕ))) (found : List (Option ℕ)) → i < length positions
+      → AreNextPorts ups downs (get_or positions i 0) found
       → IsMapped row_to positions rows i → IsMapped row_to positions (rows ++ map (λ p. get_or found p None) positions ∷ []) (i + 1)
   one_more_target i rows found h are so_far =
       let t = get_or positions i 0 in
@@ -173,9 +181,11 @@ module _ (ups downs : List (List Edge)) (positions : List ℕ) (within : All (λ
 -- read by index ---------------------------------------------------------------------------
 
 -- the port in a row of a table of next ports
-pub port_in_rows : (graph : List SwitchEdges) (i j : ℕ) → next_port_at graph i j ≡ option_and_then (λ row. option_flatten (slice_get row i)) (slice_get (ports_of graph) j)
+pub port_in_rows : (graph : List SwitchEdges) (i j : ℕ) → next_port_at graph i j
+    ≡ option_and_then (λ row. option_flatten (slice_get row i)) (slice_get (ports_of graph) j)
 port_in_rows graph i j =
-    sym (ap (option_and_then (λ (row : List (Option ℕ)). option_flatten (slice_get row i))) (slice_get-map (ports_to graph) (guids_of graph) j) ∙ each (slice_get (guids_of graph) j))
+    sym (ap (option_and_then (λ (row : List (Option ℕ)). option_flatten (slice_get row i))) (slice_get-map (ports_to graph) (guids_of graph) j)
+    ∙ each (slice_get (guids_of graph) j))
   where
     flat : (f : ℕ → Option ℕ) (o : Option ℕ) → option_flatten (option_map f o) ≡ option_and_then f o
     flat f None = refl
@@ -185,15 +195,18 @@ port_in_rows graph i j =
         ≡ option_and_then (λ t. option_and_then (λ s. next_port (slopes_of graph) s t) (slice_get (guids_of graph) i)) o
     each None = refl
     each (Some t) =
-        ap option_flatten (slice_get-map (λ s. next_port (slopes_of graph) s t) (guids_of graph) i) ∙ flat (λ s. next_port (slopes_of graph) s t) (slice_get (guids_of graph) i)
+        ap option_flatten (slice_get-map (λ s. next_port (slopes_of graph) s t) (guids_of graph) i)
+        ∙ flat (λ s. next_port (slopes_of graph) s t) (slice_get (guids_of graph) i)
 
 -- by the indices of two switches
-pub port_by_index : (graph : List SwitchEdges) (s t i j : ℕ) → IsIndexOf (guids_of graph) s i → IsIndexOf (guids_of graph) t j → next_port_at graph i j ≡ next_port (slopes_of graph) s t
+pub port_by_index : (graph : List SwitchEdges) (s t i j : ℕ) → IsIndexOf (guids_of graph) s i → IsIndexOf (guids_of graph) t j → next_port_at graph i j
+    ≡ next_port (slopes_of graph) s t
 port_by_index graph s t i j (h, e) (k, f) =
     let guids : List ℕ = guids_of graph in
     let at_i = slice_get-get_or guids i 0 h in
     let at_j = slice_get-get_or guids j 0 k in
-    ap₂ (λ (a b : Option ℕ). option_and_then (λ y. option_and_then (λ x. next_port (slopes_of graph) x y) a) b) at_i at_j ∙ ap₂ (next_port (slopes_of graph)) e f
+    ap₂ (λ (a b : Option ℕ). option_and_then (λ y. option_and_then (λ x. next_port (slopes_of graph) x y) a) b) at_i at_j
+    ∙ ap₂ (next_port (slopes_of graph)) e f
 
 -- outside of the graph --------------------------------------------------------------------
 
@@ -211,8 +224,10 @@ module _ (graph : List SwitchEdges) (good : IsGraph graph) where
       let up : port_up slopes s t ≡ None =
       ap (λ es. option_map (λ (e : Edge). e.port) (find (λ e. same_number (option_map suc (cost slopes e.to t)) (cost slopes s t)) es)) no_ups in
       let down : port_down slopes s t ≡ None =
-      ap (λ es. option_map (λ (e : Edge). e.port) (find (λ e. same_number (option_map suc (down_distance slopes e.to t)) (down_distance slopes s t)) es)) no_downs in
-      ap₂ (λ (d u : Option ℕ). cond (s == t) None (cond (is_some (down_distance slopes s t)) d u)) down up ∙ no_choice (s == t) (is_some (down_distance slopes s t))
+      ap (λ es. option_map (λ (e : Edge). e.port) (find (λ e. same_number (option_map suc (down_distance slopes e.to t)) (down_distance slopes s t)) es))
+      no_downs in
+      ap₂ (λ (d u : Option ℕ). cond (s == t) None (cond (is_some (down_distance slopes s t)) d u)) down up
+      ∙ no_choice (s == t) (is_some (down_distance slopes s t))
     where
       no_choice : (a b : Bool) → ◌≡◌ {A = Option ℕ} (cond a None (cond b None None)) None
       no_choice true b = refl

@@ -43,7 +43,8 @@ module _ (graph : List SwitchEdges) where
 
   first_more : (roots : List ℕ) (root v : ℕ) → first (roots ++ root ∷ []) v ≡ option_or (first roots v) (distance graph root v)
   first_more [] root v = or_none (distance graph root v)
-  first_more (x ∷ roots) root v = ap (option_or (distance graph x v)) (first_more roots root v) ∙ or_assoc (distance graph x v) (first roots v) (distance graph root v)
+  first_more (x ∷ roots) root v =
+      ap (option_or (distance graph x v)) (first_more roots root v) ∙ or_assoc (distance graph x v) (first roots v) (distance graph root v)
 
   one_more_root : (n : ℕ) → n < length guids → take (n + 1) guids ≡ take n guids ++ get_or guids n 0 ∷ []
   one_more_root n h = let e : n + 1 ≡ suc n = omega arith in ap (λ k. take k guids) e ∙ take-suc guids n 0 h
@@ -70,11 +71,13 @@ module _ (graph : List SwitchEdges) where
         | Some d ↦ λ q. refl
       ] refl
 
-  first_is_found : (roots : List ℕ) (v : ℕ) → first roots v ≡ option_and_then (λ root. distance graph root v) (find (λ root. in_one_component graph root v) roots)
+  first_is_found : (roots : List ℕ) (v : ℕ) → first roots v
+      ≡ option_and_then (λ root. distance graph root v) (find (λ root. in_one_component graph root v) roots)
   first_is_found [] v = refl
   first_is_found (x ∷ roots) v =
       elim (distance graph x v) as (λ o. distance graph x v ≡ o
-      → option_or o (first roots v) ≡ option_and_then (λ root. distance graph root v) (cond (is_some o) (Some x) (find (λ root. in_one_component graph root v) roots))) [
+      → option_or o (first roots v)
+      ≡ option_and_then (λ root. distance graph root v) (cond (is_some o) (Some x) (find (λ root. in_one_component graph root v) roots))) [
         | None ↦ λ q. first_is_found roots v
         | Some d ↦ λ q. sym q
       ] refl
@@ -88,8 +91,10 @@ module _ (graph : List SwitchEdges) where
       all_none (c ∷ cs) = ap (λ (xs : List (Option ℕ)). None ∷ xs) (all_none cs)
 
   -- a root gives its distances to the switches that have no rank yet
-  pub ranks_filled : (n : ℕ) (ranks found new : List (Option ℕ)) → n < length guids → AreRanksOf graph n ranks → found ≡ map (distance graph (get_or guids n 0)) guids
-      → length new ≡ length ranks → ((k : ℕ) → k < length new → get_or new k None ≡ option_or (get_or ranks k None) (get_or found k None)) → AreRanksOf graph (n + 1) new
+  pub ranks_filled : (n : ℕ) (ranks found new : List (Option ℕ)) → n < length guids → AreRanksOf graph n ranks → found
+      ≡ map (distance graph (get_or guids n 0)) guids
+      → length new ≡ length ranks → ((k : ℕ) → k < length new → get_or new k None ≡ option_or (get_or ranks k None) (get_or found k None))
+      → AreRanksOf graph (n + 1) new
   ranks_filled n ranks found new h are is same each =
       let roots = take n guids in
       let root = get_or guids n 0 in
@@ -98,8 +103,10 @@ module _ (graph : List SwitchEdges) where
       (same ∙ long ∙ sym (length_map (λ v. option_or (first roots v) (distance graph root v)) guids))
       (λ k l. let m : k < length guids = omega arith in
       each k l
-      ∙ ap (λ xs. option_or (get_or xs k None) (get_or found k None)) are ∙ ap (λ o. option_or o (get_or found k None)) (get_or-map (first roots) guids k 0 None m)
-      ∙ ap (λ xs. option_or (first roots (get_or guids k 0)) (get_or xs k None)) is ∙ ap (option_or (first roots (get_or guids k 0))) (get_or-map (distance graph root) guids k 0 None m)
+      ∙ ap (λ xs. option_or (get_or xs k None) (get_or found k None)) are
+      ∙ ap (λ o. option_or o (get_or found k None)) (get_or-map (first roots) guids k 0 None m)
+      ∙ ap (λ xs. option_or (first roots (get_or guids k 0)) (get_or xs k None)) is
+      ∙ ap (option_or (first roots (get_or guids k 0))) (get_or-map (distance graph root) guids k 0 None m)
       ∙ sym (get_or-map (λ v. option_or (first roots v) (distance graph root v)) guids k 0 None m))
       ∙ map_same (λ v. option_or (first roots v) (distance graph root v)) (first (take (n + 1) guids)) guids
       (λ v k. sym (ap (λ rs. first rs v) (one_more_root n h) ∙ first_more roots root v))
@@ -110,17 +117,20 @@ module _ (graph : List SwitchEdges) (good : IsGraph graph) where
       (Contains-append_left (take n (guids_of graph)) (drop n (guids_of graph)) root h)
 
   -- a switch that has a rank is no root: all that it reaches have a rank
-  pub ranks_passed : (n : ℕ) (ranks : List (Option ℕ)) → n < length (guids_of graph) → AreRanksOf graph n ranks → is_some (get_or ranks n None) ≡ true → AreRanksOf graph (n + 1) ranks
+  pub ranks_passed : (n : ℕ) (ranks : List (Option ℕ)) → n < length (guids_of graph) → AreRanksOf graph n ranks → is_some (get_or ranks n None) ≡ true
+      → AreRanksOf graph (n + 1) ranks
   ranks_passed n ranks h are some =
       let guids = guids_of graph in
       let roots = take n guids in
       let root = get_or guids n 0 in
-      let it = first_root graph roots root (ap is_some (sym (get_or-map (first_distance graph roots) guids n 0 None h) ∙ ap (λ xs. get_or xs n None) (sym are)) ∙ some) in
+      let it = first_root graph roots root (ap is_some (sym (get_or-map (first_distance graph roots) guids n 0 None h) ∙ ap (λ xs. get_or xs n None) (sym are))
+      ∙ some) in
       are ∙ map_same (first_distance graph roots) (first_distance graph (take (n + 1) guids)) guids
       (λ v k. reaches v it.0 it.1 it.2 ∙ sym (ap (λ rs. first_distance graph rs v) (one_more_root graph n h) ∙ first_more graph roots root v))
     where
       reaches : (v other : ℕ) → Contains (take n (guids_of graph)) other → in_one_component graph other (get_or (guids_of graph) n 0) ≡ true
-          → first_distance graph (take n (guids_of graph)) v ≡ option_or (first_distance graph (take n (guids_of graph)) v) (distance graph (get_or (guids_of graph) n 0) v)
+          → first_distance graph (take n (guids_of graph)) v
+          ≡ option_or (first_distance graph (take n (guids_of graph)) v) (distance graph (get_or (guids_of graph) n 0) v)
       reaches v other there joined =
           let roots = take n (guids_of graph) in
           let root = get_or (guids_of graph) n 0 in

@@ -17,11 +17,15 @@ component_size graph b = count_by (in_one_component graph b) (guids_of graph)
 abbrev pub position_of : List SwitchEdges → ℕ → ℕ
 position_of graph b = count_by (λ a. in_one_component graph b a && is_before graph a b) (guids_of graph)
 
--- the number of a wire that is taken from a into b: the size of the component less the position of b for a wire up, and plus that position for a wire down
+-- the number of a wire that is taken from a into b: the size of the component less the position of b for a wire up, and
+-- plus that position for a wire down
 abbrev pub channel_number : List SwitchEdges → ℕ → ℕ → ℕ
-channel_number graph a b = if is_before graph b a then component_size graph b - position_of graph b else component_size graph b + position_of graph b
+channel_number graph a b =
+    if is_before graph b a then component_size graph b - position_of graph b else component_size graph b
+    + position_of graph b
 
 -- the channel numbers rise along each way by next ports
 abbrev pub ChannelLaw : Type 0
-ChannelLaw = (graph : List SwitchEdges) → IsGraph graph → (s t n : ℕ) → IsSwitch graph s → (w : Way (slopes_of graph) s t n)
+ChannelLaw = (graph : List SwitchEdges) → IsGraph graph → (s t n : ℕ) → IsSwitch graph s
+    → (w : Way (slopes_of graph) s t n)
     → IsStrictlyIncreasing (numbers_along (channel_number graph) s (w.ups ++ w.downs))

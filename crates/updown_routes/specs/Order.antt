@@ -5,7 +5,8 @@ use Rattle.std.specs.Option.{option_or}
 
 -- lesser in rank, or of one rank and lesser in index
 abbrev pub goes_before : List (Option ℕ) → ℕ → ℕ → Bool
-goes_before ranks a b = let ra = unwrap_or (slice_index_or ranks a None) 0 in let rb = unwrap_or (slice_index_or ranks b None) 0 in nat_lt ra rb || (ra == rb && nat_lt a b)
+goes_before ranks a b = let ra = unwrap_or (slice_index_or ranks a None) 0 in let rb =
+    unwrap_or (slice_index_or ranks b None) 0 in nat_lt ra rb || (ra == rb && nat_lt a b)
 
 -- each index, after its rank
 abbrev pub ranked : List (Option ℕ) → List (ℕ × ℕ)
@@ -13,14 +14,17 @@ ranked ranks = map (λ x. (unwrap_or x.1 0, x.0)) (enumerate_from 0 ranks)
 
 -- where there is no rank yet, the distance
 abbrev pub FillsIn : List (Option ℕ) → List (Option ℕ) → List (Option ℕ) → Type 0
-FillsIn ranks distances new = EachIndex new (λ k. slice_index_or new k None ≡ option_or (slice_index_or ranks k None) (slice_index_or distances k None))
+FillsIn ranks distances new =
+    EachIndex new (λ k. slice_index_or new k None
+    ≡ option_or (slice_index_or ranks k None) (slice_index_or distances k None))
 
 -- all indices, each before those that follow it
 pub record IsOrder (ranks : List (Option ℕ)) (order : List ℕ) : Type 0 where
   pub all : length order ≡ length ranks
   pub each : (i : ℕ) → i < length ranks → Contains order i
   pub within : (p : ℕ) → p < length order → slice_index order p < length ranks
-  pub rises : (p q : ℕ) → p < q → q < length order → goes_before ranks (slice_index order p) (slice_index order q) ≡ true
+  pub rises : (p q : ℕ) → p < q → q < length order → goes_before ranks (slice_index order p) (slice_index order q)
+      ≡ true
 
 -- at each index its position in the order
 pub record ArePositions (order positions : List ℕ) : Type 0 where

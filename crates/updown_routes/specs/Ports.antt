@@ -18,7 +18,9 @@ ports_of graph = map (ports_to graph) (guids_of graph)
 
 -- between the switches at two indices, where there are such
 abbrev pub next_port_at : List SwitchEdges → ℕ → ℕ → Option ℕ
-next_port_at graph i j = option_and_then (λ t. option_and_then (λ s. next_port (slopes_of graph) s t) (slice_get (guids_of graph) i)) (slice_get (guids_of graph) j)
+next_port_at graph i j =
+    option_and_then (λ t. option_and_then (λ s. next_port (slopes_of graph) s t) (slice_get (guids_of graph) i))
+    (slice_get (guids_of graph) j)
 
 -- the next ports between the vertices at these positions
 abbrev pub port_rows : List (List Edge) → List (List Edge) → List ℕ → List (List (Option ℕ))

@@ -25,11 +25,13 @@ IsBefore graph a b = (m n : ℕ) → HasRank graph a m → HasRank graph b n →
 
 -- each switch has a rank, and it is the one in words
 abbrev pub RankLaw : Type 0
-RankLaw = (graph : List SwitchEdges) → IsGraph graph → (a : ℕ) → IsSwitch graph a → MatchOption (rank_of graph a) ⊥ (HasRank graph a)
+RankLaw = (graph : List SwitchEdges) → IsGraph graph → (a : ℕ) → IsSwitch graph a
+    → MatchOption (rank_of graph a) ⊥ (HasRank graph a)
 
 -- what is before by the test is before in words
 abbrev pub BeforeLaw : Type 0
-BeforeLaw = (graph : List SwitchEdges) → IsGraph graph → (a b : ℕ) → IsSwitch graph a → IsSwitch graph b → IsTrue (is_before graph a b) ↔ IsBefore graph a b
+BeforeLaw = (graph : List SwitchEdges) → IsGraph graph → (a b : ℕ) → IsSwitch graph a → IsSwitch graph b
+    → IsTrue (is_before graph a b) ↔ IsBefore graph a b
 
 -- an edge leads up where its end is before the switch, and down where its end is after it
 abbrev pub SlopeLaw : Type 0

@@ -12,11 +12,17 @@ rank_of graph a = option_and_then (λ root. distance graph root a) (root_of grap
 
 -- by rank, and then by GUID
 abbrev pub is_before : List SwitchEdges → ℕ → ℕ → Bool
-is_before graph a b = let ra = unwrap_or (rank_of graph a) 0 in let rb = unwrap_or (rank_of graph b) 0 in nat_lt ra rb || (ra == rb && nat_lt a b)
+is_before graph a b = let ra = unwrap_or (rank_of graph a) 0 in let rb =
+    unwrap_or (rank_of graph b) 0 in nat_lt ra rb || (ra == rb && nat_lt a b)
 
 -- a switch's wires up, to switches before it, and down, to those after it
 abbrev pub slope_of : List SwitchEdges → SwitchEdges → Slope
-slope_of graph c = record { guid = c.guid; ups = filter (λ e. is_before graph e.to c.guid) c.edges; downs = filter (λ e. is_before graph c.guid e.to) c.edges }
+slope_of graph c = record {
+  guid = c.guid;
+  ups = filter (λ e. is_before graph e.to c.guid) c.edges;
+  downs =
+      filter (λ e. is_before graph c.guid e.to) c.edges;
+}
 
 abbrev pub slopes_of : List SwitchEdges → List Slope
 slopes_of graph = map (slope_of graph) graph

@@ -11,29 +11,41 @@ use Rattle.updown_routes.specs.Ranks.{slopes_of}
 
 -- the length of a shortest walk down, and none where no walk down leads to the target
 abbrev pub DownDistanceLaw : Type 0
-DownDistanceLaw = (graph : List SwitchEdges) → IsGraph graph → (s t : ℕ) → IsSwitch graph s → MatchOption (down_distance (slopes_of graph) s t) (HasNoWalk (below (slopes_of graph)) s t) (IsDownDistance (slopes_of graph) s t)
+DownDistanceLaw = (graph : List SwitchEdges) → IsGraph graph → (s t : ℕ) → IsSwitch graph s
+    → MatchOption (down_distance (slopes_of graph) s t) (HasNoWalk (below (slopes_of graph)) s t)
+    (IsDownDistance (slopes_of graph) s t)
 
 -- the length of a shortest route, and none where there is no route
 abbrev pub CostLaw : Type 0
-CostLaw = (graph : List SwitchEdges) → IsGraph graph → (s t : ℕ) → IsSwitch graph s → MatchOption (cost (slopes_of graph) s t) ((n : ℕ) → IsRoute (slopes_of graph) s t n → ⊥) (IsCost (slopes_of graph) s t)
+CostLaw = (graph : List SwitchEdges) → IsGraph graph → (s t : ℕ) → IsSwitch graph s
+    → MatchOption (cost (slopes_of graph) s t) ((n : ℕ) → IsRoute (slopes_of graph) s t n
+    → ⊥) (IsCost (slopes_of graph) s t)
 
 -- the next port in words, and none where there is none
 abbrev pub NextPortLaw : Type 0
-NextPortLaw = (graph : List SwitchEdges) → IsGraph graph → (s t : ℕ) → IsSwitch graph s → MatchOption (next_port (slopes_of graph) s t) ((p : ℕ) → IsNextPort (slopes_of graph) s t p → ⊥) (IsNextPort (slopes_of graph) s t)
+NextPortLaw = (graph : List SwitchEdges) → IsGraph graph → (s t : ℕ) → IsSwitch graph s
+    → MatchOption (next_port (slopes_of graph) s t) ((p : ℕ) → IsNextPort (slopes_of graph) s t p
+    → ⊥) (IsNextPort (slopes_of graph) s t)
 
 -- down where that leads to the target, else one wire up and the least cost from there
 abbrev pub CostRecursion : Type 0
 CostRecursion = (graph : List SwitchEdges) → IsGraph graph → (s t : ℕ)
-    → cost (slopes_of graph) s t ≡ (let down = down_distance (slopes_of graph) s t in if is_some down then down else option_map suc (least_of (filter_map (λ e. cost (slopes_of graph) e.to t) (ups_at (slopes_of graph) s))))
+    → cost (slopes_of graph) s t
+    ≡ (let down = down_distance (slopes_of graph) s t in
+    if is_some down then down else option_map suc
+    (least_of (filter_map (λ e. cost (slopes_of graph) e.to t) (ups_at (slopes_of graph) s))))
 
 -- from each switch with a cost a way of so many wires leads to the target
 abbrev pub WayLaw : Type 0
-WayLaw = (graph : List SwitchEdges) → IsGraph graph → (n s t : ℕ) → cost (slopes_of graph) s t ≡ Some n → Way (slopes_of graph) s t n
+WayLaw = (graph : List SwitchEdges) → IsGraph graph → (n s t : ℕ) → cost (slopes_of graph) s t ≡ Some n
+    → Way (slopes_of graph) s t n
 
 -- between components there is no cost, and no next port
 abbrev pub NoCostBetween : Type 0
-NoCostBetween = (graph : List SwitchEdges) → IsGraph graph → (s t : ℕ) → IsSwitch graph s → in_one_component graph s t ≡ false → (cost (slopes_of graph) s t ≡ None) × (next_port (slopes_of graph) s t ≡ None)
+NoCostBetween = (graph : List SwitchEdges) → IsGraph graph → (s t : ℕ) → IsSwitch graph s → in_one_component graph s t
+    ≡ false → (cost (slopes_of graph) s t ≡ None) × (next_port (slopes_of graph) s t ≡ None)
 
 -- all of a component have a cost to each other
 abbrev pub CostInComponent : Type 0
-CostInComponent = (graph : List SwitchEdges) → IsGraph graph → (s t : ℕ) → IsSwitch graph s → IsSwitch graph t → in_one_component graph s t ≡ true → (n : ℕ) × (cost (slopes_of graph) s t ≡ Some n)
+CostInComponent = (graph : List SwitchEdges) → IsGraph graph → (s t : ℕ) → IsSwitch graph s → IsSwitch graph t
+    → in_one_component graph s t ≡ true → (n : ℕ) × (cost (slopes_of graph) s t ≡ Some n)

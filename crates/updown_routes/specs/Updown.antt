@@ -9,7 +9,12 @@ use Rattle.updown_routes.specs.Channels.{channel_number}
 
 -- down where that leads to the target, else up; by the least port, for every LID alike
 abbrev pub updown : List SwitchEdges → Routing
-updown graph = record { next = λ lid s t. next_port (slopes_of graph) s t; cost = cost (slopes_of graph); channel = channel_number graph }
+updown graph = record {
+  next = λ lid s t. next_port (slopes_of graph) s t;
+  cost = cost (slopes_of graph);
+  channel =
+      channel_number graph;
+}
 
 -- that is such a rule
 abbrev pub UpdownIsRouting : Type 0

@@ -12,11 +12,13 @@ loop-node-preserved c =
     let so_far = c.loop-node.invariant in
     elim c.if-lt.branch [
       | then-lt w ↦
-          let less : c.loop-node.greatest < node.top = ltb-true c.loop-node.greatest node.top (sym (less_is c.loop-node.greatest node.top) ∙ sym c.lt.ensures ∙ w.if-lt.true) in
+          let less : c.loop-node.greatest < node.top =
+          ltb-true c.loop-node.greatest node.top (sym (less_is c.loop-node.greatest node.top) ∙ sym c.lt.ensures ∙ w.if-lt.true) in
           let is = w.greatest-is in
           omega (arith, more, so_far, is, less)
       | else-lt w ↦
-          let most : node.top ≤ c.loop-node.greatest = ltb-false c.loop-node.greatest node.top (sym (less_is c.loop-node.greatest node.top) ∙ sym c.lt.ensures ∙ w.if-lt.false) in
+          let most : node.top ≤ c.loop-node.greatest =
+          ltb-false c.loop-node.greatest node.top (sym (less_is c.loop-node.greatest node.top) ∙ sym c.lt.ensures ∙ w.if-lt.false) in
           let is = w.greatest-is in
           omega (arith, more, so_far, is, most)
     ]

@@ -14,6 +14,7 @@ loop-taken-preserved c =
     let there = within edges switch edge (sym c.in-Some.ensures) in
     let less : number_of switch edge < length now =
     omega (arith, there, c.number_of.ensures.is, c.number_of.ensures.within, c.loop-taken.invariant.as_many, c.requires.channels) in
-    one_taken edges c.args.loads.now c.args.first c.args.times c.loop-taken.taken switch now c.load_channel.new.loads edge c.loop-taken.invariant c.loop-taken-test.true
+    one_taken edges c.args.loads.now c.args.first c.args.times c.loop-taken.taken switch now c.load_channel.new.loads edge c.loop-taken.invariant
+    c.loop-taken-test.true
     (sym c.in-Some.ensures) less
     (c.in_ok-load_channel-in-Some.ensures ∙ ap (λ (k : ℕ). set now k (get_or now k 0 + c.args.times)) c.number_of.ensures.is)

@@ -34,7 +34,8 @@ loop-index-preserved c =
     elim c.if-reaches.branch [
       | then-reaches+in_ok-join w ↦
           subst Grouped (sym w.groups-is)
-          (one_more cells test n source.port source.far groups w.join.new.self c.loop-index.invariant at.less at.port_is (tests ∙ sym w.if-reaches.ensures) at.far_is
+          (one_more cells test n source.port source.far groups w.join.new.self c.loop-index.invariant at.less at.port_is (tests
+          ∙ sym w.if-reaches.ensures) at.far_is
           w.in_ok-join.ensures)
       | else-reaches w ↦
           subst Grouped (sym w.groups-is)

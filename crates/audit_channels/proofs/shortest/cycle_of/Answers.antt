@@ -12,7 +12,8 @@ returns-in_default-clause-found c =
     let index = c.loop-index.index in
     let h = c.loop-index.invariant in
     let many : index < length reached → c.args.least ≤ (at_index reached index).count =
-    subst (λ (rs : List Visited). index < length rs → c.args.least ≤ (at_index rs index).count) c.deref.ensures.value (c.in_turn.ensures.none c.in_default.is) in
+    subst (λ (rs : List Visited). index < length rs → c.args.least
+    ≤ (at_index rs index).count) c.deref.ensures.value (c.in_turn.ensures.none c.in_default.is) in
     subst (IsLeast c.args.waits.now c.args.first c.args.least) (sym c.new.ensures.items)
     (none_below c.args.waits.now c.args.numbers.now c.args.first c.args.least index c.args.least reached c.loop-index.marks c.requires.given c.requires.first h
     (past_count c.args.waits.now c.args.first h.count index c.args.least reached c.loop-index.marks h.search many) (omega arith))
@@ -54,4 +55,5 @@ returns-clause-found c =
     let index = c.loop-index.index in
     subst (IsLeast c.args.waits.now c.args.first c.args.least) (sym c.new-2.ensures.items)
     (none_below c.args.waits.now c.args.numbers.now c.args.first c.args.least index c.args.least reached c.loop-index.marks c.requires.given c.requires.first
-    c.loop-index.invariant (past_end index c.args.least reached (let small = c.loop-index.reached.small in let ok = c.loop-index.reached.ok in omega arith)) (omega arith))
+    c.loop-index.invariant (past_end index c.args.least reached (let small = c.loop-index.reached.small in let ok = c.loop-index.reached.ok in
+    omega arith)) (omega arith))

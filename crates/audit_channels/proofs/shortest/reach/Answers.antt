@@ -13,6 +13,7 @@ returns-in_ok-push-clause-search c =
     let there = (none_there c.args.numbers.now c.args.next.channel none).0 in
     let as_many = c.requires.search.as_many in
     let within : c.args.next.channel < length c.args.marks.now = omega arith in
-    subst (λ (xs : List Visited). IsSearch c.args.waits.now c.args.first c.args.next.count xs (slice_set c.args.marks.now c.args.next.channel (c.args.first + 1)))
+    subst (λ (xs : List Visited). IsSearch c.args.waits.now c.args.first c.args.next.count xs (slice_set c.args.marks.now c.args.next.channel (c.args.first
+    + 1)))
     (sym c.in_ok-push.ensures.items)
     (one_reached c.args.waits.now c.args.first c.args.reached.now.items c.args.marks.now c.args.next c.requires.search c.requires.step within)

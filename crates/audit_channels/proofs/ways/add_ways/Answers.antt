@@ -11,13 +11,15 @@ pub returns-then-is_some-clause-ways : goal.returns-then-is_some-clause-ways
 returns-then-is_some-clause-ways c =
     let cells = cells_of c.args.network.now.facts in
     on_ok_weaker c.add.result
-    (counted_ways cells c.args.network.now.held c.args.line.now c.deref.result.now c.deref-then-is_some.result.now c.in_ok-groups.groups c.args.tally.now c.add.new.self
+    (counted_ways cells c.args.network.now.held c.args.line.now c.deref.result.now c.deref-then-is_some.result.now c.in_ok-groups.groups c.args.tally.now
+    c.add.new.self
     (c.deref.ensures.value ∙ c.in_ok-edges.ensures) c.deref-then-is_some.ensures.value c.in_ok-groups.ensures)
     c.add.ensures
 
 pub leave-requires : goal.leave-requires
 leave-requires c =
-    own_there c.args.network.now.facts c.args.network.now.held c.args.line.now c.args.far.now c.requires.target c.requires.far c.args.senders.now c.requires.senders
+    own_there c.args.network.now.facts c.args.network.now.held c.args.line.now c.args.far.now c.requires.target c.requires.far c.args.senders.now
+    c.requires.senders
 
 pub join-requires : goal.join-requires
 join-requires c =

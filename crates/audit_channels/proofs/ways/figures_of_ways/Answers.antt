@@ -9,6 +9,7 @@ use Rattle.audit_channels.proofs.ways.figures_of_ways.Goals as goal
 pub returns : goal.returns
 returns c =
     let cells = cells_of c.args.network.now.facts in
-    told cells c.args.network.now.held c.in_ok-tally.tally c.in_ok-loads.loads (record { hops = c.in_ok-hops.hops; load = c.in_ok-load.load }) c.in_ok-tally.ensures
+    told cells c.args.network.now.held c.in_ok-tally.tally c.in_ok-loads.loads (record { hops = c.in_ok-hops.hops; load = c.in_ok-load.load })
+    c.in_ok-tally.ensures
     (subst (λ (xs : List ℕ). IsTotal (map (λ n. get_or xs n 0) (channels_of cells)) c.in_ok-loads.loads) c.deref.ensures.value c.in_ok-loads.ensures)
     c.in_ok-hops.ensures c.in_ok-load.ensures

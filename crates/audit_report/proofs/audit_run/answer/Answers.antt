@@ -16,6 +16,7 @@ returns-clause-audited g c =
     record {
       cycle = c.in-Ok.audit.cycle;
       waits = found.cycle;
-      answered = subst (λ (x : Audited). Appends (written c.args.sink.now) (written c.write_audit.new.sink) (audit_text x)) same c.in_ok-write_audit.ensures.writes.ok;
+      answered = subst (λ (x : Audited). Appends (written c.args.sink.now) (written c.write_audit.new.sink) (audit_text x)) same
+          c.in_ok-write_audit.ensures.writes.ok;
       judged = subst (λ (x : Audited). IsTrue c.passes-passed.result ↔ Passes (cells_of x.facts) x.held) same c.passes-passed.ensures;
     }

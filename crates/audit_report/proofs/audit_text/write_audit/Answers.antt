@@ -29,9 +29,11 @@ returns-clause-writes g c =
     c.in_ok-write_tally.ensures.ok c.in_ok-write_unmatched.ensures.ok in
     let three = appends_then (written c.args.sink.now) (written c.write_unmatched.new.sink) (written c.write_disputed.new.sink) (tally ++ unmatched) disputed
     two c.in_ok-write_disputed.ensures.ok in
-    let four = appends_then (written c.args.sink.now) (written c.write_disputed.new.sink) (written c.write_ways.new.sink) ((tally ++ unmatched) ++ disputed) ways
+    let four = appends_then (written c.args.sink.now) (written c.write_disputed.new.sink) (written c.write_ways.new.sink) ((tally ++ unmatched)
+    ++ disputed) ways
     three c.in_ok-write_ways.ensures.ok in
-    let all = appends_then (written c.args.sink.now) (written c.write_ways.new.sink) (written c.write_cycle.new.sink) (((tally ++ unmatched) ++ disputed) ++ ways) cycle
+    let all = appends_then (written c.args.sink.now) (written c.write_ways.new.sink) (written c.write_cycle.new.sink) (((tally ++ unmatched) ++ disputed)
+    ++ ways) cycle
     four c.in_ok-write_cycle.ensures.ok in
     let differs : unmatched ≡ unmatched_told cells held =
     (λ i. kind_text lid_line (codes "unowned") (differ.unowned_are i)
@@ -46,7 +48,8 @@ returns-clause-writes g c =
       ok = on_ok_weaker c.flush.result
           (λ none. subst (Appends (written c.args.sink.now) (written c.flush.new.self))
           (append-nil ((((tally ++ unmatched) ++ disputed) ++ ways) ++ cycle) ∙ whole ∙ ap audit_text c.audit.view_is)
-          (appends_then (written c.args.sink.now) (written c.write_cycle.new.sink) (written c.flush.new.self) ((((tally ++ unmatched) ++ disputed) ++ ways) ++ cycle) _ all none))
+          (appends_then (written c.args.sink.now) (written c.write_cycle.new.sink) (written c.flush.new.self) ((((tally ++ unmatched) ++ disputed) ++ ways)
+          ++ cycle) _ all none))
           c.flush.ensures.writes.ok;
       failed = c.flush.ensures.writes.failed;
     }

@@ -24,7 +24,8 @@ returns g c =
       ok = on_ok_weaker c.write_each_channel.result
           (λ part. subst (Appends (written a.sink.now) (written c.write_each_channel.new.sink))
           (channels_are cells a.cycle.now (eqb-false (length a.cycle.now) 0 (sym c.is_empty.ensures ∙ c.if-is_empty.false)))
-          (appends_then (written a.sink.now) (written c.write-2.new.self) (written c.write_each_channel.new.sink) (codes " on one lane") (flat_map (channel_text cells) a.cycle.now)
+          (appends_then (written a.sink.now) (written c.write-2.new.self) (written c.write_each_channel.new.sink) (codes " on one lane")
+          (flat_map (channel_text cells) a.cycle.now)
           c.in_ok-write.ensures.writes.ok part))
           c.write_each_channel.ensures.ok;
       err = c.write_each_channel.ensures.err;

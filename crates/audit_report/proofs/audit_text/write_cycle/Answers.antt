@@ -15,6 +15,7 @@ returns g c =
     let both = appends_then (written a.sink.now) (written c.write.new.self) (written c.write_channels.new.sink) (codes "credit loop") channels
     c.in_ok-write.ensures.writes.ok c.in_ok-write_channels.ensures.ok in
     record {
-      ok = on_ok_weaker c.write-2.result (λ line. appends_then (written a.sink.now) (written c.write_channels.new.sink) (written c.write-2.new.self) _ (codes "\n") both line) c.write-2.ensures.writes.ok;
+      ok = on_ok_weaker c.write-2.result (λ line. appends_then (written a.sink.now) (written c.write_channels.new.sink) (written c.write-2.new.self) _
+          (codes "\n") both line) c.write-2.ensures.writes.ok;
       err = on_err c.write-2.result _ (λ failed. c.write-2.ensures.writes.failed.0 failed);
     }

@@ -15,8 +15,10 @@ returns g c =
     let sent = sent_text a.word.now packet in
     let end = end_text (cells_of a.network.now.facts) a.network.now.held packet.line.lid packet.end in
     let written = g.W.Sink.written in
-    let both = appends_then (written a.sink.now) (written c.write_sent.new.sink) (written c.write_end.new.sink) sent end c.in_ok-write_sent.ensures.ok c.in_ok-write_end.ensures.ok in
+    let both = appends_then (written a.sink.now) (written c.write_sent.new.sink) (written c.write_end.new.sink) sent end c.in_ok-write_sent.ensures.ok
+    c.in_ok-write_end.ensures.ok in
     record {
-      ok = on_ok_weaker c.write.result (λ line. appends_then (written a.sink.now) (written c.write_end.new.sink) (written c.write.new.self) _ (codes "\n") both line) c.write.ensures.writes.ok;
+      ok = on_ok_weaker c.write.result (λ line. appends_then (written a.sink.now) (written c.write_end.new.sink) (written c.write.new.self) _ (codes "\n") both
+          line) c.write.ensures.writes.ok;
       err = on_err c.write.result _ (λ failed. c.write.ensures.writes.failed.0 failed);
     }

@@ -35,9 +35,17 @@ loop-index-preserved c =
       | then-is_joined_to+in_ok-add w ↦
           subst Counted (sym w.tally-is)
           (one_counted cells held line c.args.tally.now c.loop-index.tally w.add.new.self n e (record { line = line; source = e; end = w.at.result })
-          c.loop-index.invariant less is (sym joined ∙ sym w.if-is_joined_to.ensures) (λ i. record { line = line; source = e; end = end_there cells held line c.in_ok-ends.ends.ends n e w.at.result c.in_ok-ends.ensures.0 less is w.at.ensures i })
+          c.loop-index.invariant less is (sym joined
+          ∙ sym w.if-is_joined_to.ensures) (λ i.
+          record {
+            line = line;
+            source = e;
+            end =
+                end_there cells held line c.in_ok-ends.ends.ends n e w.at.result c.in_ok-ends.ensures.0 less is w.at.ensures i;
+          })
           w.in_ok-add.ensures)
-      | else-is_joined_to w ↦ subst Counted (sym w.tally-is) (none_more cells held line c.args.tally.now c.loop-index.tally n e c.loop-index.invariant less is (sym joined ∙ sym w.if-is_joined_to.ensures))
+      | else-is_joined_to w ↦ subst Counted (sym w.tally-is) (none_more cells held line c.args.tally.now c.loop-index.tally n e c.loop-index.invariant less is
+          (sym joined ∙ sym w.if-is_joined_to.ensures))
     ]
 
 pub returns-in-None : goal.returns-in-None

@@ -8,8 +8,10 @@ use Rattle.fabric_sim.proofs.build.uncabled.Goals as goal
 pub loop-node-preserved : goal.loop-node-preserved
 loop-node-preserved c =
     let count : c.len.result ≡ length c.loop-node.agents.items = search rules in
-    let at : slice_get c.args.topology.now.nodes (length c.loop-node.agents.items) ≡ Some c.in-Some.node.now = ap (λ n. slice_get c.args.topology.now.nodes n) (sym count) ∙ search rules in
-    nodes_in_more c.args.topology.now c.loop-node.agents.items _ c.loop-node.peers.items _ c.in-Some.node.now c.in_ok-new.field-0 c.in_ok-new-2.field-0 c.loop-node.invariant at
+    let at : slice_get c.args.topology.now.nodes (length c.loop-node.agents.items) ≡ Some c.in-Some.node.now =
+    ap (λ n. slice_get c.args.topology.now.nodes n) (sym count) ∙ search rules in
+    nodes_in_more c.args.topology.now c.loop-node.agents.items _ c.loop-node.peers.items _ c.in-Some.node.now c.in_ok-new.field-0 c.in_ok-new-2.field-0
+    c.loop-node.invariant at
     (search rules) (search rules) (search rules) (search rules)
 
 -- no node is left
@@ -21,10 +23,13 @@ none c =
 pub invariant_of-result : goal.invariant_of-result
 invariant_of-result c =
     let fits : c.args.first_serial < 2 ^ 64 = search rules in
-    let P : List Flight → Type 0 = λ fs. IsSimulation (record { agents = c.loop-node.agents.items; peers = c.loop-node.peers.items; flights = fs; next = c.args.first_serial }) in
-    subst P (sym c.new-2.ensures.items) (all_nodes_are c.args.topology.now c.loop-node.agents.items c.loop-node.peers.items c.args.first_serial c.loop-node.invariant (none c) fits)
+    let P : List Flight → Type 0 =
+    λ fs. IsSimulation (record { agents = c.loop-node.agents.items; peers = c.loop-node.peers.items; flights = fs; next = c.args.first_serial }) in
+    subst P (sym c.new-2.ensures.items) (all_nodes_are c.args.topology.now c.loop-node.agents.items c.loop-node.peers.items c.args.first_serial
+    c.loop-node.invariant (none c) fits)
 
 pub returns-clause-fabric : goal.returns-clause-fabric
 returns-clause-fabric c =
-    ap (λ (fs : List Flight). record { agents = c.loop-node.agents.items; peers = c.loop-node.peers.items; flights = fs; next = c.args.first_serial }) c.new-2.ensures.items
+    ap (λ (fs : List Flight). record { agents = c.loop-node.agents.items; peers = c.loop-node.peers.items; flights = fs; next = c.args.first_serial })
+    c.new-2.ensures.items
     ∙ all_nodes c.args.topology.now c.loop-node.agents.items c.loop-node.peers.items c.args.first_serial c.loop-node.invariant (none c)

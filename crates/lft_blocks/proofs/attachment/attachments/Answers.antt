@@ -20,5 +20,6 @@ returns-clause-indexed c =
     let cells = cells_of c.args.wires.now in
     let lids = c.args.lids.now in
     let end : 64 * c.args.count ≡ c.loop-lid.lid = omega arith in
-    let below = subst (λ (n : ℕ). AreIndexedBelow c.args.guids.now (attachment_of_lid cells lids) n c.loop-lid.attachments.items) (sym end) c.loop-lid.invariant in
+    let below = subst (λ (n : ℕ). AreIndexedBelow c.args.guids.now (attachment_of_lid cells lids) n c.loop-lid.attachments.items) (sym end) c.loop-lid.invariant
+    in
     indexed_all cells c.args.guids.now lids c.args.count c.loop-lid.attachments.items c.requires.count below

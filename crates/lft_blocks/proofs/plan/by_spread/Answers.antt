@@ -27,7 +27,9 @@ returns-clause-tables c =
     let attachments = attachment_of_lid cells c.args.lids.now in
     let leaves = leaf_switches_of cells in
     let guids : guids_of graph ≡ switches cells = ap guids_of c.in_ok-graph.ensures ∙ graph_guids cells in
-    let are = subst (λ (x : List ℕ × List (Option Attachment)). AreIndexed x.0 attachments x.1) (λ i. (c.switches.ensures i, sym c.deref.ensures.value i)) c.in_ok-attachments.ensures.indexed in
+    let are = subst (λ (x : List ℕ × List (Option Attachment)). AreIndexed x.0 attachments x.1) (λ i. (c.switches.ensures i, sym c.deref.ensures.value i))
+    c.in_ok-attachments.ensures.indexed in
     let counted = c.block_count-count.ensures.count ∙ ap block_count c.top.ensures in
     c.in_ok-tables.ensures
-    ∙ (λ i. tables_of (same_attachments (guids_of graph) attachments c.deref.result.now are i) (spread_by (c.in_ok-graph.ensures i) leaves c.args.roots.now).next (counted i) (guids i))
+    ∙ (λ i. tables_of (same_attachments (guids_of graph) attachments c.deref.result.now are i)
+    (spread_by (c.in_ok-graph.ensures i) leaves c.args.roots.now).next (counted i) (guids i))

@@ -31,6 +31,8 @@ returns-clause-tables c =
     let graph = c.in_ok-graph.graph in
     let attachments = attachment_of_lid cells c.args.lids.now in
     let guids : guids_of graph ≡ switches cells = ap guids_of c.in_ok-graph.ensures ∙ graph_guids cells in
-    let are = subst (λ (x : List ℕ × List (Option Attachment)). AreIndexed x.0 attachments x.1) (λ i. (c.switches.ensures i, sym c.deref.ensures.value i)) c.in_ok-attachments.ensures.indexed in
+    let are = subst (λ (x : List ℕ × List (Option Attachment)). AreIndexed x.0 attachments x.1) (λ i. (c.switches.ensures i, sym c.deref.ensures.value i))
+    c.in_ok-attachments.ensures.indexed in
     let counted = c.block_count-count.ensures.count ∙ ap block_count c.top.ensures in
-    c.in_ok-tables.ensures ∙ (λ i. tables_of (same_attachments (guids_of graph) attachments c.deref.result.now are i) (updown (c.in_ok-graph.ensures i)).next (counted i) (guids i))
+    c.in_ok-tables.ensures
+    ∙ (λ i. tables_of (same_attachments (guids_of graph) attachments c.deref.result.now are i) (updown (c.in_ok-graph.ensures i)).next (counted i) (guids i))

@@ -14,5 +14,7 @@ returns c =
     let guids = guids_of graph in
     let attachments = c.args.attachments.now in
     let count = c.args.count in
-    c.in_ok-tables.ensures ∙ (λ i. map (table_in attachments (c.in_ok-routes.ensures i) (c.switches.ensures i) count) (range_with_len 0 (length (c.switches.ensures i))))
-    ∙ sym (tables_same graph guids (attachment_by_index guids attachments) attachments count refl c.requires.rising (indexed_itself guids attachments c.requires.within))
+    c.in_ok-tables.ensures
+    ∙ (λ i. map (table_in attachments (c.in_ok-routes.ensures i) (c.switches.ensures i) count) (range_with_len 0 (length (c.switches.ensures i))))
+    ∙ sym (tables_same graph guids (attachment_by_index guids attachments) attachments count refl c.requires.rising
+    (indexed_itself guids attachments c.requires.within))

@@ -12,7 +12,8 @@ loop-b-preserved g c =
     let lines = enumerate_from 0 blocks in
     let old = g.W.Sink.written c.args.sink.now in
     let new = g.W.Sink.written c.write_block.new.sink in
-    let more = written_more block_line old _ new (take b lines) (drop b lines) (drop (b + 1) lines) lines (b, get_or blocks b []) c.loop-b.invariant (next_index blocks b [] c.loop-b-test.true) c.in_ok-write_block.ensures.ok in
+    let more = written_more block_line old _ new (take b lines) (drop b lines) (drop (b + 1) lines) lines (b, get_or blocks b []) c.loop-b.invariant
+    (next_index blocks b [] c.loop-b-test.true) c.in_ok-write_block.ensures.ok in
     subst (λ (given : List (ℕ × List ℕ)). HasWritten block_line old new given (drop (b + 1) lines) lines) (sym (seen_more blocks b [] c.loop-b-test.true)) more
 
 pub returns : goal.returns

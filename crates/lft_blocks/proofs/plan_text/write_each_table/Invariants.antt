@@ -5,4 +5,6 @@ use Rattle.lft_blocks.proofs.plan_text.write_each_table.Given as goal
 
 -- the switches so far were written
 abbrev pub invariant-loop-table : goal.invariant-loop-table
-invariant-loop-table g l = HasWritten (table_text l.top) (g.W.Sink.written l.initial.sink) (g.W.Sink.written l.sink) (take l.table-index l.tables) (drop l.table-index l.tables) l.tables
+invariant-loop-table g l =
+    HasWritten (table_text l.top) (g.W.Sink.written l.initial.sink) (g.W.Sink.written l.sink) (take l.table-index l.tables) (drop l.table-index l.tables)
+    l.tables

@@ -6,4 +6,6 @@ use Rattle.lft_blocks.proofs.plan_text.write_lids.Given as goal
 
 -- the lines of the LIDs so far were written
 abbrev pub invariant-loop-lid : goal.invariant-loop-lid
-invariant-loop-lid g l = HasWritten (owner_line l.lids) (g.W.Sink.written l.initial.sink) (g.W.Sink.written l.sink) (take l.lid-index l.lid-items) (drop l.lid-index l.lid-items) (rising_lids l.lids)
+invariant-loop-lid g l =
+    HasWritten (owner_line l.lids) (g.W.Sink.written l.initial.sink) (g.W.Sink.written l.sink) (take l.lid-index l.lid-items) (drop l.lid-index l.lid-items)
+    (rising_lids l.lids)

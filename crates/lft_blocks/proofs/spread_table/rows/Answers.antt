@@ -30,7 +30,8 @@ abbrev lids_items : Vec ℕ Global → List ℕ
 lids_items lids = lids.items
 
 -- a list of LIDs, as it is held
-listed : (attachments : List (Option Attachment)) (switches t : ℕ) (lists : List (Vec ℕ Global)) (list : Vec ℕ Global) → AreLidsAt attachments (length attachments) switches (map lids_items lists)
+listed : (attachments : List (Option Attachment)) (switches t : ℕ) (lists : List (Vec ℕ Global)) (list : Vec ℕ Global)
+    → AreLidsAt attachments (length attachments) switches (map lids_items lists)
     → t < switches → list ≡ slice_index_or lists t list → list.items ≡ lids_at attachments t
 listed attachments switches t lists list are h is =
     ap lids_items is ∙ sym (get_or-map lids_items lists t list [] (omega (arith, are.all, length-map lists lids_items))) ∙ are.each t h
@@ -40,7 +41,8 @@ ports_to-requires-clause-rows c = ap length c.deref_mut.ensures.value ∙ c.loop
 
 pub write_rows-requires-clause-lids : goal.write_rows-requires-clause-lids
 write_rows-requires-clause-lids c =
-    let lids = listed c.args.attachments.now c.args.switches c.loop-target.target c.in_ok-lids.lids.items c.index-in-loop-target.result.now c.in_ok-lids.ensures c.loop-target-test.true
+    let lids = listed c.args.attachments.now c.args.switches c.loop-target.target c.in_ok-lids.lids.items c.index-in-loop-target.result.now c.in_ok-lids.ensures
+    c.loop-target-test.true
     c.index-in-loop-target.ensures in
     subst (λ (xs : List ℕ). All (λ lid. lid < length c.args.attachments.now) xs) (sym (c.deref-in-loop-target.ensures.value ∙ lids))
     (lids_within c.args.attachments.now c.loop-target.target)
@@ -48,7 +50,8 @@ write_rows-requires-clause-lids c =
 pub write_rows-requires-clause-rows : goal.write_rows-requires-clause-rows
 write_rows-requires-clause-rows c =
     subst (λ (xs : List (List ℕ)). All (λ row. length row ≡ length c.args.attachments.now) xs) (sym c.deref_mut-in-loop-target.ensures.value)
-    (rows_long (spread_at c.args.spread.now).next (guids_of c.args.spread.now.graph) c.args.attachments.now c.loop-target.target c.loop-target.rows.items c.loop-target.invariant.0)
+    (rows_long (spread_at c.args.spread.now).next (guids_of c.args.spread.now.graph) c.args.attachments.now c.loop-target.target c.loop-target.rows.items
+    c.loop-target.invariant.0)
 
 pub write_rows-requires-clause-all : goal.write_rows-requires-clause-all
 write_rows-requires-clause-all c =
@@ -68,12 +71,15 @@ write_rows-requires-clause-ports c =
     let long : length c.loop-target.ports.items ≡ c.loop-target.ports.len = sym (ap length c.deref_mut.ensures.value) ∙ c.deref_mut.ensures.len in
     let are = held by lids c.loop-target.target c.args.switches c.loop-target.ports c.ports_to.new.rows
     c.loop-target.invariant.1 c.requires.switches long c.in_ok-ports_to.ensures in
-    let one = listed c.args.attachments.now c.args.switches c.loop-target.target c.in_ok-lids.lids.items c.index.result.now c.in_ok-lids.ensures c.loop-target-test.true c.index.ensures in
-    let two = listed c.args.attachments.now c.args.switches c.loop-target.target c.in_ok-lids.lids.items c.index-in-loop-target.result.now c.in_ok-lids.ensures c.loop-target-test.true
+    let one = listed c.args.attachments.now c.args.switches c.loop-target.target c.in_ok-lids.lids.items c.index.result.now c.in_ok-lids.ensures
+    c.loop-target-test.true c.index.ensures in
+    let two = listed c.args.attachments.now c.args.switches c.loop-target.target c.in_ok-lids.lids.items c.index-in-loop-target.result.now c.in_ok-lids.ensures
+    c.loop-target-test.true
     c.index-in-loop-target.ensures in
     let same : length lids ≡ length c.deref-in-loop-target.result.now =
     ap length (c.deref.ensures.value ∙ one ∙ sym two ∙ sym c.deref-in-loop-target.ensures.value) in
-    subst (λ (xs : List (Vec (Option ℕ) Global)). All (λ row. length row.items ≡ length c.deref-in-loop-target.result.now) xs) (sym (c.deref-in-loop-target-2.ensures.value ∙ are.1))
+    subst (λ (xs : List (Vec (Option ℕ) Global)). All (λ row. length row.items ≡ length c.deref-in-loop-target.result.now) xs)
+    (sym (c.deref-in-loop-target-2.ensures.value ∙ are.1))
     (each_long row_items (ports_between rule lids t) c.ports_to.new.rows (guids_of by.graph) (length c.deref-in-loop-target.result.now) c.in_ok-ports_to.ensures
     (λ s. length_map (λ (lid : ℕ). rule.next lid s t) lids ∙ same))
 
@@ -87,13 +93,15 @@ loop-target-preserved c =
     let old = c.loop-target.rows in
     let new = c.write_rows.new.rows in
     let lids = c.deref-in-loop-target.ensures.value
-    ∙ listed attachments c.args.switches target c.in_ok-lids.lids.items c.index-in-loop-target.result.now c.in_ok-lids.ensures c.loop-target-test.true c.index-in-loop-target.ensures in
+    ∙ listed attachments c.args.switches target c.in_ok-lids.lids.items c.index-in-loop-target.result.now c.in_ok-lids.ensures c.loop-target-test.true
+    c.index-in-loop-target.ensures in
     let asked = c.deref.ensures.value
     ∙ listed attachments c.args.switches target c.in_ok-lids.lids.items c.index.result.now c.in_ok-lids.ensures c.loop-target-test.true c.index.ensures in
     let long : length c.loop-target.ports.items ≡ c.loop-target.ports.len = sym (ap length c.deref_mut.ensures.value) ∙ c.deref_mut.ensures.len in
     let are = held by c.deref.result.now target c.args.switches c.loop-target.ports c.ports_to.new.rows
     c.loop-target.invariant.1 c.requires.switches long c.in_ok-ports_to.ensures in
-    let ports : map row_items c.deref-in-loop-target-2.result.now ≡ map (ports_between (spread_at by) (lids_at attachments target) (switch_at by.graph target)) guids =
+    let ports : map row_items c.deref-in-loop-target-2.result.now
+    ≡ map (ports_between (spread_at by) (lids_at attachments target) (switch_at by.graph target)) guids =
     ap (map row_items) (c.deref-in-loop-target-2.ensures.value ∙ are.1) ∙ c.in_ok-ports_to.ensures
     ∙ ap (λ (xs : List ℕ). ports_towards by xs target) asked in
     let to : AreWritten attachments target (lids_at attachments target) (map row_items c.deref-in-loop-target-2.result.now) old.items new =

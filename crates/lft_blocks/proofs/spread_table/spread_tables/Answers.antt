@@ -32,7 +32,8 @@ returns c =
     c.in_ok-spread.ensures ∙ ap (λ (xs : List ℕ). grading_of graph xs roots) (c.deref.ensures.value ∙ c.in_ok-leaves.ensures) in
     let are : AreRows (spread_at by).next guids attachments (length guids) rows =
     subst (λ (x : Grading × ℕ). AreRows (spread_at x.0).next (guids_of x.0.graph) attachments x.1 rows) (λ i. (is i, length (theirs i))) c.in_ok-rows.ensures in
-    let rising : IsStrictlyIncreasing guids = subst (λ (g : List SwitchEdges). IsStrictlyIncreasing (guids_of g)) (sym c.requires.graph) (switches_rise c.args.wires.now) in
+    let rising : IsStrictlyIncreasing guids =
+    subst (λ (g : List SwitchEdges). IsStrictlyIncreasing (guids_of g)) (sym c.requires.graph) (switches_rise c.args.wires.now) in
     let tables = (λ i. map (table_of_row (theirs i) (c.deref_mut.ensures.value i) count) (range_with_len 0 (length (theirs i))))
     ∙ tables_are graph guids (λ i. guids) rising (spread_at by).next attachments c.requires.within count c.requires.all rows are in
     subst (λ (ts : List SwitchTable). IfOk c.tables_of.result (λ found. found.items ≡ ts)) tables c.tables_of.ensures

@@ -20,7 +20,8 @@ loop-lid-preserved c =
           let attachment = w.in-Some.attachment in
           let i = attachment.switch in
           let there : slice_index_or attachments n None ≡ Some attachment = get_or_default attachments n None _ c.loop-lid-test.true ∙ w.in-Some.is in
-          let below : i < c.args.switches = subst (λ (o : Option Attachment). MatchOption o (Unit {0}) (λ h. h.switch < c.args.switches)) there (c.requires.within n) in
+          let below : i < c.args.switches =
+          subst (λ (o : Option Attachment). MatchOption o (Unit {0}) (λ h. h.switch < c.args.switches)) there (c.requires.within n) in
           let long : i < length lists.items = omega (arith, below, c.loop-lid.invariant.all, length-map lists.items lids_items) in
           let before : w.index_mut.result.now.items ≡ get_or (map lids_items lists.items) i [] =
           ap lids_items w.index_mut.ensures.value ∙ sym (get_or-map lids_items lists.items i w.index_mut.result.now [] long) in
@@ -31,5 +32,6 @@ loop-lid-preserved c =
           c.loop-lid.invariant
       | in_default w ↦
           subst (λ (v : Vec (Vec ℕ Global) Global). AreLidsAt attachments (n + 1) c.args.switches (map lids_items v.items)) (sym w.lists-is)
-          (lid_passed attachments n c.args.switches (map lids_items lists.items) (get_or_default attachments n None _ c.loop-lid-test.true ∙ w.in_default.is) c.loop-lid.invariant)
+          (lid_passed attachments n c.args.switches (map lids_items lists.items) (get_or_default attachments n None _ c.loop-lid-test.true
+          ∙ w.in_default.is) c.loop-lid.invariant)
     ]

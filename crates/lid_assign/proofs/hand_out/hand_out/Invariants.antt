@@ -7,4 +7,5 @@ use Rattle.lid_assign.proofs.hand_out.hand_out.Given as goal
 -- what is given so far, and what the rest will be given
 abbrev pub invariant-loop-port : goal.invariant-loop-port
 invariant-loop-port l =
-    IsGiving (length l.fn.taken) l.lmc (hand_out (length l.fn.taken) l.lmc (ranges_of l.lmc l.keepers) l.keepers) l.given.items (drop l.port-index l.keepers) l.taken l.next
+    IsGiving (length l.fn.taken) l.lmc (hand_out (length l.fn.taken) l.lmc (ranges_of l.lmc l.keepers) l.keepers) l.given.items (drop l.port-index l.keepers)
+    l.taken l.next

@@ -20,7 +20,8 @@ unset most n = elim (cases_lt n most) [
 pub loop-lid-init : goal.loop-lid-init
 loop-lid-init c =
     let items : c.in_ok-marks.marks.items ≡ replicate c.args.end false = search rules in
-    let given = ap (λ it. it.iter.iter.rest.now) c.into_iter-lid-iterator.ensures.into_iter_gives ∙ ap (λ it. it.iter.rest.now) c.copied-lid-items.ensures.source
+    let given = ap (λ it. it.iter.iter.rest.now) c.into_iter-lid-iterator.ensures.into_iter_gives
+    ∙ ap (λ it. it.iter.rest.now) c.copied-lid-items.ensures.source
     ∙ ap (λ it. it.rest.now) c.rev.ensures.source ∙ c.iter.ensures.rest in (
       c.in_ok-marks.ensures.len,
       ap length items ∙ length-replicate c.args.end false,

@@ -23,7 +23,8 @@ loop-one-preserved c =
     let before = reverse (map (λ (b : Bor (EndPort × ℕ)). b.now) c.loop-one.yielded) in
     let owners = owners_more c.args.lmc before c.loop-one.owners.items c.own.new.owners.items one.0 one.1 c.loop-one.invariant.2 c.own.ensures.owned in
     let Are : List (EndPort × ℕ) → Type 0 = λ given. AreOwners (record { lmc = c.args.lmc; ports = given }) c.own.new.owners.items in
-    let seen_now = ap reverse (map-append (λ (b : Bor (EndPort × ℕ)). b.now) c.loop-one.yielded (c.in-Some.one ∷ [])) ∙ seen (map (λ (b : Bor (EndPort × ℕ)). b.now) c.loop-one.yielded) one in (
+    let seen_now = ap reverse (map-append (λ (b : Bor (EndPort × ℕ)). b.now) c.loop-one.yielded (c.in-Some.one ∷ []))
+    ∙ seen (map (λ (b : Bor (EndPort × ℕ)). b.now) c.loop-one.yielded) one in (
       c.own.ensures.len ∙ c.loop-one.invariant.0,
       rest_below c.args.end c.args.lmc _ c.next.new.self.iter.rest.now one.0 one.1 step c.loop-one.invariant.1,
       subst Are (sym seen_now) owners,
@@ -47,7 +48,8 @@ nowhere {X} n xs e k = ap (λ ys. slice_index_or ys k None) e ∙ (elim (cases_l
 pub loop-one-init : goal.loop-one-init
 loop-one-init c =
     let items = filled _ c.in_ok-owners.ensures.items_if_clones_equal (λ x k. k) in
-    let given = ap (λ it. it.iter.rest.now) c.into_iter-one-iterator.ensures.into_iter_gives ∙ ap (λ it. it.rest.now) c.rev-one-items.ensures.source ∙ c.iter.ensures.rest in (
+    let given = ap (λ it. it.iter.rest.now) c.into_iter-one-iterator.ensures.into_iter_gives ∙ ap (λ it. it.rest.now) c.rev-one-items.ensures.source
+    ∙ c.iter.ensures.rest in (
       c.in_ok-owners.ensures.len,
       λ e n h. c.requires e n (contains_in (e, n) given h),
       nowhere c.args.end c.in_ok-owners.owners.items items,

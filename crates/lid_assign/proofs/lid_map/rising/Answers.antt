@@ -15,7 +15,9 @@ loop-lid-preserved c =
     elim c.if-is_given.branch [
       | then-is_given+in_ok-push w ↦
           ap (λ v. v.items ++ rest) w.lids-is ∙ ap (λ xs. xs ++ rest) w.in_ok-push.ensures.items ∙ append_assoc found (w.new.result ∷ []) rest
-          ∙ ap (λ n. found ++ n ∷ rest) w.new.ensures ∙ sym (ap (λ xs. found ++ xs) (marked_more marks lid c.loop-lid-test.true w.if-is_given.true)) ∙ c.loop-lid.invariant
+          ∙ ap (λ n. found ++ n ∷ rest) w.new.ensures ∙ sym (ap (λ xs. found ++ xs) (marked_more marks lid c.loop-lid-test.true w.if-is_given.true))
+          ∙ c.loop-lid.invariant
       | else-is_given w ↦
-          ap (λ v. v.items ++ rest) w.lids-is ∙ sym (ap (λ xs. found ++ xs) (marked_past marks lid c.loop-lid-test.true w.if-is_given.false)) ∙ c.loop-lid.invariant
+          ap (λ v. v.items ++ rest) w.lids-is ∙ sym (ap (λ xs. found ++ xs) (marked_past marks lid c.loop-lid-test.true w.if-is_given.false))
+          ∙ c.loop-lid.invariant
     ]

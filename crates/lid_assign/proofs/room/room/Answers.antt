@@ -18,7 +18,9 @@ loop-sighting-init c =
     (omega arith, omega (arith, least, at_most (filter_map (usable_cap cells) cells)), left)
 
 pub usable_cap-requires : goal.usable_cap-requires
-usable_cap-requires c = cell_given c.args.store.now c.loop-sighting.yielded (cells_left c.loop-sighting.sighting-iterator) (cells_left c.next.new.self) c.in-Some.sighting c.loop-sighting.invariant.2 c.in-Some.ensures.steps
+usable_cap-requires c =
+    cell_given c.args.store.now c.loop-sighting.yielded (cells_left c.loop-sighting.sighting-iterator) (cells_left c.next.new.self) c.in-Some.sighting
+    c.loop-sighting.invariant.2 c.in-Some.ensures.steps
 
 pub returns : goal.returns
 returns c =

@@ -20,8 +20,10 @@ returns-then-is_nobodys c =
     let plan = c.args.plan.now.held in
     let lid = c.args.lid in
     let planned = c.in_ok-planned.planned.items in
-    let none = nil_from_length planned (ap length (sym c.deref.ensures.value) ∙ eqb-true (length c.deref.result.now) 0 (sym c.is_nobodys.ensures ∙ c.if-is_nobodys.true)) in
-    if_ok (λ entries. entries.items ≡ replicate c.switch_count.result 255) (λ column. column.items ≡ column_of cells held plan lid) c.no_entries.result c.no_entries.ensures
+    let none = nil_from_length planned (ap length (sym c.deref.ensures.value)
+    ∙ eqb-true (length c.deref.result.now) 0 (sym c.is_nobodys.ensures ∙ c.if-is_nobodys.true)) in
+    if_ok (λ entries. entries.items ≡ replicate c.switch_count.result 255) (λ column. column.items
+    ≡ column_of cells held plan lid) c.no_entries.result c.no_entries.ensures
     (λ entries e. nobodys cells held plan lid entries.items planned c.in_ok-planned.ensures none c.switch_count.result c.switch_count.ensures e)
 
 pub returns-in-Some : goal.returns-in-Some
@@ -32,10 +34,12 @@ returns-in-Some c =
     let lid = c.args.lid in
     let port = c.in-Some.port in
     let steps_are = c.in_ok-plan_steps.ensures ∙ ap (λ (f : Facts). map (switch_step (cells_of f) plan lid) (switches (cells_of f))) c.requires.facts in
-    if_ok (λ entries. entries.items ≡ next_of port c.deref-in-Some.result.now c.deref-in-Some-2.result.now) (λ column. column.items ≡ column_of cells held plan lid)
+    if_ok (λ entries. entries.items ≡ next_of port c.deref-in-Some.result.now c.deref-in-Some-2.result.now) (λ column. column.items
+    ≡ column_of cells held plan lid)
     c.next_entries.result c.next_entries.ensures
     (λ entries e.
-    kept cells held plan lid entries.items c.in_ok-planned.planned.items c.in_ok-owners.owners.items port c.in_ok-held_steps-in-Some.held_steps.items c.in_ok-plan_steps.plan_steps.items
+    kept cells held plan lid entries.items c.in_ok-planned.planned.items c.in_ok-owners.owners.items port c.in_ok-held_steps-in-Some.held_steps.items
+    c.in_ok-plan_steps.plan_steps.items
     c.in_ok-planned.ensures c.in_ok-owners.ensures
     (c.in-Some.ensures ∙ (λ i. keeper (c.deref-2.ensures.value i) (c.deref-3.ensures.value i)))
     c.in_ok-held_steps-in-Some.ensures steps_are

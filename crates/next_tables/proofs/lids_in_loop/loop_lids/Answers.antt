@@ -51,7 +51,8 @@ returns c =
     let held = c.args.held.now.held in
     let next = c.args.next.now.held in
     let one = c.greatest_top.ensures in
-    let other : c.greatest_top-2.result ≡ greatest_top cells next = c.greatest_top-2.ensures ∙ ap (λ (f : Facts). greatest_top (cells_of f) next) c.requires.facts in
+    let other : c.greatest_top-2.result ≡ greatest_top cells next =
+    c.greatest_top-2.ensures ∙ ap (λ (f : Facts). greatest_top (cells_of f) next) c.requires.facts in
     let both = c.greater.ensures in
     let end = c.number-below-end.ensures in
     all_lids cells held next c.loop-below.below c.loop-below.held_blocks.number c.loop-below.next_blocks.number c.loop-below.held_blocks.rows.items

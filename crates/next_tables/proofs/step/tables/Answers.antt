@@ -15,7 +15,8 @@ returns c =
     let plan = c.args.plan.now.held in
     let entries : List (Vec ℕ Global) → List (List ℕ) = λ columns. map (λ (v : Vec ℕ Global). v.items) columns in
     c.of.ensures
-    ∙ put_together cells held plan c.in_ok-lids.lids.items c.in_ok-switches.switches.items c.in_ok-blocks.blocks.items (entries c.in_ok-columns.columns.items) c.most_blocks.result
+    ∙ put_together cells held plan c.in_ok-lids.lids.items c.in_ok-switches.switches.items c.in_ok-blocks.blocks.items (entries c.in_ok-columns.columns.items)
+    c.most_blocks.result
     (c.in_ok-lids.ensures.items ∙ c.lids.ensures) c.in_ok-switches.ensures c.in_ok-columns.ensures
     (c.most_blocks.ensures.count ∙ ap (λ (f : Facts). block_count (Some (max (greatest_top cells held) (greatest_top (cells_of f) plan)))) c.requires.facts)
     (c.in_ok-blocks.ensures ∙ (λ i. all_blocks (entries (c.deref.ensures.value i)) 0 (c.deref-2.ensures.value i)))

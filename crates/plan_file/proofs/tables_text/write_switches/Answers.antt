@@ -18,5 +18,6 @@ loop-index-preserved g c =
     (switches_text index (drop index switches) rest) (switches_text (index + 1) (drop (index + 1) switches) later)
     (switches_text 0 switches c.args.blocks.now) (switch_line switch.top switch.guid ++ flat_map block_text own)
     c.loop-index.invariant
-    (switch_more switches rest index switch own later c.loop-index-test.true c.index-switches-index.is c.split_blocks.ensures.first c.split_blocks.ensures.later)
+    (switch_more switches rest index switch own later c.loop-index-test.true c.index-switches-index.is c.split_blocks.ensures.first
+    c.split_blocks.ensures.later)
     c.in_ok-write_held.ensures.ok

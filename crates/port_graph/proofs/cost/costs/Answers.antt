@@ -12,7 +12,13 @@ use Rattle.port_graph.proofs.cost.costs.Goals as goal
 pub cost-cost-requires-clause-known : goal.cost-cost-requires-clause-known
 cost-cost-requires-clause-known c =
     all_from_contained (λ (e : Edge). e.to < length c.deref.result.now) c.at.result.now
-    (λ e h. omega (arith, c.requires.rise c.loop-vertex.vertex e (subst (λ (xs : List Edge). Contains xs e) c.at.ensures h), c.loop-vertex.invariant.0.all, ap length c.deref.ensures.value))
+    (λ e h. omega (
+      arith,
+      c.requires.rise c.loop-vertex.vertex e (subst (λ (xs : List Edge). Contains xs e) c.at.ensures h),
+      c.loop-vertex.invariant.0.all,
+      ap
+          length c.deref.ensures.value,
+    ))
 
 pub cost-cost-requires-clause-room : goal.cost-cost-requires-clause-room
 cost-cost-requires-clause-room c =
@@ -29,6 +35,7 @@ loop-vertex-preserved c =
     let Are : List (Option ℕ) → Type 0 = λ costs. AreCosts c.args.ups.now c.args.distances.now (n + 1) costs × AreBounded (length c.args.ups.now) costs in
     subst Are (sym c.in_ok-push.ensures.items) (
       costs_more c.args.ups.now c.requires.rise c.args.distances.now n costs c.loop-vertex.invariant.0 c.cost-cost.result is,
-      bounded_more c.args.ups.now c.requires.rise (length c.args.ups.now) n (slice_index_or c.args.distances.now n None) costs c.cost-cost.result c.loop-vertex.invariant.0.all is
+      bounded_more c.args.ups.now c.requires.rise (length c.args.ups.now) n (slice_index_or c.args.distances.now n None) costs c.cost-cost.result
+          c.loop-vertex.invariant.0.all is
           (λ m e. c.requires.less n m e) c.loop-vertex.invariant.1,
     )

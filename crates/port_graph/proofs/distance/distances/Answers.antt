@@ -19,7 +19,8 @@ filled {X} C follows not_some = follows same
 pub loop-vertex-init : goal.loop-vertex-init
 loop-vertex-init c =
     let n = length c.args.edges.now in
-    let none : c.in_ok-distances.distances.items ≡ replicate n None = filled _ c.in_ok-distances.ensures.items_if_clones_equal (λ x k. k) ∙ ap (λ m. replicate m None) c.len.ensures in
+    let none : c.in_ok-distances.distances.items ≡ replicate n None =
+    filled _ c.in_ok-distances.ensures.items_if_clones_equal (λ x k. k) ∙ ap (λ m. replicate m None) c.len.ensures in
     starts (heads c.args.edges.now) c.args.from n c.in_ok-distances.distances.items c.push_back.new.self.items c.requires.vertex none
     (◌∙◌ {A = List (ℕ × ℕ)} c.in_ok-push_back.ensures.items (ap (λ q. q ++ (c.args.from, 0) ∷ []) c.in_ok-queue.ensures.items))
 
@@ -61,5 +62,6 @@ returns c =
       all = c.loop-vertex.invariant.search.all;
       shortest = λ a h.
           let none = nil_from_length c.loop-vertex.queue.items (omega (arith, c.in_default.ensures.cases)) in
-          found (heads c.args.edges.now) c.args.from (length c.args.edges.now) (c.loop-vertex.distances.items, c.loop-vertex.queue.items) none c.loop-vertex.invariant a;
+          found (heads c.args.edges.now) c.args.from (length c.args.edges.now) (c.loop-vertex.distances.items, c.loop-vertex.queue.items) none
+          c.loop-vertex.invariant a;
     }

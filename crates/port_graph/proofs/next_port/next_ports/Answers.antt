@@ -12,7 +12,8 @@ distances-requires-clause-lead c = ups_lead c.args.ups.now c.args.downs.now c.re
 
 pub costs-requires-clause-less : goal.costs-requires-clause-less
 costs-requires-clause-less c =
-    λ a d h. distance_short c.args.ups.now c.args.target c.in_ok-distances.distances.items c.in_ok-distances.ensures a d (ap (λ xs. slice_index_or xs a None) (sym c.deref.ensures.value) ∙ h)
+    λ a d h. distance_short c.args.ups.now c.args.target c.in_ok-distances.distances.items c.in_ok-distances.ensures a d
+    (ap (λ xs. slice_index_or xs a None) (sym c.deref.ensures.value) ∙ h)
 
 pub loop-vertex-preserved : goal.loop-vertex-preserved
 loop-vertex-preserved c =
@@ -23,7 +24,8 @@ loop-vertex-preserved c =
     let costs = subst Costs c.deref.ensures.value c.in_ok-costs.ensures in
     let port : c.next_port.result ≡ next_port (indexed ups downs) n c.args.target =
     c.next_port.ensures ∙ (λ i. port_by ups downs (c.deref-in-loop-vertex.ensures.value i) (c.deref-in-loop-vertex-2.ensures.value i) n)
-    ∙ is_next_port ups downs c.requires.slopes c.args.target c.requires.target c.in_ok-distances.distances.items c.in_ok-costs.costs.items c.in_ok-distances.ensures costs n
+    ∙ is_next_port ups downs c.requires.slopes c.args.target c.requires.target c.in_ok-distances.distances.items c.in_ok-costs.costs.items
+    c.in_ok-distances.ensures costs n
     (omega (arith, c.loop-vertex-test.true, c.len-vertex-end.ensures)) in
     let Are : List (Option ℕ) → Type 0 = λ ports. AreFirstPorts ups downs c.args.target (n + 1) ports in
     subst Are (sym c.in_ok-push.ensures.items) (ports_more ups downs c.args.target n c.loop-vertex.ports.items c.next_port.result c.loop-vertex.invariant port)

@@ -55,7 +55,8 @@ up-preserved c =
       numbers = length-set c.up.numbers v c.in-Some-up_from.hops.numbers ∙ i.numbers;
       ports = length-set c.up.ports v c.in-Some-up_from.hops.ports ∙ i.ports;
       routed = λ k h.
-          up_more ups downs c.requires.slopes (slice_index c.args.targets.now k) (c.requires.targets k h) k c.up.numbers c.up.ports i.numbers i.ports v c.at-in-up.result.now
+          up_more ups downs c.requires.slopes (slice_index c.args.targets.now k) (c.requires.targets k h) k c.up.numbers c.up.ports i.numbers i.ports v
+          c.at-in-up.result.now
           c.in-Some-up_from.hops.numbers c.in-Some-up_from.hops.ports (omega (arith, c.up-test.true, c.len-vertex-end.ensures)) c.at-in-up.ensures
           (i.routed k h) (c.in-Some-up_from.ensures k h);
     }

@@ -57,7 +57,8 @@ returns-then-count-eq0-clause-absorbs g c =
     let inside : IsWithin now = (c.piece.new.self.budget.bytes_in_range, c.piece.new.self.budget.calls_in_range) in
     let is : Absorbs g.S.Source.left g.S.Source.interruptions
     c.finish.result c.args.source.now c.piece.new.self.source.now c.args.store.now c.loop-count.store =
-    (absorbs-end old mid now c.loop-count.absorber _ _ so_far.0 _ c.piece.new.room _ so_far.1 (refl, refl) inside c.in_ok-count.ensures.gives c.if-count-eq0.true
+    (absorbs-end old mid now c.loop-count.absorber _ _ so_far.0 _ c.piece.new.room _ so_far.1 (refl, refl) inside c.in_ok-count.ensures.gives
+    c.if-count-eq0.true
     c.finish.ensures.finishes).0 in
     grind (arith, is)
 
@@ -73,7 +74,8 @@ loop-count-preserved g c =
       same_source = c.piece.ensures.same_source ∙ c.loop-count.invariant.same_source;
       progress = (
         _,
-        Progress-piece old mid now c.loop-count.absorber c.feed.new.self _ _ _ so_far.0 c.in_ok-count.count c.piece.new.room so_far.1 gives (omega (arith, c.if-count-eq0.false))
+        Progress-piece old mid now c.loop-count.absorber c.feed.new.self _ _ _ so_far.0 c.in_ok-count.count c.piece.new.room so_far.1 gives
+            (omega (arith, c.if-count-eq0.false))
             c.in_ok-feed.ensures.feeds,
       );
     }
@@ -88,7 +90,8 @@ returns-in_err-feed-clause-read g c =
     let so_far = c.loop-count.invariant.progress in
     let inside : IsWithin now = (c.piece.new.self.budget.bytes_in_range, c.piece.new.self.budget.calls_in_range) in
     let gives = c.in_ok-count.ensures.gives in
-    let other = (absorbs-refused old mid now c.loop-count.absorber _ _ _ so_far.0 c.in_ok-count.count c.piece.new.room c.feed.new.self _ so_far.1 (refl, refl) inside
+    let other = (absorbs-refused old mid now c.loop-count.absorber _ _ _ so_far.0 c.in_ok-count.count c.piece.new.room c.feed.new.self _ so_far.1 (refl, refl)
+    inside
     gives (omega (arith, c.if-count-eq0.false)) least c.in_err-feed.ensures.feeds).1 in
     let works = gives.works in rw (p.1, p.2) (grind (arith, other, works))
 

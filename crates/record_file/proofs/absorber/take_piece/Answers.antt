@@ -19,7 +19,8 @@ returns-in_err-behind-clause-takes c =
     let is : TakesPiece c.args.awaited c.args.part.now.items c.args.piece.now (Err c.in_err-behind.field-0.0) c.take_front.new.part.items c.args.store.now
     c.take_front.new.store =
     piece-stops c.args.awaited c.args.part.now.items c.args.piece.now c.min-count.result so_far.0 c.loop-rest.rest.now c.loop-rest.next c.loop-rest.part.items
-    c.in_err-behind.field-0.0 c.take_front.new.part.items c.args.store.now c.loop-rest.store c.take_front.new.store so_far.2 c.in_err-behind.ensures.takes so_far.1 in
+    c.in_err-behind.field-0.0 c.take_front.new.part.items c.args.store.now c.loop-rest.store c.take_front.new.store so_far.2 c.in_err-behind.ensures.takes
+    so_far.1 in
     rw (p.1, p.2) is
 
 pub loop-rest-preserved : goal.loop-rest-preserved

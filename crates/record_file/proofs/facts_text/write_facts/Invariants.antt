@@ -5,4 +5,5 @@ use Rattle.record_file.proofs.facts_text.write_facts.Given as goal
 
 -- the lines of the cells given so far were written
 abbrev pub invariant-loop-cell : goal.invariant-loop-cell
-invariant-loop-cell g l = HasWritten line_text (g.W.Sink.written l.initial.sink) (g.W.Sink.written l.sink) l.yielded (cells_left l.cell-iterator) (cells_left l.initial.cell-iterator)
+invariant-loop-cell g l =
+    HasWritten line_text (g.W.Sink.written l.initial.sink) (g.W.Sink.written l.sink) l.yielded (cells_left l.cell-iterator) (cells_left l.initial.cell-iterator)

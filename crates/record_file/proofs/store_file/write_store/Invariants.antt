@@ -5,4 +5,6 @@ use Rattle.record_file.proofs.store_file.write_store.Given as goal
 
 -- the records of the cells given so far stand behind what was written before
 abbrev pub invariant-loop-cell : goal.invariant-loop-cell
-invariant-loop-cell g l = HasWritten record_bytes (g.W.Sink.written l.initial.sink) (g.W.Sink.written l.sink) l.yielded (cells_left l.cell-iterator) (cells_left l.initial.cell-iterator)
+invariant-loop-cell g l =
+    HasWritten record_bytes (g.W.Sink.written l.initial.sink) (g.W.Sink.written l.sink) l.yielded (cells_left l.cell-iterator)
+    (cells_left l.initial.cell-iterator)

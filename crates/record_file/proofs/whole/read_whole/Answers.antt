@@ -15,7 +15,12 @@ returns-then-is_spent-clause-fails g c =
     let all = piece-taken old mid now c.loop-bytes.bytes.items c.in_ok-count.count c.piece.new.room c.loop-bytes.invariant.taken gives
     (omega (arith, c.if-count-eq0.false)) in
     let fails : FailsToRead g.S.Source.left g.S.Source.has_failed g.S.Source.interruptions c.args.source.now c.piece.new.self.source.now TooLong =
-    record { taken = _; consumed = all.taken.consumed; why = (gives.works, too-long old now _ (refl, refl) all.taken all.each (c.is_spent.ensures.0 c.if-is_spent.true)) } in
+    record {
+      taken = _;
+      consumed = all.taken.consumed;
+      why =
+          (gives.works, too-long old now _ (refl, refl) all.taken all.each (c.is_spent.ensures.0 c.if-is_spent.true));
+    } in
     grind (arith, fails)
 
 pub returns-then-is_err-clause-fails : goal.returns-then-is_err-clause-fails

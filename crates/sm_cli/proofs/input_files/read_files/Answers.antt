@@ -40,7 +40,8 @@ loop-index-preserved g c =
       untouched = λ k h. elsewhere i.files i.index c.read_into.new.source k h ∙ i.invariant.untouched k (omega arith);
       files = files ++ r.file ∷ [];
       one_each = length-append files (r.file ∷ []) ∙ ap (λ n. n + 1) i.invariant.one_each;
-      read = read_more g.S.Source.left g.S.Source.has_failed c.args.files.now i.files files i.index (get_or i.files i.index c.index-files-index.result) c.read_into.new.source r.file
+      read = read_more g.S.Source.left g.S.Source.has_failed c.args.files.now i.files files i.index (get_or i.files i.index c.index-files-index.result)
+          c.read_into.new.source r.file
           i.invariant.one_each i.invariant.read there within r.read;
       told = facts-more c.args.floor files r.file i.all c.read_into.new.all i.invariant.told r.merged;
     }

@@ -11,14 +11,18 @@ use Rattle.sm_manager.proofs.writing.send_steps.Goals as goal
 pub loop-step-init : goal.loop-step-init
 loop-step-init c =
     let all : c.into_iter-step-iterator.result.rest.items ≡ c.args.steps.items = search rules in (
-      subst (λ (xs : List Step). AreGoing c.args.counts xs c.args.requests.now c.args.outgoing.now.items c.args.steps.items c.args.requests.now c.args.outgoing.now.items) (sym all)
+      subst (λ (xs : List Step). AreGoing c.args.counts xs c.args.requests.now c.args.outgoing.now.items c.args.steps.items c.args.requests.now
+          c.args.outgoing.now.items) (sym all)
           (record { pending = refl; outgoing = refl; counter = refl; bound = c.requires.numbers; room = c.requires.room }),
       let count = ap length all in omega (arith, count, c.requires.outgoing),
     )
 
-going : (c : goal.After-send-arg-1) → AreGoing c.args.counts (c.in-Some.step ∷ c.next.new.self.rest.items) c.loop-step.requests c.loop-step.outgoing.items c.args.steps.items c.args.requests.now c.args.outgoing.now.items
+going : (c : goal.After-send-arg-1)
+    → AreGoing c.args.counts (c.in-Some.step
+    ∷ c.next.new.self.rest.items) c.loop-step.requests c.loop-step.outgoing.items c.args.steps.items c.args.requests.now c.args.outgoing.now.items
 going c =
-    subst (λ (xs : List Step). AreGoing c.args.counts xs c.loop-step.requests c.loop-step.outgoing.items c.args.steps.items c.args.requests.now c.args.outgoing.now.items) (c.in-Some.ensures.steps.0)
+    subst (λ (xs : List Step). AreGoing c.args.counts xs c.loop-step.requests c.loop-step.outgoing.items c.args.steps.items c.args.requests.now
+    c.args.outgoing.now.items) (c.in-Some.ensures.steps.0)
     c.loop-step.invariant.0
 
 pub send-packet-requires-clause-room : goal.send-packet-requires-clause-room
@@ -35,11 +39,15 @@ push_back_reserved-requires c =
 
 pub loop-step-preserved : goal.loop-step-preserved
 loop-step-preserved c =
-    let h = subst (λ (xs : List Step). AreGoing c.args.counts xs c.loop-step.requests c.loop-step.outgoing.items c.args.steps.items c.args.requests.now c.args.outgoing.now.items) (c.in-Some.ensures.steps.0) c.loop-step.invariant.0 in
+    let h = subst (λ (xs : List Step). AreGoing c.args.counts xs c.loop-step.requests c.loop-step.outgoing.items c.args.steps.items c.args.requests.now
+    c.args.outgoing.now.items) (c.in-Some.ensures.steps.0) c.loop-step.invariant.0 in
     let out : Outgoing = record { packet = c.send-packet.result; to = None } in (
-      subst (λ (xs : List Outgoing). AreGoing c.args.counts c.next.new.self.rest.items c.send-packet.new.self xs c.args.steps.items c.args.requests.now c.args.outgoing.now.items)
-          (sym (c.push_back_reserved.ensures.items ∙ ap (λ p. c.loop-step.outgoing.items ++ record { packet = p; to = None } ∷ []) c.send-packet.ensures.packet))
-          (one_gone c.args.counts c.in-Some.step c.next.new.self.rest.items c.loop-step.requests c.send-packet.new.self c.loop-step.outgoing.items c.args.steps.items c.args.requests.now c.args.outgoing.now.items h
+      subst (λ (xs : List Outgoing). AreGoing c.args.counts c.next.new.self.rest.items c.send-packet.new.self xs c.args.steps.items c.args.requests.now
+          c.args.outgoing.now.items)
+          (sym (c.push_back_reserved.ensures.items
+          ∙ ap (λ p. c.loop-step.outgoing.items ++ record { packet = p; to = None } ∷ []) c.send-packet.ensures.packet))
+          (one_gone c.args.counts c.in-Some.step c.next.new.self.rest.items c.loop-step.requests c.send-packet.new.self c.loop-step.outgoing.items
+          c.args.steps.items c.args.requests.now c.args.outgoing.now.items h
           c.send-packet.ensures.pending c.send-packet.ensures.counter c.send-packet.ensures.room),
       let count = ap length (c.in-Some.ensures.steps.0) in
           let room = c.loop-step.invariant.1 in

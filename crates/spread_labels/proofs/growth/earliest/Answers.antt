@@ -16,7 +16,9 @@ loop-vertex-preserved c =
         w.found-is ∙ ap Some (w.earlier.ensures ∙ ap (λ o. earlier_of before o n) told)
             ∙ sym (earliest_with before c.args.stages.now c.args.stage n (sym c.is_at.ensures ∙ w.if-is_at.true)),
         subst (IsBelow (length c.args.keys.now)) (sym w.found-is)
-            (subst (λ (k : ℕ). k < length c.args.keys.now) (sym w.earlier.ensures) (earlier_below before c.loop-vertex.found n (length c.args.keys.now) c.loop-vertex.invariant.1 c.loop-vertex-test.true)),
+            (subst (λ (k : ℕ). k
+            < length c.args.keys.now) (sym w.earlier.ensures) (earlier_below before c.loop-vertex.found n (length c.args.keys.now) c.loop-vertex.invariant.1
+            c.loop-vertex-test.true)),
       )
       | else-is_at w ↦ (
         w.found-is ∙ told ∙ sym (earliest_without before c.args.stages.now c.args.stage n (sym c.is_at.ensures ∙ w.if-is_at.false)),

@@ -17,7 +17,8 @@ pub loop-init : goal.loop-init
 loop-init c =
     let n = length c.args.edges.now in
     let count : n - 0 ≡ n = omega arith in
-    let none : c.in_ok-stages.stages.items ≡ replicate n Left = c.in_ok-stages.ensures.items_if_clones_equal (λ k h. h) ∙ ap (λ m. replicate m Left) c.len.ensures in
+    let none : c.in_ok-stages.stages.items ≡ replicate n Left =
+    c.in_ok-stages.ensures.items_if_clones_equal (λ k h. h) ∙ ap (λ m. replicate m Left) c.len.ensures in
     subst (λ (l : List ℕ). IsGrowing c.args.edges.now (before_by c.args.keys.now) (n - 0) l c.in_ok-stages.stages.items) (sym c.in_ok-vertices.ensures.items)
     (begins c.args.edges.now (before_by c.args.keys.now) (n - 0) c.in_ok-stages.stages.items count none)
 
@@ -29,7 +30,13 @@ add_vertex-requires-clause-vertex c =
 pub add_vertex-requires-clause-lead : goal.add_vertex-requires-clause-lead
 add_vertex-requires-clause-lead c =
     all_from_contained (λ (e : Edge). e.to < length c.deref_mut.result.now) c.at.result.now
-    (λ e h. omega (arith, c.loop.invariant.all, ap length c.deref_mut.ensures.value, c.requires.lead c.in-Some.vertex e (subst (λ (xs : List Edge). Contains xs e) c.at.ensures h)))
+    (λ e h. omega (
+      arith,
+      c.loop.invariant.all,
+      ap length c.deref_mut.ensures.value,
+      c.requires.lead c.in-Some.vertex e
+          (subst (λ (xs : List Edge). Contains xs e) c.at.ensures h),
+    ))
 
 pub loop-preserved : goal.loop-preserved
 loop-preserved c =
@@ -47,10 +54,12 @@ loop-preserved c =
           let within : v < length c.args.keys.now = subst (IsBelow (length c.args.keys.now)) w.in-Some.is c.next_vertex.ensures.vertex in
           let moved : w.add_vertex.new.stages ≡ after_add_vertex v (edges_at edges v) c.loop.stages.items =
           w.add_vertex.ensures ∙ (λ i. after_add_vertex v (w.at.ensures i) (w.deref_mut.ensures.value i)) in
-          let long : length w.add_vertex.new.stages ≡ length c.loop.stages.items = ap length moved ∙ length-after_add_vertex v (edges_at edges v) c.loop.stages.items in
+          let long : length w.add_vertex.new.stages ≡ length c.loop.stages.items =
+          ap length moved ∙ length-after_add_vertex v (edges_at edges v) c.loop.stages.items in
           let written : (with_items c.loop.stages w.add_vertex.new.stages).items ≡ w.add_vertex.new.stages =
           with_items_is c.loop.stages w.add_vertex.new.stages (long ∙ sym (ap length w.deref_mut.ensures.value) ∙ w.deref_mut.ensures.len) in
-          grows edges before c.requires.lead c.requires.symmetric n c.loop.vertices.items c.match-next_vertex.vertices.items c.loop.stages.items c.match-next_vertex.stages.items v
+          grows edges before c.requires.lead c.requires.symmetric n c.loop.vertices.items c.match-next_vertex.vertices.items c.loop.stages.items
+          c.match-next_vertex.stages.items v
           was (sym told ∙ w.in-Some.is) (omega (arith, within, c.requires.keys))
           (ap (λ x. x.items) w.vertices-is ∙ w.in_ok-push.ensures.items) (ap (λ x. x.items) w.stages-is ∙ written ∙ moved)
       | in_default w ↦

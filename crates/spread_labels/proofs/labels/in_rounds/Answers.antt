@@ -18,7 +18,8 @@ loop-round-preserved c =
     let n = c.loop-round.round in
     let made = subst (λ (k : ℕ). IsRound c.args.edges.now k c.loop-round.marks.items (length c.args.edges.now) c.in_ok-marks-2.marks.items)
     (sym (add-one n)) c.in_ok-marks-2.ensures in
-    after_round c.args.edges.now c.args.target c.requires.lead n (n + 1) c.loop-round.marks.items c.in_ok-marks-2.marks.items (add-one n) c.loop-round.invariant made
+    after_round c.args.edges.now c.args.target c.requires.lead n (n
+    + 1) c.loop-round.marks.items c.in_ok-marks-2.marks.items (add-one n) c.loop-round.invariant made
 
 pub returns : goal.returns
 returns c = elim c.loop-round-test.branch [
@@ -30,7 +31,8 @@ returns c = elim c.loop-round-test.branch [
   | then-loop-round-test+in_ok-marks-2+then-not-is_new w ↦
       let n = c.loop-round.round in
       let new = w.in_ok-marks-2.marks.items in
-      let more = after_round c.args.edges.now c.args.target c.requires.lead n (suc n) c.loop-round.marks.items new refl c.loop-round.invariant w.in_ok-marks-2.ensures in
+      let more = after_round c.args.edges.now c.args.target c.requires.lead n (suc n) c.loop-round.marks.items new refl c.loop-round.invariant
+      w.in_ok-marks-2.ensures in
       let none : list_any (is_of (suc n)) new ≡ false =
       (λ i. list_any (is_of (sym (add-one n) i)) (sym w.deref.ensures.value i)) ∙ sym w.is_new.ensures ∙ w.if-not-is_new.true in
       let all = settled c.args.edges.now c.args.target c.requires.lead n new more none (length c.args.edges.now)

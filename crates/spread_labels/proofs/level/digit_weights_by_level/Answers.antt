@@ -14,5 +14,6 @@ loop-level-preserved c =
     c.next_digit_weight-digit_weight.ensures ∙ (λ i. min (c.loop-level.invariant.0 i * c.width.ensures i) 65536) in (
       next ∙ ap f (sym (add-one h)),
       c.in_ok-push-2.ensures.items ∙ ap (λ xs. xs ++ c.next_digit_weight-digit_weight.result ∷ []) c.loop-level.invariant.1
-          ∙ ap (λ x. map f (numbers_from 0 (suc h)) ++ x ∷ []) next ∙ sym (distance_classes_more f (suc h)) ∙ ap (λ n. map f (numbers_from 0 n)) (ap (λ n. n + 1) (sym (add-one h)) ∙ add-one (h + 1)),
+          ∙ ap (λ x. map f (numbers_from 0 (suc h)) ++ x ∷ []) next ∙ sym (distance_classes_more f (suc h))
+          ∙ ap (λ n. map f (numbers_from 0 n)) (ap (λ n. n + 1) (sym (add-one h)) ∙ add-one (h + 1)),
     )

@@ -32,8 +32,10 @@ loop-vertex-preserved c =
           let same : length w.fill.new.far ≡ length far = omega (arith, w.fill.auto.far, w.deref_mut.ensures.len) in
           let items : c.if-is_none.far.items ≡ w.fill.new.far = ap (λ v. v.items) w.far-is ∙ with_items_is c.loop-vertex.far w.fill.new.far (omega arith) in
           subst (AreFar edges keys (v + 1)) (sym items)
-          (far_more edges c.requires.lead c.requires.symmetric keys c.requires.all v far w.in_ok-found.found.items w.fill.new.far below w.in_ok-found.ensures same
-          (λ k l. w.fill.ensures k (omega (arith, same, c.loop-vertex.invariant.all)) ∙ ap₂ (λ xs ys. option_or (get_or xs k None) (get_or ys k None)) w.deref_mut.ensures.value w.deref.ensures.value)
+          (far_more edges c.requires.lead c.requires.symmetric keys c.requires.all v far w.in_ok-found.found.items w.fill.new.far below w.in_ok-found.ensures
+          same
+          (λ k l. w.fill.ensures k (omega (arith, same, c.loop-vertex.invariant.all))
+          ∙ ap₂ (λ xs ys. option_or (get_or xs k None) (get_or ys k None)) w.deref_mut.ensures.value w.deref.ensures.value)
           c.loop-vertex.invariant)
       | else-is_none w ↦
           let there : is_some (get_or far v None) ≡ true =
@@ -44,5 +46,6 @@ loop-vertex-preserved c =
 
 pub returns : goal.returns
 returns c =
-    let ended : c.loop-vertex.vertex ≡ length c.args.edges.now = omega (arith, c.loop-vertex-test.false, c.loop-vertex.auto.vertex-end, c.len-vertex-end.ensures) in
+    let ended : c.loop-vertex.vertex ≡ length c.args.edges.now =
+    omega (arith, c.loop-vertex-test.false, c.loop-vertex.auto.vertex-end, c.len-vertex-end.ensures) in
     subst (λ (k : ℕ). AreFar c.args.edges.now c.args.keys.now k c.loop-vertex.far.items) ended c.loop-vertex.invariant

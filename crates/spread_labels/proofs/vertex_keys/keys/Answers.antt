@@ -11,7 +11,8 @@ use Rattle.spread_labels.proofs.vertex_keys.keys.Goals as goal
 
 pub far-requires-clause-all : goal.far-requires-clause-all
 far-requires-clause-all c =
-    ap length (c.deref.ensures.value ∙ c.in_ok-by_distance_class.ensures) ∙ length_map (λ (k : ℕ). record { distance_class = k; distance = 0 }) c.args.distance_classes.now ∙ c.requires.all
+    ap length (c.deref.ensures.value ∙ c.in_ok-by_distance_class.ensures)
+    ∙ length_map (λ (k : ℕ). record { distance_class = k; distance = 0 }) c.args.distance_classes.now ∙ c.requires.all
 
 pub loop-vertex-preserved : goal.loop-vertex-preserved
 loop-vertex-preserved c =
@@ -26,5 +27,7 @@ loop-vertex-preserved c =
     ∙ ap (λ o. unwrap_or o 0) (c.index.ensures ∙ sym (get_or_default c.in_ok-far.far.items v None c.index.result.now (omega (arith, all.all))))
     ∙ far_is edges c.deref.result.now c.in_ok-far.far.items all v below
     ∙ ap (λ ks. from_first ks (distances_from edges v)) (c.deref.ensures.value ∙ c.in_ok-by_distance_class.ensures) in
-    c.in_ok-push.ensures.items ∙ ap (λ xs. xs ++ record { distance_class = slice_index distance_classes v; distance = c.unwrap_or.result } ∷ []) c.loop-vertex.invariant
-    ∙ ap (λ x. map f (numbers_from 0 v) ++ record { distance_class = slice_index distance_classes v; distance = x } ∷ []) found ∙ sym (distance_classes_more f v)
+    c.in_ok-push.ensures.items ∙ ap (λ xs. xs ++ record { distance_class = slice_index distance_classes v; distance = c.unwrap_or.result }
+    ∷ []) c.loop-vertex.invariant
+    ∙ ap (λ x. map f (numbers_from 0 v) ++ record { distance_class = slice_index distance_classes v; distance = x } ∷ []) found
+    ∙ sym (distance_classes_more f v)

@@ -12,7 +12,12 @@ use Rattle.spread_labels.proofs.vertex_positions.by_positions.Goals as goal
 pub to_positions-requires : goal.to_positions-requires
 to_positions-requires c =
     all_from_contained (λ (e : Edge). e.to < length c.args.positions.now) c.at.result.now
-    (λ e h. omega (arith, c.requires.positions.all, c.requires.lead (get_or c.args.vertices.now c.loop-vertex.vertex-index 0) e (subst (λ (xs : List Edge). Contains xs e) c.at.ensures h)))
+    (λ e h. omega (
+      arith,
+      c.requires.positions.all,
+      c.requires.lead (get_or c.args.vertices.now c.loop-vertex.vertex-index 0) e
+          (subst (λ (xs : List Edge). Contains xs e) c.at.ensures h),
+    ))
 
 pub loop-vertex-preserved : goal.loop-vertex-preserved
 loop-vertex-preserved c =

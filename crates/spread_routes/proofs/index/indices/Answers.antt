@@ -13,7 +13,8 @@ loop-guid-preserved c =
     elim c.match-index_of.branch [
       | in-Some+in_ok-push w ↦
           subst (AreIndices graph guids (k + 1)) (sym (ap (λ v. v.items) w.found-is ∙ w.in_ok-push.ensures.items))
-          (index_more graph guids k c.guid-item.result w.in-Some.index c.loop-guid.found.items c.loop-guid-test.true c.guid-item.is w.in-Some.ensures c.requires c.loop-guid.invariant)
+          (index_more graph guids k c.guid-item.result w.in-Some.index c.loop-guid.found.items c.loop-guid-test.true c.guid-item.is w.in-Some.ensures c.requires
+          c.loop-guid.invariant)
       | in_default w ↦
           subst (AreIndices graph guids (k + 1)) (sym (ap (λ v. v.items) w.found-is))
           (index_none graph guids k c.guid-item.result c.loop-guid.found.items c.loop-guid-test.true c.guid-item.is

@@ -8,5 +8,6 @@ use Rattle.subnet_view.proofs.end_port.found_end_ports.Given as goal
 -- what was found, and what the rest has, are all that there is; and the cells given and left are the store's
 abbrev pub invariant-loop-sighting : goal.invariant-loop-sighting
 invariant-loop-sighting l =
-    (l.found.items ++ filter_map (guid_and_port (cells_of l.store)) (cells_left l.sighting-iterator) ≡ filter_map (guid_and_port (cells_of l.store)) (cells_of l.store))
+    (l.found.items ++ filter_map (guid_and_port (cells_of l.store)) (cells_left l.sighting-iterator)
+    ≡ filter_map (guid_and_port (cells_of l.store)) (cells_of l.store))
     × (l.yielded ++ cells_left l.sighting-iterator ≡ cells_of l.store)

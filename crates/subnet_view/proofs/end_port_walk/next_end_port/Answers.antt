@@ -21,7 +21,8 @@ loop-sighting-preserved-in-Some-guid_and_port c =
     let rest = cells_left c.next.new.self in
     let ends = filter_map (guid_and_port (cells_of c.args.store.now)) (c.loop-sighting.yielded ++ c.in-Some.sighting ∷ []) in (
       subst (λ (o : Option (ℕ × EndPort)). IsNext c.args.last ends o) (sym c.nearer-next.ensures)
-          (met c.args.store.now c.loop-sighting.yielded left rest c.in-Some.sighting c.loop-sighting.invariant.1 c.in-Some.ensures.steps c.args.last c.loop-sighting.next
+          (met c.args.store.now c.loop-sighting.yielded left rest c.in-Some.sighting c.loop-sighting.invariant.1 c.in-Some.ensures.steps c.args.last
+          c.loop-sighting.next
           c.in-Some-guid_and_port.end c.in-Some-guid_and_port.ensures c.loop-sighting.invariant.0),
       given_more (cells_of c.args.store.now) c.loop-sighting.yielded left rest c.in-Some.sighting c.loop-sighting.invariant.1 c.in-Some.ensures.steps,
     )
@@ -35,13 +36,16 @@ pub loop-sighting-preserved : goal.loop-sighting-preserved
 loop-sighting-preserved c =
     let left = cells_left c.loop-sighting.sighting-iterator in
     let rest = cells_left c.next.new.self in (
-      passed c.args.store.now c.loop-sighting.yielded left rest c.in-Some.sighting c.loop-sighting.invariant.1 c.in-Some.ensures.steps c.args.last c.loop-sighting.next
+      passed c.args.store.now c.loop-sighting.yielded left rest c.in-Some.sighting c.loop-sighting.invariant.1 c.in-Some.ensures.steps c.args.last
+          c.loop-sighting.next
           (sym c.guid_and_port.ensures ∙ nothing c.guid_and_port.result c.in_default.not-Some) c.loop-sighting.invariant.0,
       given_more (cells_of c.args.store.now) c.loop-sighting.yielded left rest c.in-Some.sighting c.loop-sighting.invariant.1 c.in-Some.ensures.steps,
     )
 
 pub returns : goal.returns
 returns c =
-    let all : c.loop-sighting.yielded ≡ cells_of c.args.store.now = sym (append-nil c.loop-sighting.yielded) ∙ ap (λ (cs : Cells). c.loop-sighting.yielded ++ cs) (sym c.in-None.ensures.steps.0) ∙ c.loop-sighting.invariant.1 in
+    let all : c.loop-sighting.yielded ≡ cells_of c.args.store.now = sym (append-nil c.loop-sighting.yielded)
+    ∙ ap (λ (cs : Cells). c.loop-sighting.yielded ++ cs) (sym c.in-None.ensures.steps.0) ∙ c.loop-sighting.invariant.1 in
     next_is_first c.args.store.now c.args.last c.loop-sighting.next
-    (subst (λ (cs : Cells). IsNext c.args.last (filter_map (guid_and_port (cells_of c.args.store.now)) cs) c.loop-sighting.next) all c.loop-sighting.invariant.0)
+    (subst (λ (cs : Cells). IsNext c.args.last (filter_map (guid_and_port (cells_of c.args.store.now)) cs) c.loop-sighting.next) all
+    c.loop-sighting.invariant.0)

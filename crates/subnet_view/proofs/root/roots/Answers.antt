@@ -40,12 +40,14 @@ loop-index-preserved c =
           let root : w.index-switches-index.result ≡ get_or guids index 0 =
           w.index-switches-index.is ∙ ap (λ xs. get_or xs index w.index-switches-index.result) w.switches.ensures
           ∙ get_or_default guids index w.index-switches-index.result 0 below in
-          written (index + 1) graph w.fill.new.roots c.if-is_none.roots.items (ap (λ v. v.items) w.roots-is ∙ with_items_is c.loop-index.roots w.fill.new.roots (omega arith))
+          written (index + 1) graph w.fill.new.roots c.if-is_none.roots.items (ap (λ v. v.items) w.roots-is
+          ∙ with_items_is c.loop-index.roots w.fill.new.roots (omega arith))
           (roots_filled graph index roots w.in_ok-distances.distances.items w.fill.new.roots below c.loop-index.invariant w.in_ok-distances.ensures same
           (λ k l. w.fill.ensures k l
           ∙ (λ i. option_or (get_or (w.deref_mut.ensures.value i) k None) (option_map (λ d. root i) (get_or (w.deref.ensures.value i) k None)))))
       | else-is_none w ↦
-          let there : is_some (get_or roots index None) ≡ true = ap is_some (get_or_default roots index None c.index.result.now (omega arith) ∙ sym c.index.ensures) ∙ w.if-is_none.ensures in
+          let there : is_some (get_or roots index None) ≡ true =
+          ap is_some (get_or_default roots index None c.index.result.now (omega arith) ∙ sym c.index.ensures) ∙ w.if-is_none.ensures in
           written (index + 1) graph roots c.if-is_none.roots.items (ap (λ v. v.items) w.roots-is)
           (roots_passed graph c.len.ensures.is_graph index roots below c.loop-index.invariant there)
     ]

@@ -4,4 +4,6 @@ use Rattle.subnet_view.proofs.Walks.{cell_given}
 use Rattle.subnet_view.proofs.switch.listed_switches.Goals as goal
 
 pub usable_guid-requires : goal.usable_guid-requires
-usable_guid-requires c = cell_given c.args.store.now c.loop-sighting.yielded (cells_left c.loop-sighting.sighting-iterator) (cells_left c.next.new.self) c.in-Some.sighting c.loop-sighting.invariant.1 c.in-Some.ensures.steps
+usable_guid-requires c =
+    cell_given c.args.store.now c.loop-sighting.yielded (cells_left c.loop-sighting.sighting-iterator) (cells_left c.next.new.self) c.in-Some.sighting
+    c.loop-sighting.invariant.1 c.in-Some.ensures.steps

@@ -28,7 +28,8 @@ loop-before-preserved c =
           )
       | in_default w ↦
           subst Stands (sym (ap (λ v. v.items) w.found-is)) (
-            port_without guids edge all count found before c.loop-before-test.true c.loop-before.invariant.0 (is ∙ ap (option_map (by_guid guids)) w.in_default.is),
+            port_without guids edge all count found before c.loop-before-test.true c.loop-before.invariant.0 (is
+                ∙ ap (option_map (by_guid guids)) w.in_default.is),
             c.loop-before.invariant.1,
           )
     ]

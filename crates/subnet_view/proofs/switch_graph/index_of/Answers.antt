@@ -5,4 +5,5 @@ use Rattle.subnet_view.proofs.SwitchSearch.{index_found}
 use Rattle.subnet_view.proofs.switch_graph.index_of.Goals as goal
 
 pub returns : goal.returns
-returns c = subst (IsIndexIn c.args.guids.now c.args.guid) (sym c.ok.ensures.value) (index_found c.args.guids.now c.args.guid c.binary_search.result c.binary_search.ensures.position c.requires)
+returns c = subst (IsIndexIn c.args.guids.now c.args.guid) (sym c.ok.ensures.value)
+    (index_found c.args.guids.now c.args.guid c.binary_search.result c.binary_search.ensures.position c.requires)

@@ -18,4 +18,5 @@ returns-else-is_vertex_of c =
     let index : IsIndexFor vertex_key (c.args.guid, 0) c.args.vertices.now c.vertex_index-index.result =
     subst (λ (n : ℕ). IsIndexFor vertex_key (c.args.guid, n) c.args.vertices.now c.vertex_index-index.result) c.new.ensures c.vertex_index-index.ensures in
     sym (none_passes (λ r. r.guid == c.args.guid) (first_vertex c.args.vertices.now c.args.guid) (slice_get c.args.vertices.now c.vertex_index-index.result)
-    (first_index vertex_key c.args.guid c.args.vertices.now c.vertex_index-index.result c.requires index) (sym c.is_vertex_of.ensures ∙ c.if-is_vertex_of.false))
+    (first_index vertex_key c.args.guid c.args.vertices.now c.vertex_index-index.result c.requires index) (sym c.is_vertex_of.ensures
+    ∙ c.if-is_vertex_of.false))

@@ -11,5 +11,6 @@ returns c =
     let test : Vertex → Bool = λ x. is_before (vertex_key x) (c.args.guid, c.args.port) in
     record {
       within = c.partition_point.ensures.bound;
-      parts = c.partition_point.ensures.partitioned test (always_returns_same _ (λ a r. r ≡ test a.0.now) _ (λ a r f h. search (rules, of_calls))) (tests_part vertex_key (c.args.guid, c.args.port) c.args.vertices.now c.requires);
+      parts = c.partition_point.ensures.partitioned test (always_returns_same _ (λ a r. r ≡ test a.0.now) _ (λ a r f h. search (rules, of_calls)))
+          (tests_part vertex_key (c.args.guid, c.args.port) c.args.vertices.now c.requires);
     }

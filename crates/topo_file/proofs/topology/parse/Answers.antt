@@ -26,7 +26,8 @@ returns-in-Some-clause-reads c =
 pub returns-in-Some-clause-memory : goal.returns-in-Some-clause-memory
 returns-in-Some-clause-memory c = λ e.
     let same : c.in-Some.fault ≡ Memory = cc in
-    absurd (first_plain c.args.text.now (ap first_line_fault (sym c.as_bytes-in-Err-2.ensures.value) ∙ sym c.first_line_fault.ensures ∙ c.in-Some.is ∙ ap Some same))
+    absurd (first_plain c.args.text.now (ap first_line_fault (sym c.as_bytes-in-Err-2.ensures.value) ∙ sym c.first_line_fault.ensures ∙ c.in-Some.is
+    ∙ ap Some same))
 
 pub returns-in-Err-clause-reads : goal.returns-in-Err-clause-reads
 unfolding topology_of

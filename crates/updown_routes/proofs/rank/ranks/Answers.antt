@@ -37,11 +37,13 @@ loop-root-preserved c =
     elim c.if-is_none.branch [
       | then-is_none+in_ok-distances w ↦
           let same : length w.fill.new.ranks ≡ length ranks = omega (arith, w.fill.auto.ranks, w.deref_mut.ensures.len) in
-          written (root + 1) graph w.fill.new.ranks c.if-is_none.ranks.items (ap (λ v. v.items) w.ranks-is ∙ with_items_is c.loop-root.ranks w.fill.new.ranks (omega arith))
+          written (root + 1) graph w.fill.new.ranks c.if-is_none.ranks.items (ap (λ v. v.items) w.ranks-is
+          ∙ with_items_is c.loop-root.ranks w.fill.new.ranks (omega arith))
           (ranks_filled graph root ranks w.in_ok-distances.distances.items w.fill.new.ranks below c.loop-root.invariant w.in_ok-distances.ensures same
           (λ k l. w.fill.ensures k l ∙ ap₂ (λ xs ys. option_or (get_or xs k None) (get_or ys k None)) w.deref_mut.ensures.value w.deref.ensures.value))
       | else-is_none w ↦
-          let there : is_some (get_or ranks root None) ≡ true = ap is_some (get_or_default ranks root None c.index.result.now (omega arith) ∙ sym c.index.ensures) ∙ w.if-is_none.ensures in
+          let there : is_some (get_or ranks root None) ≡ true =
+          ap is_some (get_or_default ranks root None c.index.result.now (omega arith) ∙ sym c.index.ensures) ∙ w.if-is_none.ensures in
           written (root + 1) graph ranks c.if-is_none.ranks.items (ap (λ v. v.items) w.ranks-is)
           (ranks_passed graph c.len.ensures.is_graph root ranks below c.loop-root.invariant there)
     ]

@@ -26,4 +26,5 @@ returns c =
     c.edges.ensures
     (λ found e.
     e ∙ (λ i. map (edge_of (c.deref-2.ensures.value i) a.lid) (c.deref.ensures.value i))
-    ∙ edges_are cells inside.held a.lid a.blocks.now.number rows blocks c.requires.number c.self.inside.nodes.items (switches cells) c.self.invariant.nodes_are))
+    ∙ edges_are cells inside.held a.lid a.blocks.now.number rows blocks c.requires.number c.self.inside.nodes.items (switches cells)
+    c.self.invariant.nodes_are))

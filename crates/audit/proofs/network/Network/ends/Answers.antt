@@ -46,7 +46,8 @@ returns c =
     c.new.ensures
     (λ ended e. (
       brought_is cells inside.held line.lid number rows blocks c.requires.number c.self.inside.nodes.items c.self.inside.sources.items owners
-          c.in_ok-steps.steps.items walks ended.ends c.self.inside.firsts.items c.self.inside.begin c.self.inside.numbers.items c.self.inside.owners.items c.self.invariant c.in_ok-owners.ensures steps c.in_ok-walks.ensures
+          c.in_ok-steps.steps.items walks ended.ends c.self.inside.firsts.items c.self.inside.begin c.self.inside.numbers.items c.self.inside.owners.items
+          c.self.invariant c.in_ok-owners.ensures steps c.in_ok-walks.ensures
           (e.1 ∙ ap (map (end_from owners walks)) c.deref-5.ensures.value),
       e.0,
     )))

@@ -17,7 +17,8 @@ returns-in-Some c =
     let nodes = c.self.inside.nodes.items in
     let Found : Seen → Type 0 = λ s. c.far.result ≡ far_by (cells_of s.facts) n in
     let there : slice_get nodes (n / 256) ≡ Some c.in-Some.node.now =
-    sym (ap (λ (ns : List AuditedSwitch). slice_get ns (n / 256)) c.deref.ensures.value) ∙ sym (copied_item c.deref.result.now (n / 256) c.get.result c.get.ensures.lookup)
+    sym (ap (λ (ns : List AuditedSwitch). slice_get ns (n / 256)) c.deref.ensures.value)
+    ∙ sym (copied_item c.deref.result.now (n / 256) c.get.result c.get.ensures.lookup)
     ∙ ap option_copied c.in-Some.is in
     subst Found c.self.view_is
     (c.far.ensures ∙ far_there cells c.self.inside.held.now nodes (n / 256) (n % 256) (Some c.in-Some.node.now) c.self.invariant.nodes_are there)
@@ -29,7 +30,8 @@ returns-in-None c =
     let nodes = c.self.inside.nodes.items in
     let Found : Seen → Type 0 = λ s. Nothing ≡ far_by (cells_of s.facts) n in
     let there : slice_get nodes (n / 256) ≡ None =
-    sym (ap (λ (ns : List AuditedSwitch). slice_get ns (n / 256)) c.deref.ensures.value) ∙ sym (copied_item c.deref.result.now (n / 256) c.get.result c.get.ensures.lookup)
+    sym (ap (λ (ns : List AuditedSwitch). slice_get ns (n / 256)) c.deref.ensures.value)
+    ∙ sym (copied_item c.deref.result.now (n / 256) c.get.result c.get.ensures.lookup)
     ∙ ap option_copied c.in-None.is in
     subst Found c.self.view_is
     (far_there cells c.self.inside.held.now nodes (n / 256) (n % 256) None c.self.invariant.nodes_are there)

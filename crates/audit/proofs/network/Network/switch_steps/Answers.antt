@@ -13,7 +13,8 @@ returns c =
     let a = c.args in
     let inside : Seen = record { facts = c.self.inside.store.now; held = c.self.inside.held.now } in
     let cells = cells_of inside.facts in
-    let Found : Seen → Type 0 = λ s. IfOk c.switch_steps.result (λ found. found.items ≡ map (switch_step (cells_of s.facts) s.held a.lid) (switches (cells_of s.facts))) in
+    let Found : Seen → Type 0 =
+    λ s. IfOk c.switch_steps.result (λ found. found.items ≡ map (switch_step (cells_of s.facts) s.held a.lid) (switches (cells_of s.facts))) in
     let Gathered : Seen → Type 0 = λ s. AreBlocks s.held a.blocks.now.number a.blocks.now.rows.items in
     let blocks = subst Gathered (sym c.self.view_is) c.requires.held in
     let rows = a.blocks.now.rows.items in

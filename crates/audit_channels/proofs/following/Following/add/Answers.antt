@@ -14,7 +14,8 @@ invariant_of-self-2 c = record {
   known_are_there = λ channel knows.
       (let old = c.args.self.now.channels.items in
       any_with old c.args.channel c.put.new.channels.items c.in_ok-put.ensures.added channel
-      (let P : (Knows c.args.self.now.known channel ⊎ (channel ≡ c.args.channel)) → (list_any (λ (x : ℕ). channel == x) old ≡ true) ⊎ (channel ≡ c.args.channel) =
+      (let P : (Knows c.args.self.now.known channel ⊎ (channel ≡ c.args.channel)) → (list_any (λ (x : ℕ). channel == x) old ≡ true)
+      ⊎ (channel ≡ c.args.channel) =
       λ o. elim o [ inl k ↦ inl (c.args.self.now.known_are_there channel k) | inr e ↦ inr e ] in
       P (c.with-self.ensures.only channel knows)));
 }

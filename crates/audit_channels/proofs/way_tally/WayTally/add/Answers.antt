@@ -15,14 +15,16 @@ loop-first-preserved c =
     elim c.if-weight-gt0.branch [
       | then-weight-gt0+in_ok-add_from w ↦
           subst Added (sym w.self-is)
-          (one_added edges old weights n c.loop-first.self w.add_from.new.self c.loop-first.invariant c.loop-first-test.true w.if-weight-gt0.true w.in_ok-add_from.ensures)
+          (one_added edges old weights n c.loop-first.self w.add_from.new.self c.loop-first.invariant c.loop-first-test.true w.if-weight-gt0.true
+          w.in_ok-add_from.ensures)
       | else-weight-gt0 w ↦
           subst Added (sym w.self-is) (none_more edges old weights n c.loop-first.self c.loop-first.invariant c.loop-first-test.true w.if-weight-gt0.false)
     ]
 
 pub returns-in_ok-add_direct : goal.returns-in_ok-add_direct
 returns-in_ok-add_direct c =
-    with_direct c.args.edges.now c.args.self.now c.args.weights.now c.loop-first.first c.loop-first.self c.add_direct.new.self c.args.direct c.loop-first.invariant
+    with_direct c.args.edges.now c.args.self.now c.args.weights.now c.loop-first.first c.loop-first.self c.add_direct.new.self c.args.direct
+    c.loop-first.invariant
     c.loop-first-test.false c.if-direct-gt0.true c.in_ok-add_direct.ensures
 
 pub returns-else-direct-gt0 : goal.returns-else-direct-gt0

@@ -16,15 +16,34 @@ at : (c : goal.After-self-2-1) → slice_get c.self.inside.flights.items c.args.
 at c = let P : Simulation → Type 0 = λ s. slice_get s.flights c.args.i ≡ Some c.args.flight.now in subst P (sym c.self.view_is) c.requires.at
 
 left : (c : goal.After-self-2-1) → c.remove.new.self.items ≡ remove c.self.inside.flights.items c.args.i
-left c = removed _ _ c.args.i c.args.flight.now.serial _ _ c.self.inside.flights.ok.0 (ap (option_map (λ (f : Flight). f.serial)) (at c)) c.remove.ensures.succeeds c.remove.ensures.items
+left c = removed _ _ c.args.i c.args.flight.now.serial _ _ c.self.inside.flights.ok.0 (ap (option_map (λ (f : Flight). f.serial)) (at c))
+    c.remove.ensures.succeeds c.remove.ensures.items
 
 more : (c : goal.After-self-2-1) → c.push_back_reserved.new.self.items ≡ remove c.self.inside.flights.items c.args.i
-    ++ record { serial = c.in-Some.serial; whereabouts = answer_whereabouts c.args.flight.now.whereabouts; packet = record { bytes = c.answer-answer.result; slid = c.args.slid; dlid = c.args.dlid } } ∷ []
+    ++ record {
+      serial = c.in-Some.serial;
+      whereabouts = answer_whereabouts c.args.flight.now.whereabouts;
+      packet =
+          record { bytes = c.answer-answer.result; slid = c.args.slid; dlid = c.args.dlid };
+    } ∷ []
 more c =
     c.push_back_reserved.ensures.items
-    ∙ (ap (λ fs. fs ++ record { serial = c.in-Some.serial; whereabouts = c.answer_whereabouts.result; packet = record { bytes = c.bytes.result.now; slid = c.args.slid; dlid = c.args.dlid } } ∷ []) (left c)
-    ∙ (ap (λ p. remove c.self.inside.flights.items c.args.i ++ record { serial = c.in-Some.serial; whereabouts = p; packet = record { bytes = c.bytes.result.now; slid = c.args.slid; dlid = c.args.dlid } } ∷ []) c.answer_whereabouts.ensures
-    ∙ ap (λ b. remove c.self.inside.flights.items c.args.i ++ record { serial = c.in-Some.serial; whereabouts = answer_whereabouts c.args.flight.now.whereabouts; packet = record { bytes = b; slid = c.args.slid; dlid = c.args.dlid } } ∷ []) c.bytes.ensures.bytes))
+    ∙ (ap (λ fs. fs ++ record {
+      serial = c.in-Some.serial;
+      whereabouts = c.answer_whereabouts.result;
+      packet =
+          record { bytes = c.bytes.result.now; slid = c.args.slid; dlid = c.args.dlid };
+    } ∷ []) (left c)
+    ∙ (ap (λ p. remove c.self.inside.flights.items c.args.i
+    ++ record { serial = c.in-Some.serial; whereabouts = p; packet = record { bytes = c.bytes.result.now; slid = c.args.slid; dlid = c.args.dlid } }
+    ∷ []) c.answer_whereabouts.ensures
+    ∙ ap (λ b. remove c.self.inside.flights.items c.args.i
+    ++ record {
+      serial = c.in-Some.serial;
+      whereabouts = answer_whereabouts c.args.flight.now.whereabouts;
+      packet =
+          record { bytes = b; slid = c.args.slid; dlid = c.args.dlid };
+    } ∷ []) c.bytes.ensures.bytes))
 
 port : (c : goal.After-self-2-1) → has_cable_port c.self.inside.agents.items (port_of c.args.flight.now.whereabouts) ≡ true
 port c = (waiting_at _ c.args.i c.args.flight.now c.self.invariant (at c)).whereabouts.port
@@ -40,14 +59,29 @@ now_at c id =
     }
 
 written : (c : goal.After-self-2-1) → ◌≡◌ {A = Simulation}
-    (record { agents = slice_set c.self.inside.agents.items c.number.result c.answer-answer.new.self; peers = c.self.inside.peers.items; flights = c.push_back_reserved.new.self.items; next = next_serial c.checked_add-self-inside.result })
+    (record {
+      agents = slice_set c.self.inside.agents.items c.number.result c.answer-answer.new.self;
+      peers = c.self.inside.peers.items;
+      flights =
+          c.push_back_reserved.new.self.items;
+      next = next_serial c.checked_add-self-inside.result;
+    })
     (asked c.args.self.now c.args.flight.now c.args.request.now c.args.slid c.args.dlid)
 written c =
     let read : c.index_mut-agent.result.now ≡ get_or c.self.inside.agents.items c.port-at.result.node c.index_mut-agent.result.now =
-    subst (λ (n : ℕ). c.index_mut-agent.result.now ≡ get_or c.self.inside.agents.items n c.index_mut-agent.result.now) c.number.ensures c.index_mut-agent.ensures.value in
-    let done = asks (record { agents = c.self.inside.agents.items; peers = c.self.inside.peers.items; flights = c.self.inside.flights.items; next = next_serial c.self.inside.next }) c.args.flight.now c.args.request.now c.answer-answer.result c.port-at.result c.index_mut-agent.result.now c.answer-answer.new.self (port c) c.port-at.ensures read c.answer-answer.ensures.state c.answer-answer.ensures.answer in
+    subst (λ (n : ℕ). c.index_mut-agent.result.now
+    ≡ get_or c.self.inside.agents.items n c.index_mut-agent.result.now) c.number.ensures c.index_mut-agent.ensures.value in
+    let done = asks (record {
+      agents = c.self.inside.agents.items;
+      peers = c.self.inside.peers.items;
+      flights = c.self.inside.flights.items;
+      next =
+          next_serial c.self.inside.next;
+    }) c.args.flight.now c.args.request.now c.answer-answer.result c.port-at.result c.index_mut-agent.result.now
+    c.answer-answer.new.self (port c) c.port-at.ensures read c.answer-answer.ensures.state c.answer-answer.ensures.answer in
     ap (λ (n : ℕ). now_at c n) c.number.ensures
-    ∙ asked_now _ _ c.self.view_is c.args.i c.in-Some.serial _ c.args.slid c.args.dlid c.args.flight.now c.args.request.now c.answer-answer.result c.port-at.result.node c.answer-answer.new.self _ c.self.invariant c.requires.at
+    ∙ asked_now _ _ c.self.view_is c.args.i c.in-Some.serial _ c.args.slid c.args.dlid c.args.flight.now c.args.request.now c.answer-answer.result
+    c.port-at.result.node c.answer-answer.new.self _ c.self.invariant c.requires.at
     (ap (λ p. p.node) c.port-at.ensures) done (ap next_serial c.in-Some.is) (more c) (next_after c.in-Some.serial _ (fits c) c.checked_add-self-inside.ensures)
 
 pub invariant_of-self : goal.invariant_of-self
@@ -57,4 +91,5 @@ invariant_of-self c =
 
 pub returns-clause-fabric : goal.returns-clause-fabric
 returns-clause-fabric c =
-    written c ∙ sym (ap (λ (done : Called Delivered). done.fabric) (cond-false _ (refused c.args.self.now SerialsSpent) _ (is_left _ _ c.in-Some.serial c.self.view_is (ap next_serial c.in-Some.is) (fits c))))
+    written c ∙ sym (ap (λ (done : Called Delivered). done.fabric)
+    (cond-false _ (refused c.args.self.now SerialsSpent) _ (is_left _ _ c.in-Some.serial c.self.view_is (ap next_serial c.in-Some.is) (fits c))))

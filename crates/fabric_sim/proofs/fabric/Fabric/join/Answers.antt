@@ -14,7 +14,8 @@ set_peer-requires-2 c =
     let slot = peer_slot _ c.args.other.now c.self.invariant port in
     let first : c.set_peer.new.peers ≡ with_peer c.self.inside.peers.items c.args.one.now (Some c.args.other.now) =
     c.set_peer.ensures ∙ ap (λ xs. with_peer xs c.args.one.now (Some c.args.other.now)) c.deref_mut-3.ensures.value in
-    slot_then c.self.inside.peers.items c.set_peer.new.peers c.deref_mut-4.result.now c.self.inside.peers.len c.args.one.now c.args.other.now (Some c.args.other.now)
+    slot_then c.self.inside.peers.items c.set_peer.new.peers c.deref_mut-4.result.now c.self.inside.peers.len c.args.one.now c.args.other.now
+    (Some c.args.other.now)
     (sym (ap length c.deref_mut-3.ensures.value) ∙ c.deref_mut-3.ensures.len) first c.deref_mut-4.ensures.value slot
 
 pub returns : goal.returns
@@ -23,4 +24,5 @@ returns c = grind (arith, common_steps)
 
 pub invariant_of-self : goal.invariant_of-self
 invariant_of-self c =
-    subst IsSimulation (sym (returns c)) (joined_is c.args.self.now c.args.one.now c.args.other.now (subst IsSimulation c.self.view_is c.self.invariant) c.requires.one c.requires.other c.requires.one_free c.requires.other_free)
+    subst IsSimulation (sym (returns c)) (joined_is c.args.self.now c.args.one.now c.args.other.now (subst IsSimulation c.self.view_is c.self.invariant)
+    c.requires.one c.requires.other c.requires.one_free c.requires.other_free)

@@ -12,7 +12,8 @@ use Rattle.fabric_sim.proofs.fabric.Fabric.part.Goals as goal
 pub set_wired-requires-2 : goal.set_wired-requires-2
 set_wired-requires-2 c =
     let P : Simulation → Type 0 = λ s. across s.peers c.args.one.now ≡ Some c.args.other.now in
-    let port : has_cable_port c.self.inside.agents.items c.args.other.now ≡ true = other_is _ c.args.one.now (Some c.args.other.now) c.self.invariant (sym (subst P (sym c.self.view_is) c.requires)) in
+    let port : has_cable_port c.self.inside.agents.items c.args.other.now ≡ true =
+    other_is _ c.args.one.now (Some c.args.other.now) c.self.invariant (sym (subst P (sym c.self.view_is) c.requires)) in
     let first : c.set_wired.new.agents ≡ with_changed c.self.inside.agents.items c.args.one.now.node (λ a. after_set_wired a c.args.one.now.port false) =
     c.set_wired.ensures ∙ ap (λ xs. with_changed xs c.args.one.now.node (λ a. after_set_wired a c.args.one.now.port false)) c.deref_mut.ensures.value in
     port_then c.self.inside.agents.items c.set_wired.new.agents c.deref_mut-2.result.now c.self.inside.agents.len c.args.one.now c.args.other.now false
@@ -21,7 +22,8 @@ set_wired-requires-2 c =
 pub set_peer-requires-2 : goal.set_peer-requires-2
 set_peer-requires-2 c =
     let P : Simulation → Type 0 = λ s. across s.peers c.args.one.now ≡ Some c.args.other.now in
-    let port : has_cable_port c.self.inside.agents.items c.args.other.now ≡ true = other_is _ c.args.one.now (Some c.args.other.now) c.self.invariant (sym (subst P (sym c.self.view_is) c.requires)) in
+    let port : has_cable_port c.self.inside.agents.items c.args.other.now ≡ true =
+    other_is _ c.args.one.now (Some c.args.other.now) c.self.invariant (sym (subst P (sym c.self.view_is) c.requires)) in
     let slot = peer_slot _ c.args.other.now c.self.invariant port in
     let first : c.set_peer.new.peers ≡ with_peer c.self.inside.peers.items c.args.one.now None =
     c.set_peer.ensures ∙ ap (λ xs. with_peer xs c.args.one.now None) c.deref_mut-3.ensures.value in
@@ -34,4 +36,5 @@ returns c = grind (arith, common_steps)
 
 pub invariant_of-self : goal.invariant_of-self
 invariant_of-self c =
-    subst IsSimulation (sym (returns c)) (parted_is c.args.self.now c.args.one.now c.args.other.now (subst IsSimulation c.self.view_is c.self.invariant) c.requires)
+    subst IsSimulation (sym (returns c)) (parted_is c.args.self.now c.args.one.now c.args.other.now (subst IsSimulation c.self.view_is c.self.invariant)
+    c.requires)

@@ -8,5 +8,6 @@ abbrev pub invariant-loop-hops : goal.invariant-loop-hops
 invariant-loop-hops l =
     record {
       there : l.at.node < length l.self.agents;
-      goes : (left : ℕ) → l.hops + left ≡ l.bound → ping_on (fabric_of l.self) l.lid left l.hops (record { at = l.at; by_wire = l.is_by_wire }) ≡ ping (fabric_of l.self) l.lid l.fn.from;
+      goes : (left : ℕ) → l.hops + left ≡ l.bound → ping_on (fabric_of l.self) l.lid left l.hops (record { at = l.at; by_wire = l.is_by_wire })
+          ≡ ping (fabric_of l.self) l.lid l.fn.from;
     }

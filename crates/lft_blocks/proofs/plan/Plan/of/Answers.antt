@@ -36,4 +36,5 @@ returns-clause-arrives c =
     let facts = c.args.store.now in
     let rule = rule_of c.args.rule.now (cells_of facts) in
     subst (λ (plan : PlanValue). EveryPacketArrivesBy rule (cells_of facts) plan) (sym (returns-clause-plan c))
-    (packets_arrive_by_each_routing c.args.lmc facts rule (rules_are_routings (value_of c.args.rule.now) facts) (has_room c.args.lmc (cells_of facts) c.in_ok-lids.ensures.judged))
+    (packets_arrive_by_each_routing c.args.lmc facts rule (rules_are_routings (value_of c.args.rule.now) facts)
+    (has_room c.args.lmc (cells_of facts) c.in_ok-lids.ensures.judged))

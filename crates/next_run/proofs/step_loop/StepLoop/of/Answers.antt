@@ -15,6 +15,7 @@ returns c =
     let channels = c.in-Cycle.channels.items in
     let lids = c.in_ok-lids-in-Cycle.lids.items in
     let waits = subst (λ (found : ChannelOrder). IsStepOrder cells held next found) c.in-Cycle.is c.in_ok-step_order.ensures.order in
-    let shortest = subst (λ (found : ChannelOrder). IsShortestInStep cells held next found) c.in-Cycle.is c.in_ok-step_order.ensures.shortest in
-    (some_cycle cells held next channels waits shortest,
-    subst (λ (xs : List ℕ). AreLoopLids cells held next xs lids) c.deref.ensures.value c.in_ok-lids-in-Cycle.ensures)
+    let shortest = subst (λ (found : ChannelOrder). IsShortestInStep cells held next found) c.in-Cycle.is c.in_ok-step_order.ensures.shortest in (
+      some_cycle cells held next channels waits shortest,
+      subst (λ (xs : List ℕ). AreLoopLids cells held next xs lids) c.deref.ensures.value c.in_ok-lids-in-Cycle.ensures,
+    )

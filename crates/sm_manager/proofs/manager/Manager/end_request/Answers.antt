@@ -24,11 +24,13 @@ step_at before m i p why counts answer was_done same for_this step at done =
 pub returns-in-Step-clause-judged : goal.returns-in-Step-clause-judged
 returns-in-Step-clause-judged c p at =
     subst (λ (x : Called). JudgesButFor is_memory c.end_step.result x.fault)
-    (step_at _ c.args.self.now c.args.index p c.purpose.result c.in-Step.counts (status_number c.args.answer) c.is_done_by.result c.self.view_is c.purpose.ensures c.in-Step.is at c.is_done_by.ensures)
+    (step_at _ c.args.self.now c.args.index p c.purpose.result c.in-Step.counts (status_number c.args.answer) c.is_done_by.result c.self.view_is
+    c.purpose.ensures c.in-Step.is at c.is_done_by.ensures)
     (c.end_step.ensures.judged p at)
 
 pub returns-in-Step-clause-ok : goal.returns-in-Step-clause-ok
 returns-in-Step-clause-ok c p at =
     subst (λ (x : Called). OnOk c.end_step.result (c.end_step.new.self ≡ x.manager))
-    (step_at _ c.args.self.now c.args.index p c.purpose.result c.in-Step.counts (status_number c.args.answer) c.is_done_by.result c.self.view_is c.purpose.ensures c.in-Step.is at c.is_done_by.ensures)
+    (step_at _ c.args.self.now c.args.index p c.purpose.result c.in-Step.counts (status_number c.args.answer) c.is_done_by.result c.self.view_is
+    c.purpose.ensures c.in-Step.is at c.is_done_by.ensures)
     (c.end_step.ensures.ok p at)

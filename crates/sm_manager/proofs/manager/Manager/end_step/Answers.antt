@@ -25,7 +25,8 @@ pub returns-in_err-make_room-clause-judged : goal.returns-in_err-make_room-claus
 returns-in_err-make_room-clause-judged c p at =
     let q = err_from_is_err_and c.from_residual.result c.from_residual.ensures.1 in
     let judged = c.in_err-make_room.ensures.judged in
-    let same = over_fault c.args.self.now c.args.index p c.args.was_done (numbered_then c.self.view_is c.make_room.ensures.numbered) at (c.requires.step p at) in
+    let same = over_fault c.args.self.now c.args.index p c.args.was_done (numbered_then c.self.view_is c.make_room.ensures.numbered) at (c.requires.step p at)
+    in
     let counter = ap (λ (x : Manager). x.counter) c.self.view_is in
     let all : c.self.inside.requests.counter + c.count_after-count.result ≡ c.args.self.now.counter + count_after c.args.self.now =
     ap (λ n. n + c.count_after-count.result) counter ∙ ap (λ n. c.args.self.now.counter + n) c.count_after-count.ensures in
@@ -36,14 +37,16 @@ last_then c =
     was_last (the_view c.self.inside) c.args.index c.end-ended.result c.in-Some.writing
     c.make_room.new.requests.pending c.end-ended.new.self.pending c.has_no_step.result
     c.make_room.ensures.numbered
-    c.make_room.ensures.pending c.end-ended.ensures.request (step_then c.end-ended.result c.args.index c.self.view_is c.make_room.ensures.pending c.end-ended.ensures.request c.requires.step) c.end-ended.ensures.pending c.in-Some.is c.has_no_step.ensures c.if-has_no_step.true
+    c.make_room.ensures.pending c.end-ended.ensures.request (step_then c.end-ended.result c.args.index c.self.view_is c.make_room.ensures.pending
+    c.end-ended.ensures.request c.requires.step) c.end-ended.ensures.pending c.in-Some.is c.has_no_step.ensures c.if-has_no_step.true
 
 last_sent_then : (c : goal.After-send_next) → WasLast (the_view c.self.inside) c.args.index c.end-ended.result c.in-Some.writing
 last_sent_then c =
     was_last (the_view c.self.inside) c.args.index c.end-ended.result c.in-Some.writing
     c.make_room.new.requests.pending c.end-ended.new.self.pending c.has_no_step.result
     c.make_room.ensures.numbered
-    c.make_room.ensures.pending c.end-ended.ensures.request (step_then c.end-ended.result c.args.index c.self.view_is c.make_room.ensures.pending c.end-ended.ensures.request c.requires.step) c.end-ended.ensures.pending c.in-Some.is c.has_no_step.ensures c.if-has_no_step.true
+    c.make_room.ensures.pending c.end-ended.ensures.request (step_then c.end-ended.result c.args.index c.self.view_is c.make_room.ensures.pending
+    c.end-ended.ensures.request c.requires.step) c.end-ended.ensures.pending c.in-Some.is c.has_no_step.ensures c.if-has_no_step.true
 
 whole : (c : goal.After-send_next-arg-then-has_no_step-1) → c.count_after-count.result ≡ length (next_phase c.note.new.self.later).steps
 whole c =

@@ -19,11 +19,13 @@ comes_to m bytes packet from same none holds =
 pub returns-then-is_info_request-clause-judged : goal.returns-then-is_info_request-clause-judged
 returns-then-is_info_request-clause-judged c =
     subst (λ (x : Called). JudgesButFor is_memory c.serve.result x.fault)
-    (comes_to c.args.self.now c.args.bytes.now c.in-Ok.smp c.args.from c.in-Ok.ensures.kept c.in-Ok.ensures.judged (sym c.is_info_request.ensures ∙ c.if-is_info_request.true))
+    (comes_to c.args.self.now c.args.bytes.now c.in-Ok.smp c.args.from c.in-Ok.ensures.kept c.in-Ok.ensures.judged (sym c.is_info_request.ensures
+    ∙ c.if-is_info_request.true))
     c.serve.ensures.judged
 
 pub returns-then-is_info_request-clause-ok : goal.returns-then-is_info_request-clause-ok
 returns-then-is_info_request-clause-ok c =
     subst (λ (x : Called). OnOk c.serve.result (c.serve.new.self ≡ x.manager))
-    (comes_to c.args.self.now c.args.bytes.now c.in-Ok.smp c.args.from c.in-Ok.ensures.kept c.in-Ok.ensures.judged (sym c.is_info_request.ensures ∙ c.if-is_info_request.true))
+    (comes_to c.args.self.now c.args.bytes.now c.in-Ok.smp c.args.from c.in-Ok.ensures.kept c.in-Ok.ensures.judged (sym c.is_info_request.ensures
+    ∙ c.if-is_info_request.true))
     c.serve.ensures.ok

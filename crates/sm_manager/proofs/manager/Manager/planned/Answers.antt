@@ -23,7 +23,8 @@ returns-clause-writing c =
     let guid : c.self.inside.standing.guid ≡ m.standing.guid = ap (λ (x : Manager). x.standing.guid) c.self.view_is in
     let port : c.self.inside.port ≡ m.port = ap (λ (x : Manager). x.port) c.self.view_is in
     let plan : c.in_ok-plan.plan ≡ plan_of m.planning.rule m.planning.lmc (cells_of m.store) =
-    found_is c.plan.result c.in_ok-plan.plan (λ it. it ≡ plan_of m.planning.rule m.planning.lmc (cells_of m.store)) c.in_ok-plan.ensures.found c.plan.ensures.plan in
+    found_is c.plan.result c.in_ok-plan.plan (λ it. it
+    ≡ plan_of m.planning.rule m.planning.lmc (cells_of m.store)) c.in_ok-plan.ensures.found c.plan.ensures.plan in
     c.new.ensures
     ∙ ap begins
     (c.in_ok-phases.ensures

@@ -9,10 +9,12 @@ use Rattle.sm_manager.specs.Packets.{Called, unless_spent}
 use Rattle.sm_manager.specs.Served.{controlled, is_control, replying, served}
 use Rattle.sm_manager.proofs.manager.Manager.serve.Goals as goal
 
-obeys : (m : Manager) (packet : List ℕ) (from : Option ℕ) → is_control packet ≡ true → unless_spent m (controlled m packet from) ≡ unless_spent m (served m packet from)
+obeys : (m : Manager) (packet : List ℕ) (from : Option ℕ) → is_control packet ≡ true → unless_spent m (controlled m packet from)
+    ≡ unless_spent m (served m packet from)
 obeys m packet from holds = ap (unless_spent m) (sym (cond-true (is_control packet) (controlled m packet from) (replying m packet from) holds))
 
-replies : (m : Manager) (packet : List ℕ) (from : Option ℕ) → is_control packet ≡ false → unless_spent m (replying m packet from) ≡ unless_spent m (served m packet from)
+replies : (m : Manager) (packet : List ℕ) (from : Option ℕ) → is_control packet ≡ false → unless_spent m (replying m packet from)
+    ≡ unless_spent m (served m packet from)
 replies m packet from fails = ap (unless_spent m) (sym (cond-false (is_control packet) (controlled m packet from) (replying m packet from) fails))
 
 pub returns-then-is_control-clause-judged : goal.returns-then-is_control-clause-judged

@@ -8,7 +8,9 @@ use Rattle.sm_manager.specs.Packets.{Called, pending_for, request_answered, afte
 use Rattle.sm_manager.proofs.manager.Manager.take_answer.Goals as goal
 
 -- what the answer comes to
-comes_to : (c : goal.After-end_request) → after_request c.args.self.now (c.in-Some.ensures.0) (status_number (Some c.status.result)) (c.in-Some.ensures.0).purpose ≡ request_answered c.args.self.now c.args.smp.now (pending_for c.args.self.now c.args.smp.now)
+comes_to : (c : goal.After-end_request)
+    → after_request c.args.self.now (c.in-Some.ensures.0) (status_number (Some c.status.result)) (c.in-Some.ensures.0).purpose
+    ≡ request_answered c.args.self.now c.args.smp.now (pending_for c.args.self.now c.args.smp.now)
 comes_to c =
     let m = c.args.self.now in
     let p = c.in-Some.ensures.0 in
@@ -25,4 +27,5 @@ returns-in-Some-clause-judged c =
 
 pub returns-in-Some-clause-ok : goal.returns-in-Some-clause-ok
 returns-in-Some-clause-ok c =
-    subst (λ (x : Called). OnOk c.end_request.result (c.end_request.new.self ≡ x.manager)) (comes_to c) (c.end_request.ensures.ok (c.in-Some.ensures.0) (there c))
+    subst (λ (x : Called). OnOk c.end_request.result (c.end_request.new.self ≡ x.manager)) (comes_to c)
+    (c.end_request.ensures.ok (c.in-Some.ensures.0) (there c))

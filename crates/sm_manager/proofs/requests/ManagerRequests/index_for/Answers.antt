@@ -23,7 +23,8 @@ returns-in_err-request c =
     (located (λ (p : Pending). p.number) (number_in transaction_id packet) (answers packet) ps c.args.self.now.counter i (only_answered packet)
     (subst (λ (v : ManagerRequests). AreNumbered v.counter v.pending) c.self.view_is c.count_below-index.ensures.numbered).rising
     (subst (λ (n : ℕ). IsIndex (λ (p : Pending). nat_lt p.number n) ps i) c.transaction_id.ensures
-    (subst (λ (v : ManagerRequests). IsIndex (λ (p : Pending). nat_lt p.number c.transaction_id.result) v.pending i) c.self.view_is c.count_below-index.ensures.index))) none)
+    (subst (λ (v : ManagerRequests). IsIndex (λ (p : Pending). nat_lt p.number c.transaction_id.result) v.pending i) c.self.view_is
+    c.count_below-index.ensures.index))) none)
 
 pub returns-then-is_answered_by : goal.returns-then-is_answered_by
 returns-then-is_answered_by c =
@@ -34,7 +35,8 @@ returns-then-is_answered_by c =
     (located (λ (p : Pending). p.number) (number_in transaction_id packet) (answers packet) ps c.args.self.now.counter i (only_answered packet)
     (subst (λ (v : ManagerRequests). AreNumbered v.counter v.pending) c.self.view_is c.count_below-index.ensures.numbered).rising
     (subst (λ (n : ℕ). IsIndex (λ (p : Pending). nat_lt p.number n) ps i) c.transaction_id.ensures
-    (subst (λ (v : ManagerRequests). IsIndex (λ (p : Pending). nat_lt p.number c.transaction_id.result) v.pending i) c.self.view_is c.count_below-index.ensures.index)))
+    (subst (λ (v : ManagerRequests). IsIndex (λ (p : Pending). nat_lt p.number c.transaction_id.result) v.pending i) c.self.view_is
+    c.count_below-index.ensures.index)))
     c.in_ok-request.request.now (sym (c.in_ok-request.ensures)) (sym c.is_answered_by.ensures ∙ c.if-is_answered_by.true)
 
 pub returns-else-is_answered_by : goal.returns-else-is_answered_by
@@ -46,5 +48,6 @@ returns-else-is_answered_by c =
     (located (λ (p : Pending). p.number) (number_in transaction_id packet) (answers packet) ps c.args.self.now.counter i (only_answered packet)
     (subst (λ (v : ManagerRequests). AreNumbered v.counter v.pending) c.self.view_is c.count_below-index.ensures.numbered).rising
     (subst (λ (n : ℕ). IsIndex (λ (p : Pending). nat_lt p.number n) ps i) c.transaction_id.ensures
-    (subst (λ (v : ManagerRequests). IsIndex (λ (p : Pending). nat_lt p.number c.transaction_id.result) v.pending i) c.self.view_is c.count_below-index.ensures.index)))
+    (subst (λ (v : ManagerRequests). IsIndex (λ (p : Pending). nat_lt p.number c.transaction_id.result) v.pending i) c.self.view_is
+    c.count_below-index.ensures.index)))
     c.in_ok-request.request.now (sym (c.in_ok-request.ensures)) (sym c.is_answered_by.ensures ∙ c.if-is_answered_by.false)

@@ -24,12 +24,21 @@ tested steps downs marks s e cost is long lead at positive =
 pub index-requires : goal.index-requires
 index-requires c =
     let inside = c.self.inside in
-    omega (arith, within inside.steps.items inside.downs.items c.args.self.now c.args.edge.now.to c.self.view_is c.self.invariant c.requires.lead, inside.steps.ok.0)
+    omega (
+      arith,
+      within inside.steps.items inside.downs.items c.args.self.now c.args.edge.now.to c.self.view_is c.self.invariant c.requires.lead,
+      inside.steps.ok.0,
+    )
 
 pub index-requires-else-edge-vertex : goal.index-requires-else-edge-vertex
 index-requires-else-edge-vertex c =
     let inside = c.self.inside in
-    omega (arith, within inside.steps.items inside.downs.items c.args.self.now c.args.edge.now.to c.self.view_is c.self.invariant c.requires.lead, c.self.invariant, inside.downs.ok.0)
+    omega (
+      arith,
+      within inside.steps.items inside.downs.items c.args.self.now c.args.edge.now.to c.self.view_is c.self.invariant c.requires.lead,
+      c.self.invariant,
+      inside.downs.ok.0,
+    )
 
 pub returns-then-edge-vertex : goal.returns-then-edge-vertex
 returns-then-edge-vertex c =

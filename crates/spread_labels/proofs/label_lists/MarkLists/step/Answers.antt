@@ -14,6 +14,7 @@ pub returns : goal.returns
 returns c =
     let inside = c.self.inside in
     let v = c.args.vertex in
-    let below : v < length inside.steps.items = omega (arith, c.requires, ap length c.self.view_is, marks_long inside.steps.items inside.downs.items c.self.invariant) in
+    let below : v < length inside.steps.items =
+    omega (arith, c.requires, ap length c.self.view_is, marks_long inside.steps.items inside.downs.items c.self.invariant) in
     c.index.ensures ∙ sym (get_or_default inside.steps.items v 0 c.index.result.now below)
     ∙ sym (steps_at inside.steps.items inside.downs.items v c.self.invariant below) ∙ ap (λ ms. step_of (slice_index_or ms v None)) c.self.view_is

@@ -65,5 +65,6 @@ invariant_of-result c =
     let count : c.len.result ≡ length (by_index graph) = c.len.ensures ∙ ap length by in
     by_positions_is graph keys good levels c.in_ok-edges.edges c.in_ok-positions.positions.items c.in_ok-lid_digits.lid_digits.items
     (c.in_ok-edges.ensures ∙ (λ i. by_position (by i) ((c.deref-5.ensures.value ∙ is) i)))
-    (subst (λ (x : ℕ × List ℕ). ArePositions x.0 x.1 c.in_ok-positions.positions.items) (λ i. (count i, (c.deref-2.ensures.value ∙ is) i)) c.in_ok-positions.ensures)
+    (subst (λ (x : ℕ × List ℕ). ArePositions x.0 x.1 c.in_ok-positions.positions.items) (λ i. (count i, (c.deref-2.ensures.value ∙ is) i))
+    c.in_ok-positions.ensures)
     (c.in_ok-lid_digits.ensures ∙ (λ i. map (lid_digit_at graph (c.deref-3.ensures.value i)) ((c.deref-4.ensures.value ∙ is) i)))

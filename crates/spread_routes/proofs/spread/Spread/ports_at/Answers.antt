@@ -23,7 +23,8 @@ candidates-requires-clause-lead c =
     let by = c.args.self.now in
     let inside = c.self.inside in
     let is = subst (Is inside.edges inside.positions.items inside.lid_digits.items) c.self.view_is c.self.invariant in
-    row_leads by is.is_graph (length c.args.marks.now) c.args.position c.at.result.now c.requires.marks (c.at.ensures ∙ ap (λ (xs : List (List Edge)). edges_at xs c.args.position) is.by_position)
+    row_leads by is.is_graph (length c.args.marks.now) c.args.position c.at.result.now c.requires.marks (c.at.ensures
+    ∙ ap (λ (xs : List (List Edge)). edges_at xs c.args.position) is.by_position)
 
 pub index-requires : goal.index-requires
 index-requires c =
@@ -38,7 +39,8 @@ is_higher-is_higher-requires c =
     let inside = c.self.inside in
     let is = subst (Is inside.edges inside.positions.items inside.lid_digits.items) c.self.view_is c.self.invariant in
     let es : c.deref-2.result.now ≡ filter (is_nearer p c.args.marks.now) (edges_at (by_positions by.graph by.keys) p) =
-    c.deref-2.ensures.value ∙ c.in_ok-candidates.ensures ∙ ap (filter (is_nearer p c.args.marks.now)) (c.at.ensures ∙ ap (λ (xs : List (List Edge)). edges_at xs p) is.by_position) in
+    c.deref-2.ensures.value ∙ c.in_ok-candidates.ensures
+    ∙ ap (filter (is_nearer p c.args.marks.now)) (c.at.ensures ∙ ap (λ (xs : List (List Edge)). edges_at xs p) is.by_position) in
     all_from_contained (λ (e : Edge). e.to < length c.deref.result.now) c.deref-2.result.now
     (λ e h. omega (
       arith,
@@ -56,7 +58,8 @@ ports_of-requires c =
     let is = subst (Is inside.edges inside.positions.items inside.lid_digits.items) c.self.view_is c.self.invariant in
     let below : p < length inside.edges = omega (arith, c.requires.position, ap length is.by_position) in
     let lid_digit : c.index.result.now ≡ lid_digit_there by p =
-    c.index.ensures ∙ sym (get_or_default inside.lid_digits.items p no_lid_digit c.index.result.now (omega (arith, below, is.all_lid_digits))) ∙ is.lid_digit p below in
+    c.index.ensures ∙ sym (get_or_default inside.lid_digits.items p no_lid_digit c.index.result.now (omega (arith, below, is.all_lid_digits)))
+    ∙ is.lid_digit p below in
     subst (λ (s : LidDigit). 0 < s.digit_weight) (sym lid_digit) (digit_weight_positive (by_index by.graph) by.levels (level_there by p))
 
 pub returns : goal.returns
@@ -70,7 +73,8 @@ returns c =
     c.in_ok-candidates.ensures ∙ ap (filter test) (c.at.ensures ∙ ap (λ (xs : List (List Edge)). edges_at xs p) is.by_position) in
     let below : p < length inside.edges = omega (arith, c.requires.position, ap length is.by_position) in
     let lid_digit : c.index.result.now ≡ lid_digit_there by p =
-    c.index.ensures ∙ sym (get_or_default inside.lid_digits.items p no_lid_digit c.index.result.now (omega (arith, below, is.all_lid_digits))) ∙ is.lid_digit p below in
+    c.index.ensures ∙ sym (get_or_default inside.lid_digits.items p no_lid_digit c.index.result.now (omega (arith, below, is.all_lid_digits)))
+    ∙ is.lid_digit p below in
     let higher : c.is_higher-is_higher.result ≡ goes_higher by p (filter test (edges_at (by_positions by.graph by.keys) p)) =
     c.is_higher-is_higher.ensures
     ∙ higher_is by is.is_graph c.deref.result.now p c.index.result.now c.deref-2.result.now lid_digit
@@ -78,4 +82,5 @@ returns c =
     (λ e h. passing_lead by is.is_graph p test e (subst (λ (xs : List Edge). Contains xs e) (c.deref-2.ensures.value ∙ es) h))
     ∙ ap (goes_higher by p) (c.deref-2.ensures.value ∙ es) in
     subst (λ (ports : List (Option ℕ)). OnOk c.ports_of.result (c.ports_of.new.row.items ≡ ports))
-    (λ i. map (λ lid. option_map (λ (e : Edge). e.port) (chosen ((c.deref-3.ensures.value ∙ es) i) (number_by (lid_digit i) (higher i) lid))) c.args.lids.now) c.ports_of.ensures
+    (λ i. map (λ lid. option_map (λ (e : Edge). e.port) (chosen ((c.deref-3.ensures.value ∙ es) i) (number_by (lid_digit i) (higher i) lid))) c.args.lids.now)
+    c.ports_of.ensures

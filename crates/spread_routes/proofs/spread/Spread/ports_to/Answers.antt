@@ -82,8 +82,10 @@ returns c =
     let ended : c.loop-index.index ≡ length by.graph =
     omega (arith, c.loop-index-test.false, c.loop-index.auto.index-end, ap length c.as_slice-positions.ensures.value, is.all_positions) in
     let at : c.index.result.now ≡ position_of (order_by_keys by.graph by.keys) target =
-    c.index.ensures ∙ sym (get_or_default inside.positions.items target 0 c.index.result.now (omega (arith, c.requires.target, is.all_positions))) ∙ is.position target c.requires.target in
-    let marks : AreMarksAfter (by_positions by.graph by.keys) (position_of (order_by_keys by.graph by.keys) target) (length (by_positions by.graph by.keys)) c.in_ok-marks.marks =
+    c.index.ensures ∙ sym (get_or_default inside.positions.items target 0 c.index.result.now (omega (arith, c.requires.target, is.all_positions)))
+    ∙ is.position target c.requires.target in
+    let marks : AreMarksAfter (by_positions by.graph by.keys) (position_of (order_by_keys by.graph by.keys) target) (length (by_positions by.graph by.keys))
+    c.in_ok-marks.marks =
     subst (λ (x : List (List Edge) × ℕ). AreMarksAfter x.0 x.1 (length x.0) c.in_ok-marks.marks) (λ i. (is.by_position i, at i)) c.in_ok-marks.ensures in
     let all = subst (λ (x : List ℕ × ℕ). AreSoFar by c.args.lids.now c.in_ok-marks.marks x.0 x.1 (map row_items c.loop-index.rows))
     (λ i. (c.as_slice-positions.ensures.value i, ended i)) c.loop-index.invariant in

@@ -17,7 +17,8 @@ returns-clause-value c =
     let s = c.in_ok-sighting.sighting in
     let first : known_in c.args.self.now c.args.key ≡ value_in (cond (eq_by_cmp key_cmp s.0 c.args.key) (Some s.1) None)
     = read_first c.args.key s c.self.inside.next
-    (cells_left c.self.inside.later) c.args.self.now c.pass.new.self c.self.invariant c.self.view_is c.in_ok-sighting.was c.pass.ensures.reached c.pass.ensures.later in
+    (cells_left c.self.inside.later) c.args.self.now c.pass.new.self c.self.invariant c.self.view_is c.in_ok-sighting.was c.pass.ensures.reached
+    c.pass.ensures.later in
     let test : eq_by_cmp key_cmp s.0 c.args.key ≡ c.eq.result
     = ap (λ (k : Key). eq_by_cmp key_cmp k c.args.key) (sym c.key.ensures.value) ∙ sym c.eq.ensures in
     let by : Bool → Option Value = λ t. value_in (cond t (Some s.1) None) in

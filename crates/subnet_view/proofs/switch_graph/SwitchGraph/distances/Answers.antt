@@ -19,6 +19,7 @@ returns c =
     let graph = c.args.self.now in
     elim c.distances.result as (λ r. IfOk r (λ found. AreDistances c.self.inside.edges c.args.from found.items)
     → IfOk r (λ found. found.items ≡ map (distance graph (switch_at graph c.args.from)) (guids_of graph))) [
-      | Ok found ↦ λ are. distances_are c.self.inside.guids.items c.self.inside.edges c.self.invariant graph c.self.view_is c.args.from found.items c.requires are
+      | Ok found ↦ λ are.
+          distances_are c.self.inside.guids.items c.self.inside.edges c.self.invariant graph c.self.view_is c.args.from found.items c.requires are
       | Err e ↦ λ are. tt
     ] c.distances.ensures

@@ -27,4 +27,5 @@ loop-port-preserved c =
     subst (λ (n : ℕ). HasAsked (question n path ∷ []) c.loop-port.self c.ask.new.self) c.new.ensures
     (subst (λ (ports : List ℕ). HasAsked (question c.new.result ports ∷ []) c.loop-port.self c.ask.new.self) c.copy.ensures c.ask.ensures) in
     subst (λ (asked : List Asking). HasAsked asked c.args.self.now c.ask.new.self) (sym (ports_more c.loop-port.port path context))
-    (asked_both (port_questions 0 c.loop-port.port path context) (question c.loop-port.port path ∷ []) c.args.self.now c.loop-port.self c.ask.new.self c.loop-port.invariant one)
+    (asked_both (port_questions 0 c.loop-port.port path context) (question c.loop-port.port path
+    ∷ []) c.args.self.now c.loop-port.self c.ask.new.self c.loop-port.invariant one)

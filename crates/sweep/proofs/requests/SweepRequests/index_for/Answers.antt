@@ -16,7 +16,8 @@ returns-in_err-request c =
     let none : slice_get v.outstanding i ≡ None = sym c.get.ensures ∙ ap (option_copied {T = Request}) (c.in_err-request.was) in
     subst (IsIndexFor (find test v.outstanding) v.outstanding) (sym c.from_residual.ensures)
     (index_none test v.outstanding i
-    (located_for c.args.generation c.transaction_id.result v.outstanding v.queued v.next i c.count_below-index.ensures.numbered c.count_below-index.ensures.index
+    (located_for c.args.generation c.transaction_id.result v.outstanding v.queued v.next i c.count_below-index.ensures.numbered
+    c.count_below-index.ensures.index
     c.args.smp.now c.transaction_id.ensures) none)
 
 pub returns-then-is_answered_by : goal.returns-then-is_answered_by
@@ -25,7 +26,8 @@ returns-then-is_answered_by c =
     let test : Request → Bool = belongs c.args.generation c.args.smp.now in
     let i = c.count_below-index.result in
     index_found test v.outstanding i
-    (located_for c.args.generation c.transaction_id.result v.outstanding v.queued v.next i c.count_below-index.ensures.numbered c.count_below-index.ensures.index
+    (located_for c.args.generation c.transaction_id.result v.outstanding v.queued v.next i c.count_below-index.ensures.numbered
+    c.count_below-index.ensures.index
     c.args.smp.now c.transaction_id.ensures)
     c.in_ok-request.request.now (sym (c.in_ok-request.ensures)) (sym c.is_answered_by.ensures ∙ c.if-is_answered_by.true)
 
@@ -35,6 +37,7 @@ returns-else-is_answered_by c =
     let test : Request → Bool = belongs c.args.generation c.args.smp.now in
     let i = c.count_below-index.result in
     index_other test v.outstanding i
-    (located_for c.args.generation c.transaction_id.result v.outstanding v.queued v.next i c.count_below-index.ensures.numbered c.count_below-index.ensures.index
+    (located_for c.args.generation c.transaction_id.result v.outstanding v.queued v.next i c.count_below-index.ensures.numbered
+    c.count_below-index.ensures.index
     c.args.smp.now c.transaction_id.ensures)
     c.in_ok-request.request.now (sym (c.in_ok-request.ensures)) (sym c.is_answered_by.ensures ∙ c.if-is_answered_by.false)

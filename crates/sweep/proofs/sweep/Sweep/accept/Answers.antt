@@ -18,14 +18,16 @@ returns-clause-ok c =
     let packet : List ℕ = c.args.smp.now in
     let r : Request = c.unwrap-request.result.now in
     let at : slice_get s.outstanding c.in-Some.index ≡ Some r =
-    ap (λ (v : Sweep). slice_get v.outstanding c.in-Some.index) (sym c.self.view_is) ∙ sym c.get.ensures ∙ ap (option_copied {T = Request}) c.unwrap-request.ensures in
+    ap (λ (v : Sweep). slice_get v.outstanding c.in-Some.index) (sym c.self.view_is) ∙ sym c.get.ensures
+    ∙ ap (option_copied {T = Request}) c.unwrap-request.ensures in
     let there : IsIndexFor (request_of s packet) s.outstanding (Some c.in-Some.index) =
     subst (λ (v : Sweep). IsIndexFor (request_of v packet) v.outstanding (Some c.in-Some.index)) c.self.view_is c.in-Some.ensures in
     let waits : request_of s packet ≡ Some r = there.2 ∙ sym there.1 ∙ at in
     let same : c.number.result ≡ s.generation = c.number.ensures.value ∙ ap (λ (v : Sweep). v.generation) c.self.view_is in
     let taken : fault_for s r packet ≡ None = c.in-Ok.ensures.judged in
     let found : c.finding-finding.result ≡ finding s r packet = c.finding-finding.ensures in
-    let count : c.question_count.result ≡ length (questions r.path (finding s r packet)) = c.question_count.ensures.count r.path ∙ ap (λ (f : Finding). length (questions r.path f)) found in
+    let count : c.question_count.result ≡ length (questions r.path (finding s r packet)) =
+    c.question_count.ensures.count r.path ∙ ap (λ (f : Finding). length (questions r.path f)) found in
     let next : c.next.result ≡ s.next = c.next.ensures ∙ ap (λ (v : Sweep). v.next) c.self.view_is in
     let fits : s.next + length (questions r.path (finding s r packet)) ≤ 2 ^ 32 = omega (arith, count, next, c.if-next-question_count-gt4294967296.false) in
     let bytes : c.bytes-bytes.result.now ≡ packet = c.bytes-bytes.ensures.bytes in

@@ -40,4 +40,5 @@ invariant_of-self-2 g c =
 
 pub returns-clause-few : goal.returns-clause-few
 returns-clause-few g c =
-    few_then c.args.self.now c.args.smp.now c.in_ok-accepted.accepted c.in_ok-accepted.ensures.ok c.reserve.new.self c.take.new.self c.reserve-2.new.self c.put.new.self (ready g c) c.take.ensures
+    few_then c.args.self.now c.args.smp.now c.in_ok-accepted.accepted c.in_ok-accepted.ensures.ok c.reserve.new.self c.take.new.self c.reserve-2.new.self
+    c.put.new.self (ready g c) c.take.ensures

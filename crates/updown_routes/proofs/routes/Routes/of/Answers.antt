@@ -15,7 +15,8 @@ pub positions-requires : goal.positions-requires
 positions-requires c =
     let order = c.in_ok-order.order.items in
     let is = subst (λ (ranks : List (Option ℕ)). IsOrder ranks order) c.ranks.ensures.ranks c.in_ok-order.ensures in
-    subst (λ (xs : List ℕ). NamesEachOnce (length xs) xs) (sym c.deref.ensures.value) (names_each_once (map (rank_of c.args.graph.now) (guids_of c.args.graph.now)) order is)
+    subst (λ (xs : List ℕ). NamesEachOnce (length xs) xs) (sym c.deref.ensures.value)
+    (names_each_once (map (rank_of c.args.graph.now) (guids_of c.args.graph.now)) order is)
 
 pub towards-requires-clause-slopes : goal.towards-requires-clause-slopes
 towards-requires-clause-slopes c =
@@ -39,7 +40,8 @@ towards-requires-clause-positions c =
     let is = subst (λ (ranks : List (Option ℕ)). IsOrder ranks order) c.ranks.ensures.ranks c.in_ok-order.ensures in
     let are = subst (λ (xs : List ℕ). ArePositions xs positions) c.deref.ensures.value c.in_ok-positions.ensures in
     let by = subst (λ (xs : List ℕ). AreAtPositions graph xs ups downs) c.deref-2.ensures.value c.in_ok-slopes.ensures in
-    subst (λ (xs : List ℕ). All (λ p. p < length ups) xs) (sym c.deref-4.ensures.value) (positions_within graph c.ranks.ensures.is_graph order positions is are ups downs by)
+    subst (λ (xs : List ℕ). All (λ p. p < length ups) xs) (sym c.deref-4.ensures.value)
+    (positions_within graph c.ranks.ensures.is_graph order positions is are ups downs by)
 
 pub invariant_of-result : goal.invariant_of-result
 invariant_of-result c =

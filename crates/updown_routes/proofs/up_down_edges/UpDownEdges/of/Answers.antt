@@ -24,13 +24,16 @@ loop-position-preserved c =
     let positions = c.args.positions.now in
     let position = c.loop-position.position in
     let es = c.edges.result.now in
-    let row = row_at_position graph c.edges.ensures.is_graph order positions c.requires.order c.requires.positions position es c.loop-position-test.true c.edges.ensures.to_switches c.edges.ensures.edges in
+    let row = row_at_position graph c.edges.ensures.is_graph order positions c.requires.order c.requires.positions position es c.loop-position-test.true
+    c.edges.ensures.to_switches c.edges.ensures.edges in
     let up : c.deref-in-loop-position.result.now ≡ ups_from position (map (at_position positions) es) =
     c.deref-in-loop-position.ensures.value ∙ c.in_ok-ups_from.ensures ∙ ap (ups_from position) (c.deref.ensures.value ∙ c.in_ok-edges.ensures) in
     let down : c.deref-in-loop-position-3.result.now ≡ downs_from position (map (at_position positions) es) =
-    c.deref-in-loop-position-3.ensures.value ∙ c.in_ok-downs_from.ensures ∙ ap (downs_from position) (c.deref-in-loop-position-2.ensures.value ∙ c.in_ok-edges.ensures) in
+    c.deref-in-loop-position-3.ensures.value ∙ c.in_ok-downs_from.ensures
+    ∙ ap (downs_from position) (c.deref-in-loop-position-2.ensures.value ∙ c.in_ok-edges.ensures) in
     let ups = c.in_ok-push_vertex.ensures.added ∙ ap (λ x. c.loop-position.ups ++ x ∷ []) up in
     let downs = c.in_ok-push_vertex-2.ensures.added ∙ ap (λ x. c.loop-position.downs ++ x ∷ []) down in
     let Are : List (List Edge) × List (List Edge) → Type 0 = λ x. AreAtPositionsTo graph order (position + 1) x.0 x.1 in
     subst Are (λ i. (sym ups i, sym downs i))
-    (one_more_position graph order position c.loop-position.ups c.loop-position.downs (ups_from position (map (at_position positions) es)) (downs_from position (map (at_position positions) es)) c.loop-position.invariant row)
+    (one_more_position graph order position c.loop-position.ups c.loop-position.downs (ups_from position (map (at_position positions) es))
+    (downs_from position (map (at_position positions) es)) c.loop-position.invariant row)
