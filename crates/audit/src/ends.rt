@@ -43,7 +43,8 @@ impl<'a> Model for Ends<'a> {
 
     ghost view = { λ a. record { port = a.port; ends = map (end_from a.owners.items a.walks.items) a.sources.now } };
 
-    ghost invariant = { λ a. AreEnds a.port a.sources.now a.firsts.now a.owners.items a.walks.items a.arrive.items a.sole a.all };
+    ghost invariant = { λ a. AreEnds a.port a.sources.now a.firsts.now a.owners.items a.walks.items
+        a.arrive.items a.sole a.all };
 }
 
 impl<'a> Ends<'a> {

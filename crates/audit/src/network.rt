@@ -56,8 +56,8 @@ impl<'a> Model for Network<'a> {
 
     ghost view = { λ a. record { facts = a.store.now; held = a.held.now } };
 
-    ghost invariant = { λ a. IsNetwork (cells_of a.store.now) a.held.now a.nodes.items a.sources.items a.firsts.items a.begin
-        a.numbers.items a.owners.items };
+    ghost invariant = { λ a. IsNetwork (cells_of a.store.now) a.held.now a.nodes.items a.sources.items a.firsts.items
+        a.begin a.numbers.items a.owners.items };
 }
 
 /// The blocks of a number that switches hold.

@@ -54,23 +54,35 @@ pub(crate) const SCHEDULE: &str = "SCHEDULE";
 const VERSION: &str = "0.1.0";
 
 /// What stands at the end of a subcommand's help: the statuses that it ends with, and an example.
-const FACTS_END: &str =
-    "Exit status:\n  0  done\n  2  the command line is wrong\n  3  a file is refused\n  4  a file cannot be opened or read, or the output takes no more\n  5  out of memory\n\nExample:\n  ibsm facts --floor 2 monday.reports tuesday.reports";
+const FACTS_END: &str = "Exit status:\n  0  done\n  2  the command line is wrong\n  \
+     3  a file is refused\n  4  a file cannot be opened or read, or the output takes no more\n  \
+     5  out of memory\n\nExample:\n  ibsm facts --floor 2 monday.reports tuesday.reports";
 
-const JOIN_END: &str =
-    "Exit status:\n  0  done\n  2  the command line is wrong\n  3  a file is refused\n  4  a file cannot be opened or read, or the output takes no more\n  5  out of memory\n\nExample:\n  ibsm join monday.reports tuesday.reports > both.store";
+const JOIN_END: &str = "Exit status:\n  0  done\n  2  the command line is wrong\n  \
+     3  a file is refused\n  4  a file cannot be opened or read, or the output takes no more\n  \
+     5  out of memory\n\nExample:\n  ibsm join monday.reports tuesday.reports > both.store";
 
-const PLAN_END: &str =
-    "Exit status:\n  0  done\n  2  the command line is wrong\n  3  a file is refused, or there is no room for the LIDs\n  4  a file cannot be opened or read, or the output takes no more\n  5  out of memory\n\nExample:\n  ibsm plan --lmc 1 fabric.reports > fabric.plan";
+const PLAN_END: &str = "Exit status:\n  0  done\n  2  the command line is wrong\n  \
+     3  a file is refused, or there is no room for the LIDs\n  \
+     4  a file cannot be opened or read, or the output takes no more\n  \
+     5  out of memory\n\nExample:\n  ibsm plan --lmc 1 fabric.reports > fabric.plan";
 
 const AUDIT_END: &str =
-    "Exit status:\n  0  the tables pass\n  1  they do not pass, and what was printed says why\n  2  the command line is wrong\n  3  a file is refused\n  4  a file cannot be opened or read, or the output takes no more\n  5  out of memory\n\nExample:\n  ibsm audit held.tables fabric.reports";
+    "Exit status:\n  0  the tables pass\n  1  they do not pass, and what was printed says why\n  \
+     2  the command line is wrong\n  3  a file is refused\n  \
+     4  a file cannot be opened or read, or the output takes no more\n  \
+     5  out of memory\n\nExample:\n  ibsm audit held.tables fabric.reports";
 
 const NEXT_END: &str =
-    "Exit status:\n  0  done, and no mixture of both tables can make a credit loop\n  1  done, and the credit loop on standard error can come about while they are written\n  2  the command line is wrong\n  3  a file is refused, a LID moves, or there is no room for the LIDs\n  4  a file cannot be opened or read, or the output takes no more\n  5  out of memory\n\nExample:\n  ibsm next held.tables fabric.reports > next.tables";
+    "Exit status:\n  0  done, and no mixture of both tables can make a credit loop\n  \
+     1  done, and the credit loop on standard error can come about while they are written\n  \
+     2  the command line is wrong\n  3  a file is refused, a LID moves, or there is no room for the LIDs\n  \
+     4  a file cannot be opened or read, or the output takes no more\n  \
+     5  out of memory\n\nExample:\n  ibsm next held.tables fabric.reports > next.tables";
 
-const RUN_END: &str =
-    "Exit status:\n  0  done\n  2  the command line is wrong\n  3  a file is refused\n  4  a file cannot be opened or read, or the output takes no more\n  5  out of memory\n\nExample:\n  ibsm run triangle.topology bring_up.schedule";
+const RUN_END: &str = "Exit status:\n  0  done\n  2  the command line is wrong\n  \
+     3  a file is refused\n  4  a file cannot be opened or read, or the output takes no more\n  \
+     5  out of memory\n\nExample:\n  ibsm run triangle.topology bring_up.schedule";
 
 /// The subcommands and their arguments.
 pub(crate) fn command_line<'a>(alloc: Global) -> Result<Command<'a>, AllocError> {
@@ -125,7 +137,8 @@ fn plan<'a>(alloc: Global) -> Result<Command<'a>, AllocError> {
 fn audit<'a>(alloc: Global) -> Result<Command<'a>, AllocError> {
     Command::new(alloc, AUDIT)
         .about(
-            "Prints how packets fare by the tables that switches hold, in the subnet of the facts of all the files",
+            "Prints how packets fare by the tables that switches hold, in the subnet of the facts of all the \
+             files",
         )
         .after_help(AUDIT_END)
         .arg(text(
@@ -140,7 +153,8 @@ fn audit<'a>(alloc: Global) -> Result<Command<'a>, AllocError> {
 fn next<'a>(alloc: Global) -> Result<Command<'a>, AllocError> {
     Command::new(alloc, NEXT)
         .about(
-            "Prints the tables to write next, from those that switches hold towards the plan of the facts of all the files, so that no packet for a LID that stays is lost meanwhile",
+            "Prints the tables to write next, from those that switches hold towards the plan of the facts of \
+             all the files, so that no packet for a LID that stays is lost meanwhile",
         )
         .after_help(NEXT_END)
         .arg(text(
@@ -210,7 +224,8 @@ fn routing<'a>(alloc: Global) -> Arg<'a> {
         .long(ROUTING)
         .value_name("RULE")
         .help(
-            "updown leads packets by one root of each component, and is what is taken where none is named; spread leads them over all wires, so that none is much busier than others",
+            "updown leads packets by one root of each component, and is what is taken where none is named; \
+             spread leads them over all wires, so that none is much busier than others",
         )
         .value_parser(RULES.as_slice())
         .action(ArgAction::Set)
@@ -222,7 +237,8 @@ fn roots<'a>(alloc: Global) -> Arg<'a> {
         .long(ROOTS)
         .value_name("FILE")
         .help(
-            "With --routing spread: begins at the switches that FILE names, a GUID a line, in place of those in the middle",
+            "With --routing spread: begins at the switches that FILE names, a GUID a line, in place of those in \
+             the middle",
         )
         .action(ArgAction::Set)
 }

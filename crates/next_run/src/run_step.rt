@@ -91,7 +91,8 @@ fn step<W: Sink, E: Sink>(
         (IsSaid (E.written told.old) (E.written told.new) (E.has_failed told.new))) }
     ensures flushed { OnOk result (IsTrue (W.is_flushed sink.new)) }
     ensures sink_works { OnOk result (W.has_failed sink.new ≡ false) }
-    ensures refused { IfErr result (StopsStep input lmc (value_of rule.now) store.now held.now (W.has_failed sink.new)) }
+    ensures refused { IfErr result (StopsStep input lmc (value_of rule.now) store.now held.now
+        (W.has_failed sink.new)) }
     ensures nothing_written { OnErr result ((result ≡ Err Fault.Write) ⊎ (sink.new ≡ sink.old)) }
     ensures nothing_told { OnErr result (told.new ≡ told.old) }
 {

@@ -85,23 +85,23 @@ fn held(alloc: Global, lids: &str, lines: &str) -> Result<Held, Fail> {
 const LIDS: &str = "lid 1 10/0\nlid 2 20/0\nlid 3 30/0\nlid 4 100/1\nlid 5 200/1\nlid 6 300/1\n";
 
 /// Each packet takes the one wire.
-const WHOLE: &str =
-    "switch 10 top 6\nblock 0 ff000102030102%\nswitch 20 top 6\nblock 0 ff020001020301%\nswitch 30 top 6\nblock 0 ff010200010203%";
+const WHOLE: &str = "switch 10 top 6\nblock 0 ff000102030102%\nswitch 20 top 6\n\
+     block 0 ff020001020301%\nswitch 30 top 6\nblock 0 ff010200010203%";
 
 /// The wire from 30 to 10 is cut.
-const CUT: &str =
-    "switch 10 top 6\nblock 0 ff000101030101%\nswitch 20 top 6\nblock 0 ff020001020301%\nswitch 30 top 6\nblock 0 ff020200020203%";
+const CUT: &str = "switch 10 top 6\nblock 0 ff000101030101%\nswitch 20 top 6\n\
+     block 0 ff020001020301%\nswitch 30 top 6\nblock 0 ff020200020203%";
 
 /// Packets for 300 go from 10 over 20, and the other way.
-const OVER_20: &str =
-    "switch 10 top 6\nblock 0 ff000102030101%\nswitch 20 top 6\nblock 0 ff020001020301%\nswitch 30 top 6\nblock 0 ff010200010203%";
+const OVER_20: &str = "switch 10 top 6\nblock 0 ff000102030101%\nswitch 20 top 6\n\
+     block 0 ff020001020301%\nswitch 30 top 6\nblock 0 ff010200010203%";
 
-const OVER_10: &str =
-    "switch 10 top 6\nblock 0 ff000102030102%\nswitch 20 top 6\nblock 0 ff020001020302%\nswitch 30 top 6\nblock 0 ff010200010203%";
+const OVER_10: &str = "switch 10 top 6\nblock 0 ff000102030102%\nswitch 20 top 6\n\
+     block 0 ff020001020302%\nswitch 30 top 6\nblock 0 ff010200010203%";
 
 /// Packets go round one way, from each switch to the one before.
-const ONE_WAY: &str =
-    "switch 10 top 6\nblock 0 ff000101030101%\nswitch 20 top 6\nblock 0 ff010001010301%\nswitch 30 top 6\nblock 0 ff010100010103%";
+const ONE_WAY: &str = "switch 10 top 6\nblock 0 ff000101030101%\nswitch 20 top 6\n\
+     block 0 ff010001010301%\nswitch 30 top 6\nblock 0 ff010100010103%";
 
 /// The next tables of a step, and whether channels cannot wait in a cycle.
 fn stepped(alloc: Global, store: &Store, now: &Held, plan: &Held) -> Result<(Held, bool), Fail> {
@@ -194,7 +194,8 @@ fn lids_that_come_and_go(rt: HostRuntime) -> Result<(), Fail> {
     let wanted = held(
         alloc,
         "lid 1 10/0\nlid 2 20/0\nlid 3 30/0\nlid 4 100/1\nlid 6 300/1\n",
-        "switch 10 top 6\nblock 0 ff00010103ff01%\nswitch 20 top 6\nblock 0 ff02000102ff01%\nswitch 30 top 6\nblock 0 ff02020002ff03%",
+        "switch 10 top 6\nblock 0 ff00010103ff01%\nswitch 20 top 6\n\
+         block 0 ff02000102ff01%\nswitch 30 top 6\nblock 0 ff02020002ff03%",
     )?;
     let (next, _) = stepped(alloc, &store, &now, &plan)?;
     assert!(rt; is_same(&next, &wanted));

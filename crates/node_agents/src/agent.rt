@@ -33,7 +33,8 @@ impl Model for Agent {
 
     ghost view = { λ a. record { node = a.node; ports = a.ports.items; table = a.table.items; top = a.top } };
 
-    ghost invariant = { λ a. IsAgent (record { node = a.node; ports = a.ports.items; table = a.table.items; top = a.top }) };
+    ghost invariant = { λ a.
+        IsAgent (record { node = a.node; ports = a.ports.items; table = a.table.items; top = a.top }) };
 }
 
 impl Agent {

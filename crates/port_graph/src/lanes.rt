@@ -82,9 +82,11 @@ pub(crate) fn set_at_target(numbers: &mut [u8; LANES], targets: &[usize; LANES],
 /// Takes what others have where there is no number.
 pub(crate) fn fill_in(hops: &mut Hops, others: &Hops)
     ensures numbers { EachLane (λ k. slice_index hops.new.numbers k
-        ≡ cond (nat_lt (slice_index hops.old.numbers k) 255) (slice_index hops.old.numbers k) (slice_index others.now.numbers k)) }
+        ≡ cond (nat_lt (slice_index hops.old.numbers k) 255) (slice_index hops.old.numbers k)
+        (slice_index others.now.numbers k)) }
     ensures ports { EachLane (λ k. slice_index hops.new.ports k
-        ≡ cond (nat_lt (slice_index hops.old.numbers k) 255) (slice_index hops.old.ports k) (slice_index others.now.ports k)) }
+        ≡ cond (nat_lt (slice_index hops.old.numbers k) 255) (slice_index hops.old.ports k)
+        (slice_index others.now.ports k)) }
 {
     for lane in 0..LANES {
         let is_known = hops.numbers[lane] < NONE;

@@ -103,7 +103,8 @@ impl Block {
         requires target { slice_index self.now.targets lane < length ups.now }
         requires vertices { All (λ vertex. vertex < length ups.now) vertices.now }
         ensures { IfOk result (λ found. found.items
-            ≡ map (λ vertex. next_port (indexed ups.now downs.now) vertex (slice_index self.now.targets lane)) vertices.now) }
+            ≡ map (λ vertex. next_port (indexed ups.now downs.now) vertex (slice_index self.now.targets lane))
+            vertices.now) }
     {
         if self.is_routed {
             ports_in_lane(alloc, &self.numbers, &self.ports, lane, vertices)
