@@ -201,8 +201,8 @@ fn all_arrive(arrive: &[bool]) -> bool
     arrive.iter().all(|arrives| *arrives)
 }
 
-/// Whether a packet ends at a port.
-fn is_at(port: &EndPort, end: &Option<End>) -> bool
+/// Whether a packet ends at a port. Takes one step.
+pub fn is_at(port: &EndPort, end: &Option<End>) -> bool
     ensures { result ≡ is_at port.now end.now }
 {
     match end {
@@ -211,8 +211,8 @@ fn is_at(port: &EndPort, end: &Option<End>) -> bool
     }
 }
 
-/// Whether two end ports are one.
-pub(crate) fn is_same_end(port: &EndPort, other: &EndPort) -> bool
+/// Whether two end ports are one. Takes one step.
+pub fn is_same_end(port: &EndPort, other: &EndPort) -> bool
     ensures { result ≡ is_same_end port.now other.now }
 {
     other.node == port.node && other.port == port.port

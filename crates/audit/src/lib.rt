@@ -19,7 +19,7 @@ pub mod walk_ends;
 
 pub use arrival::first_failure;
 pub use end::{Cause, End, Failure};
-pub use ends::Ends;
+pub use ends::{Ends, is_at, is_same_end};
 pub use far_end::Far;
 pub use network::{Blocks, Network};
 pub use next_hop::NextHop;

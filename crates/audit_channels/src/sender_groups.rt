@@ -5,12 +5,11 @@ ghost use Rattle.subnet_view.specs.EndPorts.{end_ports};
 ghost use Rattle.subnet_view.specs.Reading.{switches};
 ghost use Rattle.audit.specs.Network.{switch_over};
 ghost use Rattle.audit.specs.NextHops.{AreBrought};
-ghost use Rattle.audit.specs.Tables.{is_same_end};
 ghost use Rattle.audit_channels.specs.Groups.{AreGrouped, IsGroupedWith, IsWithin, adapters, packets_at};
 ghost use Rattle.audit_channels.specs.Ways.{is_adapter, reaches, reaches_if};
 
 use crate::channel_loads::load_channel;
-use audit::{Ends, Far, Network};
+use audit::{Ends, Far, Network, is_same_end};
 use plan_file::HeldLid;
 use std::alloc::{AllocError, Global};
 use subnet_view::EndPort;
@@ -123,11 +122,4 @@ pub fn is_adapter(port: &EndPort) -> bool
     ensures { result ≡ is_adapter port.now }
 {
     port.port.number() != 0
-}
-
-/// Whether two end ports are one.
-fn is_same_end(port: &EndPort, other: &EndPort) -> bool
-    ensures { result ≡ is_same_end port.now other.now }
-{
-    other.node == port.node && other.port == port.port
 }

@@ -1,7 +1,7 @@
 ghost use Rattle.std.specs.Prelude.{◌≡◌};
 
-use crate::site::{are_adapters, is_same_end};
-use audit::End;
+use crate::site::are_adapters;
+use audit::{End, is_same_end};
 use plan_file::HeldLid;
 use subnet_view::EndPort;
 

@@ -9,6 +9,7 @@ ghost use Rattle.audit_channels.specs.Ways.{is_adapter};
 ghost use Rattle.audit_report.specs.Sites.{IsCensus, are_adapters, are_joined, are_joined_adapters};
 ghost use Rattle.audit_report.specs.Sites.{are_one_component, first_root, is_one_root, leads_to, root_at, site_of, switch_of};
 
+use audit::is_same_end;
 use audit_channels::is_adapter;
 use fact_store::{Refused, Store};
 use smp_bytes::{Guid, PortNum};
@@ -34,13 +35,6 @@ impl Site {
             || is_one_root(self.root, other.root)
             || leads_to(self.across, &other.port)
     }
-}
-
-/// Whether two end ports are one.
-pub(crate) fn is_same_end(port: &EndPort, other: &EndPort) -> bool
-    ensures { result ≡ is_same_end port.now other.now }
-{
-    other.node == port.node && other.port == port.port
 }
 
 /// Whether two components that have roots are one.

@@ -4,7 +4,7 @@ ghost use Rattle.fact_store.specs.View.{cells_of};
 ghost use Rattle.audit_report.specs.Unmatched.{IsUnmatched, has_lid, is_held, is_twice, lidless_among, tableless_among, twice, unknown, unowned};
 
 use crate::first_few::FirstFew;
-use crate::site::is_same_end;
+use audit::is_same_end;
 use fact_store::{Refused, Store};
 use plan_file::{Held, HeldLid};
 use smp_bytes::Guid;

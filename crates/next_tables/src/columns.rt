@@ -6,8 +6,8 @@ ghost use Rattle.subnet_view.specs.Reading.{switches};
 ghost use Rattle.audit.specs.NextHops.{AreBlocks};
 ghost use Rattle.next_tables.specs.NextTables.{column_of, keeper, kept_by};
 
-use crate::next_entries::{is_same_end, next_entries};
-use audit::{Blocks, Network, SwitchStep};
+use crate::next_entries::next_entries;
+use audit::{Blocks, Network, SwitchStep, is_same_end};
 use smp_bytes::Lid;
 use std::alloc::{AllocError, Global};
 use subnet_view::EndPort;

@@ -1,12 +1,10 @@
 //! The next entries of the switches for a LID that the same end port holds in the tables held and in the plan.
 ghost use Rattle.std.specs.Prelude.{◌≡◌, IfOk};
-ghost use Rattle.audit.specs.NextHops.{is_at};
-ghost use Rattle.audit.specs.Tables.{is_same_end};
 ghost use Rattle.next_tables.specs.SwitchSteps.{agreed_by, agreed_of, arrives_by, chosen_by, hops_of, mending_by, mending_of};
 ghost use Rattle.next_tables.specs.SwitchSteps.{next_by, next_of, patch_by, patch_entry_by};
 
 use audit::walk_ends::{end_of, ends, is_to, onward};
-use audit::{Cause, End, NextHop, SwitchStep};
+use audit::{Cause, End, NextHop, SwitchStep, is_at};
 use std::alloc::{AllocError, Global};
 use subnet_view::EndPort;
 
@@ -160,21 +158,4 @@ fn arrives_by(port: &EndPort, ends: &[NextHop], step: NextHop) -> bool
     ensures { result ≡ arrives_by port.now ends.now step }
 {
     is_at(port, &end_of(onward(ends, step)))
-}
-
-/// Whether a packet ends at a port.
-fn is_at(port: &EndPort, end: &Option<End>) -> bool
-    ensures { result ≡ is_at port.now end.now }
-{
-    match end {
-        Some(End::Taken(at)) => is_same_end(port, at),
-        _ => false,
-    }
-}
-
-/// Whether two end ports are one.
-pub(crate) fn is_same_end(port: &EndPort, other: &EndPort) -> bool
-    ensures { result ≡ is_same_end port.now other.now }
-{
-    other.node == port.node && other.port == port.port
 }
