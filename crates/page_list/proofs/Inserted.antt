@@ -1,5 +1,5 @@
 -- An index that is put among those that nothing is added to.
-use Rattle.std.proofs.Common.{◌≡◌, ℕ, ◌+◌, ◌*◌, ◌<◌, ◌≤◌, ◌^◌, List, ◌∷◌, length, take, drop, replicate, sym, ap, ◌∙◌, subst, arith}
+use Rattle.std.proofs.Common.{◌≡◌, ℕ, ◌+◌, ◌*◌, ◌<◌, ◌≤◌, ◌^◌, ◌∷◌, length, take, drop, get_or, sym, ap, ◌∙◌, subst, arith}
 use Rattle.std.proofs.lemmas.List.Edits.{length-insert}
 use Rattle.std.proofs.lemmas.List.Elements.{All-append, All-take, All-drop, All-cons}
 use Rattle.std.specs.Prelude.{Vec, All, insert}
@@ -7,9 +7,9 @@ use Rattle.std.specs.declared.alloc.Global.{Global}
 use Rattle.page_list.specs.Starts.{AreRaised, raised}
 use Rattle.page_list.proofs.Raised.{length-raised, raised-none}
 
-module _ (starts starts' added added' : Vec ℕ Global) (page start n : ℕ) (were : AreRaised starts added) (within : page ≤ length starts.items) (put : starts'.items ≡ insert (raised added.items 0 starts.items) page start) (none : added'.items ≡ replicate n 0) where
+module _ (starts starts' added added' : Vec ℕ Global) (page start : ℕ) (were : AreRaised starts added) (within : page ≤ length starts.items) (put : starts'.items ≡ insert (raised added.items 0 starts.items) page start) (none : (k : ℕ) → get_or added'.items k 0 ≡ 0) where
   pub inserted_items : raised added'.items 0 starts'.items ≡ insert (raised added.items 0 starts.items) page start
-  inserted_items = ap (λ (a : List ℕ). raised a 0 starts'.items) none ∙ raised-none n 0 starts'.items ∙ put
+  inserted_items = raised-none added'.items none 0 starts'.items ∙ put
 
   pub inserted_length : length starts'.items ≡ length starts.items + 1
   inserted_length =

@@ -43,10 +43,10 @@ raised-same added added' same i (n ∷ s) =
     ap (λ (m : ℕ). (n + m) ∷ raised added' (suc i) s) (same (i / 64)) ∙ ap (λ (t : List ℕ). (n + get_or added (i / 64) 0) ∷ t) (raised-same added added' same (suc i) s)
 
 -- so many zeros
-abbrev zeros : ℕ → List ℕ
+abbrev pub zeros : ℕ → List ℕ
 zeros n = replicate n 0
 
-zero_at : (n k : ℕ) → get_or (zeros n) k 0 ≡ 0
+pub zero_at : (n k : ℕ) → get_or (zeros n) k 0 ≡ 0
 zero_at zero k = refl
 zero_at (suc n) zero = refl
 zero_at (suc n) (suc k) = zero_at n k
@@ -62,10 +62,16 @@ pub raised-grown : (added : List ℕ) (n i : ℕ) (s : List ℕ) → raised (add
 raised-grown added n i s = raised-same added (added ++ replicate n 0) (zeros_behind added n) i s
 
 -- where nothing is added
-pub raised-none : (n i : ℕ) (s : List ℕ) → raised (replicate n 0) i s ≡ s
-raised-none n i [] = refl
-raised-none n i (x ∷ s) =
-    ap (λ (m : ℕ). m ∷ raised (replicate n 0) (suc i) s) (omega (arith, zero_at n (i / 64))) ∙ ap (λ (t : List ℕ). x ∷ t) (raised-none n (suc i) s)
+pub raised-none : (added : List ℕ) → ((k : ℕ) → get_or added k 0 ≡ 0) → (i : ℕ) (s : List ℕ) → raised added i s ≡ s
+raised-none added none i [] = refl
+raised-none added none i (x ∷ s) =
+    ap (λ (m : ℕ). m ∷ raised added (suc i) s) (omega (arith, none (i / 64))) ∙ ap (λ (t : List ℕ). x ∷ t) (raised-none added none (suc i) s)
+
+-- past its end a list has 0, so it has no other number where none in it is
+pub none_past : (s : List ℕ) → ((k : ℕ) → k < length s → get_or s k 0 ≡ 0) → (k : ℕ) → get_or s k 0 ≡ 0
+none_past [] h k = refl
+none_past (x ∷ s) h zero = h zero (omega arith)
+none_past (x ∷ s) h (suc k) = none_past s (λ j l. h (suc j) (omega arith)) k
 
 -- it is added to one number after another
 pub add_step : (added : List ℕ) (j : ℕ) (s : List ℕ) (i : ℕ) → i < length s → set (take i (raised added j s) ++ drop i s) i (get_or (take i (raised added j s) ++ drop i s) i 0 + get_or added ((j + i) / 64) 0) ≡ take (suc i) (raised added j s) ++ drop (suc i) s

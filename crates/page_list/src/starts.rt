@@ -1,5 +1,5 @@
-ghost use Rattle.std.specs.Prelude.{◌≡◌, ◌+◌, ◌-◌, ◌*◌, ◌<◌, ◌≤◌, ◌^◌, [], ◌∷◌, ◌++◌, OnOk, ℕ, List, length, map, take, drop, insert, All, slice_index};
-ghost use Rattle.std.specs.Vec.{vec_len};
+ghost use Rattle.std.specs.Prelude.{◌≡◌, ◌+◌, ◌-◌, ◌*◌, ◌<◌, ◌≤◌, ◌^◌, [], ◌∷◌, ◌++◌, OnOk, false, ℕ, List, length, map, take, drop, insert, All, slice_index};
+ghost use Rattle.std.specs.Vec.{vec_capacity, vec_len};
 ghost use Rattle.page_list.specs.Starts.{raised};
 
 use crate::page::insert_within;
@@ -83,15 +83,14 @@ impl Starts {
         count_up(&mut self.added, group + 1, groups);
     }
 
-    /// Puts one in, where there is room. Walks all of them.
+    /// Puts one in, where there is room. Walks all of them, unless nothing is added to any.
     pub(crate) fn insert(&mut self, page: usize, start: usize)
         requires page { page ≤ length self.old.items }
         requires room { 0 < self.old.room }
         ensures items { self.new.items ≡ insert self.old.items page start }
         ensures room { self.old.room ≤ self.new.room + 1 }
     {
-        add_all(&mut self.starts, &self.added);
-        self.added.fill(0);
+        settle(&mut self.starts, &mut self.added);
         insert_within(&mut self.starts, page, start);
     }
 
@@ -153,6 +152,34 @@ fn count_up(numbers: &mut [usize], from: usize, until: usize)
     for i in from..until {
         numbers[i] += 1;
     }
+}
+
+/// Adds to each number what is added to its group, to which nothing is added then.
+fn settle(numbers: &mut Vec<usize>, added: &mut Vec<usize>)
+    requires grouped { length numbers.old.items ≤ 64 * length added.old.items }
+    requires fits { All (λ n. n < 2 ^ 64) (raised added.old.items 0 numbers.old.items) }
+    ensures sums { numbers.new.items ≡ raised added.old.items 0 numbers.old.items }
+    ensures none { (group : ℕ) → slice_index added.new.items group ≡ 0 }
+    ensures len { vec_len numbers.new ≡ vec_len numbers.old }
+    ensures groups { vec_len added.new ≡ vec_len added.old }
+    ensures capacity { vec_capacity numbers.new ≡ vec_capacity numbers.old }
+{
+    if has_any(added) {
+        add_all(numbers, added);
+        added.fill(0);
+    }
+}
+
+/// Whether a number is not 0.
+fn has_any(numbers: &[usize]) -> bool
+    ensures { result ≡ false → (i : ℕ) → slice_index numbers.now i ≡ 0 }
+{
+    for i in 0..numbers.len() {
+        if numbers[i] > 0 {
+            return true;
+        }
+    }
+    false
 }
 
 /// Adds to each number what is added to its group.

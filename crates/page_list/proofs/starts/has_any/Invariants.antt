@@ -1,0 +1,6 @@
+-- None so far.
+use Rattle.std.proofs.Common.{◌≡◌, ◌<◌, ℕ, get_or}
+use Rattle.page_list.proofs.starts.has_any.Given as goal
+
+abbrev pub invariant-loop-i : goal.invariant-loop-i
+invariant-loop-i l = (k : ℕ) → k < l.i → get_or l.numbers k 0 ≡ 0
