@@ -73,7 +73,8 @@ pub at_contains : (es : List (Key × Cell Value)) (e : Key × Cell Value) (h : C
 at_contains es e h = slice_get-get_or es h.0 e h.1 ∙ ap Some h.2
 
 -- the keys rise with the indices
-pub rising_indices : (es : List (Key × Cell Value)) → T (sorted.is_sorted key_cmp es) → (i j : ℕ) (e f : Key × Cell Value) → i < j → slice_get es i ≡ Some e → slice_get es j ≡ Some f → key_cmp e.0 f.0 ≡ Less
+pub rising_indices : (es : List (Key × Cell Value)) → T (sorted.is_sorted key_cmp es) → (i j : ℕ) (e f : Key × Cell Value) → i < j → slice_get es i ≡ Some e
+    → slice_get es j ≡ Some f → key_cmp e.0 f.0 ≡ Less
 rising_indices [] h i j e f l p q = absurd (cc)
 rising_indices (x ∷ es) h zero zero e f l p q = absurd (omega arith)
 rising_indices (x ∷ es) h zero (suc j) e f l p q =
@@ -87,19 +88,23 @@ rising_indices (x ∷ es) h (suc i) (suc j) e f l p q = rising_indices es (secon
 -- one put in ---------------------------------------------------------------------------------
 
 -- a key below all that stands anywhere
-below_each : (k : Key) (es : List (Key × Cell Value)) → ((j : ℕ) (e : Key × Cell Value) → slice_get es j ≡ Some e → key_cmp e.0 k ≡ Greater) → T (sorted.below_all key_cmp k es)
+below_each : (k : Key) (es : List (Key × Cell Value)) → ((j : ℕ) (e : Key × Cell Value) → slice_get es j ≡ Some e → key_cmp e.0 k ≡ Greater)
+    → T (sorted.below_all key_cmp k es)
 below_each k [] f = tt
 below_each k (x ∷ es) f = both_true _ _ (is_lt_less _ (less_back x.0 k (f 0 x refl))) (below_each k es (λ j e h. f (suc j) e h))
 
 -- a key below all is below all and one more
-below_more : (k : Key) (es : List (Key × Cell Value)) (i : ℕ) (e : Key × Cell Value) → T (sorted.below_all key_cmp k es) → key_cmp k e.0 ≡ Less → T (sorted.below_all key_cmp k (insert es i e))
+below_more : (k : Key) (es : List (Key × Cell Value)) (i : ℕ) (e : Key × Cell Value) → T (sorted.below_all key_cmp k es) → key_cmp k e.0 ≡ Less
+    → T (sorted.below_all key_cmp k (insert es i e))
 below_more k [] zero e h l = both_true _ _ (is_lt_less _ l) tt
 below_more k [] (suc i) e h l = both_true _ _ (is_lt_less _ l) tt
 below_more k (x ∷ es) zero e h l = both_true _ _ (is_lt_less _ l) h
 below_more k (x ∷ es) (suc i) e h l = both_true _ _ (first_true _ _ h) (below_more k es i e (second_true _ _ h) l)
 
 -- a key between those before the index and those from it on
-pub rising-insert : (es : List (Key × Cell Value)) (i : ℕ) (k : Key) (c : Cell Value) → T (sorted.is_sorted key_cmp es) → i ≤ length es → ((j : ℕ) (e : Key × Cell Value) → j < i → slice_get es j ≡ Some e → key_cmp e.0 k ≡ Less) → ((j : ℕ) (e : Key × Cell Value) → i ≤ j → slice_get es j ≡ Some e → key_cmp e.0 k ≡ Greater) → T (sorted.is_sorted key_cmp (insert es i (k, c)))
+pub rising-insert : (es : List (Key × Cell Value)) (i : ℕ) (k : Key) (c : Cell Value) → T (sorted.is_sorted key_cmp es) → i ≤ length es
+    → ((j : ℕ) (e : Key × Cell Value) → j < i → slice_get es j ≡ Some e → key_cmp e.0 k ≡ Less)
+    → ((j : ℕ) (e : Key × Cell Value) → i ≤ j → slice_get es j ≡ Some e → key_cmp e.0 k ≡ Greater) → T (sorted.is_sorted key_cmp (insert es i (k, c)))
 rising-insert es zero k c h l f g = both_true _ _ (below_each k es (λ j e p. g j e (omega arith) p)) h
 rising-insert [] (suc i) k c h l f g = absurd (omega arith)
 rising-insert (x ∷ es) (suc i) k c h l f g =
@@ -107,7 +112,9 @@ rising-insert (x ∷ es) (suc i) k c h l f g =
     (rising-insert es i k c (second_true _ _ h) (omega arith) (λ j e p q. f (suc j) e (omega arith) q) (λ j e p q. g (suc j) e (omega arith) q))
 
 -- where a search ends
-pub ends_at : (es : List (Key × Cell Value)) (i : ℕ) (k : Key) → T (sorted.is_sorted key_cmp es) → i ≤ length es → ((j : ℕ) (e : Key × Cell Value) → j < i → slice_get es j ≡ Some e → key_cmp e.0 k ≡ Less) → ((j : ℕ) (e : Key × Cell Value) → i ≤ j → slice_get es j ≡ Some e → key_cmp e.0 k ≡ Greater) → IsIndexFor k es i
+pub ends_at : (es : List (Key × Cell Value)) (i : ℕ) (k : Key) → T (sorted.is_sorted key_cmp es) → i ≤ length es
+    → ((j : ℕ) (e : Key × Cell Value) → j < i → slice_get es j ≡ Some e → key_cmp e.0 k ≡ Less)
+    → ((j : ℕ) (e : Key × Cell Value) → i ≤ j → slice_get es j ≡ Some e → key_cmp e.0 k ≡ Greater) → IsIndexFor k es i
 ends_at es i k h l f g =
     record {
       within = l;
@@ -128,7 +135,8 @@ ends_at es i k h l f g =
 -- one changed ----------------------------------------------------------------------------------
 
 -- only keys are compared
-below_all-set : (x k : Key) (c d : Cell Value) (es : List (Key × Cell Value)) (i : ℕ) → slice_get es i ≡ Some (k, c) → T (sorted.below_all key_cmp x es) → T (sorted.below_all key_cmp x (set es i (k, d)))
+below_all-set : (x k : Key) (c d : Cell Value) (es : List (Key × Cell Value)) (i : ℕ) → slice_get es i ≡ Some (k, c) → T (sorted.below_all key_cmp x es)
+    → T (sorted.below_all key_cmp x (set es i (k, d)))
 below_all-set x k c d [] i e h = tt
 below_all-set x k c d (f ∷ es) zero e h = subst (λ (z : Key × Cell Value). T (is_lt (key_cmp x z.0) && sorted.below_all key_cmp x es)) (some_is f (k, c) e) h
   where
@@ -137,7 +145,8 @@ below_all-set x k c d (f ∷ es) zero e h = subst (λ (z : Key × Cell Value). T
 below_all-set x k c d (f ∷ es) (suc i) e h = both_true _ _ (first_true _ _ h) (below_all-set x k c d es i e (second_true _ _ h))
 
 -- so another cell at a key keeps the order
-pub rising-set : (k : Key) (c d : Cell Value) (es : List (Key × Cell Value)) (i : ℕ) → slice_get es i ≡ Some (k, c) → T (sorted.is_sorted key_cmp es) → T (sorted.is_sorted key_cmp (set es i (k, d)))
+pub rising-set : (k : Key) (c d : Cell Value) (es : List (Key × Cell Value)) (i : ℕ) → slice_get es i ≡ Some (k, c) → T (sorted.is_sorted key_cmp es)
+    → T (sorted.is_sorted key_cmp (set es i (k, d)))
 rising-set k c d [] i e h = tt
 rising-set k c d (f ∷ es) zero e h = subst (λ (z : Key × Cell Value). T (sorted.below_all key_cmp z.0 es && sorted.is_sorted key_cmp es)) (some_is f (k, c) e) h
   where
@@ -148,7 +157,8 @@ rising-set k c d (f ∷ es) (suc i) e h = both_true _ _ (below_all-set f.0 k c d
 -- two lists in step ------------------------------------------------------------------------------
 
 -- what is below all of two lists is below all of both
-below_both : (x : Key) (s t : List (Key × Cell Value)) → T (sorted.below_all key_cmp x s) → T (sorted.below_all key_cmp x t) → T (sorted.below_all key_cmp x (s ++ t))
+below_both : (x : Key) (s t : List (Key × Cell Value)) → T (sorted.below_all key_cmp x s) → T (sorted.below_all key_cmp x t)
+    → T (sorted.below_all key_cmp x (s ++ t))
 below_both x [] t g h = h
 below_both x (e ∷ s) t g h = both_true _ _ (first_true _ _ g) (below_both x s t (second_true _ _ g) h)
 
@@ -165,26 +175,36 @@ below_second x (e ∷ s) t h = below_second x s t (second_true _ _ h)
 -- a lesser key is below all that another is below
 below_lesser : (x y : Key) (es : List (Key × Cell Value)) → key_cmp x y ≡ Less → T (sorted.below_all key_cmp y es) → T (sorted.below_all key_cmp x es)
 below_lesser x y [] l h = tt
-below_lesser x y (e ∷ es) l h = both_true _ _ (is_lt_less _ (key_total.trans x y e.0 l (is_less _ (first_true _ _ h)))) (below_lesser x y es l (second_true _ _ h))
+below_lesser x y (e ∷ es) l h =
+    both_true _ _ (is_lt_less _ (key_total.trans x y e.0 l (is_less _ (first_true _ _ h)))) (below_lesser x y es l (second_true _ _ h))
 
 -- the lesser of two goes first
-rising_between : (b s t : List (Key × Cell Value)) (x y : Key × Cell Value) → T (sorted.is_sorted key_cmp (b ++ x ∷ s)) → T (sorted.is_sorted key_cmp (b ++ y ∷ t)) → key_cmp x.0 y.0 ≡ Less → T (sorted.is_sorted key_cmp (b ++ (x ∷ (y ∷ t))))
+rising_between : (b s t : List (Key × Cell Value)) (x y : Key × Cell Value) → T (sorted.is_sorted key_cmp (b ++ x ∷ s))
+    → T (sorted.is_sorted key_cmp (b ++ y ∷ t)) → key_cmp x.0 y.0 ≡ Less → T (sorted.is_sorted key_cmp (b ++ (x ∷ (y ∷ t))))
 rising_between [] s t x y g h l = both_true _ _ (both_true _ _ (is_lt_less _ l) (below_lesser x.0 y.0 t l (first_true _ _ h))) h
 rising_between (e ∷ b) s t x y g h l =
     both_true _ _
-    (below_both e.0 b (x ∷ (y ∷ t)) (below_first e.0 b (x ∷ s) (first_true _ _ g)) (both_true _ _ (first_true _ _ (below_second e.0 b (x ∷ s) (first_true _ _ g))) (below_second e.0 b (y ∷ t) (first_true _ _ h))))
+    (below_both e.0 b (x
+    ∷ (y ∷ t)) (below_first e.0 b (x ∷ s) (first_true _ _ g)) (both_true _ _ (first_true _ _ (below_second e.0 b (x ∷ s) (first_true _ _ g)))
+    (below_second e.0 b (y ∷ t) (first_true _ _ h))))
     (rising_between b s t x y (second_true _ _ g) (second_true _ _ h) l)
 
 -- the order with the lesser one moved over
-pub rising-step : (b s t : List (Key × Cell Value)) (x y : Key × Cell Value) → T (sorted.is_sorted key_cmp (b ++ x ∷ s)) → T (sorted.is_sorted key_cmp (b ++ y ∷ t)) → key_cmp x.0 y.0 ≡ Less → T (sorted.is_sorted key_cmp ((b ++ x ∷ []) ++ y ∷ t))
-rising-step b s t x y g h l = subst (λ (z : List (Key × Cell Value)). T (sorted.is_sorted key_cmp z)) (sym (append_assoc b (x ∷ []) (y ∷ t))) (rising_between b s t x y g h l)
+pub rising-step : (b s t : List (Key × Cell Value)) (x y : Key × Cell Value) → T (sorted.is_sorted key_cmp (b ++ x ∷ s))
+    → T (sorted.is_sorted key_cmp (b ++ y ∷ t)) → key_cmp x.0 y.0 ≡ Less → T (sorted.is_sorted key_cmp ((b ++ x ∷ []) ++ y ∷ t))
+rising-step b s t x y g h l =
+    subst (λ (z : List (Key × Cell Value)). T (sorted.is_sorted key_cmp z)) (sym (append_assoc b (x ∷ []) (y ∷ t))) (rising_between b s t x y g h l)
 
 -- the order with a cell of the same key
-rising_other : (b s : List (Key × Cell Value)) (k : Key) (c d : Cell Value) → T (sorted.is_sorted key_cmp (b ++ (k, c) ∷ s)) → T (sorted.is_sorted key_cmp (b ++ (k, d) ∷ s))
+rising_other : (b s : List (Key × Cell Value)) (k : Key) (c d : Cell Value) → T (sorted.is_sorted key_cmp (b ++ (k, c) ∷ s))
+    → T (sorted.is_sorted key_cmp (b ++ (k, d) ∷ s))
 rising_other [] s k c d h = h
 rising_other (e ∷ b) s k c d h =
-    both_true _ _ (below_both e.0 b ((k, d) ∷ s) (below_first e.0 b ((k, c) ∷ s) (first_true _ _ h)) (below_second e.0 b ((k, c) ∷ s) (first_true _ _ h))) (rising_other b s k c d (second_true _ _ h))
+    both_true _ _ (below_both e.0 b ((k, d) ∷ s) (below_first e.0 b ((k, c) ∷ s) (first_true _ _ h)) (below_second e.0 b ((k, c) ∷ s) (first_true _ _ h)))
+    (rising_other b s k c d (second_true _ _ h))
 
 -- moved over
-pub rising-move : (b s : List (Key × Cell Value)) (x : Key × Cell Value) (d : Cell Value) → T (sorted.is_sorted key_cmp (b ++ x ∷ s)) → T (sorted.is_sorted key_cmp ((b ++ (x.0, d) ∷ []) ++ s))
-rising-move b s x d h = subst (λ (z : List (Key × Cell Value)). T (sorted.is_sorted key_cmp z)) (sym (append_assoc b ((x.0, d) ∷ []) s)) (rising_other b s x.0 x.1 d h)
+pub rising-move : (b s : List (Key × Cell Value)) (x : Key × Cell Value) (d : Cell Value) → T (sorted.is_sorted key_cmp (b ++ x ∷ s))
+    → T (sorted.is_sorted key_cmp ((b ++ (x.0, d) ∷ []) ++ s))
+rising-move b s x d h =
+    subst (λ (z : List (Key × Cell Value)). T (sorted.is_sorted key_cmp z)) (sym (append_assoc b ((x.0, d) ∷ []) s)) (rising_other b s x.0 x.1 d h)

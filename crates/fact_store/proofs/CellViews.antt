@@ -35,12 +35,14 @@ seen_of_two k c d =
     same : (q : Key) → get (seen ((k, join c d) ∷ [])) q ≡ get (seen ((k, c) ∷ (k, d) ∷ [])) q
     same q =
         get-seen_of_one (k, join c d) q
-        ∙ elim (is_of q (k, c)) as (λ t. cond t (Some (join c d)) None ≡ joined_there (cond t (Some c) None) (cond t (Some d) None)) [ true ↦ refl | false ↦ refl ]
+        ∙ elim (is_of q (k, c)) as (λ t. cond t (Some (join c d)) None
+        ≡ joined_there (cond t (Some c) None) (cond t (Some d) None)) [ true ↦ refl | false ↦ refl ]
         ∙ ap (λ o. joined_there o (cond (is_of q (k, d)) (Some d) None)) (sym (get-seen_of_one (k, c) q))
         ∙ sym (get-seen_of_more ((k, c) ∷ []) (k, d) q)
 
 -- one changed to the join with another
-pub seen-set : (es : List (Key × Cell Value)) (i : ℕ) (k : Key) (c d : Cell Value) → slice_get es i ≡ Some (k, c) → seen (set es i (k, join c d)) ≡ merge_maps (seen es) (seen ((k, d) ∷ []))
+pub seen-set : (es : List (Key × Cell Value)) (i : ℕ) (k : Key) (c d : Cell Value) → slice_get es i ≡ Some (k, c) → seen (set es i (k, join c d))
+    ≡ merge_maps (seen es) (seen ((k, d) ∷ []))
 seen-set es i k c d h =
     let rest : CellMap = seen (take i es ++ drop (suc i) es) in
     ap seen (set_split es i (k, join c d) (slice_get_within es i (k, c) h))
@@ -66,7 +68,8 @@ seen-step_second b s t y =
     ∙ ap (merge_maps (seen b)) (seen_among [] (s ++ t) y ∙ sym (seen_among s t y)) ∙ sym (seen_of_both b (s ++ y ∷ t))
 
 -- the first of both, joined
-pub seen-step_both : (b s t : List (Key × Cell Value)) (k : Key) (c d : Cell Value) → seen ((b ++ (k, join c d) ∷ []) ++ (s ++ t)) ≡ seen (b ++ ((k, c) ∷ s ++ (k, d) ∷ t))
+pub seen-step_both : (b s t : List (Key × Cell Value)) (k : Key) (c d : Cell Value) → seen ((b ++ (k, join c d) ∷ []) ++ (s ++ t))
+    ≡ seen (b ++ ((k, c) ∷ s ++ (k, d) ∷ t))
 seen-step_both b s t k c d =
     let rest : CellMap = seen (s ++ t) in
     ap seen (append_assoc b ((k, join c d) ∷ []) (s ++ t)) ∙ seen_of_both b ((k, join c d) ∷ (s ++ t))

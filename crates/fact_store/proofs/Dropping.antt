@@ -19,11 +19,13 @@ pub record IsDropping (floor : ℕ) (was cells : List (Key × Cell Value)) (i le
   pub rest : drop i cells ≡ drop i was
 
 -- the same, of cells and an index that are these
-pub dropping_to : (floor : ℕ) (was cells cells' : List (Key × Cell Value)) (i left left' : ℕ) → cells' ≡ cells → left' ≡ left → IsDropping floor was cells i left → IsDropping floor was cells' i left'
+pub dropping_to : (floor : ℕ) (was cells cells' : List (Key × Cell Value)) (i left left' : ℕ) → cells' ≡ cells → left' ≡ left
+    → IsDropping floor was cells i left → IsDropping floor was cells' i left'
 dropping_to floor was cells cells' i left left' e el d =
     subst (λ (s : List (Key × Cell Value)). IsDropping floor was s i left') (sym e) (subst (λ (n : ℕ). IsDropping floor was cells i n) (sym el) d)
 
-module _ (floor : ℕ) (was cells : List (Key × Cell Value)) (i left : ℕ) (d : IsDropping floor was cells i left) (x : Key × Cell Value) (at : slice_get cells i ≡ Some x) where
+module _ (floor : ℕ) (was cells : List (Key × Cell Value)) (i left : ℕ) (d : IsDropping floor was cells i left) (x : Key × Cell Value) (at : slice_get cells i
+    ≡ Some x) where
   -- it is where it was
   within : i + 1 ≤ length cells
   within = omega (arith, slice_get_within cells i x at)
@@ -67,5 +69,6 @@ module _ (floor : ℕ) (was cells : List (Key × Cell Value)) (i left : ℕ) (d 
       }
 
 -- after the last step
-pub all_dropped : (floor : ℕ) (was cells : List (Key × Cell Value)) (i left : ℕ) → IsDropping floor was cells i left → length was ≤ i → take left cells ≡ kept floor was
+pub all_dropped : (floor : ℕ) (was cells : List (Key × Cell Value)) (i left : ℕ) → IsDropping floor was cells i left → length was ≤ i → take left cells
+    ≡ kept floor was
 all_dropped floor was cells i left d h = d.done ∙ ap (kept floor) (take_all i was h)

@@ -41,7 +41,8 @@ entries-seen sightings = entries-from_entries (map (λ s. (s.0, cell_at s.0 sigh
 -- at floor 1 each cell is kept
 pub kept_all : (es : List (Key × Cell Value)) → kept 1 es ≡ es
 kept_all [] = refl
-kept_all (e ∷ es) = ap (λ t. cond t (e ∷ kept 1 es) (kept 1 es)) (le-leb 1 (max 1 (generation_of e.1)) (omega arith)) ∙ ap (λ (s : List (Key × Cell Value)). e ∷ s) (kept_all es)
+kept_all (e ∷ es) = ap (λ t. cond t (e ∷ kept 1 es) (kept 1 es)) (le-leb 1 (max 1 (generation_of e.1)) (omega arith))
+    ∙ ap (λ (s : List (Key × Cell Value)). e ∷ s) (kept_all es)
 
 -- and so does a view
 pub entries-view : (sightings : List (Key × Cell Value)) → cells_of (view sightings) ≡ cells_of_view sightings

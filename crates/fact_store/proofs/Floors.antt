@@ -128,14 +128,17 @@ find_below q [] h = refl
 find_below q (e ∷ es) h = ap (λ o. cond (is_eq o) (Some e.1) (find key_cmp q es)) (is_less _ (first_true _ _ h)) ∙ find_below q es (second_true _ _ h)
 
 -- what is found among those kept
-find-kept : (floor : ℕ) (q : Key) (es : List (Key × Cell Value)) → T (is_sorted key_cmp es) → find key_cmp q (kept floor es) ≡ kept_there floor (find key_cmp q es)
+find-kept : (floor : ℕ) (q : Key) (es : List (Key × Cell Value)) → T (is_sorted key_cmp es) → find key_cmp q (kept floor es)
+    ≡ kept_there floor (find key_cmp q es)
 find-kept floor q [] h = refl
 find-kept floor q (e ∷ es) h =
     let rest = find-kept floor q es (second_true _ _ h) in
-    elim (eq_by_cmp key_cmp q e.0) as (λ t. eq_by_cmp key_cmp q e.0 ≡ t → find key_cmp q (cond (is_kept floor e.1) (e ∷ kept floor es) (kept floor es)) ≡ kept_there floor (cond t (Some e.1) (find key_cmp q es))) [
+    elim (eq_by_cmp key_cmp q e.0) as (λ t. eq_by_cmp key_cmp q e.0 ≡ t → find key_cmp q (cond (is_kept floor e.1) (e ∷ kept floor es) (kept floor es))
+    ≡ kept_there floor (cond t (Some e.1) (find key_cmp q es))) [
       | true ↦ λ p. elim (is_kept floor e.1) as (λ k. find key_cmp q (cond k (e ∷ kept floor es) (kept floor es)) ≡ cond k (Some e.1) None) [
         | true ↦ ap (λ t. cond t (Some e.1) (find key_cmp q (kept floor es))) p
-        | false ↦ rest ∙ ap (kept_there floor) (find_below q es (subst (λ (k : Key). T (below_all key_cmp k es)) (sym (key_exact q e.0 (equal_from_test _ p))) (first_true _ _ h)))
+        | false ↦ rest ∙ ap (kept_there floor)
+            (find_below q es (subst (λ (k : Key). T (below_all key_cmp k es)) (sym (key_exact q e.0 (equal_from_test _ p))) (first_true _ _ h)))
       ]
       | false ↦ λ p. elim (is_kept floor e.1) as (λ k. find key_cmp q (cond k (e ∷ kept floor es) (kept floor es)) ≡ kept_there floor (find key_cmp q es)) [
         | true ↦ ap (λ t. cond t (Some e.1) (find key_cmp q (kept floor es))) p ∙ rest
@@ -196,13 +199,16 @@ module _ (f : ℕ) (q : Key) (s : List (Key × Cell Value)) where
   -- what the newest say is what those kept say
   cell_kept : (c : Cell Value) → IsCellIn q s c → is_kept f c ≡ true → IsCellIn q (kept f s) c
   cell_kept (Known g v) i k = (newest_kept (Known g v) i.0 k, λ c h e. i.1 c (kept_sighted c h).0 e)
-  cell_kept (Disputed g) i k = (newest_kept (Disputed g) i.0 k, λ v all. i.1 v (λ c h e. all c (sighted_kept c h (kept_newer f (Disputed g) c (omega (arith, e)) k)) e))
+  cell_kept (Disputed g) i k =
+      (newest_kept (Disputed g) i.0 k, λ v all. i.1 v (λ c h e. all c (sighted_kept c h (kept_newer f (Disputed g) c (omega (arith, e)) k)) e))
 
   -- so at a key those kept say what is kept
-  law_kept : (o : Option (Cell Value)) → MatchOption o ((c : Cell Value) → WasSighted q s c → ⊥) (IsCellIn q s) → MatchOption (kept_there f o) ((c : Cell Value) → WasSighted q (kept f s) c → ⊥) (IsCellIn q (kept f s))
+  law_kept : (o : Option (Cell Value)) → MatchOption o ((c : Cell Value) → WasSighted q s c → ⊥) (IsCellIn q s)
+      → MatchOption (kept_there f o) ((c : Cell Value) → WasSighted q (kept f s) c → ⊥) (IsCellIn q (kept f s))
   law_kept None n = λ c h. n c (kept_sighted c h).0
   law_kept (Some c) i =
-      elim (is_kept f c) as (λ t. is_kept f c ≡ t → MatchOption (cond t (Some c) None) ((d : Cell Value) → WasSighted q (kept f s) d → ⊥) (IsCellIn q (kept f s))) [
+      elim (is_kept f c) as (λ t. is_kept f c ≡ t → MatchOption (cond t (Some c) None) ((d : Cell Value) → WasSighted q (kept f s) d
+      → ⊥) (IsCellIn q (kept f s))) [
         | true ↦ λ p. cell_kept c i p
         | false ↦ λ p d h. let k = kept_sighted d h in cc (p, kept_newer f d c ((newest_in q s c i).greatest d k.0) k.1)
       ] refl
@@ -211,10 +217,15 @@ module _ (f : ℕ) (q : Key) (s : List (Key × Cell Value)) where
 pub seen_kept : (f : ℕ) (s : List (Key × Cell Value)) → dropped f (seen s) ≡ seen (kept f s)
 seen_kept f s =
     seen_is_unique (kept f s) (dropped f (seen s)) (seen (kept f s))
-    (record { cells = λ q. subst (λ (o : Option (Cell Value)). MatchOption o ((c : Cell Value) → WasSighted q (kept f s) c → ⊥) (IsCellIn q (kept f s))) (sym (get-dropped f (seen s) q)) (law_kept f q s (get (seen s) q) ((seen_law s).cells q)) })
+    (record {
+      cells =
+          λ q. subst (λ (o : Option (Cell Value)). MatchOption o ((c : Cell Value) → WasSighted q (kept f s) c → ⊥) (IsCellIn q (kept f s)))
+          (sym (get-dropped f (seen s) q)) (law_kept f q s (get (seen s) q) ((seen_law s).cells q));
+    })
     (seen_law (kept f s))
 
 -- those above a floor are those above 1 at least
 pub kept_at_one : (floor : ℕ) (s : List (Key × Cell Value)) → kept (max 1 floor) s ≡ kept floor s
 kept_at_one floor [] = refl
-kept_at_one floor (e ∷ s) = ap (λ t. cond t (e ∷ kept (max 1 floor) s) (kept (max 1 floor) s)) (kept_from_one floor e.1) ∙ ap (λ (r : List (Key × Cell Value)). cond (is_kept floor e.1) (e ∷ r) r) (kept_at_one floor s)
+kept_at_one floor (e ∷ s) = ap (λ t. cond t (e ∷ kept (max 1 floor) s) (kept (max 1 floor) s)) (kept_from_one floor e.1)
+    ∙ ap (λ (r : List (Key × Cell Value)). cond (is_kept floor e.1) (e ∷ r) r) (kept_at_one floor s)

@@ -19,7 +19,8 @@ grouping_is_free (of_two a b) =
     ∙ sym (view_of_both (floor_of a) (floor_of b) (all_of a) (all_of b))
 
 -- what is merged onto a view in turn is merged onto it at once
-merged_onto : (f : ℕ) (s : List (Key × Cell Value)) (views : List (ℕ × List (Key × Cell Value))) → fold merge (view_at f s) (map (λ v. view_at v.0 v.1) views) ≡ view_at (fold max f (map (λ v. v.0) views)) (s ++ flat_map (λ v. v.1) views)
+merged_onto : (f : ℕ) (s : List (Key × Cell Value)) (views : List (ℕ × List (Key × Cell Value))) → fold merge (view_at f s) (map (λ v. view_at v.0 v.1) views)
+    ≡ view_at (fold max f (map (λ v. v.0) views)) (s ++ flat_map (λ v. v.1) views)
 merged_onto f s [] = ap (view_at f) (sym (append-nil s))
 merged_onto f s (v ∷ views) =
     ap (λ (x : Facts). fold merge x (map (λ w. view_at w.0 w.1) views)) (sym (view_of_both f v.0 s v.1))

@@ -31,7 +31,8 @@ use Rattle.smp_bytes.proofs.Members.{contains_none, contains-from_filter, list_a
 
 -- a list whose cells all are kept
 all_there : (floor : ℕ) (cells : List (Key × Cell Value)) → All (λ s. IsTrue (is_kept floor s.1)) cells → kept floor cells ≡ cells
-all_there floor cells h = kept_whole floor cells (list_all_true (λ s. is_kept floor s.1) cells (λ x k. All-contains (λ s. IsTrue (is_kept floor s.1)) cells x h k))
+all_there floor cells h =
+    kept_whole floor cells (list_all_true (λ s. is_kept floor s.1) cells (λ x k. All-contains (λ s. IsTrue (is_kept floor s.1)) cells x h k))
 
 -- of cells that are there, one by one
 all_of_them : (P : Key × Cell Value → Type 0) (cells : List (Key × Cell Value)) → ((x : Key × Cell Value) → Contains cells x → P x) → All P cells
@@ -43,7 +44,8 @@ module _ (floor : ℕ) (cells : List (Key × Cell Value)) (are : AreHeld floor c
   pub found_is : facts.found ≡ seen cells
   found_is =
       ap (λ (x : Facts). x.found) (sym is)
-      ∙ dropped_none (max 1 floor) (seen cells) (ap (kept (max 1 floor)) same ∙ all_there (max 1 floor) cells (λ i x h. kept_from_one floor (get_or cells i x).1 ∙ are.kept i x h) ∙ sym same)
+      ∙ dropped_none (max 1 floor) (seen cells) (ap (kept (max 1 floor)) same ∙ all_there (max 1 floor) cells (λ i x h. kept_from_one floor (get_or cells i x).1
+      ∙ are.kept i x h) ∙ sym same)
     where
       same : entries (seen cells) ≡ cells
       same = entries-rising cells (held _ are.are.rising)
@@ -58,10 +60,12 @@ module _ (floor : ℕ) (cells : List (Key × Cell Value)) (are : AreHeld floor c
 
   -- a cell that stands at an index is that of its key
   pub get_at : (i : ℕ) (key : Key) (c : Cell Value) → slice_get cells i ≡ Some (key, c) → cell_for facts key ≡ Some c
-  get_at i key c e = contained_get facts.found key c (subst (λ (s : List (Key × Cell Value)). Contains s (key, c)) (sym entries_are) (contains_at cells i (key, c) e))
+  get_at i key c e =
+      contained_get facts.found key c (subst (λ (s : List (Key × Cell Value)). Contains s (key, c)) (sym entries_are) (contains_at cells i (key, c) e))
 
   -- the cell that a search found
-  pub found_at : (i : ℕ) (key : Key) (e : Key × Cell Value) → slice_get cells i ≡ Some e → (c : Cell Value) × (slice_get cells i ≡ Some (key, c)) → Some e.1 ≡ cell_for facts key
+  pub found_at : (i : ℕ) (key : Key) (e : Key × Cell Value) → slice_get cells i ≡ Some e → (c : Cell Value) × (slice_get cells i ≡ Some (key, c)) → Some e.1
+      ≡ cell_for facts key
   found_at i key e at found = ap Some (some_cell e (key, found.0) (sym at ∙ found.1)) ∙ sym (get_at i key found.0 found.1)
     where
       some_cell : (a b : Key × Cell Value) → Some a ≡ Some b → a.1 ≡ b.1
@@ -84,13 +88,15 @@ view-kept floor cells =
     ∙ same_facts (at_floor floor (dropped floor (seen cells))) (view_at floor cells) refl (dropped_twice floor (max 1 floor) (seen cells) (omega arith))
 
 -- above what was held
-pub raised_up : (floor greater : ℕ) (cells : List (Key × Cell Value)) (facts : Facts) → view_at floor cells ≡ facts → floor < greater → view_at greater (kept greater cells) ≡ raised facts greater
+pub raised_up : (floor greater : ℕ) (cells : List (Key × Cell Value)) (facts : Facts) → view_at floor cells ≡ facts → floor < greater
+    → view_at greater (kept greater cells) ≡ raised facts greater
 raised_up floor greater cells facts is h =
     view-kept greater cells ∙ at_same_floor greater (max floor greater) (seen cells) (omega arith) ∙ sym (raised_at floor greater (seen cells))
     ∙ ap (λ (x : Facts). raised x greater) is
 
 -- not above it
-pub raised_none : (floor lesser : ℕ) (cells : List (Key × Cell Value)) (facts : Facts) → view_at floor cells ≡ facts → lesser ≤ floor → facts ≡ raised facts lesser
+pub raised_none : (floor lesser : ℕ) (cells : List (Key × Cell Value)) (facts : Facts) → view_at floor cells ≡ facts → lesser ≤ floor → facts
+    ≡ raised facts lesser
 raised_none floor lesser cells facts is h =
     sym is ∙ at_same_floor floor (max floor lesser) (seen cells) (omega arith) ∙ sym (raised_at floor lesser (seen cells))
     ∙ ap (λ (x : Facts). raised x lesser) is
@@ -102,7 +108,8 @@ kept_held floor cells one are =
       from_one = one;
       are = record {
         rising = shown _ (rising_kept floor cells (held _ are.rising));
-        in_range = all_of_them IsSighting (kept floor cells) (λ x k. All-contains IsSighting cells x are.in_range (contains-from_filter (λ s. is_kept floor s.1) cells x k).0);
+        in_range = all_of_them IsSighting (kept floor cells)
+            (λ x k. All-contains IsSighting cells x are.in_range (contains-from_filter (λ s. is_kept floor s.1) cells x k).0);
       };
       kept = all_of_them (λ s. IsTrue (is_kept floor s.1)) (kept floor cells) (λ x k. (contains-from_filter (λ s. is_kept floor s.1) cells x k).1);
     }
@@ -131,7 +138,8 @@ one_kept floor x k q c e =
 merged_kept : (floor : ℕ) (u v : CellMap) → AllKept floor u → AllKept floor v → AllKept floor (merge_maps u v)
 merged_kept floor u v f g q c e = there (get u q) (get v q) (f q) (g q) (sym (get-merge_maps u v q) ∙ e)
   where
-    there : (o p : Option (Cell Value)) → ((d : Cell Value) → o ≡ Some d → is_kept floor d ≡ true) → ((d : Cell Value) → p ≡ Some d → is_kept floor d ≡ true) → joined_there o p ≡ Some c → is_kept floor c ≡ true
+    there : (o p : Option (Cell Value)) → ((d : Cell Value) → o ≡ Some d → is_kept floor d ≡ true) → ((d : Cell Value) → p ≡ Some d → is_kept floor d ≡ true)
+        → joined_there o p ≡ Some c → is_kept floor c ≡ true
     there None p f g i = g c i
     there (Some a) None f g i = f c i
     there (Some a) (Some b) f g i =
@@ -139,28 +147,33 @@ merged_kept floor u v f g q c e = there (get u q) (get v q) (f q) (g q) (sym (ge
         ∙ kept_newer floor a (join a b) (below-le a (join a b) (joined_above_first is_same_value same_value_exact same_value_itself a b)) (f a refl)
 
 -- and they are those of a store
-pub merged_held : (floor : ℕ) (u v : CellMap) (cells : List (Key × Cell Value)) → 1 ≤ floor → AllKept floor u → AllKept floor v → AreCells cells → seen cells ≡ merge_maps u v → AreHeld floor cells
+pub merged_held : (floor : ℕ) (u v : CellMap) (cells : List (Key × Cell Value)) → 1 ≤ floor → AllKept floor u → AllKept floor v → AreCells cells → seen cells
+    ≡ merge_maps u v → AreHeld floor cells
 merged_held floor u v cells one f g are is =
     record {
       from_one = one;
       are = are;
       kept = all_of_them (λ s. IsTrue (is_kept floor s.1)) cells (λ x k.
           merged_kept floor u v f g x.0 x.1
-          (ap (λ (m : CellMap). get m x.0) (sym is) ∙ contained_get (seen cells) x.0 x.1 (subst (λ (s : List (Key × Cell Value)). Contains s x) (sym (entries-rising cells (held _ are.rising))) k)));
+          (ap (λ (m : CellMap). get m x.0) (sym is)
+          ∙ contained_get (seen cells) x.0 x.1 (subst (λ (s : List (Key × Cell Value)). Contains s x) (sym (entries-rising cells (held _ are.rising))) k)));
     }
 
 -- at the greater floor their view is the merge of the views
-pub merged_view : (f h : ℕ) (a b cells : List (Key × Cell Value)) (x y : Facts) → view_at f a ≡ x → view_at h b ≡ y → seen cells ≡ merge_maps (seen a) (seen b) → view_at (max f h) cells ≡ merge x y
+pub merged_view : (f h : ℕ) (a b cells : List (Key × Cell Value)) (x y : Facts) → view_at f a ≡ x → view_at h b ≡ y → seen cells ≡ merge_maps (seen a) (seen b)
+    → view_at (max f h) cells ≡ merge x y
 merged_view f h a b cells x y ex ey is =
     ap (at_floor (max f h)) is ∙ sym (merge_at f h (seen a) (seen b)) ∙ ap (λ (z : Facts). merge z (view_at h b)) ex ∙ ap (merge x) ey
 
 -- one sighting that was put in
-pub put_in_view : (floor : ℕ) (was cells : List (Key × Cell Value)) (x : Key × Cell Value) → seen cells ≡ merge_maps (seen was) (seen (x ∷ [])) → view_at floor cells ≡ merge (view_at floor was) (view (x ∷ []))
+pub put_in_view : (floor : ℕ) (was cells : List (Key × Cell Value)) (x : Key × Cell Value) → seen cells ≡ merge_maps (seen was) (seen (x ∷ []))
+    → view_at floor cells ≡ merge (view_at floor was) (view (x ∷ []))
 put_in_view floor was cells x is =
     at_same_floor floor (max floor 1) (seen cells) (omega arith) ∙ merged_view floor 1 was (x ∷ []) cells (view_at floor was) (view (x ∷ [])) refl refl is
 
 -- facts merged into a store without cells get its floor
-pub none_held : (floor : ℕ) (cells : List (Key × Cell Value)) (facts : Facts) → view_at floor cells ≡ facts → length cells ≡ 0 → (x : Facts) → raised x floor ≡ merge facts x
+pub none_held : (floor : ℕ) (cells : List (Key × Cell Value)) (facts : Facts) → view_at floor cells ≡ facts → length cells ≡ 0 → (x : Facts) → raised x floor
+    ≡ merge facts x
 none_held floor cells facts is none x =
     sym (ap (λ (y : Facts). merge y x) (sym is ∙ ap (view_at floor) (nil_from_length cells none))
     ∙ ap (merge (view_at floor [])) (sym (at_own_floor x))
@@ -183,7 +196,8 @@ pub is_merge : (x y z : Facts) → z ≡ merge x y → IsMerge x y z
 is_merge x y z e = subst (IsMerge x y) (sym e) (merge_law x y)
 
 -- one more of a list is merged
-pub one_more_merged : (facts was new : Facts) (sightings : List (Key × Cell Value)) (i : ℕ) (x : Key × Cell Value) → x ≡ get_or sightings i x → i < length sightings → was ≡ merge facts (view (take i sightings)) → new ≡ merge was (view (x ∷ [])) → new ≡ merge facts (view (take (i + 1) sightings))
+pub one_more_merged : (facts was new : Facts) (sightings : List (Key × Cell Value)) (i : ℕ) (x : Key × Cell Value) → x ≡ get_or sightings i x → i
+    < length sightings → was ≡ merge facts (view (take i sightings)) → new ≡ merge was (view (x ∷ [])) → new ≡ merge facts (view (take (i + 1) sightings))
 one_more_merged facts was new sightings i x e h old is =
     is ∙ ap (λ (f : Facts). merge f (view (x ∷ []))) old ∙ merge_is_associative facts (view (take i sightings)) (view (x ∷ []))
     ∙ ap (merge facts) (sym (view_of_all 1 (take i sightings) (x ∷ [])) ∙ ap view (sym (taken sightings i x e h)))
@@ -191,7 +205,8 @@ one_more_merged facts was new sightings i x e h old is =
 -- the newest ------------------------------------------------------------------------------------
 
 -- one more of which the newest is sought
-pub newest_more : (s : List (Key × Cell Value)) (x : Key × Cell Value) (o : Option ℕ) (g : ℕ) → generation_of x.1 ≡ g → IsNewestAmong s o → IsNewestAmong (s ++ x ∷ []) (Some (max (unwrap_or o 0) g))
+pub newest_more : (s : List (Key × Cell Value)) (x : Key × Cell Value) (o : Option ℕ) (g : ℕ) → generation_of x.1 ≡ g → IsNewestAmong s o
+    → IsNewestAmong (s ++ x ∷ []) (Some (max (unwrap_or o 0) g))
 newest_more s x None g e n =
     subst (λ (m : ℕ). IsNewestAmong (s ++ x ∷ []) (Some m)) (omega arith)
     (newer_sighting s x g e (λ y k. absurd (contains_none y (subst (λ (z : List (Key × Cell Value)). Contains z y) n k))))
@@ -208,10 +223,12 @@ given_all given rest cells none all = sym (append-nil given) ∙ ap (λ (s : Lis
 -- there is no newest of all exactly where there are no cells
 pub none_of : (given cells : List (Key × Cell Value)) → given ≡ cells → (newest : Option ℕ) → IsNewestAmong given newest → IsNone newest ↔ (cells ≡ [])
 none_of given cells same None n = (λ _. sym same ∙ n, λ _. search rules)
-none_of given cells same (Some g) n = (λ h. absurd (cc h), λ e. absurd (contains_none n.0.0 (subst (λ (s : List (Key × Cell Value)). Contains s n.0.0) (same ∙ e) n.0.1)))
+none_of given cells same (Some g) n =
+    (λ h. absurd (cc h), λ e. absurd (contains_none n.0.0 (subst (λ (s : List (Key × Cell Value)). Contains s n.0.0) (same ∙ e) n.0.1)))
 
 -- the newest of all is that of the facts
-pub newest_of_all : (given cells : List (Key × Cell Value)) (facts : Facts) → facts.found ≡ seen cells → given ≡ cells → (newest : Option ℕ) → IsNewestAmong given newest → IfSome newest (IsNewestGeneration facts)
+pub newest_of_all : (given cells : List (Key × Cell Value)) (facts : Facts) → facts.found ≡ seen cells → given ≡ cells → (newest : Option ℕ)
+    → IsNewestAmong given newest → IfSome newest (IsNewestGeneration facts)
 newest_of_all given cells facts is same None n = tt
 newest_of_all given cells facts is same (Some g) n =
     subst (IsNewestGeneration facts) n.0.2 (newest_of_seen given n.0.0 n.0.1 (λ y k. omega (arith, n.0.2, n.1 y k)) facts (is ∙ ap seen (sym same)))

@@ -18,7 +18,9 @@ key_total = on_total key_numbers nat_list_cmp_total
 
 -- the key that has these numbers
 key_from : ℕ → ℕ → ℕ → Key
-key_from kind g p = cond (kind == 1) (Node g) (cond (kind == 2) (PortGuid g p) (cond (kind == 3) (Link g p) (cond (kind == 4) (Port g p) (cond (kind == 5) (Claim g p) (Cap g)))))
+key_from kind g p =
+    cond (kind == 1) (Node g)
+    (cond (kind == 2) (PortGuid g p) (cond (kind == 3) (Link g p) (cond (kind == 4) (Port g p) (cond (kind == 5) (Claim g p) (Cap g)))))
 
 -- the key of a list of numbers
 key_again : List ℕ → Key
@@ -36,7 +38,8 @@ key_from-numbers (Cap g) = refl
 
 -- only equal keys tie
 pub key_exact : IsAntisymmetric key_cmp
-key_exact a b e = sym (key_from-numbers a) ∙ ap key_again (slice_cmp-IsAntisymmetric nat_cmp-IsAntisymmetric (key_numbers a) (key_numbers b) e) ∙ key_from-numbers b
+key_exact a b e = sym (key_from-numbers a) ∙ ap key_again (slice_cmp-IsAntisymmetric nat_cmp-IsAntisymmetric (key_numbers a) (key_numbers b) e)
+    ∙ key_from-numbers b
 
 -- what tests as equal is
 pub equal_from_test : (r : Ordering) → is_eq r ≡ true → r ≡ Equal

@@ -51,19 +51,30 @@ there_antisymm None (Some d) f g = cc ((g d refl).1)
 there_antisymm (Some c) None f g = cc ((f c refl).1)
 there_antisymm (Some c) (Some d) f g =
     let x = f c refl in let y = g d refl in
-    ap Some (below_antisymm c d (subst (λ (z : Cell Value). IsBelow c z) (sym (the_same _ _ x.1)) x.2) (subst (λ (z : Cell Value). IsBelow d z) (sym (the_same _ _ y.1)) y.2))
+    ap Some (below_antisymm c d (subst (λ (z : Cell Value). IsBelow c z) (sym (the_same _ _ x.1)) x.2)
+    (subst (λ (z : Cell Value). IsBelow d z) (sym (the_same _ _ y.1)) y.2))
 
 -- the join is above the first
 above_first : (o p : Option (Cell Value)) → IsBelowThere o (joined_there o p)
 above_first None p c e = absurd (cc)
 above_first (Some a) None c e = (a, refl, subst (λ (z : Cell Value). IsBelow z a) (the_same a c e) (below_itself a))
-above_first (Some a) (Some b) c e = (join a b, refl, subst (λ (z : Cell Value). IsBelow z (join a b)) (the_same a c e) (joined_above_first is_same_value same_value_exact same_value_itself a b))
+above_first (Some a) (Some b) c e = (
+  join a b,
+  refl,
+  subst (λ (z : Cell Value). IsBelow z (join a b)) (the_same a c e)
+      (joined_above_first is_same_value same_value_exact same_value_itself a b),
+)
 
 -- the join is above the second
 above_second : (o p : Option (Cell Value)) → IsBelowThere p (joined_there o p)
 above_second None p c e = (c, e, below_itself c)
 above_second (Some a) None c e = absurd (cc)
-above_second (Some a) (Some b) c e = (join a b, refl, subst (λ (z : Cell Value). IsBelow z (join a b)) (the_same b c e) (joined_above_second is_same_value same_value_exact same_value_itself a b))
+above_second (Some a) (Some b) c e = (
+  join a b,
+  refl,
+  subst (λ (z : Cell Value). IsBelow z (join a b)) (the_same b c e)
+      (joined_above_second is_same_value same_value_exact same_value_itself a b),
+)
 
 -- the join is below all that is above both
 least : (o p w : Option (Cell Value)) → IsBelowThere o w → IsBelowThere p w → IsBelowThere (joined_there o p) w
@@ -74,7 +85,8 @@ least (Some a) (Some b) w f g c e =
       x.0,
       x.1,
       subst (λ (z : Cell Value). IsBelow z x.0) (the_same (join a b) c e)
-          (joined_least is_same_value same_value_exact same_value_itself a b x.0 x.2 (subst (λ (z : Cell Value). IsBelow b z) (the_same _ _ (sym y.1 ∙ x.1)) y.2)),
+          (joined_least is_same_value same_value_exact same_value_itself a b x.0 x.2 (subst (λ (z : Cell Value). IsBelow b z) (the_same _ _ (sym y.1
+          ∙ x.1)) y.2)),
     )
 
 -- what the merge has at a key ----------------------------------------------------
@@ -89,10 +101,13 @@ first_with None o = None
 first_with (Some c) o = Some (with_other o c)
 
 -- what is found among the joined cells of the first
-find-with : (es : List (Key × Cell Value)) (y : CellMap) (q : Key) → find key_cmp q (map (λ e. (e.0, option_map_or (join e.1) (get y e.0) e.1)) es) ≡ first_with (find key_cmp q es) (get y q)
+find-with : (es : List (Key × Cell Value)) (y : CellMap) (q : Key) → find key_cmp q (map (λ e. (e.0, option_map_or (join e.1) (get y e.0) e.1)) es)
+    ≡ first_with (find key_cmp q es) (get y q)
 find-with [] y q = refl
 find-with (e ∷ es) y q =
-    elim (eq_by_cmp key_cmp q e.0) as (λ t. eq_by_cmp key_cmp q e.0 ≡ t → cond t (Some (with_other (get y e.0) e.1)) (find key_cmp q (map (λ e. (e.0, option_map_or (join e.1) (get y e.0) e.1)) es)) ≡ first_with (cond t (Some e.1) (find key_cmp q es)) (get y q)) [
+    elim (eq_by_cmp key_cmp q e.0) as (λ t. eq_by_cmp key_cmp q e.0 ≡ t
+    → cond t (Some (with_other (get y e.0) e.1)) (find key_cmp q (map (λ e. (e.0, option_map_or (join e.1) (get y e.0) e.1)) es))
+    ≡ first_with (cond t (Some e.1) (find key_cmp q es)) (get y q)) [
       | true ↦ λ p. ap (λ k. Some (with_other (get y k) e.1)) (sym (key_exact q e.0 (equal_from_test _ p)))
       | false ↦ λ p. find-with es y q
     ] refl
@@ -106,7 +121,8 @@ or_else (Some c) p = Some c
 find-append : (es fs : List (Key × Cell Value)) (q : Key) → find key_cmp q (es ++ fs) ≡ or_else (find key_cmp q es) (find key_cmp q fs)
 find-append [] fs q = refl
 find-append (e ∷ es) fs q =
-    elim (eq_by_cmp key_cmp q e.0) as (λ t. cond t (Some e.1) (find key_cmp q (es ++ fs)) ≡ or_else (cond t (Some e.1) (find key_cmp q es)) (find key_cmp q fs)) [
+    elim (eq_by_cmp key_cmp q e.0) as (λ t. cond t (Some e.1) (find key_cmp q (es ++ fs))
+    ≡ or_else (cond t (Some e.1) (find key_cmp q es)) (find key_cmp q fs)) [
       | true ↦ refl
       | false ↦ find-append es fs q
     ]
@@ -144,7 +160,8 @@ merge_maps_law x y =
     record {
       above_first = λ q. subst (IsBelowThere (get x q)) (sym (get-merge_maps x y q)) (above_first (get x q) (get y q));
       above_second = λ q. subst (IsBelowThere (get y q)) (sym (get-merge_maps x y q)) (above_second (get x q) (get y q));
-      least = λ w f g q. subst (λ (o : Option (Cell Value)). IsBelowThere o (get w q)) (sym (get-merge_maps x y q)) (least (get x q) (get y q) (get w q) (f q) (g q));
+      least = λ w f g q.
+          subst (λ (o : Option (Cell Value)). IsBelowThere o (get w q)) (sym (get-merge_maps x y q)) (least (get x q) (get y q) (get w q) (f q) (g q));
     }
 
 -- two least facts above both are one
@@ -155,12 +172,18 @@ merge_maps_is_unique x y z w a b = maps_antisymm z w (a.least w b.above_first b.
 pub merge_maps_is_commutative : (x y : CellMap) → merge_maps x y ≡ merge_maps y x
 merge_maps_is_commutative x y =
     merge_maps_is_unique x y (merge_maps x y) (merge_maps y x) (merge_maps_law x y)
-    (record { above_first = (merge_maps_law y x).above_second; above_second = (merge_maps_law y x).above_first; least = λ w f g. (merge_maps_law y x).least w g f })
+    (record {
+      above_first = (merge_maps_law y x).above_second;
+      above_second = (merge_maps_law y x).above_first;
+      least =
+          λ w f g. (merge_maps_law y x).least w g f;
+    })
 
 -- facts merged with themselves stay
 pub merge_maps_is_idempotent : (x : CellMap) → merge_maps x x ≡ x
 merge_maps_is_idempotent x =
-    maps_antisymm (merge_maps x x) x ((merge_maps_law x x).least x (λ q c e. (c, e, below_itself c)) (λ q c e. (c, e, below_itself c))) (merge_maps_law x x).above_first
+    maps_antisymm (merge_maps x x) x ((merge_maps_law x x).least x (λ q c e. (c, e, below_itself c)) (λ q c e. (c, e, below_itself c)))
+    (merge_maps_law x x).above_first
 
 -- which of three are merged first does not matter
 pub merge_maps_is_associative : (x y z : CellMap) → merge_maps (merge_maps x y) z ≡ merge_maps x (merge_maps y z)

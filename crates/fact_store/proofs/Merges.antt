@@ -116,7 +116,8 @@ below_dropped x y b q c e =
     b.cells q c k.0 k.1
 
 -- a cell that is above one that is kept
-above_kept : (floor : ℕ) (u : CellMap) (q : Key) (c : Cell Value) → is_kept floor c ≡ true → (d : Cell Value) × (get u q ≡ Some d) × IsBelow c d → (d : Cell Value) × (get (dropped floor u) q ≡ Some d) × IsBelow c d
+above_kept : (floor : ℕ) (u : CellMap) (q : Key) (c : Cell Value) → is_kept floor c ≡ true → (d : Cell Value) × (get u q ≡ Some d) × IsBelow c d
+    → (d : Cell Value) × (get (dropped floor u) q ≡ Some d) × IsBelow c d
 above_kept floor u q c k d = (d.0, get-dropped floor u q ∙ is_kept_there floor (get u q) d.0 d.1 (kept_newer floor c d.0 (below-le c d.0 d.2) k), d.2)
 
 -- facts below each other are one
@@ -133,17 +134,27 @@ pub merge_law : MergeLaw
 merge_law x y =
     let maps = merge_maps_law x.found y.found in
     record {
-      above_first = record { floors = omega arith; cells = λ q c e k. above_kept (max 1 (max x.floor y.floor)) (merge_maps x.found y.found) q c k (maps.above_first q c e) };
-      above_second = record { floors = omega arith; cells = λ q c e k. above_kept (max 1 (max x.floor y.floor)) (merge_maps x.found y.found) q c k (maps.above_second q c e) };
+      above_first = record {
+        floors = omega arith;
+        cells =
+            λ q c e k. above_kept (max 1 (max x.floor y.floor)) (merge_maps x.found y.found) q c k (maps.above_first q c e);
+      };
+      above_second = record {
+        floors = omega arith;
+        cells =
+            λ q c e k. above_kept (max 1 (max x.floor y.floor)) (merge_maps x.found y.found) q c k (maps.above_second q c e);
+      };
       least = λ w a b. record {
         floors = omega (arith, a.floors, b.floors, floor_from_one w);
         cells = λ q c e k.
-            let there = kept_is (max 1 (max x.floor y.floor)) (get (merge_maps x.found y.found) q) c (sym (get-dropped (max 1 (max x.floor y.floor)) (merge_maps x.found y.found) q) ∙ e) in
+            let there = kept_is (max 1 (max x.floor y.floor)) (get (merge_maps x.found y.found) q) c
+            (sym (get-dropped (max 1 (max x.floor y.floor)) (merge_maps x.found y.found) q) ∙ e) in
             let left : get (dropped w.floor (merge_maps (dropped w.floor x.found) (dropped w.floor y.found))) q ≡ Some c =
             ap (λ (u : CellMap). get u q) (dropped_both w.floor w.floor w.floor x.found y.found (omega arith) (omega arith))
             ∙ get-dropped w.floor (merge_maps x.found y.found) q ∙ is_kept_there w.floor (get (merge_maps x.found y.found) q) c there.0 k in
             (merge_maps_law (dropped w.floor x.found) (dropped w.floor y.found)).least w.found (below_dropped x w a) (below_dropped y w b) q c
-            (kept_is w.floor (get (merge_maps (dropped w.floor x.found) (dropped w.floor y.found)) q) c (sym (get-dropped w.floor (merge_maps (dropped w.floor x.found) (dropped w.floor y.found)) q) ∙ left)).0;
+            (kept_is w.floor (get (merge_maps (dropped w.floor x.found) (dropped w.floor y.found)) q) c
+            (sym (get-dropped w.floor (merge_maps (dropped w.floor x.found) (dropped w.floor y.found)) q) ∙ left)).0;
       };
     }
 

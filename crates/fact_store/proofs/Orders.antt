@@ -65,11 +65,13 @@ found_contained (x ∷ es) q c e =
     ] refl e
 
 -- what is there in a list in order is found
-contained_found : (es : List (Key × Cell Value)) → T (sorted.is_sorted key_cmp es) → (q : Key) (c : Cell Value) → Contains es (q, c) → sorted.find key_cmp q es ≡ Some c
+contained_found : (es : List (Key × Cell Value)) → T (sorted.is_sorted key_cmp es) → (q : Key) (c : Cell Value) → Contains es (q, c) → sorted.find key_cmp q es
+    ≡ Some c
 contained_found [] h q c k = absurd (contains_none (q, c) k)
 contained_found (x ∷ es) h q c k =
     elim (contains_cases x (q, c) es k) [
-      | inl i ↦ subst (λ (z : Key × Cell Value). sorted.find key_cmp q (z ∷ es) ≡ Some c) (sym i) (ap (λ t. cond t (Some c) (sorted.find key_cmp q es)) (is_of_itself q c))
+      | inl i ↦ subst (λ (z : Key × Cell Value). sorted.find key_cmp q (z ∷ es)
+          ≡ Some c) (sym i) (ap (λ t. cond t (Some c) (sorted.find key_cmp q es)) (is_of_itself q c))
       | inr r ↦
           ap (λ o. cond (is_eq o) (Some x.1) (sorted.find key_cmp q es)) (greater_back x.0 q (below_at x.0 es (first_true _ _ h) (q, c) r))
           ∙ contained_found es (second_true _ _ h) q c r

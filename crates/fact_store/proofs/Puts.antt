@@ -22,7 +22,8 @@ use Rattle.fact_store.proofs.Seen.{is_of_itself, seen_of_both}
 pub join_in_range : (k : Key) (c d : Cell Value) → IsSighting (k, c) → IsSighting (k, d) → IsSighting (k, join c d)
 join_in_range k c d g h =
     in_range ((k, c) ∷ (k, d) ∷ []) each k (join c d)
-    (ap (λ (f : CellMap). get f k) (seen_of_both ((k, c) ∷ []) ((k, d) ∷ []) ∙ sym (seen_of_two k c d)) ∙ get-seen_of_one (k, join c d) k ∙ ap (λ t. cond t (Some (join c d)) None) (is_of_itself k (join c d)))
+    (ap (λ (f : CellMap). get f k) (seen_of_both ((k, c) ∷ []) ((k, d) ∷ []) ∙ sym (seen_of_two k c d)) ∙ get-seen_of_one (k, join c d) k
+    ∙ ap (λ t. cond t (Some (join c d)) None) (is_of_itself k (join c d)))
   where
     each : (x : Key × Cell Value) → Contains ((k, c) ∷ (k, d) ∷ []) x → IsSighting x
     each x n =
@@ -39,19 +40,23 @@ module _ (cells : List (Key × Cell Value)) (are : AreCells cells) (i : ℕ) (si
         record {
           rising = subst (λ (s : List (Key × Cell Value)). is_sorted key_cmp s ≡ true) (sym is) (index.rising sighting.1);
           in_range = subst (All IsSighting) (sym is)
-              (All-append IsSighting (take i cells) (sighting ∷ drop i cells) (All-take IsSighting i cells are.in_range) (All-cons IsSighting sighting (drop i cells) in_range' (All-drop IsSighting i cells are.in_range)));
+              (All-append IsSighting (take i cells) (sighting
+              ∷ drop i cells) (All-take IsSighting i cells are.in_range)
+              (All-cons IsSighting sighting (drop i cells) in_range' (All-drop IsSighting i cells are.in_range)));
         }
 
     -- and say what they said, and this
     pub put_seen : seen new ≡ merge_maps (seen cells) (seen (sighting ∷ []))
     put_seen = ap seen is ∙ seen-insert cells i sighting
 
-  module _ (was : Key × Cell Value) (at : slice_get cells i ≡ Some was) (same : was.0 ≡ sighting.0) (joined : Key × Cell Value) (joined_is : joined ≡ (was.0, join was.1 sighting.1)) (in_range' : IsSighting joined) (is : new ≡ set cells i joined) where
+  module _ (was : Key × Cell Value) (at : slice_get cells i ≡ Some was) (same : was.0 ≡ sighting.0) (joined : Key × Cell Value) (joined_is : joined
+      ≡ (was.0, join was.1 sighting.1)) (in_range' : IsSighting joined) (is : new ≡ set cells i joined) where
     -- the same, where the key has a cell
     pub joined_cells : AreCells new
     joined_cells =
         record {
-          rising = subst (λ (s : List (Key × Cell Value)). is_sorted key_cmp s ≡ true) (sym (is ∙ ap (set cells i) joined_is)) (shown _ (rising-set was.0 was.1 (join was.1 sighting.1) cells i at (held _ are.rising)));
+          rising = subst (λ (s : List (Key × Cell Value)). is_sorted key_cmp s
+              ≡ true) (sym (is ∙ ap (set cells i) joined_is)) (shown _ (rising-set was.0 was.1 (join was.1 sighting.1) cells i at (held _ are.rising)));
           in_range = subst (All IsSighting) (sym is) (All-set IsSighting cells i joined in_range' are.in_range);
         }
 

@@ -112,7 +112,8 @@ not_narrowed key cells =
     none : (j : ℕ) (e : Key × Cell Value) → length cells ≤ j → slice_get cells j ≡ Some e → ⊥
     none j e h k = elim (slice_get_cases cells j).1 [ inl w ↦ let low = w.1 in omega arith | inr w ↦ cc ]
 
-module _ (key : Key) (cells : List (Key × Cell Value)) (are : AreCells cells) (low high steps m : ℕ) (n : IsNarrowed key cells low high steps) (from : low ≤ m) (until : m < high) (e : Key × Cell Value)
+module _ (key : Key) (cells : List (Key × Cell Value)) (are : AreCells cells) (low high steps m : ℕ) (n : IsNarrowed key cells low high steps) (from : low
+    ≤ m) (until : m < high) (e : Key × Cell Value)
     (at : slice_get cells m ≡ Some e) where
   -- above a lesser key
   pub narrowed_up : key_cmp e.0 key ≡ Less → IsNarrowed key cells (m + 1) high (steps + 1)
@@ -164,7 +165,8 @@ module _ (key : Key) (cells : List (Key × Cell Value)) (are : AreCells cells) (
       }
 
 -- where no index is left
-pub ends_without : (key : Key) (cells : List (Key × Cell Value)) (low high steps : ℕ) → IsNarrowed key cells low high steps → high ≤ low → CountsSearch key cells steps
+pub ends_without : (key : Key) (cells : List (Key × Cell Value)) (low high steps : ℕ) → IsNarrowed key cells low high steps → high ≤ low
+    → CountsSearch key cells steps
 ends_without key cells low high steps n h =
     record { compared = n.compared; is_search = without n.compared low high n.leaves h; counted = n.counted }
 
@@ -194,17 +196,20 @@ module _ (key : Key) (cells : List (Key × Cell Value)) (are : AreCells cells) (
   stands_between h g =
       let e = less_there key (slice_get cells m) h in
       let within : m < length cells = elim (slice_get_cases cells m).1 [ inl w ↦ w.1 | inr w ↦ absurd (cc) ] in
-      let up : IsNarrowed key cells (m + 1) (length cells) 1 = narrowed_up key cells are 0 (length cells) 0 m (not_narrowed key cells) (omega arith) within e.0 e.1 e.2 in
+      let up : IsNarrowed key cells (m + 1) (length cells) 1 =
+      narrowed_up key cells are 0 (length cells) 0 m (not_narrowed key cells) (omega arith) within e.0 e.1 e.2 in
       elim (slice_get_cases cells (m + 1)).1 [
         | inl w ↦
             let greater : key_cmp w.0.0 key ≡ Greater = sym (g ∙ ap (order_of key) w.2) in
-            let down : IsNarrowed key cells (m + 1) (m + 1) 2 = narrowed_down key cells are (m + 1) (length cells) 1 (m + 1) up (omega arith) w.1 w.0 w.2 greater in
+            let down : IsNarrowed key cells (m + 1) (m + 1) 2 =
+            narrowed_down key cells are (m + 1) (length cells) 1 (m + 1) up (omega arith) w.1 w.0 w.2 greater in
             ends_at cells (m + 1) key (held _ are.rising) (omega arith) down.below down.above
         | inr w ↦ ends_at cells (m + 1) key (held _ are.rising) (omega arith) up.below (λ j f h k. up.above j f (omega (arith, w.0)) k)
       ]
 
 -- a key after the last one goes in at the end
-pub behind_last : (key : Key) (cells : List (Key × Cell Value)) (are : AreCells cells) (m : ℕ) → m + 1 ≡ length cells → Less ≡ order_of key (slice_get cells m) → IsIndexFor key cells (length cells)
+pub behind_last : (key : Key) (cells : List (Key × Cell Value)) (are : AreCells cells) (m : ℕ) → m + 1 ≡ length cells → Less ≡ order_of key (slice_get cells m)
+    → IsIndexFor key cells (length cells)
 behind_last key cells are m end less =
     let none : Greater ≡ order_of key (slice_get cells (m + 1)) = elim (slice_get_cases cells (m + 1)).1 [
       | inl w ↦ absurd (let low = w.1 in omega arith)

@@ -33,7 +33,8 @@ pub generation-agreement : (g : ℕ) (a : Cell Value) (cells : List (Cell Value)
 generation-agreement g a cells e = elim (list_all (is_same_cell a) cells) as (λ t. generation_of (cond t a (Disputed g)) ≡ g) [ true ↦ e | false ↦ refl ]
 
 -- what they say is above each of them
-agreement_above : (g : ℕ) (a : Cell Value) (cells : List (Cell Value)) → AreAt g (a ∷ cells) → (c : Cell Value) → Contains (a ∷ cells) c → IsBelow c (agreement g (a ∷ cells))
+agreement_above : (g : ℕ) (a : Cell Value) (cells : List (Cell Value)) → AreAt g (a ∷ cells) → (c : Cell Value) → Contains (a ∷ cells) c
+    → IsBelow c (agreement g (a ∷ cells))
 unfolding AreAt
 agreement_above g a cells at c h =
     elim (list_all (is_same_cell a) cells) as (λ t. list_all (is_same_cell a) cells ≡ t → IsBelow c (cond t a (Disputed g))) [
@@ -51,16 +52,19 @@ known_is g v c z e k (inr (inl h)) = h
 known_is g v c z e k (inr (inr h)) = absurd (subst (λ (x : Cell Value). IsDisputed x) k h.1)
 
 -- where a value is above all, they say that value
-agreement_least_known : (g : ℕ) (v : Value) (a : Cell Value) (cells : List (Cell Value)) (z : Cell Value) → AreAt g (a ∷ cells) → z ≡ Known g v → ((c : Cell Value) → Contains (a ∷ cells) c → IsBelow c z) → agreement g (a ∷ cells) ≡ z
+agreement_least_known : (g : ℕ) (v : Value) (a : Cell Value) (cells : List (Cell Value)) (z : Cell Value) → AreAt g (a ∷ cells) → z ≡ Known g v
+    → ((c : Cell Value) → Contains (a ∷ cells) c → IsBelow c z) → agreement g (a ∷ cells) ≡ z
 unfolding AreAt
 agreement_least_known g v a cells z at k f =
     let is_z : (c : Cell Value) → Contains (a ∷ cells) c → c ≡ z = λ c h. known_is g v c z (at c h) k (f c h) in
     let a_is : a ≡ z = is_z a (contains_here a cells) in
-    let all : list_all (is_same_cell a) cells ≡ true = list_all_true (is_same_cell a) cells (λ c h. ap (is_same_cell a) (is_z c (contains_later a c cells h) ∙ sym a_is) ∙ same_cell_itself a) in
+    let all : list_all (is_same_cell a) cells ≡ true =
+    list_all_true (is_same_cell a) cells (λ c h. ap (is_same_cell a) (is_z c (contains_later a c cells h) ∙ sym a_is) ∙ same_cell_itself a) in
     ap (λ t. cond t a (Disputed g)) all ∙ a_is
 
 -- what they say is below all that is above them
-agreement_least : (g : ℕ) (a : Cell Value) (cells : List (Cell Value)) (z : Cell Value) → AreAt g (a ∷ cells) → ((c : Cell Value) → Contains (a ∷ cells) c → IsBelow c z) → IsBelow (agreement g (a ∷ cells)) z
+agreement_least : (g : ℕ) (a : Cell Value) (cells : List (Cell Value)) (z : Cell Value) → AreAt g (a ∷ cells)
+    → ((c : Cell Value) → Contains (a ∷ cells) c → IsBelow c z) → IsBelow (agreement g (a ∷ cells)) z
 unfolding AreAt
 agreement_least g a cells z at f =
     let ga : generation_of a ≡ g = at a (contains_here a cells) in
@@ -69,7 +73,8 @@ agreement_least g a cells z at f =
       | inl h ↦ inl (omega arith)
       | inr (inr h) ↦ inr (inr (gr ∙ sym ga ∙ h.0, h.1))
       | inr (inl e) ↦ (elim z as (λ y. z ≡ y → IsBelow (agreement g (a ∷ cells)) z) [
-        | Known m v ↦ λ k. inr (inl (agreement_least_known g v a cells z at (k ∙ ap (λ n. Known n v) (sym (ap generation_of k) ∙ sym (ap generation_of e) ∙ ga)) f))
+        | Known m v ↦ λ k.
+            inr (inl (agreement_least_known g v a cells z at (k ∙ ap (λ n. Known n v) (sym (ap generation_of k) ∙ sym (ap generation_of e) ∙ ga)) f))
         | Disputed m ↦ λ k. inr (inr (gr ∙ sym ga ∙ ap generation_of e, subst (λ (x : Cell Value). IsDisputed x) (sym k) tt))
       ] refl)
     ]
@@ -91,7 +96,8 @@ newest_above (a ∷ cells) c h =
 
 -- of two numbers one is at most the other
 le_cases : (m n : ℕ) → (n ≤ m) ⊎ (m ≤ n)
-le_cases m n = elim (nat_lt m n) as (λ t. nat_lt m n ≡ t → (n ≤ m) ⊎ (m ≤ n)) [ true ↦ λ p. inr (omega (arith, ltb-true m n p)) | false ↦ λ p. inl (ltb-false m n p) ] refl
+le_cases m n = elim (nat_lt m n) as (λ t. nat_lt m n ≡ t → (n ≤ m)
+    ⊎ (m ≤ n)) [ true ↦ λ p. inr (omega (arith, ltb-true m n p)) | false ↦ λ p. inl (ltb-false m n p) ] refl
 
 -- some cell has the newest generation
 pub newest_there : (a : Cell Value) (cells : List (Cell Value)) → (c : Cell Value) × Contains (a ∷ cells) c × (generation_of c ≡ newest_of (a ∷ cells))
@@ -121,7 +127,8 @@ not_at g c h e =
     ] refl
 
 -- what the newest cells say is above every cell
-agreed_above : (g : ℕ) (cells at : List (Cell Value)) → at ≡ filter (is_at g) cells → (w : Cell Value) → Contains at w → (c : Cell Value) → Contains cells c → generation_of c ≤ g → IsBelow c (agreement g at)
+agreed_above : (g : ℕ) (cells at : List (Cell Value)) → at ≡ filter (is_at g) cells → (w : Cell Value) → Contains at w → (c : Cell Value) → Contains cells c
+    → generation_of c ≤ g → IsBelow c (agreement g at)
 unfolding AreAt
 agreed_above g cells [] e w k c h l = absurd (contains_none w k)
 agreed_above g cells (a ∷ rest) e w k c h l =
@@ -133,7 +140,8 @@ agreed_above g cells (a ∷ rest) e w k c h l =
     ] refl
 
 -- and below all that is above every cell
-agreed_least : (g : ℕ) (cells at : List (Cell Value)) → at ≡ filter (is_at g) cells → (w : Cell Value) → Contains at w → (z : Cell Value) → ((c : Cell Value) → Contains cells c → IsBelow c z) → IsBelow (agreement g at) z
+agreed_least : (g : ℕ) (cells at : List (Cell Value)) → at ≡ filter (is_at g) cells → (w : Cell Value) → Contains at w → (z : Cell Value)
+    → ((c : Cell Value) → Contains cells c → IsBelow c z) → IsBelow (agreement g at) z
 agreed_least g cells [] e w k z f = absurd (contains_none w k)
 agreed_least g cells (a ∷ rest) e w k z f =
     agreement_least g a rest z (filtered_at g cells (a ∷ rest) e)
@@ -153,7 +161,8 @@ summary_above cells c h =
     agreed_above (newest_of cells) cells (filter (is_at (newest_of cells)) cells) refl w.0 w.1 c h (newest_above cells c h)
 
 -- and below all that is above them
-pub summary_least : (cells : List (Cell Value)) (w z : Cell Value) → Contains cells w → ((c : Cell Value) → Contains cells c → IsBelow c z) → IsBelow (summary cells) z
+pub summary_least : (cells : List (Cell Value)) (w z : Cell Value) → Contains cells w → ((c : Cell Value) → Contains cells c → IsBelow c z)
+    → IsBelow (summary cells) z
 summary_least cells w z h f =
     let k = newest_kept cells w h in
     agreed_least (newest_of cells) cells (filter (is_at (newest_of cells)) cells) refl k.0 k.1 z f
@@ -196,19 +205,23 @@ sighted_from_cells q (x ∷ s) c h =
     ] refl h
 
 -- what is found among cells made by a function of the key
-find-cells : (f : Key → Cell Value) (xs : List (Key × Cell Value)) (q : Key) → find key_cmp q (map (λ x. (x.0, f x.0)) xs) ≡ cond (list_any (is_of q) xs) (Some (f q)) None
+find-cells : (f : Key → Cell Value) (xs : List (Key × Cell Value)) (q : Key) → find key_cmp q (map (λ x. (x.0, f x.0)) xs)
+    ≡ cond (list_any (is_of q) xs) (Some (f q)) None
 find-cells f [] q = refl
 find-cells f (x ∷ xs) q =
-    elim (is_of q x) as (λ t. is_of q x ≡ t → cond t (Some (f x.0)) (find key_cmp q (map (λ y. (y.0, f y.0)) xs)) ≡ cond (t || list_any (is_of q) xs) (Some (f q)) None) [
+    elim (is_of q x) as (λ t. is_of q x ≡ t → cond t (Some (f x.0)) (find key_cmp q (map (λ y. (y.0, f y.0)) xs))
+    ≡ cond (t || list_any (is_of q) xs) (Some (f q)) None) [
       | true ↦ λ p. ap (λ k. Some (f k)) (sym (key_exact q x.0 (equal_from_test _ p)))
       | false ↦ λ p. find-cells f xs q
     ] refl
 
 -- a key was never sighted, or has some cell
-some_or_none : (q : Key) (s : List (Key × Cell Value)) → ((list_any (is_of q) s ≡ false) × (cells_sighted q s ≡ [])) ⊎ ((list_any (is_of q) s ≡ true) × ((c : Cell Value) × Contains (cells_sighted q s) c))
+some_or_none : (q : Key) (s : List (Key × Cell Value)) → ((list_any (is_of q) s ≡ false) × (cells_sighted q s ≡ []))
+    ⊎ ((list_any (is_of q) s ≡ true) × ((c : Cell Value) × Contains (cells_sighted q s) c))
 some_or_none q [] = inl (refl, refl)
 some_or_none q (x ∷ s) =
-    elim (is_of q x) as (λ t. (((t || list_any (is_of q) s) ≡ false) × (map (λ y. y.1) (cond t (x ∷ filter (is_of q) s) (filter (is_of q) s)) ≡ [])) ⊎ (((t || list_any (is_of q) s) ≡ true) × ((c : Cell Value) × Contains (map (λ y. y.1) (cond t (x ∷ filter (is_of q) s) (filter (is_of q) s))) c))) [
+    elim (is_of q x) as (λ t. (((t || list_any (is_of q) s) ≡ false) × (map (λ y. y.1) (cond t (x ∷ filter (is_of q) s) (filter (is_of q) s)) ≡ []))
+    ⊎ (((t || list_any (is_of q) s) ≡ true) × ((c : Cell Value) × Contains (map (λ y. y.1) (cond t (x ∷ filter (is_of q) s) (filter (is_of q) s))) c))) [
       | true ↦ inr (refl, (x.1, contains_here x.1 (cells_sighted q s)))
       | false ↦ some_or_none q s
     ]
@@ -239,7 +252,8 @@ seen_above s q c h =
     ]
 
 -- and below all that is
-pub seen_least : (s : List (Key × Cell Value)) (z : CellMap) → ((q : Key) (c : Cell Value) → Contains s (q, c) → (d : Cell Value) × (get z q ≡ Some d) × IsBelow c d) → IsBelowMap (seen s) z
+pub seen_least : (s : List (Key × Cell Value)) (z : CellMap) → ((q : Key) (c : Cell Value) → Contains s (q, c) → (d : Cell Value) × (get z q ≡ Some d)
+    × IsBelow c d) → IsBelowMap (seen s) z
 seen_least s z f q c e =
     elim (at_key s q) [
       | never_sighted n m ↦ absurd (cc)
@@ -248,7 +262,8 @@ seen_least s z f q c e =
             x.0,
             x.1,
             subst (λ (y : Cell Value). IsBelow y x.0) (the_same (cell_at q s) c (sym p ∙ e))
-                (summary_least (cells_sighted q s) w x.0 k (λ c' h. let y = f q c' (sighted_from_cells q s c' h) in subst (λ (v : Cell Value). IsBelow c' v) (the_same y.0 x.0 (sym y.1 ∙ x.1)) y.2)),
+                (summary_least (cells_sighted q s) w x.0 k (λ c' h. let y = f q c' (sighted_from_cells q s c' h) in
+                subst (λ (v : Cell Value). IsBelow c' v) (the_same y.0 x.0 (sym y.1 ∙ x.1)) y.2)),
           )
     ]
 
@@ -262,7 +277,8 @@ members_decide_seen s t same =
     (seen_least t (seen s) (λ q c h. seen_above s q c (same.1 (q, c) h)))
 
 -- what is below a cell of the first is below one of the second
-lifted : (x y : CellMap) (q : Key) (c : Cell Value) → IsBelowMap x y → (d : Cell Value) × (get x q ≡ Some d) × IsBelow c d → (d : Cell Value) × (get y q ≡ Some d) × IsBelow c d
+lifted : (x y : CellMap) (q : Key) (c : Cell Value) → IsBelowMap x y → (d : Cell Value) × (get x q ≡ Some d) × IsBelow c d → (d : Cell Value)
+    × (get y q ≡ Some d) × IsBelow c d
 lifted x y q c f a = let b = f q a.0 a.1 in (b.0, b.1, below_trans c a.0 b.0 a.2 b.2)
 
 -- the map of both lists is the merge of theirs

@@ -114,7 +114,8 @@ newest_in q s (Known g v) a = a.0
 newest_in q s (Disputed g) a = a.0
 
 -- the law leaves one answer at a key
-same_there : (q : Key) (s : List (Key × Cell Value)) (o p : Option (Cell Value)) → MatchOption o ((c : Cell Value) → WasSighted q s c → ⊥) (IsCellIn q s) → MatchOption p ((c : Cell Value) → WasSighted q s c → ⊥) (IsCellIn q s) → o ≡ p
+same_there : (q : Key) (s : List (Key × Cell Value)) (o p : Option (Cell Value)) → MatchOption o ((c : Cell Value) → WasSighted q s c → ⊥) (IsCellIn q s)
+    → MatchOption p ((c : Cell Value) → WasSighted q s c → ⊥) (IsCellIn q s) → o ≡ p
 same_there q s None None a b = refl
 same_there q s None (Some d) a b = let n = (newest_in q s d b).sighted in absurd (a n.0 n.1)
 same_there q s (Some c) None a b = let n = (newest_in q s c a).sighted in absurd (b n.0 n.1)

@@ -36,7 +36,8 @@ get-seen_of_one x q =
     ] refl
 
 -- one sighting more joins its cell to what the key has
-pub get-seen_of_more : (s : List (Key × Cell Value)) (x : Key × Cell Value) (q : Key) → get (seen (s ++ x ∷ [])) q ≡ joined_there (get (seen s) q) (cond (is_of q x) (Some x.1) None)
+pub get-seen_of_more : (s : List (Key × Cell Value)) (x : Key × Cell Value) (q : Key) → get (seen (s ++ x ∷ [])) q
+    ≡ joined_there (get (seen s) q) (cond (is_of q x) (Some x.1) None)
 get-seen_of_more s x q =
     ap (λ (f : CellMap). get f q) (seen_of_both s (x ∷ []))
     ∙ get-merge_maps (seen s) (seen (x ∷ [])) q
@@ -57,7 +58,8 @@ newest_at s q d e = newest_in q s d (cell_in s q d e)
 -- ranges ----------------------------------------------------------------------------------------
 
 -- what sightings in range say is in range
-sighting_in : (s : List (Key × Cell Value)) → ((x : Key × Cell Value) → Contains s x → IsSighting x) → (q : Key) (d : Cell Value) → IsCellIn q s d → IsSighting (q, d)
+sighting_in : (s : List (Key × Cell Value)) → ((x : Key × Cell Value) → Contains s x → IsSighting x) → (q : Key) (d : Cell Value) → IsCellIn q s d
+    → IsSighting (q, d)
 sighting_in s f q (Known g v) i =
     let n = i.0.sighted in subst (λ (c : Cell Value). IsSighting (q, c)) (i.1 n.0 n.1 n.2) (f (q, n.0) n.1)
 sighting_in s f q (Disputed g) i =
@@ -67,13 +69,16 @@ sighting_in s f q (Disputed g) i =
     ap (λ b. b && true) (ap (λ k. is_key q && is_generation k) (sym n.2) ∙ parts.0)
 
 -- a map of sightings in range is in range
-pub in_range : (s : List (Key × Cell Value)) → ((x : Key × Cell Value) → Contains s x → IsSighting x) → (q : Key) (d : Cell Value) → get (seen s) q ≡ Some d → IsSighting (q, d)
+pub in_range : (s : List (Key × Cell Value)) → ((x : Key × Cell Value) → Contains s x → IsSighting x) → (q : Key) (d : Cell Value) → get (seen s) q ≡ Some d
+    → IsSighting (q, d)
 in_range s f q d e = sighting_in s f q d (cell_in s q d e)
 
 -- generations -------------------------------------------------------------------------------------
 
 -- the newest generation of the sightings is that of facts that are their map
-pub newest_of_seen : (s : List (Key × Cell Value)) (x : Key × Cell Value) → Contains s x → ((y : Key × Cell Value) → Contains s y → generation_of y.1 ≤ generation_of x.1) → (facts : Facts) → facts.found ≡ seen s → IsNewestGeneration facts (generation_of x.1)
+pub newest_of_seen : (s : List (Key × Cell Value)) (x : Key × Cell Value) → Contains s x
+    → ((y : Key × Cell Value) → Contains s y → generation_of y.1 ≤ generation_of x.1) → (facts : Facts) → facts.found ≡ seen s
+    → IsNewestGeneration facts (generation_of x.1)
 newest_of_seen s x h f facts is =
     let d = seen_above s x.0 x.1 h in
     let n = (newest_at s x.0 d.0 d.1).sighted in
@@ -92,15 +97,19 @@ pub contained_one : (x y : Key × Cell Value) → Contains (x ∷ []) y → x �
 contained_one x y h = elim (contains_cases x y [] h) [ inl e ↦ e | inr k ↦ absurd (contains_none y k) ]
 
 -- one sighting more that is at least as new as all before it
-pub newer_sighting : (s : List (Key × Cell Value)) (x : Key × Cell Value) (g : ℕ) → generation_of x.1 ≡ g → ((y : Key × Cell Value) → Contains s y → generation_of y.1 ≤ g) → IsNewestAmong (s ++ x ∷ []) (Some g)
+pub newer_sighting : (s : List (Key × Cell Value)) (x : Key × Cell Value) (g : ℕ) → generation_of x.1 ≡ g
+    → ((y : Key × Cell Value) → Contains s y → generation_of y.1 ≤ g) → IsNewestAmong (s ++ x ∷ []) (Some g)
 newer_sighting s x g e f = (
   (x, Contains-append_right s (x ∷ []) x (contains_here x []), e),
-  λ y h. elim (Contains-append_cases s (x ∷ []) y h) [ inl k ↦ f y k | inr k ↦ omega (arith, e, ap (λ (z : Key × Cell Value). generation_of z.1) (contained_one x y k)) ],
+  λ y h. elim (Contains-append_cases s (x
+      ∷ []) y h) [ inl k ↦ f y k | inr k ↦ omega (arith, e, ap (λ (z : Key × Cell Value). generation_of z.1) (contained_one x y k)) ],
 )
 
 -- one sighting more that is no newer
-pub older_sighting : (s : List (Key × Cell Value)) (x : Key × Cell Value) (g : ℕ) → generation_of x.1 ≤ g → IsNewestAmong s (Some g) → IsNewestAmong (s ++ x ∷ []) (Some g)
+pub older_sighting : (s : List (Key × Cell Value)) (x : Key × Cell Value) (g : ℕ) → generation_of x.1 ≤ g → IsNewestAmong s (Some g)
+    → IsNewestAmong (s ++ x ∷ []) (Some g)
 older_sighting s x g l n = (
   (n.0.0, Contains-append_left s (x ∷ []) n.0.0 n.0.1, n.0.2),
-  λ y h. elim (Contains-append_cases s (x ∷ []) y h) [ inl k ↦ n.1 y k | inr k ↦ omega (arith, ap (λ (z : Key × Cell Value). generation_of z.1) (contained_one x y k)) ],
+  λ y h. elim (Contains-append_cases s (x
+      ∷ []) y h) [ inl k ↦ n.1 y k | inr k ↦ omega (arith, ap (λ (z : Key × Cell Value). generation_of z.1) (contained_one x y k)) ],
 )

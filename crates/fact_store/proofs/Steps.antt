@@ -6,5 +6,6 @@ use Rattle.fact_store.specs.declared.key.Key.{Key}
 use Rattle.fact_store.specs.declared.value.Value.{Value}
 
 -- the sightings up to the next are those so far and this one
-pub taken : (items : List (Key × Cell Value)) (i : ℕ) (x : Key × Cell Value) → x ≡ get_or items i x → i < length items → take (i + 1) items ≡ take i items ++ x ∷ []
+pub taken : (items : List (Key × Cell Value)) (i : ℕ) (x : Key × Cell Value) → x ≡ get_or items i x → i < length items → take (i + 1) items ≡ take i items ++ x
+    ∷ []
 taken items i x e h = take_more items i x h ∙ ap (λ (y : Key × Cell Value). take i items ++ y ∷ []) (sym e)

@@ -86,7 +86,8 @@ sightings_at_floor x s =
     ∙ ap (λ (z : Facts). merge z (view s)) (view_of_its_cells x)
 
 -- a sighting below the floor tells nothing
-pub sighting_below : (floor : ℕ) (s : List (Key × Cell Value)) (x : Key × Cell Value) → is_kept floor x.1 ≡ false → view_at floor s ≡ merge (view_at floor s) (view (x ∷ []))
+pub sighting_below : (floor : ℕ) (s : List (Key × Cell Value)) (x : Key × Cell Value) → is_kept floor x.1 ≡ false → view_at floor s
+    ≡ merge (view_at floor s) (view (x ∷ []))
 sighting_below floor s x e =
     ap (view_at floor) (sym (append-nil s)) ∙ view_of_all floor s []
     ∙ ap (merge (view_at floor s)) (same_facts (view_at floor []) (view_at floor (x ∷ [])) refl

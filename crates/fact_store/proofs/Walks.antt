@@ -34,7 +34,8 @@ pub record IsWalked (first second done a b : List (Key × Cell Value)) (steps : 
 
 module _ (first second done s t : List (Key × Cell Value)) (x y : Key × Cell Value) (steps : ℕ) (w : IsWalked first second done (x ∷ s) (y ∷ t) steps) where
   -- what is compared after this depends on the order of the two keys
-  by_key : {o : Ordering} → key_cmp x.0 y.0 ≡ o → compared_by_walk (x ∷ s) (y ∷ t) ≡ 1 + by_order o (compared_by_walk s (y ∷ t)) (compared_by_walk s t) (compared_by_walk (x ∷ s) t)
+  by_key : {o : Ordering} → key_cmp x.0 y.0 ≡ o → compared_by_walk (x ∷ s) (y ∷ t) ≡ 1
+      + by_order o (compared_by_walk s (y ∷ t)) (compared_by_walk s t) (compared_by_walk (x ∷ s) t)
   by_key e = ap (λ (o : Ordering). 1 + by_order o (compared_by_walk s (y ∷ t)) (compared_by_walk s t) (compared_by_walk (x ∷ s) t)) e
 
   -- the first one's key is less
@@ -71,7 +72,8 @@ module _ (first second done s t : List (Key × Cell Value)) (x y : Key × Cell V
       record {
         same = seen-step_both done s t x.0 x.1 y.1 ∙ ap (λ (k : Key). seen (done ++ (x ∷ s ++ (k, y.1) ∷ t))) e ∙ w.same;
         a_rising = rising-move done s x (join x.1 y.1) w.a_rising;
-        b_rising = subst (λ (k : Key). T (sorted.is_sorted key_cmp ((done ++ (k, join x.1 y.1) ∷ []) ++ t))) (sym e) (rising-move done t y (join x.1 y.1) w.b_rising);
+        b_rising = subst (λ (k : Key). T (sorted.is_sorted key_cmp ((done ++ (k, join x.1 y.1) ∷ []) ++ t))) (sym e)
+            (rising-move done t y (join x.1 y.1) w.b_rising);
         done_in = All-push IsSighting done (x.0, join x.1 y.1) w.done_in h;
         a_in = All-tail IsSighting x s w.a_in;
         b_in = All-tail IsSighting y t w.b_in;
@@ -80,19 +82,22 @@ module _ (first second done s t : List (Key × Cell Value)) (x y : Key × Cell V
       }
 
 -- the same walk, of lists that are these
-pub walked_to : (first second d d' a a' b b' : List (Key × Cell Value)) (s s' : ℕ) → IsWalked first second d a b s → d' ≡ d → a' ≡ a → b' ≡ b → s' ≡ s → IsWalked first second d' a' b' s'
+pub walked_to : (first second d d' a a' b b' : List (Key × Cell Value)) (s s' : ℕ) → IsWalked first second d a b s → d' ≡ d → a' ≡ a → b' ≡ b → s' ≡ s
+    → IsWalked first second d' a' b' s'
 walked_to first second d d' a a' b b' s s' w ed ea eb es =
     subst (λ (x : List (Key × Cell Value)). IsWalked first second x a' b' s') (sym ed)
     (subst (λ (x : List (Key × Cell Value)). IsWalked first second d x b' s') (sym ea)
     (subst (λ (x : List (Key × Cell Value)). IsWalked first second d a x s') (sym eb) (subst (λ (n : ℕ). IsWalked first second d a b n) (sym es) w)))
 
 -- what an iterator gave and what it has left is what it had
-pub next_left : (r : Option (Key × Cell Value)) (s t : List (Key × Cell Value)) → MatchOption r ((s ≡ []) × (t ≡ [])) (λ x. s ≡ x ∷ t) → option_to_list r ++ t ≡ s
+pub next_left : (r : Option (Key × Cell Value)) (s t : List (Key × Cell Value)) → MatchOption r ((s ≡ []) × (t ≡ [])) (λ x. s ≡ x ∷ t) → option_to_list r ++ t
+    ≡ s
 next_left None s t h = h.1 ∙ sym h.0
 next_left (Some x) s t h = sym h
 
 -- with nothing left of one, the other's rest goes to the end
-pub walked_all : (first second d a b all : List (Key × Cell Value)) (s : ℕ) → IsWalked first second d a b s → (a ≡ []) ⊎ (b ≡ []) → all ≡ (d ++ a) ++ b → AreCells all × (seen all ≡ seen (first ++ second))
+pub walked_all : (first second d a b all : List (Key × Cell Value)) (s : ℕ) → IsWalked first second d a b s → (a ≡ []) ⊎ (b ≡ []) → all ≡ (d ++ a) ++ b
+    → AreCells all × (seen all ≡ seen (first ++ second))
 walked_all first second d a b all s w (inl e) is =
     let same : all ≡ d ++ b = is ∙ ap (λ (z : List (Key × Cell Value)). (d ++ z) ++ b) e ∙ ap (λ (z : List (Key × Cell Value)). z ++ b) (append-nil d) in (
       record {
@@ -116,7 +121,8 @@ nothing_left None s t h e = h.1
 nothing_left (Some x) s t h e = absurd (cc)
 
 -- before the first step
-pub walked_start : (first second d a b : List (Key × Cell Value)) (s : ℕ) → AreCells first → AreCells second → d ≡ [] → a ≡ first → b ≡ second → s ≡ 0 → IsWalked first second d a b s
+pub walked_start : (first second d a b : List (Key × Cell Value)) (s : ℕ) → AreCells first → AreCells second → d ≡ [] → a ≡ first → b ≡ second → s ≡ 0
+    → IsWalked first second d a b s
 walked_start first second d a b s f g ed ea eb es =
     walked_to first second [] d first a second b 0 s (record {
       same = refl;
@@ -130,7 +136,8 @@ walked_start first second d a b s f g ed ea eb es =
     }) ed ea eb es
 
 -- with nothing left of one, no more is compared
-pub compared_all : (first second d a b : List (Key × Cell Value)) (s : ℕ) → IsWalked first second d a b s → (a ≡ []) ⊎ (b ≡ []) → s ≡ compared_by_walk first second
+pub compared_all : (first second d a b : List (Key × Cell Value)) (s : ℕ) → IsWalked first second d a b s → (a ≡ []) ⊎ (b ≡ []) → s
+    ≡ compared_by_walk first second
 compared_all first second d a b s w (inl e) = omega (arith, w.counted, ap (λ (z : List (Key × Cell Value)). compared_by_walk z b) e)
 compared_all first second d a b s w (inr e) = omega (arith, w.counted, ap (compared_by_walk a) e, none_second a)
   where

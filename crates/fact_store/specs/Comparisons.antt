@@ -13,15 +13,19 @@ use Rattle.fact_store.specs.Key.{key_cmp}
 -- index among those that the earlier ones left, and leaves those on the side of the key that is sought
 pub data Leaves (key : Key) (cells : List (Key × Cell Value)) : List Key → ℕ → ℕ → Type 0 where
   all : Leaves key cells [] 0 (length cells)
-  later : (compared : List Key) (low high index : ℕ) (e : Key × Cell Value) → Leaves key cells compared low high → low ≤ index → index < high
+  later : (compared : List Key) (low high index : ℕ) (e : Key × Cell Value) → Leaves key cells compared low high → low
+      ≤ index → index < high
       → slice_get cells index ≡ Some e → key_cmp e.0 key ≡ Less → Leaves key cells (e.0 ∷ compared) (index + 1) high
-  earlier : (compared : List Key) (low high index : ℕ) (e : Key × Cell Value) → Leaves key cells compared low high → low ≤ index → index < high
+  earlier : (compared : List Key) (low high index : ℕ) (e : Key × Cell Value) → Leaves key cells compared low high → low
+      ≤ index → index < high
       → slice_get cells index ≡ Some e → key_cmp e.0 key ≡ Greater → Leaves key cells (e.0 ∷ compared) low index
 
 -- a search ends where no index is left, or with the key at one of those that are
 pub data IsSearch (key : Key) (cells : List (Key × Cell Value)) : List Key → Type 0 where
-  without : (compared : List Key) (low high : ℕ) → Leaves key cells compared low high → high ≤ low → IsSearch key cells compared
-  with_key : (compared : List Key) (low high index : ℕ) (e : Key × Cell Value) → Leaves key cells compared low high → low ≤ index → index < high
+  without : (compared : List Key) (low high : ℕ) → Leaves key cells compared low high → high ≤ low
+      → IsSearch key cells compared
+  with_key : (compared : List Key) (low high index : ℕ) (e : Key × Cell Value) → Leaves key cells compared low high
+      → low ≤ index → index < high
       → slice_get cells index ≡ Some e → key_cmp e.0 key ≡ Equal → IsSearch key cells (e.0 ∷ compared)
 
 -- so many keys are compared

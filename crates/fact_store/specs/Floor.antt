@@ -51,14 +51,17 @@ second_true true b h = h
 second_true false b h = absurd h
 
 -- a key below all is below those that are kept
-below_kept : (floor : ℕ) (k : Key) (es : List (Key × Cell Value)) → T (below_all key_cmp k es) → T (below_all key_cmp k (kept floor es))
+below_kept : (floor : ℕ) (k : Key) (es : List (Key × Cell Value)) → T (below_all key_cmp k es)
+    → T (below_all key_cmp k (kept floor es))
 below_kept floor k [] h = tt
 below_kept floor k (e ∷ es) h =
     let rest = below_kept floor k es (second_true _ _ h) in
-    elim (is_kept floor e.1) as (λ b. T (below_all key_cmp k (cond b (e ∷ kept floor es) (kept floor es)))) [ true ↦ both_true _ _ (first_true _ _ h) rest | false ↦ rest ]
+    elim (is_kept floor e.1) as (λ b. T (below_all key_cmp k (cond b (e ∷ kept floor es) (kept floor es))))
+    [ true ↦ both_true _ _ (first_true _ _ h) rest | false ↦ rest ]
 
 -- what is kept of rising keys rises
-pub rising_kept : (floor : ℕ) (es : List (Key × Cell Value)) → T (is_sorted key_cmp es) → T (is_sorted key_cmp (kept floor es))
+pub rising_kept : (floor : ℕ) (es : List (Key × Cell Value)) → T (is_sorted key_cmp es)
+    → T (is_sorted key_cmp (kept floor es))
 rising_kept floor [] h = tt
 rising_kept floor (e ∷ es) h =
     let rest = rising_kept floor es (second_true _ _ h) in
@@ -69,14 +72,16 @@ rising_kept floor (e ∷ es) h =
 
 -- so these are the entries
 pub entries-dropped : (floor : ℕ) (found : CellMap) → entries (dropped floor found) ≡ kept floor (entries found)
-entries-dropped floor found = entries-from_sorted key_cmp (kept floor (entries found)) (rising_kept floor (entries found) (entries_sorted found))
+entries-dropped floor found =
+    entries-from_sorted key_cmp (kept floor (entries found)) (rising_kept floor (entries found) (entries_sorted found))
 
 -- what is kept is
 pub all_kept : (floor : ℕ) (es : List (Key × Cell Value)) → T (list_all (λ e. is_kept floor e.1) (kept floor es))
 all_kept floor [] = tt
 all_kept floor (e ∷ es) =
     let rest = all_kept floor es in
-    elim (is_kept floor e.1) as (λ b. is_kept floor e.1 ≡ b → T (list_all (λ x. is_kept floor x.1) (cond b (e ∷ kept floor es) (kept floor es)))) [
+    elim (is_kept floor e.1) as (λ b. is_kept floor e.1 ≡ b
+    → T (list_all (λ x. is_kept floor x.1) (cond b (e ∷ kept floor es) (kept floor es)))) [
       | true ↦ λ p. both_true _ _ (subst T (sym p) tt) rest
       | false ↦ λ p. rest
     ] refl
@@ -89,4 +94,5 @@ at_least_one floor = subst T (sym (le-leb 1 (max 1 floor) (omega arith))) tt
 pub dropped_has_floor : (floor : ℕ) (found : CellMap) → T (has_floor (max 1 floor) (dropped (max 1 floor) found))
 dropped_has_floor floor found =
     both_true _ _ (at_least_one floor)
-    (subst (λ (es : List (Key × Cell Value)). T (list_all (λ e. is_kept (max 1 floor) e.1) es)) (sym (entries-dropped (max 1 floor) found)) (all_kept (max 1 floor) (entries found)))
+    (subst (λ (es : List (Key × Cell Value)). T (list_all (λ e. is_kept (max 1 floor) e.1) es))
+    (sym (entries-dropped (max 1 floor) found)) (all_kept (max 1 floor) (entries found)))

@@ -27,7 +27,8 @@ merge x y = at_floor (max x.floor y.floor) (merge_maps x.found y.found)
 -- the second has no lesser floor, and the first's cells that are not below it are below the second's of their keys
 pub record IsBelowView (x y : Facts) : Type 0 where
   pub floors : x.floor ≤ y.floor
-  pub cells : (key : Key) (c : Cell Value) → cell_for x key ≡ Some c → is_kept y.floor c ≡ true → (d : Cell Value) × (cell_for y key ≡ Some d) × IsBelow c d
+  pub cells : (key : Key) (c : Cell Value) → cell_for x key ≡ Some c → is_kept y.floor c ≡ true → (d : Cell Value)
+      × (cell_for y key ≡ Some d) × IsBelow c d
 
 -- above both, and below all that is above both
 pub record IsMerge (x y z : Facts) : Type 0 where
@@ -89,4 +90,5 @@ GroupingIsFree = (m : Merging) → merged m ≡ view_at (floor_of m) (all_of m)
 
 -- any number of views merged one after another into an empty one
 abbrev pub MergingInTurn : Type 0
-MergingInTurn = (views : List (ℕ × List (Key × Cell Value))) → fold merge no_facts (map (λ v. view_at v.0 v.1) views) ≡ view_at (fold max 1 (map (λ v. v.0) views)) (flat_map (λ v. v.1) views)
+MergingInTurn = (views : List (ℕ × List (Key × Cell Value))) → fold merge no_facts (map (λ v. view_at v.0 v.1) views)
+    ≡ view_at (fold max 1 (map (λ v. v.0) views)) (flat_map (λ v. v.1) views)

@@ -1,5 +1,6 @@
 -- What a report of a reply says: the first fault that it has, or the facts that it tells of the node that answered.
--- InfiniBand Architecture Specification, Volume 1: subnet management, NodeInfo, PortInfo and SwitchInfo; directed route SMPs.
+-- InfiniBand Architecture Specification, Volume 1: subnet management, NodeInfo, PortInfo and SwitchInfo; directed route
+-- SMPs.
 use Rattle.std.specs.Prelude.{ℕ, Bool, false, ◌&&◌, ◌||◌, not, List, [], ◌∷◌, nat_lt, nat_le, ◌==◌, if◌then◌else◌, Option, Some, None, is_some, option_map}
 use Rattle.smp_bytes.specs.declared.node_type.NodeType.{NodeType}
 use Rattle.smp_bytes.specs.NodeType.{is_switch}
@@ -54,7 +55,8 @@ may_be_asked_by (About guid) kind port = nat_lt 0 port
 
 abbrev pub are_ports_in_range : Context → NodeType → NodeInfo → Bool
 are_ports_in_range context kind info =
-    is_cabled_port info.num_ports && nat_le info.local_port_num info.num_ports && may_be_asked_by context kind info.local_port_num
+    is_cabled_port info.num_ports && nat_le info.local_port_num info.num_ports
+    && may_be_asked_by context kind info.local_port_num
 
 -- the fault of what a node says of itself
 abbrev pub kind_fault : Context → NodeInfo → Option NodeType → Option ReportFault
@@ -87,7 +89,9 @@ about_fault context = if is_some (about_of context) then None else Some fault.Co
 
 -- the modifier of PortInfo is the port
 abbrev pub port_info_fault : Context → List ℕ → Option ReportFault
-port_info_fault context packet = or_else (about_fault context) (if nat_lt 254 (number_in attribute_modifier packet) then Some fault.Modifier else None)
+port_info_fault context packet =
+    or_else (about_fault context) (if nat_lt 254 (number_in attribute_modifier packet) then Some fault.Modifier else
+    None)
 
 -- by the attribute that the packet carries
 abbrev pub attribute_fault : Context → List ℕ → Option ReportFault
@@ -137,7 +141,8 @@ sightings_of_kind generation context info (Some kind) =
 
 -- a node's kind and ports, a port's GUID, and the link that led there
 abbrev pub sightings_by_node_info : ℕ → Context → List ℕ → Sightings
-sightings_by_node_info generation context packet = sightings_of_kind generation context (node_info_of packet) (type_of_number (node_info_of packet).node_type)
+sightings_by_node_info generation context packet =
+    sightings_of_kind generation context (node_info_of packet) (type_of_number (node_info_of packet).node_type)
 
 -- Initialize, Armed and Active are up; Down, and numbers that no state has, are not
 abbrev pub is_up_state : ℕ → Bool
@@ -149,15 +154,23 @@ payload_of packet = bytes_in attribute_data packet
 
 -- whether a port of the node is up, and the LID that it claims
 abbrev pub sightings_by_port_info : ℕ → Context → List ℕ → Sightings
-sightings_by_port_info generation (About node) packet =
-    (Port node (number_in attribute_modifier packet), Known generation (Up (is_up_state (bits_in port_state (payload_of packet)))))
-    ∷ (Claim node (number_in attribute_modifier packet), Known generation (Lid (number_in base_lid (payload_of packet)))) ∷ []
+sightings_by_port_info generation (About node) packet = (
+  Port node (number_in attribute_modifier packet),
+  Known generation
+      (Up (is_up_state (bits_in port_state (payload_of packet)))),
+)
+    ∷ (
+      Claim node (number_in attribute_modifier packet),
+      Known generation
+          (Lid (number_in base_lid (payload_of packet))),
+    ) ∷ []
 sightings_by_port_info generation Start packet = []
 sightings_by_port_info generation (Via guid port) packet = []
 
 -- how many LIDs the switch's forwarding table has room for
 abbrev pub sightings_by_switch_info : ℕ → Context → List ℕ → Sightings
-sightings_by_switch_info generation (About node) packet = (Cap node, Known generation (Count (number_in linear_fdb_cap (payload_of packet)))) ∷ []
+sightings_by_switch_info generation (About node) packet =
+    (Cap node, Known generation (Count (number_in linear_fdb_cap (payload_of packet)))) ∷ []
 sightings_by_switch_info generation Start packet = []
 sightings_by_switch_info generation (Via guid port) packet = []
 

@@ -1,4 +1,5 @@
--- What sightings say together, whatever floor there is: each key's newest generation, and whether its sightings agree there.
+-- What sightings say together, whatever floor there is: each key's newest generation, and whether its sightings agree
+-- there.
 use Rattle.std.specs.Prelude.{◌≡◌, ◌≤◌, ℕ, Bool, List, [], ◌∷◌, ◌==◌, max, map, filter, Contains, MatchOption, if◌then◌else◌}
 use Rattle.std.specs.List.{list_all}
 use Rattle.std.specs.Ordering.{eq_by_cmp}
@@ -39,7 +40,9 @@ agreement generation (c ∷ cells) = if list_all (is_same_cell c) cells then c e
 
 -- what the key's newest sightings say together
 abbrev pub cell_at : Key → List (Key × Cell Value) → Cell Value
-cell_at key sightings = agreement (newest key sightings) (filter (λ c. generation_of c == newest key sightings) (cells_sighted key sightings))
+cell_at key sightings =
+    agreement (newest key sightings)
+    (filter (λ c. generation_of c == newest key sightings) (cells_sighted key sightings))
 
 -- each key that was sighted, with what its newest sightings say
 abbrev pub seen : List (Key × Cell Value) → CellMap
@@ -58,17 +61,22 @@ pub record IsNewest (key : Key) (sightings : List (Key × Cell Value)) (generati
 
 -- every newest sighting has the value
 abbrev pub AllSay : Key → List (Key × Cell Value) → ℕ → Value → Type 0
-AllSay key sightings generation value = (c : Cell Value) → WasSighted key sightings c → generation_of c ≡ generation → c ≡ Known generation value
+AllSay key sightings generation value =
+    (c : Cell Value) → WasSighted key sightings c → generation_of c ≡ generation → c ≡ Known generation value
 
 -- the one value that every newest sighting has, or a dispute where there is none
 abbrev pub IsCellIn : Key → List (Key × Cell Value) → Cell Value → Type 0
-IsCellIn key sightings (Known generation value) = IsNewest key sightings generation × AllSay key sightings generation value
-IsCellIn key sightings (Disputed generation) = IsNewest key sightings generation × ((value : Value) → AllSay key sightings generation value → ⊥)
+IsCellIn key sightings (Known generation value) =
+    IsNewest key sightings generation × AllSay key sightings generation value
+IsCellIn key sightings (Disputed generation) =
+    IsNewest key sightings generation × ((value : Value) → AllSay key sightings generation value → ⊥)
 
 -- a key that was never sighted has no cell
 pub record IsSeen (sightings : List (Key × Cell Value)) (found : CellMap) : Type 0 where
-  pub cells : (key : Key) → MatchOption (get found key) ((c : Cell Value) → WasSighted key sightings c → ⊥) (IsCellIn key sightings)
+  pub cells : (key : Key)
+      → MatchOption (get found key) ((c : Cell Value) → WasSighted key sightings c → ⊥) (IsCellIn key sightings)
 
 -- lists with the same members, however often and in whatever order
 abbrev pub HaveSameMembers : List (Key × Cell Value) → List (Key × Cell Value) → Type 0
-HaveSameMembers s t = ((x : Key × Cell Value) → Contains s x → Contains t x) × ((x : Key × Cell Value) → Contains t x → Contains s x)
+HaveSameMembers s t =
+    ((x : Key × Cell Value) → Contains s x → Contains t x) × ((x : Key × Cell Value) → Contains t x → Contains s x)

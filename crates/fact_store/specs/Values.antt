@@ -25,9 +25,11 @@ same_flag_exact _ _ e = absurd (cc)
 
 -- values that the test does not tell apart are one
 pub same_value_exact : (a b : Value) → is_same_value a b ≡ true → a ≡ b
-same_value_exact (Kind a m) (Kind b n) e = let p = and_parts (is_same_type a b) (m == n) e in cc (same_type_exact a b p.0, eqb-true m n p.1)
+same_value_exact (Kind a m) (Kind b n) e = let p =
+    and_parts (is_same_type a b) (m == n) e in cc (same_type_exact a b p.0, eqb-true m n p.1)
 same_value_exact (Guid a) (Guid b) e = ap Guid (eqb-true a b e)
-same_value_exact (Peer a m) (Peer b n) e = let p = and_parts (a == b) (m == n) e in cc (eqb-true a b p.0, eqb-true m n p.1)
+same_value_exact (Peer a m) (Peer b n) e = let p =
+    and_parts (a == b) (m == n) e in cc (eqb-true a b p.0, eqb-true m n p.1)
 same_value_exact (Up a) (Up b) e = ap Up (same_flag_exact a b e)
 same_value_exact (Lid a) (Lid b) e = ap Lid (eqb-true a b e)
 same_value_exact (Count a) (Count b) e = ap Count (eqb-true a b e)
@@ -54,11 +56,13 @@ same_value_itself (Lid a) = same_number a
 same_value_itself (Count a) = same_number a
 
 -- a test that is true exactly at one value is an equivalence
-exact_equiv : {V : Type 0} (same : V → V → Bool) → ((x y : V) → same x y ≡ true → x ≡ y) → ((x : V) → same x x ≡ true) → IsEquivalence same
+exact_equiv : {V : Type 0} (same : V → V → Bool) → ((x y : V) → same x y ≡ true → x ≡ y) → ((x : V) → same x x ≡ true)
+    → IsEquivalence same
 exact_equiv same exact itself =
     record {
       refl = itself;
-      symm = λ x y. both_ways (same x y) (same y x) (λ e. ap (λ z. same z x) (sym (exact x y e)) ∙ itself x) (λ e. ap (λ z. same z y) (sym (exact y x e))
+      symm = λ x y. both_ways (same x y) (same y x) (λ e. ap (λ z. same z x) (sym (exact x y e))
+          ∙ itself x) (λ e. ap (λ z. same z y) (sym (exact y x e))
           ∙ itself y);
       congr = λ x y z e. ap (λ w. same w z) (exact x y e);
     }
@@ -69,7 +73,8 @@ same_value_equiv = exact_equiv is_same_value same_value_exact same_value_itself
 
 -- cells that the test does not tell apart are one
 pub same_cell_exact : (a b : Cell Value) → is_same_cell a b ≡ true → a ≡ b
-same_cell_exact (Known g x) (Known h y) e = let p = and_parts (g == h) (is_same_value x y) e in cc (eqb-true g h p.0, same_value_exact x y p.1)
+same_cell_exact (Known g x) (Known h y) e = let p =
+    and_parts (g == h) (is_same_value x y) e in cc (eqb-true g h p.0, same_value_exact x y p.1)
 same_cell_exact (Disputed g) (Disputed h) e = ap Disputed (eqb-true g h e)
 same_cell_exact _ _ e = absurd (cc)
 

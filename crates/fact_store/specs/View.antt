@@ -24,7 +24,8 @@ cell_for facts key = get facts.found key
 
 -- the cells that are at a floor or above it; the least floor is 1
 abbrev pub at_floor : ℕ → CellMap → Facts
-at_floor floor found = record { floor = max 1 floor; found = dropped (max 1 floor) found; above = dropped_has_floor floor found }
+at_floor floor found =
+    record { floor = max 1 floor; found = dropped (max 1 floor) found; above = dropped_has_floor floor found }
 
 -- with the greater of their floor and this one
 abbrev pub raised : Facts → ℕ → Facts
@@ -60,11 +61,13 @@ ViewLaw = (floor : ℕ) (sightings : List (Key × Cell Value)) → IsView floor 
 
 -- and no other facts have it
 abbrev pub ViewIsUnique : Type 0
-ViewIsUnique = (floor : ℕ) (sightings : List (Key × Cell Value)) (x y : Facts) → IsView floor sightings x → IsView floor sightings y → x ≡ y
+ViewIsUnique = (floor : ℕ) (sightings : List (Key × Cell Value)) (x y : Facts) → IsView floor sightings x
+    → IsView floor sightings y → x ≡ y
 
 -- lists with the same members have the same view at each floor
 abbrev pub MembersDecideView : Type 0
-MembersDecideView = (floor : ℕ) (s t : List (Key × Cell Value)) → HaveSameMembers s t → view_at floor s ≡ view_at floor t
+MembersDecideView =
+    (floor : ℕ) (s t : List (Key × Cell Value)) → HaveSameMembers s t → view_at floor s ≡ view_at floor t
 
 -- facts are the view of their own cells, so a store stands for any sightings that it was made of
 abbrev pub ViewOfItsCells : Type 0
@@ -72,4 +75,5 @@ ViewOfItsCells = (x : Facts) → view_at x.floor (cells_of x) ≡ x
 
 -- to raise a floor is to look at the same sightings from the greater one
 abbrev pub RaisingForgets : Type 0
-RaisingForgets = (floor greater : ℕ) (sightings : List (Key × Cell Value)) → raised (view_at floor sightings) greater ≡ view_at (max floor greater) sightings
+RaisingForgets = (floor greater : ℕ) (sightings : List (Key × Cell Value)) → raised (view_at floor sightings) greater
+    ≡ view_at (max floor greater) sightings

@@ -28,8 +28,8 @@ pub(crate) struct Found {
     pub near: Slot,
 }
 
-/// Where a key has its cell, or would, to put one in there: at the finger, behind the last cell, or where a search finds
-/// it.
+/// Where a key has its cell, or would, to put one in there: at the finger, behind the last cell, or where a search
+/// finds it.
 pub(crate) fn index_of(cells: &PageList<Sighting>, key: &Key, finger: Slot) -> Found
     requires { AreCells cells.now.items }
     ensures { IsSearched key.now cells.now.items result.index }

@@ -46,16 +46,26 @@ pub record IsCountedUp (starts starts' added added' : Vec ℕ Global) (from unti
   pub later : added'.items ≡ so_far added.items (from / 64 + 1) ((length starts.items - 1) / 64 + 1 - (from / 64 + 1))
 
 module _ {starts starts' added added' : Vec ℕ Global} {from until : ℕ} (g : IsCountedUp starts starts' added added' from until) where
-  pub counted_items : raised added'.items 0 starts'.items ≡ take from (raised added.items 0 starts.items) ++ map (λ n. n + 1) (drop from (raised added.items 0 starts.items))
+  pub counted_items : raised added'.items 0 starts'.items ≡ take from (raised added.items 0 starts.items)
+      ++ map (λ n. n + 1) (drop from (raised added.items 0 starts.items))
   counted_items =
-      ap (λ (a : List ℕ). raised a 0 starts'.items) g.later ∙ ap (raised (so_far added.items (from / 64 + 1) ((length starts.items - 1) / 64 + 1 - (from / 64 + 1))) 0) g.first
+      ap (λ (a : List ℕ). raised a 0 starts'.items) g.later
+      ∙ ap (raised (so_far added.items (from / 64 + 1) ((length starts.items - 1) / 64 + 1 - (from / 64 + 1))) 0) g.first
       ∙ raised-shifted added.items starts.items from until g.inside g.were.grouped g.from_is g.within g.to_end
 
   pub counted_are : All (λ n. n + 1 < 2 ^ 64) (raised added.items 0 starts.items) → AreRaised starts' added'
   counted_are fits =
       let r = raised added.items 0 starts.items in
       record {
-        grouped = omega (arith, g.were.grouped, ap length g.first, long starts.items from (until - from), ap length g.later, long added.items (from / 64 + 1) ((length starts.items - 1) / 64 + 1 - (from / 64 + 1)));
+        grouped = omega (
+          arith,
+          g.were.grouped,
+          ap length g.first,
+          long starts.items from (until - from),
+          ap length g.later,
+          long added.items (from / 64
+              + 1) ((length starts.items - 1) / 64 + 1 - (from / 64 + 1)),
+        );
         fit =
             subst (All (λ (n : ℕ). n < 2 ^ 64)) (sym counted_items)
             (All-append (λ (n : ℕ). n < 2 ^ 64) (take from r) (map (λ n. n + 1) (drop from r))

@@ -29,14 +29,18 @@ module _ {T : Type 0} where
       All-cons (λ n. n ≤ top) at (starts_from (at + length x.items) ps) (omega arith) (starts_below (at + length x.items) ps top (omega (arith, l)))
 
   -- where pages begin, when one has an item more
-  starts_from-set : (at : ℕ) (ps : List (Vec T Global)) (k : ℕ) (p p' : Vec T Global) → k < length ps → p ≡ get_or ps k p → length p'.items ≡ length p.items + 1 → starts_from at (set ps k p') ≡ shifted k (starts_from at ps)
+  starts_from-set : (at : ℕ) (ps : List (Vec T Global)) (k : ℕ) (p p' : Vec T Global) → k < length ps → p ≡ get_or ps k p → length p'.items ≡ length p.items + 1
+      → starts_from at (set ps k p') ≡ shifted k (starts_from at ps)
   starts_from-set at [] k p p' h e l = absurd (omega arith)
   starts_from-set at (x ∷ ps) zero p p' h e l =
-      ap (λ (n : ℕ). at ∷ starts_from n ps) (omega (arith, l, ap (λ (q : Vec T Global). length q.items) e)) ∙ ap (λ (s : List ℕ). at ∷ s) (starts_from-later (at + length x.items) ps)
+      ap (λ (n : ℕ). at ∷ starts_from n ps) (omega (arith, l, ap (λ (q : Vec T Global). length q.items) e))
+      ∙ ap (λ (s : List ℕ). at ∷ s) (starts_from-later (at + length x.items) ps)
   starts_from-set at (x ∷ ps) (suc k) p p' h e l = ap (λ (s : List ℕ). at ∷ s) (starts_from-set (at + length x.items) ps k p p' (omega arith) e l)
 
   -- and when two are where it was
-  starts_from-halved : (at : ℕ) (ps : List (Vec T Global)) (k : ℕ) (p head tail : Vec T Global) → k < length ps → p ≡ get_or ps k p → length head.items + length tail.items ≡ length p.items + 1 → starts_from at (insert (set ps k head) (suc k) tail) ≡ insert (shifted k (starts_from at ps)) (suc k) (get_or (starts_from at ps) k 0 + length head.items)
+  starts_from-halved : (at : ℕ) (ps : List (Vec T Global)) (k : ℕ) (p head tail : Vec T Global) → k < length ps → p ≡ get_or ps k p → length head.items
+      + length tail.items ≡ length p.items + 1 → starts_from at (insert (set ps k head) (suc k) tail)
+      ≡ insert (shifted k (starts_from at ps)) (suc k) (get_or (starts_from at ps) k 0 + length head.items)
   starts_from-halved at [] k p head tail h e l = absurd (omega arith)
   starts_from-halved at (x ∷ ps) zero p head tail h e l =
       ap (λ (n : ℕ). at ∷ ((at + length head.items) ∷ starts_from n ps)) (omega (arith, l, ap (λ (q : Vec T Global). length q.items) e))
@@ -45,7 +49,8 @@ module _ {T : Type 0} where
       ap (λ (s : List ℕ). at ∷ s) (starts_from-halved (at + length x.items) ps k p head tail (omega arith) e l)
 
   -- the items of the pages, when two are where one was
-  items_of-halved : (ps : List (Vec T Global)) (k : ℕ) (head tail : Vec T Global) → k < length ps → items_of (insert (set ps k head) (suc k) tail) ≡ items_of (take k ps) ++ (head.items ++ tail.items) ++ items_of (drop (suc k) ps)
+  items_of-halved : (ps : List (Vec T Global)) (k : ℕ) (head tail : Vec T Global) → k < length ps → items_of (insert (set ps k head) (suc k) tail)
+      ≡ items_of (take k ps) ++ (head.items ++ tail.items) ++ items_of (drop (suc k) ps)
   items_of-halved [] k head tail h = absurd (omega arith)
   items_of-halved (x ∷ ps) zero head tail h = sym (append_assoc head.items tail.items (items_of ps))
   items_of-halved (x ∷ ps) (suc k) head tail h =
@@ -68,7 +73,16 @@ module _ {T : Type 0} where
     -- one more than there are
     pub more_items : length (insert (items_of ps) i x) ≡ length (items_of ps) + 1
     more_items =
-        length-insert (items_of ps) i x (omega (arith, at.counted, at.upto p is, ap length (items_of-split ps k p at.there is), length-append (items_of (take k ps) ++ p.items) (items_of (drop (suc k) ps)), length-append (items_of (take k ps)) p.items))
+        length-insert (items_of ps) i x
+        (omega (
+          arith,
+          at.counted,
+          at.upto p is,
+          ap length (items_of-split ps k p at.there is),
+          length-append (items_of (take k ps)
+              ++ p.items) (items_of (drop (suc k) ps)),
+          length-append (items_of (take k ps)) p.items,
+        ))
 
     -- the first half ends by the end of all
     pub head_end : (head tail : List T) → head ++ tail ≡ insert p.items j x → i - j + length head ≤ length (items_of ps) + 1
@@ -85,7 +99,8 @@ module _ {T : Type 0} where
         )
 
   -- a page had room
-  pub record IsGrown (pages pages' : Vec (Vec T Global) Global) (starts starts' : Listing ℕ) (spare : Vec (Vec T Global) Global) (len room i k j : ℕ) (p p' : Vec T Global) (x : T) : Type 0 where
+  pub record IsGrown (pages pages' : Vec (Vec T Global) Global) (starts starts' : Listing ℕ) (spare : Vec (Vec T Global) Global) (len room i k j : ℕ)
+      (p p' : Vec T Global) (x : T) : Type 0 where
     pub were : ArePages pages starts spare len room
     pub some : 0 < room
     pub at : IsSlot pages.items i k j
@@ -98,7 +113,8 @@ module _ {T : Type 0} where
     pub moved : starts'.items ≡ take (k + 1) starts.items ++ map (λ n. n + 1) (drop (k + 1) starts.items)
     pub starts_room : starts.room ≤ starts'.room
 
-  module _ {pages pages' : Vec (Vec T Global) Global} {starts starts' : Listing ℕ} {spare : Vec (Vec T Global) Global} {len room i k j : ℕ} {p p' : Vec T Global} {x : T} (g : IsGrown pages pages' starts starts' spare len room i k j p p' x) where
+  module _ {pages pages' : Vec (Vec T Global) Global} {starts starts' : Listing ℕ} {spare : Vec (Vec T Global) Global} {len room i k j : ℕ}
+      {p p' : Vec T Global} {x : T} (g : IsGrown pages pages' starts starts' spare len room i k j p p' x) where
     -- the page has one more
     one_more : length p'.items ≡ length p.items + 1
     one_more = omega (arith, ap length g.grown, length-insert p.items j x (g.at.upto p g.is))
@@ -124,14 +140,19 @@ module _ {T : Type 0} where
           spared = omega (arith, g.were.spared);
           pages_are =
               subst (All IsPage) (sym g.put)
-              (All-set IsPage pages.items k p' (record { bounded = omega (arith, one_more, g.short); roomy = omega (arith, g.roomy, was.roomy, ap (λ (q : Vec T Global). vec_capacity q) g.is) }) g.were.pages_are);
+              (All-set IsPage pages.items k p' (record {
+                bounded = omega (arith, one_more, g.short);
+                roomy =
+                    omega (arith, g.roomy, was.roomy, ap (λ (q : Vec T Global). vec_capacity q) g.is);
+              }) g.were.pages_are);
           spare_are = g.were.spare_are;
           pages_roomy = omega (arith, g.were.pages_roomy, g.capacity);
           starts_roomy = omega (arith, g.were.starts_roomy, g.starts_room);
         }
 
   -- a page was full
-  pub record IsHalved (pages pages' : Vec (Vec T Global) Global) (starts starts' : Listing ℕ) (spare spare' : Vec (Vec T Global) Global) (len room i k j : ℕ) (p head tail empty : Vec T Global) (x : T) : Type 0 where
+  pub record IsHalved (pages pages' : Vec (Vec T Global) Global) (starts starts' : Listing ℕ) (spare spare' : Vec (Vec T Global) Global) (len room i k j : ℕ)
+      (p head tail empty : Vec T Global) (x : T) : Type 0 where
     pub were : ArePages pages starts spare len room
     pub some : 0 < room
     pub at : IsSlot pages.items i k j
@@ -145,7 +166,8 @@ module _ {T : Type 0} where
     pub moved : starts'.items ≡ insert (take (k + 1) starts.items ++ map (λ n. n + 1) (drop (k + 1) starts.items)) (k + 1) (i - j + length head.items)
     pub starts_room : starts.room ≤ starts'.room + 1
 
-  module _ {pages pages' : Vec (Vec T Global) Global} {starts starts' : Listing ℕ} {spare spare' : Vec (Vec T Global) Global} {len room i k j : ℕ} {p head tail empty : Vec T Global} {x : T} (g : IsHalved pages pages' starts starts' spare spare' len room i k j p head tail empty x) where
+  module _ {pages pages' : Vec (Vec T Global) Global} {starts starts' : Listing ℕ} {spare spare' : Vec (Vec T Global) Global} {len room i k j : ℕ}
+      {p head tail empty : Vec T Global} {x : T} (g : IsHalved pages pages' starts starts' spare spare' len room i k j p head tail empty x) where
     -- both have one more
     both_more : length head.items + length tail.items ≡ length p.items + 1
     both_more = omega (arith, ap length g.halves, length-append head.items tail.items, length-insert p.items j x (g.at.upto p g.is))
@@ -164,7 +186,13 @@ module _ {T : Type 0} where
     -- and the pages are as they should be
     pub halved_pages : ArePages pages' starts' spare' (len + 1) (room - 1)
     halved_pages =
-        let more : length pages'.items ≡ length pages.items + 1 = omega (arith, ap length pages_put, length-insert (set pages.items k head) (suc k) tail (omega (arith, length-set pages.items k head, g.at.there)), length-set pages.items k head) in
+        let more : length pages'.items ≡ length pages.items + 1 =
+        omega (
+          arith,
+          ap length pages_put,
+          length-insert (set pages.items k head) (suc k) tail (omega (arith, length-set pages.items k head, g.at.there)),
+          length-set pages.items k head,
+        ) in
         let fewer : length spare.items ≡ length spare'.items + 1 = omega (arith, ap length g.taken, length-append spare'.items (empty ∷ [])) in
         let set_are : All IsPage (set pages.items k head) = All-set IsPage pages.items k head g.head_page g.were.pages_are in
         let begins : i - j ≡ get_or (starts_from 0 pages.items) k 0 = omega (arith, g.at.begins) in
@@ -179,7 +207,8 @@ module _ {T : Type 0} where
           spared = omega (arith, g.were.spared);
           pages_are =
               subst (All IsPage) (sym pages_put)
-              (All-append IsPage (take (suc k) (set pages.items k head)) (tail ∷ drop (suc k) (set pages.items k head)) (All-take IsPage (suc k) (set pages.items k head) set_are)
+              (All-append IsPage (take (suc k) (set pages.items k head)) (tail
+              ∷ drop (suc k) (set pages.items k head)) (All-take IsPage (suc k) (set pages.items k head) set_are)
               (All-cons IsPage tail (drop (suc k) (set pages.items k head)) g.tail_page (All-drop IsPage (suc k) (set pages.items k head) set_are)));
           spare_are = (All-pop IsEmptyPage spare.items spare'.items (Some empty) g.taken g.were.spare_are).0;
           pages_roomy = omega (arith, g.were.pages_roomy, g.capacity);

@@ -22,11 +22,13 @@ module _ {T : Type 0} where
       e ∙ ap (λ (t : List T). t ++ take (length d - half) (drop half d)) empty ∙ take_rest d half ∙ ap (drop half) same
 
   -- both halves, where the item went into the first one
-  pub first_grew : (page head tail : List T) (half index : ℕ) (x : T) → half ≤ length page → index ≤ half → head ≡ insert (take half page) index x → tail ≡ drop half page → head ++ tail ≡ insert page index x
+  pub first_grew : (page head tail : List T) (half index : ℕ) (x : T) → half ≤ length page → index ≤ half → head ≡ insert (take half page) index x → tail
+      ≡ drop half page → head ++ tail ≡ insert page index x
   first_grew page head tail half index x within h is rest =
       ap (λ (s : List T). s ++ tail) is ∙ ap (λ (s : List T). insert (take half page) index x ++ s) rest ∙ in_first_half page half index x within h
 
   -- or into the second
-  pub second_grew : (page head tail : List T) (half index : ℕ) (x : T) → half ≤ length page → half ≤ index → head ≡ take half page → tail ≡ insert (drop half page) (index - half) x → head ++ tail ≡ insert page index x
+  pub second_grew : (page head tail : List T) (half index : ℕ) (x : T) → half ≤ length page → half ≤ index → head ≡ take half page → tail
+      ≡ insert (drop half page) (index - half) x → head ++ tail ≡ insert page index x
   second_grew page head tail half index x within h is rest =
       ap (λ (s : List T). s ++ tail) is ∙ ap (λ (s : List T). take half page ++ s) rest ∙ in_second_half page half index x within h

@@ -7,7 +7,8 @@ use Rattle.std.specs.declared.alloc.Global.{Global}
 use Rattle.page_list.specs.Starts.{AreRaised, raised}
 use Rattle.page_list.proofs.Raised.{length-raised, raised-none}
 
-module _ (starts starts' added added' : Vec ℕ Global) (page start : ℕ) (were : AreRaised starts added) (within : page ≤ length starts.items) (put : starts'.items ≡ insert (raised added.items 0 starts.items) page start) (none : (k : ℕ) → get_or added'.items k 0 ≡ 0) where
+module _ (starts starts' added added' : Vec ℕ Global) (page start : ℕ) (were : AreRaised starts added) (within : page
+    ≤ length starts.items) (put : starts'.items ≡ insert (raised added.items 0 starts.items) page start) (none : (k : ℕ) → get_or added'.items k 0 ≡ 0) where
   pub inserted_items : raised added'.items 0 starts'.items ≡ insert (raised added.items 0 starts.items) page start
   inserted_items = raised-none added'.items none 0 starts'.items ∙ put
 

@@ -9,14 +9,16 @@ use Rattle.page_list.specs.Pages.{items_of, starts_from, IsSlot}
 
 module _ {T : Type 0} where
   -- the items before, in and after a page
-  pub items_of-split : (ps : List (Vec T Global)) (k : ℕ) (p : Vec T Global) → k < length ps → p ≡ get_or ps k p → items_of ps ≡ items_of (take k ps) ++ p.items ++ items_of (drop (suc k) ps)
+  pub items_of-split : (ps : List (Vec T Global)) (k : ℕ) (p : Vec T Global) → k < length ps → p ≡ get_or ps k p → items_of ps ≡ items_of (take k ps) ++ p.items
+      ++ items_of (drop (suc k) ps)
   items_of-split [] k p h e = absurd (omega arith)
   items_of-split (x ∷ ps) zero p h e = ap (λ (q : Vec T Global). q.items ++ items_of ps) (sym e)
   items_of-split (x ∷ ps) (suc k) p h e =
       ap (λ (s : List T). x.items ++ s) (items_of-split ps k p (omega arith) e) ∙ simp append_assoc
 
   -- with another page where it was
-  pub items_of-set : (ps : List (Vec T Global)) (k : ℕ) (p : Vec T Global) → k < length ps → items_of (set ps k p) ≡ items_of (take k ps) ++ p.items ++ items_of (drop (suc k) ps)
+  pub items_of-set : (ps : List (Vec T Global)) (k : ℕ) (p : Vec T Global) → k < length ps → items_of (set ps k p) ≡ items_of (take k ps) ++ p.items
+      ++ items_of (drop (suc k) ps)
   items_of-set [] k p h = absurd (omega arith)
   items_of-set (x ∷ ps) zero p h = refl
   items_of-set (x ∷ ps) (suc k) p h =
@@ -31,10 +33,12 @@ module _ {T : Type 0} where
   pub get_or-starts_from : (at : ℕ) (ps : List (Vec T Global)) (k : ℕ) → k < length ps → get_or (starts_from at ps) k 0 ≡ at + length (items_of (take k ps))
   get_or-starts_from at [] k h = absurd (omega arith)
   get_or-starts_from at (x ∷ ps) zero h = omega arith
-  get_or-starts_from at (x ∷ ps) (suc k) h = omega (arith, get_or-starts_from (at + length x.items) ps k (omega arith), length-append x.items (items_of (take k ps)))
+  get_or-starts_from at (x ∷ ps) (suc k) h =
+      omega (arith, get_or-starts_from (at + length x.items) ps k (omega arith), length-append x.items (items_of (take k ps)))
 
   -- the next page begins where it ends
-  pub next_start : (at : ℕ) (ps : List (Vec T Global)) (k : ℕ) (p : Vec T Global) → suc k < length ps → p ≡ get_or ps k p → get_or (starts_from at ps) (suc k) 0 ≡ get_or (starts_from at ps) k 0 + length p.items
+  pub next_start : (at : ℕ) (ps : List (Vec T Global)) (k : ℕ) (p : Vec T Global) → suc k < length ps → p ≡ get_or ps k p → get_or (starts_from at ps) (suc k) 0
+      ≡ get_or (starts_from at ps) k 0 + length p.items
   next_start at [] k p h e = absurd (omega arith)
   next_start at (x ∷ []) k p h e = absurd (omega arith)
   next_start at (x ∷ (y ∷ ps)) zero p h e = ap (λ (q : Vec T Global). at + length q.items) (sym e)
@@ -45,7 +49,8 @@ module _ {T : Type 0} where
   items_of-push [] p = append-nil p.items
   items_of-push (x ∷ ps) p = ap (λ (s : List T). x.items ++ s) (items_of-push ps p) ∙ sym (append_assoc x.items (items_of ps) p.items)
 
-  pub starts_from-push : (at : ℕ) (ps : List (Vec T Global)) (p : Vec T Global) → starts_from at (ps ++ p ∷ []) ≡ starts_from at ps ++ (at + length (items_of ps)) ∷ []
+  pub starts_from-push : (at : ℕ) (ps : List (Vec T Global)) (p : Vec T Global) → starts_from at (ps ++ p ∷ []) ≡ starts_from at ps
+      ++ (at + length (items_of ps)) ∷ []
   starts_from-push at [] p = ap (λ (n : ℕ). n ∷ []) (omega arith)
   starts_from-push at (x ∷ ps) p =
       ap (λ (s : List ℕ). at ∷ s) (starts_from-push (at + length x.items) ps p)
@@ -55,14 +60,17 @@ module _ {T : Type 0} where
   pub slice_get_middle : (a b c : List T) (j : ℕ) → j < length b → slice_get (a ++ b ++ c) (length a + j) ≡ slice_get b j
   slice_get_middle [] [] c j h = absurd (omega arith)
   slice_get_middle [] (x ∷ b) c zero h = refl
-  slice_get_middle [] (x ∷ b) c (suc j) h = ap (slice_get (x ∷ (b ++ c))) (zero-add (suc j)) ∙ ap (slice_get (b ++ c)) (sym (zero-add j)) ∙ slice_get_middle [] b c j (omega arith)
+  slice_get_middle [] (x ∷ b) c (suc j) h =
+      ap (slice_get (x ∷ (b ++ c))) (zero-add (suc j)) ∙ ap (slice_get (b ++ c)) (sym (zero-add j)) ∙ slice_get_middle [] b c j (omega arith)
   slice_get_middle (x ∷ a) b c j h = ap (slice_get (x ∷ (a ++ b ++ c))) (succ_add (length a) j) ∙ slice_get_middle a b c j h
     where
       succ_add : (m n : ℕ) → suc m + n ≡ suc (m + n)
       succ_add m n = omega arith
 
   -- where a page ends: before the next one begins, or where all items end
-  page_end : (ps : List (Vec T Global)) (k : ℕ) (p : Vec T Global) → k < length ps → p ≡ get_or ps k p → ((suc k < length ps) × (get_or (starts_from 0 ps) (suc k) 0 ≡ get_or (starts_from 0 ps) k 0 + length p.items)) ⊎ (length (items_of ps) ≡ get_or (starts_from 0 ps) k 0 + length p.items)
+  page_end : (ps : List (Vec T Global)) (k : ℕ) (p : Vec T Global) → k < length ps → p ≡ get_or ps k p
+      → ((suc k < length ps) × (get_or (starts_from 0 ps) (suc k) 0 ≡ get_or (starts_from 0 ps) k 0 + length p.items))
+      ⊎ (length (items_of ps) ≡ get_or (starts_from 0 ps) k 0 + length p.items)
   page_end ps k p h e =
       elim (cases_lt (suc k) (length ps)) [
         | inl more ↦ inl (more, next_start 0 ps k p more e)
@@ -104,7 +112,8 @@ module _ {T : Type 0} (pages : List (Vec T Global)) (starts : List ℕ) (are : s
           let same : get_or (starts_from 0 pages) k 0 ≡ get_or starts k 0 = sym (ap (λ (n : List ℕ). get_or n k 0) are) in
           elim (page_end pages k p page_there is) [
             | inl more ↦
-                let next : get_or starts (k + 1) 0 ≡ get_or (starts_from 0 pages) (suc k) 0 = ap (λ (n : List ℕ). get_or n (k + 1) 0) are ∙ ap (λ (m : ℕ). get_or (starts_from 0 pages) m 0) (add-one k) in
+                let next : get_or starts (k + 1) 0 ≡ get_or (starts_from 0 pages) (suc k) 0 =
+                ap (λ (n : List ℕ). get_or n (k + 1) 0) are ∙ ap (λ (m : ℕ). get_or (starts_from 0 pages) m 0) (add-one k) in
                 inl (omega (arith, last (omega (arith, more.0, ap length are, length-starts_from 0 pages)), next, more.1, same))
             | inr all ↦ inr (omega (arith, all, same))
           ]
@@ -125,7 +134,8 @@ module _ {T : Type 0} (pages : List (Vec T Global)) (starts : List ℕ) (are : s
         same q e = is ∙ get_or_default pages k p q page_there ∙ sym e
 
     -- the index that was found
-    pub is_slot : (i : ℕ) → (k + 1 < length starts → i < get_or starts (k + 1) 0) → get_or starts k 0 ≤ i → i ≤ length (items_of pages) → IsSlot pages i k (i - get_or starts k 0)
+    pub is_slot : (i : ℕ) → (k + 1 < length starts → i < get_or starts (k + 1) 0) → get_or starts k 0 ≤ i → i ≤ length (items_of pages)
+        → IsSlot pages i k (i - get_or starts k 0)
     is_slot i last begins upto =
         record {
           there = page_there;
@@ -148,7 +158,8 @@ module _ {T : Type 0} (pages : List (Vec T Global)) (i k j : ℕ) (at : IsSlot p
 
 module _ {T : Type 0} where
   -- the item that is read, where the pages are those of a list that is seen so
-  pub item_read : (read pages : List (Vec T Global)) (items : List T) (i k j : ℕ) (p : Vec T Global) (x : T) → read ≡ pages → items_of pages ≡ items → IsSlot read i k j → p ≡ get_or pages k p → x ≡ get_or p.items j x → i < length (items_of pages) → Some x ≡ slice_get items i
+  pub item_read : (read pages : List (Vec T Global)) (items : List T) (i k j : ℕ) (p : Vec T Global) (x : T) → read ≡ pages → items_of pages ≡ items
+      → IsSlot read i k j → p ≡ get_or pages k p → x ≡ get_or p.items j x → i < length (items_of pages) → Some x ≡ slice_get items i
   item_read read pages items i k j p x same view at is e h =
       let there : IsSlot pages i k j = subst (λ (ps : List (Vec T Global)). IsSlot ps i k j) same at in
       item_there pages i k j there p is x (there.within p is h) e ∙ ap (λ (s : List T). slice_get s i) view

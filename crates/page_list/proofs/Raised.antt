@@ -24,7 +24,8 @@ raised-take added i [] (suc n) = refl
 raised-take added i (x ∷ s) (suc n) = ap (λ (t : List ℕ). (x + get_or added (i / 64) 0) ∷ t) (raised-take added (suc i) s n)
 
 -- one more of them
-pub raised-push : (added : List ℕ) (i : ℕ) (s : List ℕ) (x : ℕ) → get_or added ((i + length s) / 64) 0 ≡ 0 → raised added i (s ++ x ∷ []) ≡ raised added i s ++ x ∷ []
+pub raised-push : (added : List ℕ) (i : ℕ) (s : List ℕ) (x : ℕ) → get_or added ((i + length s) / 64) 0 ≡ 0 → raised added i (s ++ x ∷ []) ≡ raised added i s
+    ++ x ∷ []
 raised-push added i [] x none = ap (λ (m : ℕ). m ∷ []) (omega (arith, none, ap (λ (m : ℕ). get_or added (m / 64) 0) (i_is i)))
   where
     i_is : (i : ℕ) → i + 0 ≡ i
@@ -40,7 +41,8 @@ raised-push added i (n ∷ s) x none =
 pub raised-same : (added added' : List ℕ) → ((k : ℕ) → get_or added' k 0 ≡ get_or added k 0) → (i : ℕ) (s : List ℕ) → raised added' i s ≡ raised added i s
 raised-same added added' same i [] = refl
 raised-same added added' same i (n ∷ s) =
-    ap (λ (m : ℕ). (n + m) ∷ raised added' (suc i) s) (same (i / 64)) ∙ ap (λ (t : List ℕ). (n + get_or added (i / 64) 0) ∷ t) (raised-same added added' same (suc i) s)
+    ap (λ (m : ℕ). (n + m) ∷ raised added' (suc i) s) (same (i / 64))
+    ∙ ap (λ (t : List ℕ). (n + get_or added (i / 64) 0) ∷ t) (raised-same added added' same (suc i) s)
 
 -- so many zeros
 abbrev pub zeros : ℕ → List ℕ
@@ -74,11 +76,14 @@ none_past (x ∷ s) h zero = h zero (omega arith)
 none_past (x ∷ s) h (suc k) = none_past s (λ j l. h (suc j) (omega arith)) k
 
 -- it is added to one number after another
-pub add_step : (added : List ℕ) (j : ℕ) (s : List ℕ) (i : ℕ) → i < length s → set (take i (raised added j s) ++ drop i s) i (get_or (take i (raised added j s) ++ drop i s) i 0 + get_or added ((j + i) / 64) 0) ≡ take (suc i) (raised added j s) ++ drop (suc i) s
+pub add_step : (added : List ℕ) (j : ℕ) (s : List ℕ) (i : ℕ) → i < length s
+    → set (take i (raised added j s) ++ drop i s) i (get_or (take i (raised added j s) ++ drop i s) i 0 + get_or added ((j + i) / 64) 0)
+    ≡ take (suc i) (raised added j s) ++ drop (suc i) s
 add_step added j [] i h = absurd (omega arith)
 add_step added j (n ∷ s) zero h = ap (λ (m : ℕ). (n + get_or added (m / 64) 0) ∷ s) (omega arith)
 add_step added j (n ∷ s) (suc i) h =
-    ap (λ (m : ℕ). (n + get_or added (j / 64) 0) ∷ set (take i (raised added (suc j) s) ++ drop i s) i (get_or (take i (raised added (suc j) s) ++ drop i s) i 0 + get_or added (m / 64) 0)) (omega arith)
+    ap (λ (m : ℕ). (n + get_or added (j / 64) 0) ∷ set (take i (raised added (suc j) s) ++ drop i s) i (get_or (take i (raised added (suc j) s) ++ drop i s) i 0
+    + get_or added (m / 64) 0)) (omega arith)
     ∙ ap (λ (t : List ℕ). (n + get_or added (j / 64) 0) ∷ t) (add_step added (suc j) s i (omega arith))
 
 -- those that are counted up, and those before
@@ -97,7 +102,8 @@ so_far_before (x ∷ s) (suc m) n zero a h = refl
 so_far_before (x ∷ s) (suc m) n (suc k) a h = so_far_before s m n k (omega arith) (omega arith)
 
 -- what is added to the groups after g is one more
-module _ (added added' : List ℕ) (g groups : ℕ) (upto : (j : ℕ) → j ≤ g → get_or added' j 0 ≡ get_or added j 0) (later : (j : ℕ) → g < j → j < groups → get_or added' j 0 ≡ get_or added j 0 + 1) where
+module _ (added added' : List ℕ) (g groups : ℕ) (upto : (j : ℕ) → j ≤ g → get_or added' j 0 ≡ get_or added j 0) (later : (j : ℕ) → g < j → j < groups
+    → get_or added' j 0 ≡ get_or added j 0 + 1) where
   -- in these groups all are one more
   after_group : (i : ℕ) (s : List ℕ) → 64 * (g + 1) ≤ i → i + length s ≤ 64 * groups → raised added' i s ≡ map (λ n. n + 1) (raised added i s)
   after_group i [] a b = refl
@@ -107,7 +113,8 @@ module _ (added added' : List ℕ) (g groups : ℕ) (upto : (j : ℕ) → j ≤ 
       ∙ ap (λ (t : List ℕ). (n + get_or added (i / 64) 0 + 1) ∷ t) (after_group (suc i) s (omega arith) (omega arith))
 
   -- from an index of group g on, where its rest is counted up
-  within_group : (i : ℕ) (s : List ℕ) (k : ℕ) → 64 * g ≤ i → i + k ≤ 64 * (g + 1) → (i + k ≡ 64 * (g + 1)) ⊎ (length s ≤ k) → i + length s ≤ 64 * groups → raised added' i (so_far s 0 k) ≡ map (λ n. n + 1) (raised added i s)
+  within_group : (i : ℕ) (s : List ℕ) (k : ℕ) → 64 * g ≤ i → i + k ≤ 64 * (g + 1) → (i + k ≡ 64 * (g + 1)) ⊎ (length s ≤ k) → i + length s ≤ 64 * groups
+      → raised added' i (so_far s 0 k) ≡ map (λ n. n + 1) (raised added i s)
   within_group i [] zero a b c d = refl
   within_group i [] (suc k) a b c d = refl
   within_group i (n ∷ s) zero a b (inl e) d = after_group i (n ∷ s) (omega arith) d
@@ -122,7 +129,8 @@ module _ (added added' : List ℕ) (g groups : ℕ) (upto : (j : ℕ) → j ≤ 
       rest (inr e) = inr (omega arith)
 
   -- from an index before on
-  from_index : (i : ℕ) (s : List ℕ) (m k : ℕ) → m < length s → 64 * g ≤ i + m → i + m + k ≤ 64 * (g + 1) → (i + m + k ≡ 64 * (g + 1)) ⊎ (length s ≤ m + k) → i + length s ≤ 64 * groups → raised added' i (so_far s m k) ≡ take m (raised added i s) ++ map (λ n. n + 1) (drop m (raised added i s))
+  from_index : (i : ℕ) (s : List ℕ) (m k : ℕ) → m < length s → 64 * g ≤ i + m → i + m + k ≤ 64 * (g + 1) → (i + m + k ≡ 64 * (g + 1)) ⊎ (length s ≤ m + k) → i
+      + length s ≤ 64 * groups → raised added' i (so_far s m k) ≡ take m (raised added i s) ++ map (λ n. n + 1) (drop m (raised added i s))
   from_index i [] m k l a b c d = absurd (omega arith)
   from_index i (n ∷ s) zero k l a b c d = within_group i (n ∷ s) k (omega arith) (omega arith) (rest c) d
     where
@@ -139,12 +147,15 @@ module _ (added added' : List ℕ) (g groups : ℕ) (upto : (j : ℕ) → j ≤ 
       rest (inr e) = inr (omega arith)
 
 -- so the rest of a group and what is added to later ones count up all from an index on
-pub raised-shifted : (added s : List ℕ) (from until : ℕ) → from < length s → length s ≤ 64 * length added → from ≤ until → until ≤ 64 * (from / 64 + 1) → (until ≡ 64 * (from / 64 + 1)) ⊎ (length s ≤ until)
-    → raised (so_far added (from / 64 + 1) ((length s - 1) / 64 + 1 - (from / 64 + 1))) 0 (so_far s from (until - from)) ≡ take from (raised added 0 s) ++ map (λ n. n + 1) (drop from (raised added 0 s))
+pub raised-shifted : (added s : List ℕ) (from until : ℕ) → from < length s → length s ≤ 64 * length added → from ≤ until → until ≤ 64 * (from / 64 + 1)
+    → (until ≡ 64 * (from / 64 + 1)) ⊎ (length s ≤ until)
+    → raised (so_far added (from / 64 + 1) ((length s - 1) / 64 + 1 - (from / 64 + 1))) 0 (so_far s from (until - from)) ≡ take from (raised added 0 s)
+    ++ map (λ n. n + 1) (drop from (raised added 0 s))
 raised-shifted added s from until h grouped a b c =
     let g = from / 64 in
     let groups = (length s - 1) / 64 + 1 in
-    let rest : (0 + from + (until - from) ≡ 64 * (g + 1)) ⊎ (length s ≤ from + (until - from)) = elim c [ inl e ↦ inl (omega arith) | inr e ↦ inr (omega arith) ] in
+    let rest : (0 + from + (until - from) ≡ 64 * (g + 1)) ⊎ (length s ≤ from + (until - from)) =
+    elim c [ inl e ↦ inl (omega arith) | inr e ↦ inr (omega arith) ] in
     from_index added (so_far added (g + 1) (groups - (g + 1))) g groups
     (λ j l. so_far_before added (g + 1) (groups - (g + 1)) j (omega arith) (omega arith))
     (λ j l m. so_far_at added (g + 1) (groups - (g + 1)) j (omega arith) (omega arith) (omega arith))
@@ -160,7 +171,8 @@ module _ (added s : List ℕ) (fits : All (λ n. n + 1 < 18446744073709551616) (
   pub groups_fit : length s ≤ 64 * length added → (g d : ℕ) → 64 * g < length s → get_or added g d + 1 < 18446744073709551616
   groups_fit grouped g d h =
       let r = length-raised added 0 s in
-      let same : get_or added ((0 + 64 * g) / 64) 0 ≡ get_or added g d = ap (λ (m : ℕ). get_or added m 0) (omega arith) ∙ get_or_default added g 0 d (omega arith) in
+      let same : get_or added ((0 + 64 * g) / 64) 0 ≡ get_or added g d =
+      ap (λ (m : ℕ). get_or added m 0) (omega arith) ∙ get_or_default added g 0 d (omega arith) in
       omega (arith, fits (64 * g) 0 (omega arith), raised_at added 0 s (64 * g) h, same)
 
 -- a number to which nothing is added yet

@@ -11,7 +11,8 @@ use Rattle.page_list.proofs.Paged.{items_of-split, items_of-set}
 
 module _ {T : Type 0} where
   -- pages of the same lengths begin at the same indices
-  starts_from-same : (at : ℕ) (ps : List (Vec T Global)) (k : ℕ) (p p' : Vec T Global) → k < length ps → p ≡ get_or ps k p → length p'.items ≡ length p.items → starts_from at (set ps k p') ≡ starts_from at ps
+  starts_from-same : (at : ℕ) (ps : List (Vec T Global)) (k : ℕ) (p p' : Vec T Global) → k < length ps → p ≡ get_or ps k p → length p'.items ≡ length p.items
+      → starts_from at (set ps k p') ≡ starts_from at ps
   starts_from-same at [] k p p' h e l = absurd (omega arith)
   starts_from-same at (x ∷ ps) zero p p' h e l = ap (λ (n : ℕ). at ∷ starts_from (at + n) ps) (l ∙ ap (λ (q : Vec T Global). length q.items) e)
   starts_from-same at (x ∷ ps) (suc k) p p' h e l = ap (λ (s : List ℕ). at ∷ s) (starts_from-same (at + length x.items) ps k p p' (omega arith) e l)
@@ -24,7 +25,8 @@ module _ {T : Type 0} where
       ∙ ap (λ (s : List T). s ++ c) (set-append_right a b (length a) i x refl (omega arith) ∙ ap (λ (m : ℕ). a ++ set b m x) n)
 
   -- a page has another item
-  pub record IsReplaced (pages pages' : Vec (Vec T Global) Global) (starts : Listing ℕ) (spare : Vec (Vec T Global) Global) (len room i k j : ℕ) (p p' : Vec T Global) (x : T) : Type 0 where
+  pub record IsReplaced (pages pages' : Vec (Vec T Global) Global) (starts : Listing ℕ) (spare : Vec (Vec T Global) Global) (len room i k j : ℕ)
+      (p p' : Vec T Global) (x : T) : Type 0 where
     pub were : ArePages pages starts spare len room
     pub at : IsSlot pages.items i k j
     pub within : i < length (items_of pages.items)
@@ -34,7 +36,8 @@ module _ {T : Type 0} where
     pub put : pages'.items ≡ set pages.items k p'
     pub capacity : vec_capacity pages ≤ vec_capacity pages'
 
-  module _ {pages pages' : Vec (Vec T Global) Global} {starts : Listing ℕ} {spare : Vec (Vec T Global) Global} {len room i k j : ℕ} {p p' : Vec T Global} {x : T} (g : IsReplaced pages pages' starts spare len room i k j p p' x) where
+  module _ {pages pages' : Vec (Vec T Global) Global} {starts : Listing ℕ} {spare : Vec (Vec T Global) Global} {len room i k j : ℕ} {p p' : Vec T Global}
+      {x : T} (g : IsReplaced pages pages' starts spare len room i k j p p' x) where
     -- as many as before
     as_many : length p'.items ≡ length p.items
     as_many = ap length g.replaced ∙ length-set p.items j x
@@ -59,7 +62,11 @@ module _ {T : Type 0} where
           spared = g.were.spared;
           pages_are =
               subst (All IsPage) (sym g.put)
-              (All-set IsPage pages.items k p' (record { bounded = omega (arith, as_many, was.bounded, ap (λ (q : Vec T Global). length q.items) g.is); roomy = omega (arith, g.roomy, was.roomy, ap (λ (q : Vec T Global). vec_capacity q) g.is) }) g.were.pages_are);
+              (All-set IsPage pages.items k p' (record {
+                bounded = omega (arith, as_many, was.bounded, ap (λ (q : Vec T Global). length q.items) g.is);
+                roomy =
+                    omega (arith, g.roomy, was.roomy, ap (λ (q : Vec T Global). vec_capacity q) g.is);
+              }) g.were.pages_are);
           spare_are = g.were.spare_are;
           pages_roomy = omega (arith, g.were.pages_roomy, g.capacity);
           starts_roomy = omega (arith, g.were.starts_roomy);

@@ -12,7 +12,8 @@ long : (d : List ℕ) (n : ℕ) → length (map (λ m. m + 1) (take n d) ++ drop
 long d n = omega (arith, length-append (map (λ m. m + 1) (take n d)) (drop n d), length-map (take n d) (λ m. m + 1), length-take n d, length-drop n d)
 
 -- one more at the next index
-pub shift_step : (s xs : List ℕ) (from i : ℕ) → from ≤ i → i < length s → xs ≡ so_far s from (i - from) → set xs i (get_or xs i 0 + 1) ≡ so_far s from (i + 1 - from)
+pub shift_step : (s xs : List ℕ) (from i : ℕ) → from ≤ i → i < length s → xs ≡ so_far s from (i - from) → set xs i (get_or xs i 0 + 1)
+    ≡ so_far s from (i + 1 - from)
 shift_step s xs from i h l e =
     let n : length (take from s) ≡ from = length-take-le from s (omega arith) in
     let more : i - from < length (drop from s) = omega (arith, length-drop from s) in
@@ -21,5 +22,8 @@ shift_step s xs from i h l e =
     ap (λ (z : List ℕ). set z i (get_or z i 0 + 1)) e
     ∙ ap (λ (m : ℕ). set (take from s ++ ys) i (m + 1)) (get_or-append_right (take from s) ys from i 0 n h)
     ∙ set-append_right (take from s) ys from i (get_or ys (i - from) 0 + 1) n h
-    ∙ ap (λ (z : List ℕ). take from s ++ z) (map_over_more (λ m. m + 1) (drop from s) ys (i - from) (get_or ys (i - from) 0) more refl (get_or_default ys (i - from) 0 (get_or ys (i - from) 0) (omega (arith, long (drop from s) (i - from)))))
+    ∙ ap (λ (z : List ℕ). take from s
+    ++ z) (map_over_more (λ m. m
+    + 1) (drop from s) ys (i - from) (get_or ys (i - from) 0) more refl
+    (get_or_default ys (i - from) 0 (get_or ys (i - from) 0) (omega (arith, long (drop from s) (i - from)))))
     ∙ ap (so_far s from) (sym next)

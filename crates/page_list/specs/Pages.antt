@@ -26,7 +26,8 @@ pub record IsEmptyPage {T : Type 0} (page : Vec T Global) : Type 0 where
   pub roomy : 256 ≤ vec_capacity page
 
 -- the indices are right, and each empty page can be put among the others with no further memory
-pub record ArePages {T : Type 0} (pages : Vec (Vec T Global) Global) (starts : Listing ℕ) (spare : Vec (Vec T Global) Global) (len room : ℕ) : Type 0 where
+pub record ArePages {T : Type 0} (pages : Vec (Vec T Global) Global) (starts : Listing ℕ)
+    (spare : Vec (Vec T Global) Global) (len room : ℕ) : Type 0 where
   pub starts_are : starts.items ≡ starts_from 0 pages.items
   pub len_is : len ≡ length (items_of pages.items)
   pub countable : len + room < 2 ^ 64
@@ -42,4 +43,5 @@ pub record IsSlot {T : Type 0} (pages : List (Vec T Global)) (i page offset : �
   pub counted : length (items_of (take page pages)) + offset ≡ i
   pub begins : slice_index (starts_from 0 pages) page + offset ≡ i
   pub upto : (p : Vec T Global) → p ≡ slice_index_or pages page p → offset ≤ length p.items
-  pub within : (p : Vec T Global) → p ≡ slice_index_or pages page p → i < length (items_of pages) → offset < length p.items
+  pub within : (p : Vec T Global) → p ≡ slice_index_or pages page p → i < length (items_of pages) → offset
+      < length p.items

@@ -124,9 +124,9 @@ impl<T: Copy> PageList<T> {
         self.insert_near(i, item, Slot::first());
     }
 
-    /// The same, and says where it lies. Finds its page in one step where that is the slot's. Moves what is behind it in
-    /// its page, and counts up the indices of at most 64 pages, and one number for each 64 more. A full page, one in a
-    /// hundred items or so, is halved: that moves the list of pages, and walks their indices.
+    /// The same, and says where it lies. Finds its page in one step where that is the slot's. Moves what is behind it
+    /// in its page, and counts up the indices of at most 64 pages, and one number for each 64 more. A full page, one in
+    /// a hundred items or so, is halved: that moves the list of pages, and walks their indices.
     pub fn insert_near(&mut self, i: usize, item: T, near: Slot) -> Slot
         requires index { i ≤ length self.old.items }
         requires room { 0 < self.old.room }

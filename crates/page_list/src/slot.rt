@@ -2,8 +2,8 @@ ghost use Rattle.std.specs.Prelude.{◌≡◌, ◌+◌, ◌<◌, ◌≤◌, Some
 
 use crate::starts::Starts;
 
-/// The last page that begins at this index or before it, by the indices where the pages begin. Takes one step where that
-/// is the last of all, else as many as their number has binary digits.
+/// The last page that begins at this index or before it, by the indices where the pages begin. Takes one step where
+/// that is the last of all, else as many as their number has binary digits.
 pub(crate) fn page_of(starts: &Starts, at: usize) -> usize
     requires { slice_get starts.now.items 0 ≡ Some 0 }
     ensures within { result < length starts.now.items }

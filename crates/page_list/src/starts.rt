@@ -9,8 +9,8 @@ use std::marker::Model;
 /// How many indices are a group.
 const GROUP: usize = 64;
 
-/// The indices where pages begin, in order, in groups of 64. To count up all from one on is to count up those of its own
-/// group, and what is added to each later one.
+/// The indices where pages begin, in order, in groups of 64. To count up all from one on is to count up those of its
+/// own group, and what is added to each later one.
 #[derive(Drop)]
 pub(crate) struct Starts {
     /// Each index, less what is added to its group.

@@ -10,11 +10,14 @@ loop-i-preserved c =
     let at : slice_get c.loop-i.cells.items c.loop-i.i ≡ Some c.unwrap.result.now = sym c.get_near.ensures ∙ ap option_copied c.unwrap.ensures in
     elim c.if-is_at_least.branch [
       | then-is_at_least w ↦
-          dropping_to c.args.floor c.args.cells.now.items (set c.loop-i.cells.items c.loop-i.left c.unwrap.result.now) c.if-is_at_least.cells.items (c.loop-i.i + 1) (c.loop-i.left + 1) c.if-is_at_least.left
+          dropping_to c.args.floor c.args.cells.now.items (set c.loop-i.cells.items c.loop-i.left c.unwrap.result.now) c.if-is_at_least.cells.items (c.loop-i.i
+          + 1) (c.loop-i.left + 1) c.if-is_at_least.left
           (ap (λ l. l.items) w.cells-is ∙ w.set_near-near.ensures.items) w.left-is
-          (dropping_kept c.args.floor c.args.cells.now.items c.loop-i.cells.items c.loop-i.i c.loop-i.left c.loop-i.invariant c.unwrap.result.now at (sym c.is_at_least.ensures ∙ w.if-is_at_least.true))
+          (dropping_kept c.args.floor c.args.cells.now.items c.loop-i.cells.items c.loop-i.i c.loop-i.left c.loop-i.invariant c.unwrap.result.now at
+          (sym c.is_at_least.ensures ∙ w.if-is_at_least.true))
       | else-is_at_least w ↦
           dropping_to c.args.floor c.args.cells.now.items c.loop-i.cells.items c.if-is_at_least.cells.items (c.loop-i.i + 1) c.loop-i.left c.if-is_at_least.left
           (ap (λ l. l.items) w.cells-is) w.left-is
-          (dropping_left c.args.floor c.args.cells.now.items c.loop-i.cells.items c.loop-i.i c.loop-i.left c.loop-i.invariant c.unwrap.result.now at (sym c.is_at_least.ensures ∙ w.if-is_at_least.false))
+          (dropping_left c.args.floor c.args.cells.now.items c.loop-i.cells.items c.loop-i.i c.loop-i.left c.loop-i.invariant c.unwrap.result.now at
+          (sym c.is_at_least.ensures ∙ w.if-is_at_least.false))
     ]

@@ -10,7 +10,11 @@ use Rattle.fact_store.proofs.cell_list.join_cells.Goals as goal
 
 pub unwrap-requires : goal.unwrap-requires
 unwrap-requires c =
-    let second : IsSighting (c.args.first.now.0, c.args.second.now.1) = subst (λ (k : Key). IsSighting (k, c.args.second.now.1)) (sym c.requires) c.cell-2.ensures.in_range in
+    let second : IsSighting (c.args.first.now.0, c.args.second.now.1) =
+    subst (λ (k : Key). IsSighting (k, c.args.second.now.1)) (sym c.requires) c.cell-2.ensures.in_range in
     let both = join_in_range c.args.first.now.0 c.args.first.now.1 c.args.second.now.1 c.key.ensures.in_range second in
-    let cell : c.join.result ≡ join c.args.first.now.1 c.args.second.now.1 = c.join.ensures ∙ ap (λ (x : Cell Value). join x c.cell-2.result) c.cell.ensures.value ∙ ap (join c.args.first.now.1) c.cell-2.ensures.value in
-    c.new.ensures.exact.1 (subst (λ (k : Key). IsSighting (k, c.join.result)) (sym c.key.ensures.value) (subst (λ (x : Cell Value). IsSighting (c.args.first.now.0, x)) (sym cell) both))
+    let cell : c.join.result ≡ join c.args.first.now.1 c.args.second.now.1 =
+    c.join.ensures ∙ ap (λ (x : Cell Value). join x c.cell-2.result) c.cell.ensures.value ∙ ap (join c.args.first.now.1) c.cell-2.ensures.value in
+    c.new.ensures.exact.1
+    (subst (λ (k : Key). IsSighting (k, c.join.result)) (sym c.key.ensures.value)
+    (subst (λ (x : Cell Value). IsSighting (c.args.first.now.0, x)) (sym cell) both))

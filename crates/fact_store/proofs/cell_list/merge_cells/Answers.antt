@@ -24,47 +24,74 @@ compare-requires c = omega (arith, c.loop-a.invariant.0.fewer, c.iter-left.ensur
 
 pub loop-a-preserved-in_ok-push-in-Less : goal.loop-a-preserved-in_ok-push-in-Less
 loop-a-preserved-in_ok-push-in-Less c =
-    let w : IsWalked c.args.first.now.items c.args.second.now.items c.loop-a.cells.items (c.in-Some-Some.x ∷ rest_of c.loop-a.left) (c.in-Some-Some.y ∷ rest_of c.loop-a.right) c.loop-a.steps =
-    subst (λ (o : Option (Key × Cell Value)). IsWalked c.args.first.now.items c.args.second.now.items c.loop-a.cells.items (c.in-Some-Some.x ∷ rest_of c.loop-a.left) (option_to_list o ++ rest_of c.loop-a.right) c.loop-a.steps) c.in-Some-Some.is-1
-    (subst (λ (o : Option (Key × Cell Value)). IsWalked c.args.first.now.items c.args.second.now.items c.loop-a.cells.items (option_to_list o ++ rest_of c.loop-a.left) (option_to_list c.loop-a.b ++ rest_of c.loop-a.right) c.loop-a.steps) c.in-Some-Some.is-0 c.loop-a.invariant.0) in
-    let order : key_cmp c.in-Some-Some.x.0 c.in-Some-Some.y.0 ≡ Less = sym (c.in-Less.ensures.order ∙ ap (λ (k : Key). key_cmp k c.key-in-Some-Some.result) c.key.ensures.value ∙ ap (key_cmp c.in-Some-Some.x.0) c.key-in-Some-Some.ensures.value) in (
-      walked_to c.args.first.now.items c.args.second.now.items (c.loop-a.cells.items ++ c.in-Some-Some.x ∷ []) _ (rest_of c.loop-a.left) _ (c.in-Some-Some.y ∷ rest_of c.loop-a.right) _ (c.loop-a.steps + 1) _
-          (walked_first c.args.first.now.items c.args.second.now.items c.loop-a.cells.items (rest_of c.loop-a.left) (rest_of c.loop-a.right) c.in-Some-Some.x c.in-Some-Some.y c.loop-a.steps w order)
-          c.in_ok-push-in-Less.ensures.ok (next_left _ _ _ c.next-a-in-Less.ensures.steps) (ap (λ o. option_to_list o ++ rest_of c.loop-a.right) c.in-Some-Some.is-1) c.compare.ensures.counted,
+    let w : IsWalked c.args.first.now.items c.args.second.now.items c.loop-a.cells.items (c.in-Some-Some.x ∷ rest_of c.loop-a.left) (c.in-Some-Some.y
+    ∷ rest_of c.loop-a.right) c.loop-a.steps =
+    subst (λ (o : Option (Key × Cell Value)). IsWalked c.args.first.now.items c.args.second.now.items c.loop-a.cells.items (c.in-Some-Some.x
+    ∷ rest_of c.loop-a.left) (option_to_list o ++ rest_of c.loop-a.right) c.loop-a.steps) c.in-Some-Some.is-1
+    (subst (λ (o : Option (Key × Cell Value)). IsWalked c.args.first.now.items c.args.second.now.items c.loop-a.cells.items (option_to_list o
+    ++ rest_of c.loop-a.left) (option_to_list c.loop-a.b ++ rest_of c.loop-a.right) c.loop-a.steps) c.in-Some-Some.is-0 c.loop-a.invariant.0) in
+    let order : key_cmp c.in-Some-Some.x.0 c.in-Some-Some.y.0 ≡ Less =
+    sym (c.in-Less.ensures.order ∙ ap (λ (k : Key). key_cmp k c.key-in-Some-Some.result) c.key.ensures.value
+    ∙ ap (key_cmp c.in-Some-Some.x.0) c.key-in-Some-Some.ensures.value) in (
+      walked_to c.args.first.now.items c.args.second.now.items (c.loop-a.cells.items ++ c.in-Some-Some.x ∷ []) _ (rest_of c.loop-a.left) _ (c.in-Some-Some.y
+          ∷ rest_of c.loop-a.right) _ (c.loop-a.steps + 1) _
+          (walked_first c.args.first.now.items c.args.second.now.items c.loop-a.cells.items (rest_of c.loop-a.left) (rest_of c.loop-a.right) c.in-Some-Some.x
+          c.in-Some-Some.y c.loop-a.steps w order)
+          c.in_ok-push-in-Less.ensures.ok (next_left _ _ _ c.next-a-in-Less.ensures.steps) (ap (λ o. option_to_list o
+          ++ rest_of c.loop-a.right) c.in-Some-Some.is-1) c.compare.ensures.counted,
       nothing_left _ _ _ c.next-a-in-Less.ensures.steps,
       c.loop-a.invariant.2,
     )
 
 pub loop-a-preserved-in_ok-push-in-Greater : goal.loop-a-preserved-in_ok-push-in-Greater
 loop-a-preserved-in_ok-push-in-Greater c =
-    let w : IsWalked c.args.first.now.items c.args.second.now.items c.loop-a.cells.items (c.in-Some-Some.x ∷ rest_of c.loop-a.left) (c.in-Some-Some.y ∷ rest_of c.loop-a.right) c.loop-a.steps =
-    subst (λ (o : Option (Key × Cell Value)). IsWalked c.args.first.now.items c.args.second.now.items c.loop-a.cells.items (c.in-Some-Some.x ∷ rest_of c.loop-a.left) (option_to_list o ++ rest_of c.loop-a.right) c.loop-a.steps) c.in-Some-Some.is-1
-    (subst (λ (o : Option (Key × Cell Value)). IsWalked c.args.first.now.items c.args.second.now.items c.loop-a.cells.items (option_to_list o ++ rest_of c.loop-a.left) (option_to_list c.loop-a.b ++ rest_of c.loop-a.right) c.loop-a.steps) c.in-Some-Some.is-0 c.loop-a.invariant.0) in
-    let order : key_cmp c.in-Some-Some.x.0 c.in-Some-Some.y.0 ≡ Greater = sym (c.in-Greater.ensures.order ∙ ap (λ (k : Key). key_cmp k c.key-in-Some-Some.result) c.key.ensures.value ∙ ap (key_cmp c.in-Some-Some.x.0) c.key-in-Some-Some.ensures.value) in (
-      walked_to c.args.first.now.items c.args.second.now.items (c.loop-a.cells.items ++ c.in-Some-Some.y ∷ []) _ (c.in-Some-Some.x ∷ rest_of c.loop-a.left) _ (rest_of c.loop-a.right) _ (c.loop-a.steps + 1) _
-          (walked_second c.args.first.now.items c.args.second.now.items c.loop-a.cells.items (rest_of c.loop-a.left) (rest_of c.loop-a.right) c.in-Some-Some.x c.in-Some-Some.y c.loop-a.steps w order)
-          c.in_ok-push-in-Greater.ensures.ok (ap (λ o. option_to_list o ++ rest_of c.loop-a.left) c.in-Some-Some.is-0) (next_left _ _ _ c.next-b-in-Greater.ensures.steps) c.compare.ensures.counted,
+    let w : IsWalked c.args.first.now.items c.args.second.now.items c.loop-a.cells.items (c.in-Some-Some.x ∷ rest_of c.loop-a.left) (c.in-Some-Some.y
+    ∷ rest_of c.loop-a.right) c.loop-a.steps =
+    subst (λ (o : Option (Key × Cell Value)). IsWalked c.args.first.now.items c.args.second.now.items c.loop-a.cells.items (c.in-Some-Some.x
+    ∷ rest_of c.loop-a.left) (option_to_list o ++ rest_of c.loop-a.right) c.loop-a.steps) c.in-Some-Some.is-1
+    (subst (λ (o : Option (Key × Cell Value)). IsWalked c.args.first.now.items c.args.second.now.items c.loop-a.cells.items (option_to_list o
+    ++ rest_of c.loop-a.left) (option_to_list c.loop-a.b ++ rest_of c.loop-a.right) c.loop-a.steps) c.in-Some-Some.is-0 c.loop-a.invariant.0) in
+    let order : key_cmp c.in-Some-Some.x.0 c.in-Some-Some.y.0 ≡ Greater =
+    sym (c.in-Greater.ensures.order ∙ ap (λ (k : Key). key_cmp k c.key-in-Some-Some.result) c.key.ensures.value
+    ∙ ap (key_cmp c.in-Some-Some.x.0) c.key-in-Some-Some.ensures.value) in (
+      walked_to c.args.first.now.items c.args.second.now.items (c.loop-a.cells.items ++ c.in-Some-Some.y ∷ []) _ (c.in-Some-Some.x
+          ∷ rest_of c.loop-a.left) _ (rest_of c.loop-a.right) _ (c.loop-a.steps + 1) _
+          (walked_second c.args.first.now.items c.args.second.now.items c.loop-a.cells.items (rest_of c.loop-a.left) (rest_of c.loop-a.right) c.in-Some-Some.x
+          c.in-Some-Some.y c.loop-a.steps w order)
+          c.in_ok-push-in-Greater.ensures.ok (ap (λ o. option_to_list o ++ rest_of c.loop-a.left) c.in-Some-Some.is-0)
+          (next_left _ _ _ c.next-b-in-Greater.ensures.steps) c.compare.ensures.counted,
       c.loop-a.invariant.1,
       nothing_left _ _ _ c.next-b-in-Greater.ensures.steps,
     )
 
 pub loop-a-preserved : goal.loop-a-preserved
 loop-a-preserved c =
-    let w : IsWalked c.args.first.now.items c.args.second.now.items c.loop-a.cells.items (c.in-Some-Some.x ∷ rest_of c.loop-a.left) (c.in-Some-Some.y ∷ rest_of c.loop-a.right) c.loop-a.steps =
-    subst (λ (o : Option (Key × Cell Value)). IsWalked c.args.first.now.items c.args.second.now.items c.loop-a.cells.items (c.in-Some-Some.x ∷ rest_of c.loop-a.left) (option_to_list o ++ rest_of c.loop-a.right) c.loop-a.steps) c.in-Some-Some.is-1
-    (subst (λ (o : Option (Key × Cell Value)). IsWalked c.args.first.now.items c.args.second.now.items c.loop-a.cells.items (option_to_list o ++ rest_of c.loop-a.left) (option_to_list c.loop-a.b ++ rest_of c.loop-a.right) c.loop-a.steps) c.in-Some-Some.is-0 c.loop-a.invariant.0) in
-    let order : key_cmp c.in-Some-Some.x.0 c.in-Some-Some.y.0 ≡ Equal = sym (c.in-Equal.ensures.order ∙ ap (λ (k : Key). key_cmp k c.key-in-Some-Some.result) c.key.ensures.value ∙ ap (key_cmp c.in-Some-Some.x.0) c.key-in-Some-Some.ensures.value) in
+    let w : IsWalked c.args.first.now.items c.args.second.now.items c.loop-a.cells.items (c.in-Some-Some.x ∷ rest_of c.loop-a.left) (c.in-Some-Some.y
+    ∷ rest_of c.loop-a.right) c.loop-a.steps =
+    subst (λ (o : Option (Key × Cell Value)). IsWalked c.args.first.now.items c.args.second.now.items c.loop-a.cells.items (c.in-Some-Some.x
+    ∷ rest_of c.loop-a.left) (option_to_list o ++ rest_of c.loop-a.right) c.loop-a.steps) c.in-Some-Some.is-1
+    (subst (λ (o : Option (Key × Cell Value)). IsWalked c.args.first.now.items c.args.second.now.items c.loop-a.cells.items (option_to_list o
+    ++ rest_of c.loop-a.left) (option_to_list c.loop-a.b ++ rest_of c.loop-a.right) c.loop-a.steps) c.in-Some-Some.is-0 c.loop-a.invariant.0) in
+    let order : key_cmp c.in-Some-Some.x.0 c.in-Some-Some.y.0 ≡ Equal =
+    sym (c.in-Equal.ensures.order ∙ ap (λ (k : Key). key_cmp k c.key-in-Some-Some.result) c.key.ensures.value
+    ∙ ap (key_cmp c.in-Some-Some.x.0) c.key-in-Some-Some.ensures.value) in
     let same : c.in-Some-Some.x.0 ≡ c.in-Some-Some.y.0 = key_exact c.in-Some-Some.x.0 c.in-Some-Some.y.0 order in (
-      walked_to c.args.first.now.items c.args.second.now.items (c.loop-a.cells.items ++ (c.in-Some-Some.x.0, join c.in-Some-Some.x.1 c.in-Some-Some.y.1) ∷ []) _ (rest_of c.loop-a.left) _ (rest_of c.loop-a.right) _ (c.loop-a.steps + 1) _
-          (walked_both c.args.first.now.items c.args.second.now.items c.loop-a.cells.items (rest_of c.loop-a.left) (rest_of c.loop-a.right) c.in-Some-Some.x c.in-Some-Some.y c.loop-a.steps w same (subst IsSighting c.join_cells.ensures.value c.join_cells.ensures.in_range))
-          (c.in_ok-push-in-Equal.ensures.ok ∙ ap (λ z. c.loop-a.cells.items ++ z ∷ []) c.join_cells.ensures.value) (next_left _ _ _ c.next-a-in-Equal.ensures.steps) (next_left _ _ _ c.next-b-in-Equal.ensures.steps) c.compare.ensures.counted,
+      walked_to c.args.first.now.items c.args.second.now.items (c.loop-a.cells.items ++ (c.in-Some-Some.x.0, join c.in-Some-Some.x.1 c.in-Some-Some.y.1)
+          ∷ []) _ (rest_of c.loop-a.left) _ (rest_of c.loop-a.right) _ (c.loop-a.steps + 1) _
+          (walked_both c.args.first.now.items c.args.second.now.items c.loop-a.cells.items (rest_of c.loop-a.left) (rest_of c.loop-a.right) c.in-Some-Some.x
+          c.in-Some-Some.y c.loop-a.steps w same (subst IsSighting c.join_cells.ensures.value c.join_cells.ensures.in_range))
+          (c.in_ok-push-in-Equal.ensures.ok
+          ∙ ap (λ z. c.loop-a.cells.items ++ z ∷ []) c.join_cells.ensures.value) (next_left _ _ _ c.next-a-in-Equal.ensures.steps)
+          (next_left _ _ _ c.next-b-in-Equal.ensures.steps) c.compare.ensures.counted,
       nothing_left _ _ _ c.next-a-in-Equal.ensures.steps,
       nothing_left _ _ _ c.next-b-in-Equal.ensures.steps,
     )
 
 pub loop-a-init : goal.loop-a-init
 loop-a-init c = (
-  walked_start c.args.first.now.items c.args.second.now.items _ _ _ _ c.requires.first c.requires.second (λ i. (c.new-cells.ensures i).items) (next_left _ _ _ c.next-a.ensures.steps ∙ c.iter-left.ensures.items) (next_left _ _ _ c.next-b.ensures.steps ∙ c.iter-right.ensures.items) c.requires.steps,
+  walked_start c.args.first.now.items c.args.second.now.items _ _ _ _ c.requires.first c.requires.second (λ i. (c.new-cells.ensures i).items)
+      (next_left _ _ _ c.next-a.ensures.steps ∙ c.iter-left.ensures.items) (next_left _ _ _ c.next-b.ensures.steps
+      ∙ c.iter-right.ensures.items) c.requires.steps,
   nothing_left _ _ _ c.next-a.ensures.steps,
   nothing_left _ _ _ c.next-b.ensures.steps,
 )
@@ -78,10 +105,13 @@ at_end c =
     ]
 
 -- the cells at the end
-all_at_end : (c : goal.In_ok-append-2) → AreCells c.append-2.new.cells.items × (seen c.append-2.new.cells.items ≡ seen (c.args.first.now.items ++ c.args.second.now.items))
+all_at_end : (c : goal.In_ok-append-2) → AreCells c.append-2.new.cells.items
+    × (seen c.append-2.new.cells.items ≡ seen (c.args.first.now.items ++ c.args.second.now.items))
 all_at_end c =
-    walked_all c.args.first.now.items c.args.second.now.items c.loop-a.cells.items (option_to_list c.loop-a.a ++ rest_of c.loop-a.left) (option_to_list c.loop-a.b ++ rest_of c.loop-a.right) c.append-2.new.cells.items c.loop-a.steps c.loop-a.invariant.0 (at_end c)
-    (c.in_ok-append-2.ensures ∙ ap (λ (z : List (Key × Cell Value)). z ++ option_to_list c.loop-a.b ++ rest_of c.loop-a.right) (c.in_ok-append.ensures ∙ append_assoc c.loop-a.cells.items (option_to_list c.loop-a.a) (rest_of c.loop-a.left))
+    walked_all c.args.first.now.items c.args.second.now.items c.loop-a.cells.items (option_to_list c.loop-a.a
+    ++ rest_of c.loop-a.left) (option_to_list c.loop-a.b ++ rest_of c.loop-a.right) c.append-2.new.cells.items c.loop-a.steps c.loop-a.invariant.0 (at_end c)
+    (c.in_ok-append-2.ensures ∙ ap (λ (z : List (Key × Cell Value)). z ++ option_to_list c.loop-a.b ++ rest_of c.loop-a.right) (c.in_ok-append.ensures
+    ∙ append_assoc c.loop-a.cells.items (option_to_list c.loop-a.a) (rest_of c.loop-a.left))
     ∙ append_assoc (c.loop-a.cells.items ++ (option_to_list c.loop-a.a ++ rest_of c.loop-a.left)) (option_to_list c.loop-a.b) (rest_of c.loop-a.right))
 
 pub returns-clause-cells : goal.returns-clause-cells
@@ -92,4 +122,5 @@ returns-clause-merged c = (all_at_end c).1 ∙ seen_of_both c.args.first.now.ite
 
 pub returns-clause-counted : goal.returns-clause-counted
 returns-clause-counted c =
-    compared_all c.args.first.now.items c.args.second.now.items c.loop-a.cells.items (option_to_list c.loop-a.a ++ rest_of c.loop-a.left) (option_to_list c.loop-a.b ++ rest_of c.loop-a.right) c.loop-a.steps c.loop-a.invariant.0 (at_end c)
+    compared_all c.args.first.now.items c.args.second.now.items c.loop-a.cells.items (option_to_list c.loop-a.a
+    ++ rest_of c.loop-a.left) (option_to_list c.loop-a.b ++ rest_of c.loop-a.right) c.loop-a.steps c.loop-a.invariant.0 (at_end c)

@@ -7,7 +7,8 @@ use Rattle.fact_store.proofs.cell_list.put_kept.Goals as goal
 
 pub returns-then-is_at_least-clause-cells : goal.returns-then-is_at_least-clause-cells
 returns-then-is_at_least-clause-cells c =
-    merged_held c.args.floor (seen c.args.cells.now.items) (seen (c.args.sighting ∷ [])) c.put.new.cells.items c.requires.cells.from_one (held_kept c.args.floor c.args.cells.now.items c.requires.cells)
+    merged_held c.args.floor (seen c.args.cells.now.items) (seen (c.args.sighting ∷ [])) c.put.new.cells.items c.requires.cells.from_one
+    (held_kept c.args.floor c.args.cells.now.items c.requires.cells)
     (one_kept c.args.floor c.args.sighting (sym c.is_at_least.ensures ∙ c.if-is_at_least.true)) c.put.ensures.cells c.put.ensures.put
 
 pub returns-then-is_at_least-clause-put : goal.returns-then-is_at_least-clause-put

@@ -12,6 +12,7 @@ returns-in-Equal-order_at c = stands_at c.args.key.now c.args.cells.now.items c.
 pub returns-in-Greater-order_at : goal.returns-in-Greater-order_at
 returns-in-Greater-order_at c =
     let next : c.in_ok-next.next ≡ c.in_ok-index.index + 1 = c.in_ok-next.ensures.1 in
-    let greater : Greater ≡ order_of c.args.key.now (slice_get c.args.cells.now.items (c.in_ok-index.index + 1)) = c.in-Greater-order_at.ensures ∙ ap (λ (n : ℕ). order_of c.args.key.now (slice_get c.args.cells.now.items n)) next in
+    let greater : Greater ≡ order_of c.args.key.now (slice_get c.args.cells.now.items (c.in_ok-index.index + 1)) =
+    c.in-Greater-order_at.ensures ∙ ap (λ (n : ℕ). order_of c.args.key.now (slice_get c.args.cells.now.items n)) next in
     subst (IsIndexFor c.args.key.now c.args.cells.now.items) (sym next)
     (stands_between c.args.key.now c.args.cells.now.items c.requires c.in_ok-index.index c.in-Less.ensures greater)

@@ -10,4 +10,5 @@ page_of-page-requires g c = first_start c.args.pages.now c.args.starts.now.items
 pub returns : goal.returns
 returns g c =
     subst (λ (n : ℕ). IsSlot c.args.pages.now c.args.i c.page_of-page.result (c.args.i - n)) (sym c.at.ensures)
-    (is_slot c.args.pages.now c.args.starts.now.items c.requires.starts c.page_of-page.result c.page_of-page.ensures.within c.args.i c.page_of-page.ensures.last c.page_of-page.ensures.begins c.requires.upto)
+    (is_slot c.args.pages.now c.args.starts.now.items c.requires.starts c.page_of-page.result c.page_of-page.ensures.within c.args.i c.page_of-page.ensures.last
+    c.page_of-page.ensures.begins c.requires.upto)

@@ -12,7 +12,8 @@ overflow_add-numbers c =
     let h : i < length s = omega (arith, c.loop-i-test.true) in
     let from_start : 0 + i ≡ i = omega arith in
     let same : get_or c.loop-i.numbers i 0 ≡ get_or s i 0 = ap (λ (z : List ℕ). get_or z i 0) c.loop-i.invariant ∙ not_yet added 0 s i h in
-    let there : get_or (raised added 0 s) i 0 ≡ get_or s i 0 + get_or added (i / 64) 0 = raised_at added 0 s i h ∙ ap (λ (m : ℕ). get_or s i 0 + get_or added (m / 64) 0) from_start in
+    let there : get_or (raised added 0 s) i 0 ≡ get_or s i 0 + get_or added (i / 64) 0 =
+    raised_at added 0 s i h ∙ ap (λ (m : ℕ). get_or s i 0 + get_or added (m / 64) 0) from_start in
     omega (arith, same, there, c.requires.fits i 0 (omega (arith, length-raised added 0 s)))
 
 pub loop-i-preserved : goal.loop-i-preserved

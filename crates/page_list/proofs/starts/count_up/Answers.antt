@@ -5,4 +5,5 @@ use Rattle.page_list.proofs.starts.count_up.Goals as goal
 
 pub loop-i-preserved : goal.loop-i-preserved
 loop-i-preserved c =
-    shift_step c.args.numbers.now c.loop-i.numbers c.args.from c.loop-i.i c.loop-i.auto.i (omega (arith, c.loop-i-test.true, c.requires.until)) c.loop-i.invariant
+    shift_step c.args.numbers.now c.loop-i.numbers c.args.from c.loop-i.i c.loop-i.auto.i (omega (arith, c.loop-i-test.true, c.requires.until))
+    c.loop-i.invariant

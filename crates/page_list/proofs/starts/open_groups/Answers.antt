@@ -8,7 +8,8 @@ use Rattle.page_list.proofs.Raised.{raised-grown}
 use Rattle.page_list.proofs.starts.open_groups.Goals as goal
 
 -- the indices stay, with them or without
-same_indices : (b : Bool) (s added added' : List ℕ) (n m : ℕ) → length added ≤ n → added' ≡ cond b (take n added ++ replicate m 0) added → raised added' 0 s ≡ raised added 0 s
+same_indices : (b : Bool) (s added added' : List ℕ) (n m : ℕ) → length added ≤ n → added' ≡ cond b (take n added ++ replicate m 0) added → raised added' 0 s
+    ≡ raised added 0 s
 same_indices true s added added' n m more e =
     ap (λ (a : List ℕ). raised a 0 s) (e ∙ ap (λ (t : List ℕ). t ++ replicate m 0) (take_all n added more)) ∙ raised-grown added m 0 s
 same_indices false s added added' n m more e = ap (λ (a : List ℕ). raised a 0 s) e

@@ -8,6 +8,7 @@ use Rattle.fact_store.proofs.store.Store.add_all.Goals as goal
 
 pub returns-then-sightings-gt-SIGHTINGS_PER_REPORT-clause-ok : goal.returns-then-sightings-gt-SIGHTINGS_PER_REPORT-clause-ok
 returns-then-sightings-gt-SIGHTINGS_PER_REPORT-clause-ok c =
-    let floor : c.self.inside.floor ≡ c.args.self.now.floor = floor_is c.self.inside.floor c.self.inside.cells.items c.args.self.now c.self.view_is c.self.invariant.from_one in
+    let floor : c.self.inside.floor ≡ c.args.self.now.floor =
+    floor_is c.self.inside.floor c.self.inside.cells.items c.args.self.now c.self.view_is c.self.invariant.from_one in
     c.in_ok-merge.ensures.ok ∙ ap (merge c.args.self.now) (c.in_ok-other.ensures ∙ ap (λ (f : ℕ). view_at f c.args.sightings.now) floor)
     ∙ sightings_at_floor c.args.self.now c.args.sightings.now

@@ -15,6 +15,8 @@ loop-sighting-init c = (
 pub loop-sighting-preserved : goal.loop-sighting-preserved
 loop-sighting-preserved c = (
   c.put_kept.ensures.cells,
-  one_more_merged c.args.self.now (view_at c.loop-sighting.self-inside.floor c.loop-sighting.self-inside.cells.items) (view_at c.loop-sighting.self-inside.floor c.put_kept.new.cells.items) c.args.sightings.now c.loop-sighting.sighting-index c.sighting-item.result c.sighting-item.is c.loop-sighting-test.true c.loop-sighting.invariant.1 c.put_kept.ensures.put,
+  one_more_merged c.args.self.now (view_at c.loop-sighting.self-inside.floor c.loop-sighting.self-inside.cells.items)
+      (view_at c.loop-sighting.self-inside.floor c.put_kept.new.cells.items) c.args.sightings.now c.loop-sighting.sighting-index c.sighting-item.result
+      c.sighting-item.is c.loop-sighting-test.true c.loop-sighting.invariant.1 c.put_kept.ensures.put,
   omega (arith, c.loop-sighting.invariant.2, c.put_kept.ensures.room),
 )

@@ -11,7 +11,8 @@ pub invariant_of-self : goal.invariant_of-self
 invariant_of-self g c =
     let k = c.slot_near-at.result.page in
     let view : items_of c.self.inside.pages.items ≡ c.args.self.now.items = λ i. (c.self.view_is i).items in
-    let at : IsSlot c.self.inside.pages.items c.args.i k c.slot_near-at.result.offset = subst (λ (ps : List (Vec g.row.T.Denot Global)). IsSlot ps c.args.i k c.slot_near-at.result.offset) c.deref.ensures.value c.slot_near-at.ensures in
+    let at : IsSlot c.self.inside.pages.items c.args.i k c.slot_near-at.result.offset =
+    subst (λ (ps : List (Vec g.row.T.Denot Global)). IsSlot ps c.args.i k c.slot_near-at.result.offset) c.deref.ensures.value c.slot_near-at.ensures in
     replaced_pages {p' = with_item c.index_mut.result.now c.slot_near-at.result.offset c.args.item} (record {
       were = c.self.invariant;
       at = at;
@@ -27,8 +28,10 @@ pub returns-clause-items : goal.returns-clause-items
 returns-clause-items g c =
     let k = c.slot_near-at.result.page in
     let view : items_of c.self.inside.pages.items ≡ c.args.self.now.items = λ i. (c.self.view_is i).items in
-    let at : IsSlot c.self.inside.pages.items c.args.i k c.slot_near-at.result.offset = subst (λ (ps : List (Vec g.row.T.Denot Global)). IsSlot ps c.args.i k c.slot_near-at.result.offset) c.deref.ensures.value c.slot_near-at.ensures in
-    replaced_items {pages' = with_item c.self.inside.pages k (with_item c.index_mut.result.now c.slot_near-at.result.offset c.args.item)} {p' = with_item c.index_mut.result.now c.slot_near-at.result.offset c.args.item} (record {
+    let at : IsSlot c.self.inside.pages.items c.args.i k c.slot_near-at.result.offset =
+    subst (λ (ps : List (Vec g.row.T.Denot Global)). IsSlot ps c.args.i k c.slot_near-at.result.offset) c.deref.ensures.value c.slot_near-at.ensures in
+    replaced_items {pages' = with_item c.self.inside.pages k (with_item c.index_mut.result.now c.slot_near-at.result.offset c.args.item)} {p' =
+    with_item c.index_mut.result.now c.slot_near-at.result.offset c.args.item} (record {
       were = c.self.invariant;
       at = at;
       within = omega (arith, c.requires, ap length view);

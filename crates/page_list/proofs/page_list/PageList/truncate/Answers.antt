@@ -9,7 +9,8 @@ use Rattle.page_list.proofs.page_list.PageList.truncate.Goals as goal
 pub invariant_of-self : goal.invariant_of-self
 invariant_of-self g c =
     let k = c.slot_of-at.result.page in
-    let at : IsSlot c.self.inside.pages.items c.args.n k c.slot_of-at.result.offset = subst (λ (ps : List (Vec g.row.T.Denot Global)). IsSlot ps c.args.n k c.slot_of-at.result.offset) c.deref.ensures.value c.slot_of-at.ensures in
+    let at : IsSlot c.self.inside.pages.items c.args.n k c.slot_of-at.result.offset =
+    subst (λ (ps : List (Vec g.row.T.Denot Global)). IsSlot ps c.args.n k c.slot_of-at.result.offset) c.deref.ensures.value c.slot_of-at.ensures in
     cut_pages {p' = c.truncate.new.self} (record {
       were = c.self.invariant;
       at = at;
@@ -27,7 +28,8 @@ pub returns-clause-items : goal.returns-clause-items
 returns-clause-items g c =
     let k = c.slot_of-at.result.page in
     let view : items_of c.self.inside.pages.items ≡ c.args.self.now.items = λ i. (c.self.view_is i).items in
-    let at : IsSlot c.self.inside.pages.items c.args.n k c.slot_of-at.result.offset = subst (λ (ps : List (Vec g.row.T.Denot Global)). IsSlot ps c.args.n k c.slot_of-at.result.offset) c.deref.ensures.value c.slot_of-at.ensures in
+    let at : IsSlot c.self.inside.pages.items c.args.n k c.slot_of-at.result.offset =
+    subst (λ (ps : List (Vec g.row.T.Denot Global)). IsSlot ps c.args.n k c.slot_of-at.result.offset) c.deref.ensures.value c.slot_of-at.ensures in
     cut_items {pages' = c.truncate-2.new.self} {starts' = c.truncate-3.new.self} {p' = c.truncate.new.self} (record {
       were = c.self.invariant;
       at = at;

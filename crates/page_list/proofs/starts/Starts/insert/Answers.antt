@@ -13,10 +13,13 @@ invariant_of-self c =
     let added = c.self.inside.added.items in
     let s = c.self.inside.starts.items in
     let view : raised added 0 s ≡ c.args.self.now.items = λ i. (c.self.view_is i).items in
-    let put : c.insert_within.new.page.items ≡ insert (raised added 0 s) c.args.page c.args.start = c.insert_within.ensures.items ∙ ap (λ (t : List ℕ). insert t c.args.page c.args.start) c.settle.ensures.sums in
+    let put : c.insert_within.new.page.items ≡ insert (raised added 0 s) c.args.page c.args.start =
+    c.insert_within.ensures.items ∙ ap (λ (t : List ℕ). insert t c.args.page c.args.start) c.settle.ensures.sums in
     let within : c.args.page ≤ length s = omega (arith, c.requires.page, ap length view, length-raised added 0 s) in
-    let room : min (vec_capacity c.self.inside.starts) (64 * vec_len c.self.inside.added) - vec_len c.self.inside.starts ≡ c.args.self.now.room = λ i. (c.self.view_is i).room in
-    inserted_are c.self.inside.starts c.insert_within.new.page c.self.inside.added c.settle.new.added c.args.page c.args.start c.self.invariant within put c.settle.ensures.none
+    let room : min (vec_capacity c.self.inside.starts) (64 * vec_len c.self.inside.added) - vec_len c.self.inside.starts ≡ c.args.self.now.room =
+    λ i. (c.self.view_is i).room in
+    inserted_are c.self.inside.starts c.insert_within.new.page c.self.inside.added c.settle.new.added c.args.page c.args.start c.self.invariant within put
+    c.settle.ensures.none
     (omega (arith, c.ranges.start.fits)) (omega (arith, room, c.requires.room, c.self.inside.starts.ok.0, c.settle.ensures.groups, c.settle.new.added.ok.0))
 
 pub returns-clause-items : goal.returns-clause-items
@@ -24,20 +27,33 @@ returns-clause-items c =
     let added = c.self.inside.added.items in
     let s = c.self.inside.starts.items in
     let view : raised added 0 s ≡ c.args.self.now.items = λ i. (c.self.view_is i).items in
-    let put : c.insert_within.new.page.items ≡ insert (raised added 0 s) c.args.page c.args.start = c.insert_within.ensures.items ∙ ap (λ (t : List ℕ). insert t c.args.page c.args.start) c.settle.ensures.sums in
+    let put : c.insert_within.new.page.items ≡ insert (raised added 0 s) c.args.page c.args.start =
+    c.insert_within.ensures.items ∙ ap (λ (t : List ℕ). insert t c.args.page c.args.start) c.settle.ensures.sums in
     let within : c.args.page ≤ length s = omega (arith, c.requires.page, ap length view, length-raised added 0 s) in
-    inserted_items c.self.inside.starts c.insert_within.new.page c.self.inside.added c.settle.new.added c.args.page c.args.start c.self.invariant within put c.settle.ensures.none
+    inserted_items c.self.inside.starts c.insert_within.new.page c.self.inside.added c.settle.new.added c.args.page c.args.start c.self.invariant within put
+    c.settle.ensures.none
     ∙ ap (λ (t : List ℕ). insert t c.args.page c.args.start) view
 
 pub insert_within-requires-clause-room : goal.insert_within-requires-clause-room
 insert_within-requires-clause-room c =
-    let room : min (vec_capacity c.self.inside.starts) (64 * vec_len c.self.inside.added) - vec_len c.self.inside.starts ≡ c.args.self.now.room = λ i. (c.self.view_is i).room in
+    let room : min (vec_capacity c.self.inside.starts) (64 * vec_len c.self.inside.added) - vec_len c.self.inside.starts ≡ c.args.self.now.room =
+    λ i. (c.self.view_is i).room in
     omega (arith, room, c.requires.room, c.settle.ensures.len, c.settle.ensures.capacity)
 
 pub returns-clause-room : goal.returns-clause-room
 returns-clause-room c =
-    let room : min (vec_capacity c.self.inside.starts) (64 * vec_len c.self.inside.added) - vec_len c.self.inside.starts ≡ c.args.self.now.room = λ i. (c.self.view_is i).room in
-    let within : c.args.page ≤ length c.settle.new.numbers.items = omega (arith, c.requires.page, c.settle.ensures.len, c.settle.new.numbers.ok.0, c.self.inside.starts.ok.0, ap length (λ i. (c.self.view_is i).items), length-raised c.self.inside.added.items 0 c.self.inside.starts.items) in
+    let room : min (vec_capacity c.self.inside.starts) (64 * vec_len c.self.inside.added) - vec_len c.self.inside.starts ≡ c.args.self.now.room =
+    λ i. (c.self.view_is i).room in
+    let within : c.args.page ≤ length c.settle.new.numbers.items =
+    omega (
+      arith,
+      c.requires.page,
+      c.settle.ensures.len,
+      c.settle.new.numbers.ok.0,
+      c.self.inside.starts.ok.0,
+      ap length (λ i. (c.self.view_is i).items),
+      length-raised c.self.inside.added.items 0 c.self.inside.starts.items,
+    ) in
     omega (
       arith,
       room,

@@ -15,7 +15,14 @@ pub returns-then-from-len-clause-items : goal.returns-then-from-len-clause-items
 returns-then-from-len-clause-items c =
     let view : raised c.self.inside.added.items 0 c.self.inside.starts.items ≡ c.args.self.now.items = λ i. (c.self.view_is i).items in
     none_from c.args.self.now.items c.args.from
-    (omega (arith, ap length view, length-raised c.self.inside.added.items 0 c.self.inside.starts.items, c.self.inside.starts.ok.0, c.len-len.ensures, c.if-from-len.true))
+    (omega (
+      arith,
+      ap length view,
+      length-raised c.self.inside.added.items 0 c.self.inside.starts.items,
+      c.self.inside.starts.ok.0,
+      c.len-len.ensures,
+      c.if-from-len.true,
+    ))
 
 pub count_up-requires-clause-fits : goal.count_up-requires-clause-fits
 count_up-requires-clause-fits c =
@@ -45,19 +52,27 @@ invariant_of-self c =
     let until = c.if-group-groups.end in
     let view : raised added 0 s ≡ c.args.self.now.items = λ i. (c.self.view_is i).items in
     let len : c.len-len.result ≡ length s = omega (arith, c.len-len.ensures, c.self.inside.starts.ok.0) in
-    let first : c.count_up.new.numbers ≡ so_far s c.args.from (until - c.args.from) = c.count_up.ensures ∙ ap (λ (t : List ℕ). so_far t c.args.from (until - c.args.from)) c.deref_mut.ensures.value in
+    let first : c.count_up.new.numbers ≡ so_far s c.args.from (until - c.args.from) =
+    c.count_up.ensures ∙ ap (λ (t : List ℕ). so_far t c.args.from (until - c.args.from)) c.deref_mut.ensures.value in
     let last = (c.len-len.result - 1) / 64 + 1 - (c.args.from / 64 + 1) in
-    let later : c.count_up-2.new.numbers ≡ so_far added (c.args.from / 64 + 1) last = c.count_up-2.ensures ∙ ap (λ (t : List ℕ). so_far t (c.args.from / 64 + 1) last) c.deref_mut-2.ensures.value in
-    let long : length c.count_up.new.numbers ≡ c.self.inside.starts.len = omega (arith, c.count_up.auto.numbers, ap length c.deref_mut.ensures.value, c.self.inside.starts.ok.0) in
-    let later_long : length c.count_up-2.new.numbers ≡ c.self.inside.added.len = omega (arith, c.count_up-2.auto.numbers, ap length c.deref_mut-2.ensures.value, c.self.inside.added.ok.0) in
-    counted_are {starts' = with_items c.self.inside.starts c.count_up.new.numbers} {added' = with_items c.self.inside.added c.count_up-2.new.numbers} {until = until} (record {
+    let later : c.count_up-2.new.numbers ≡ so_far added (c.args.from / 64 + 1) last =
+    c.count_up-2.ensures ∙ ap (λ (t : List ℕ). so_far t (c.args.from / 64 + 1) last) c.deref_mut-2.ensures.value in
+    let long : length c.count_up.new.numbers ≡ c.self.inside.starts.len =
+    omega (arith, c.count_up.auto.numbers, ap length c.deref_mut.ensures.value, c.self.inside.starts.ok.0) in
+    let later_long : length c.count_up-2.new.numbers ≡ c.self.inside.added.len =
+    omega (arith, c.count_up-2.auto.numbers, ap length c.deref_mut-2.ensures.value, c.self.inside.added.ok.0) in
+    counted_are {starts' = with_items c.self.inside.starts c.count_up.new.numbers} {added' = with_items c.self.inside.added c.count_up-2.new.numbers} {until =
+    until} (record {
       were = c.self.invariant;
       inside = omega (arith, c.if-from-len.false, len);
-      from_is = elim c.if-group-groups.branch [ then-group-groups w ↦ omega (arith, w.end-is) | else-group-groups w ↦ omega (arith, w.end-is, c.if-from-len.false) ];
-      within = elim c.if-group-groups.branch [ then-group-groups w ↦ omega (arith, w.end-is) | else-group-groups w ↦ omega (arith, w.end-is, w.if-group-groups.false) ];
+      from_is = elim c.if-group-groups.branch
+          [ then-group-groups w ↦ omega (arith, w.end-is) | else-group-groups w ↦ omega (arith, w.end-is, c.if-from-len.false) ];
+      within = elim c.if-group-groups.branch
+          [ then-group-groups w ↦ omega (arith, w.end-is) | else-group-groups w ↦ omega (arith, w.end-is, w.if-group-groups.false) ];
       to_end = elim c.if-group-groups.branch [ then-group-groups w ↦ inl (omega (arith, w.end-is)) | else-group-groups w ↦ inr (omega (arith, w.end-is, len)) ];
       first = with_items_is c.self.inside.starts c.count_up.new.numbers long ∙ first;
-      later = with_items_is c.self.inside.added c.count_up-2.new.numbers later_long ∙ later ∙ ap (λ (n : ℕ). so_far added (c.args.from / 64 + 1) ((n - 1) / 64 + 1 - (c.args.from / 64 + 1))) len;
+      later = with_items_is c.self.inside.added c.count_up-2.new.numbers later_long ∙ later
+          ∙ ap (λ (n : ℕ). so_far added (c.args.from / 64 + 1) ((n - 1) / 64 + 1 - (c.args.from / 64 + 1))) len;
     })
     (subst (All (λ (n : ℕ). n + 1 < 2 ^ 64)) (sym view) c.requires.fits)
 
@@ -68,18 +83,26 @@ returns-clause-items c =
     let until = c.if-group-groups.end in
     let view : raised added 0 s ≡ c.args.self.now.items = λ i. (c.self.view_is i).items in
     let len : c.len-len.result ≡ length s = omega (arith, c.len-len.ensures, c.self.inside.starts.ok.0) in
-    let first : c.count_up.new.numbers ≡ so_far s c.args.from (until - c.args.from) = c.count_up.ensures ∙ ap (λ (t : List ℕ). so_far t c.args.from (until - c.args.from)) c.deref_mut.ensures.value in
+    let first : c.count_up.new.numbers ≡ so_far s c.args.from (until - c.args.from) =
+    c.count_up.ensures ∙ ap (λ (t : List ℕ). so_far t c.args.from (until - c.args.from)) c.deref_mut.ensures.value in
     let last = (c.len-len.result - 1) / 64 + 1 - (c.args.from / 64 + 1) in
-    let later : c.count_up-2.new.numbers ≡ so_far added (c.args.from / 64 + 1) last = c.count_up-2.ensures ∙ ap (λ (t : List ℕ). so_far t (c.args.from / 64 + 1) last) c.deref_mut-2.ensures.value in
-    let long : length c.count_up.new.numbers ≡ c.self.inside.starts.len = omega (arith, c.count_up.auto.numbers, ap length c.deref_mut.ensures.value, c.self.inside.starts.ok.0) in
-    let later_long : length c.count_up-2.new.numbers ≡ c.self.inside.added.len = omega (arith, c.count_up-2.auto.numbers, ap length c.deref_mut-2.ensures.value, c.self.inside.added.ok.0) in
-    counted_items {starts' = with_items c.self.inside.starts c.count_up.new.numbers} {added' = with_items c.self.inside.added c.count_up-2.new.numbers} {until = until} (record {
+    let later : c.count_up-2.new.numbers ≡ so_far added (c.args.from / 64 + 1) last =
+    c.count_up-2.ensures ∙ ap (λ (t : List ℕ). so_far t (c.args.from / 64 + 1) last) c.deref_mut-2.ensures.value in
+    let long : length c.count_up.new.numbers ≡ c.self.inside.starts.len =
+    omega (arith, c.count_up.auto.numbers, ap length c.deref_mut.ensures.value, c.self.inside.starts.ok.0) in
+    let later_long : length c.count_up-2.new.numbers ≡ c.self.inside.added.len =
+    omega (arith, c.count_up-2.auto.numbers, ap length c.deref_mut-2.ensures.value, c.self.inside.added.ok.0) in
+    counted_items {starts' = with_items c.self.inside.starts c.count_up.new.numbers} {added' = with_items c.self.inside.added c.count_up-2.new.numbers} {until =
+    until} (record {
       were = c.self.invariant;
       inside = omega (arith, c.if-from-len.false, len);
-      from_is = elim c.if-group-groups.branch [ then-group-groups w ↦ omega (arith, w.end-is) | else-group-groups w ↦ omega (arith, w.end-is, c.if-from-len.false) ];
-      within = elim c.if-group-groups.branch [ then-group-groups w ↦ omega (arith, w.end-is) | else-group-groups w ↦ omega (arith, w.end-is, w.if-group-groups.false) ];
+      from_is = elim c.if-group-groups.branch
+          [ then-group-groups w ↦ omega (arith, w.end-is) | else-group-groups w ↦ omega (arith, w.end-is, c.if-from-len.false) ];
+      within = elim c.if-group-groups.branch
+          [ then-group-groups w ↦ omega (arith, w.end-is) | else-group-groups w ↦ omega (arith, w.end-is, w.if-group-groups.false) ];
       to_end = elim c.if-group-groups.branch [ then-group-groups w ↦ inl (omega (arith, w.end-is)) | else-group-groups w ↦ inr (omega (arith, w.end-is, len)) ];
       first = with_items_is c.self.inside.starts c.count_up.new.numbers long ∙ first;
-      later = with_items_is c.self.inside.added c.count_up-2.new.numbers later_long ∙ later ∙ ap (λ (n : ℕ). so_far added (c.args.from / 64 + 1) ((n - 1) / 64 + 1 - (c.args.from / 64 + 1))) len;
+      later = with_items_is c.self.inside.added c.count_up-2.new.numbers later_long ∙ later
+          ∙ ap (λ (n : ℕ). so_far added (c.args.from / 64 + 1) ((n - 1) / 64 + 1 - (c.args.from / 64 + 1))) len;
     })
     ∙ ap (λ (t : List ℕ). take c.args.from t ++ map (λ n. n + 1) (drop c.args.from t)) view
