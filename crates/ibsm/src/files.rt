@@ -2,7 +2,7 @@
 ghost use Rattle.std.specs.Prelude.{◌≡◌, ◌⊎◌, ◌≤◌, Err, length, IfOk, IfErr, OnOk, OnErr, IsTrue, false, true};
 ghost use Rattle.std.specs.Io.KnownBytes.{Appends};
 ghost use Rattle.sm_cli.specs.ExitStatus.{status_of};
-ghost use Rattle.schedule_run.specs.Prints.{PrintsSome};
+ghost use Rattle.schedule_world.specs.Prints.{PrintsSome};
 ghost use Rattle.next_run.specs.RunNext.{IsSaid};
 ghost use Rattle.ibsm.specs.Ending.{IsTaskFault, MayStop, Performs, SaysWhy, StaysSilent, TakesInputs};
 ghost use Rattle.ibsm.specs.Ending.{fault_line, name_of, status_after};
