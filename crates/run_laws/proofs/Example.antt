@@ -38,8 +38,8 @@ use Rattle.manager_laws.proofs.Computed.{delivery_keeps, fault_is, fault_with, i
 use Rattle.manager_laws.proofs.Computed.{phases_with, sweep_in, sweep_there, told_by_agents}
 use Rattle.manager_laws.proofs.ExampleFabric.{distinct_by, is_alone, nodes, port, with_own_seat}
 use Rattle.manager_laws.proofs.Generations.{nothing_newest}
-use Rattle.schedule_run.specs.Commands.{after_ask_line, after_commands, after_hand_up, after_packet_line, after_step, after_take_and_send}
-use Rattle.schedule_run.specs.World.{SeatedValue, WorldValue, after_manager_call, after_send}
+use Rattle.schedule_world.specs.Commands.{after_ask_line, after_commands, after_hand_up, after_packet_line, after_step, after_take_and_send}
+use Rattle.schedule_world.specs.World.{SeatedValue, WorldValue, after_manager_call, after_send}
 use Rattle.run_laws.specs.Alone.{BringsUpAlone, KeepsLines, KeepsStep, KeepsSteps, SomeRunOfOne, after_first, at_first_steps, at_writing, first_serial}
 
 -- the world ------------------------------------------------------------------------------------------------------

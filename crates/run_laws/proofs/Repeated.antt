@@ -4,7 +4,7 @@ use Rattle.std.proofs.lemmas.List.{append-nil}
 use Rattle.std.specs.Prelude.{Option, Some, None}
 use Rattle.std.specs.Io.KnownBytes.{Appends, Consumes, IsAtEnd}
 use Rattle.lft_blocks.specs.Planning.{Planning}
-use Rattle.schedule_run.specs.Commands.{run_text}
+use Rattle.schedule_world.specs.Commands.{run_text}
 use Rattle.run_laws.specs.Repeats.{TextsDecideOutput}
 
 -- what was taken to the end is all that there was

@@ -18,9 +18,9 @@ use Rattle.manager_laws.specs.Scene as around
 use Rattle.manager_laws.specs.Truth.{AreGuidsDistinct}
 use Rattle.manager_laws.specs.Complete.{IsWhole}
 use Rattle.manager_laws.specs.Sets.{IsOwnSet, KeepsPlan, OwnSets}
-use Rattle.schedule_run.specs.Commands.{after_command, after_commands, after_step}
-use Rattle.schedule_run.specs.Flights.{serial_of}
-use Rattle.schedule_run.specs.World.{SeatedValue, WorldValue}
+use Rattle.schedule_world.specs.Commands.{after_command, after_commands, after_step}
+use Rattle.schedule_world.specs.Flights.{serial_of}
+use Rattle.schedule_world.specs.World.{SeatedValue, WorldValue}
 use Rattle.run_laws.specs.Reached.{EachPingSaysReached}
 
 -- lines by which no sweep and no writing begins, no cable moves, no manager comes to sit, and none is given facts or a floor

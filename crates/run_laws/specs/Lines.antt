@@ -6,8 +6,8 @@ use Rattle.schedule_file.specs.Schedule.{Script, SeatCommand}
 use Rattle.schedule_file.specs.declared.command.Command.TheVariants.{Merge, Show}
 use Rattle.schedule_file.specs.declared.command.Shown.TheVariants.{Facts, Plan}
 use Rattle.fact_store.specs.Seen.{HaveSameMembers}
-use Rattle.schedule_run.specs.Commands.{after_commands, script_text, shown_of}
-use Rattle.schedule_run.specs.World.{WorldValue}
+use Rattle.schedule_world.specs.Commands.{after_commands, script_text, shown_of}
+use Rattle.schedule_world.specs.World.{WorldValue}
 use Rattle.run_laws.specs.Accounts.{account_after, world_after}
 
 -- these lines stand behind a schedule

@@ -16,9 +16,9 @@ use Rattle.lft_blocks.specs.Arrival.{HoldsPlan}
 use Rattle.manager_laws.specs.Managing.{Managing, ManagerEvent}
 use Rattle.manager_laws.specs.WritingPings.{BringsUp}
 use Rattle.manager_laws.specs.Written.{at_end, at_writing, plan_at}
-use Rattle.schedule_run.specs.Commands.{ping_shown}
-use Rattle.schedule_run.specs.Lines.{ping_line}
-use Rattle.schedule_run.specs.World.{WorldValue}
+use Rattle.schedule_world.specs.Commands.{ping_shown}
+use Rattle.schedule_world.specs.Lines.{ping_line}
+use Rattle.schedule_world.specs.World.{WorldValue}
 
 -- the line says that the packet reaches the port of that end port, over so many wires
 pub record SaysReached (nodes : List Node) (w : WorldValue) (source : NodePort) (lid : ℕ) (owner : EndPort) : Type 0 where

@@ -2,7 +2,7 @@
 use Rattle.std.specs.Prelude.{◌≡◌, ℕ, Bool, List, Option, Some}
 use Rattle.std.specs.Io.KnownBytes.{Appends}
 use Rattle.sm_cli.specs.declared.asked.RuleAsked.{RuleAsked}
-use Rattle.schedule_run.specs.Commands.{run_text}
+use Rattle.schedule_world.specs.Commands.{run_text}
 use Rattle.schedule_run.specs.Run.{HasRun}
 
 -- where a run has ended well whose sources of topology and schedule held these bytes as it began, exactly `run_text` of them was written

@@ -1,14 +1,4 @@
-pub mod Held
 pub mod Judging
-pub mod Merging
-pub mod Order
-pub mod Ports
-pub mod Printing
 pub mod Running
-pub mod Seating
-pub mod Seats
-pub mod Sending
 pub mod Switches
-pub mod Turns
 pub mod TwoTexts
-pub mod Written

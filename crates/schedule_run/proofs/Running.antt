@@ -8,12 +8,12 @@ use Rattle.sm_cli.specs.InputRule.{IsRuleRead, rule_fault}
 use Rattle.sm_cli.specs.declared.asked.RuleAsked.{RuleAsked}
 use Rattle.sm_cli.specs.declared.fault.Fault.TheVariants.{Text}
 use Rattle.sm_cli.specs.declared.text_fault.TextFault.{TextFault}
-use Rattle.schedule_run.specs.Commands.{run_text, schedule_text, script_text, topology_text}
-use Rattle.schedule_run.specs.Prints.{Prints, PrintsSome, PrintsUnless}
+use Rattle.schedule_world.specs.Commands.{run_text, schedule_text, script_text, topology_text}
+use Rattle.schedule_world.specs.Prints.{Prints, PrintsSome, PrintsUnless}
 use Rattle.schedule_run.specs.Run.{AreTold, HasRun, HaveTold, IsRunFault, StopsEarly, Tells, fault_of_run, has_switch}
-use Rattle.schedule_run.specs.declared.run_fault.RunFault.{RunFault}
-use Rattle.schedule_run.specs.declared.run_fault.RunFault.TheVariants.{Write, Memory}
-use Rattle.schedule_run.proofs.Printing.{failed_with}
+use Rattle.schedule_world.specs.declared.run_fault.RunFault.{RunFault}
+use Rattle.schedule_world.specs.declared.run_fault.RunFault.TheVariants.{Write, Memory}
+use Rattle.schedule_world.proofs.Printing.{failed_with}
 use Rattle.std.specs.Io.KnownBytes.{Appends}
 
 -- what they tell is run

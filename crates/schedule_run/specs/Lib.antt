@@ -1,8 +1,1 @@
-pub mod Commands
-pub mod Flights
-pub mod Lines
-pub mod Prints
-pub mod Refusals
 pub mod Run
-pub mod Tables
-pub mod World

@@ -26,9 +26,9 @@ use Rattle.sm_cli.specs.declared.fault.Fault.{Fault}
 use Rattle.sm_cli.specs.declared.fault.Fault.TheVariants.{File, Text, Write, Memory}
 use Rattle.sm_cli.specs.declared.text_fault.TextFault.{TextFault}
 use Rattle.sm_cli.specs.declared.text_fault.TextFault.TheVariants.{NotUtf8, Topology, Schedule}
-use Rattle.schedule_run.specs.Commands.{run_text}
-use Rattle.schedule_run.specs.declared.run_fault.RunFault.{RunFault}
-use Rattle.schedule_run.specs.declared.run_fault.RunFault.TheVariants as runs
+use Rattle.schedule_world.specs.Commands.{run_text}
+use Rattle.schedule_world.specs.declared.run_fault.RunFault.{RunFault}
+use Rattle.schedule_world.specs.declared.run_fault.RunFault.TheVariants as runs
 
 -- judging ---------------------------------------------------------------------------------------
 

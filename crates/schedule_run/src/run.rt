@@ -1,24 +1,18 @@
 //! The run of a schedule.
 ghost use Rattle.std.specs.Prelude.{◌≡◌, ◌⊎◌, ◌+◌, Err, false, length, IfErr, OnOk, OnErr, IsTrue};
 ghost use Rattle.std.specs.Io.KnownBytes.{Appends};
-ghost use Rattle.schedule_file.specs.Schedule.{IsScript, NamesManagers};
 ghost use Rattle.sm_cli.specs.Asked.{texts_for};
-ghost use Rattle.schedule_run.specs.Commands.{after_command, script_text};
-ghost use Rattle.schedule_run.specs.Prints.{PrintsSome, PrintsUnless};
-ghost use Rattle.schedule_run.specs.Run.{HasRun, IsRunFault};
-ghost use Rattle.schedule_run.specs.World.{Does, value_of};
+ghost use Rattle.schedule_run.specs.Run.{HasRun, IsRunFault, fault_of_run};
+ghost use Rattle.schedule_world.specs.Prints.{PrintsSome};
 
 use crate::roots::rule_fault;
-use crate::run_fault::RunFault;
-use crate::texts::{Setting, read_setting};
-use crate::world::World;
+use crate::texts::read_setting;
 use attr_codec::Lmc;
 use byte_io::{Sink, Source};
 use lft_blocks::Planning;
-use schedule_file::{Command, SeatCommand};
+use schedule_world::{RunFault, run_commands};
 use sm_cli::{Fault, RuleAsked, read_rule};
 use std::alloc::Global;
-use topo_file::Topology;
 
 /// Runs a schedule in the simulated fabric of a topology, with managers that plan 2^LMC LIDs for each adapter port by the
 /// rule that is asked for. The inputs are the text of roots, where one is asked for, the topology and the schedule. The
@@ -65,63 +59,18 @@ pub fn run_schedule<S: Source, W: Sink>(
         return Err(Fault::Text { input: 0, fault });
     }
     let planning = Planning::new(lmc, rule);
-    match run(alloc, &setting, &planning, sink) {
+    match run_commands(alloc, &setting.topology, &setting.schedule, &planning, sink) {
         Ok(()) => Ok(()),
-        Err(fault) => Err(Fault::from(fault)),
+        Err(fault) => Err(fault_of_run(fault)),
     }
 }
 
-/// Runs the commands of a schedule, and flushes.
-fn run<W: Sink>(
-    alloc: Global,
-    setting: &Setting,
-    planning: &Planning,
-    sink: &mut W,
-) -> Result<(), RunFault>
-    requires { IsScript setting.now.topology.nodes setting.now.schedule }
-    ensures prints { PrintsUnless W.written W.has_failed result sink.old sink.new
-        (script_text planning.now setting.now.topology setting.now.schedule) }
-    ensures flushed { OnOk result (IsTrue (W.is_flushed sink.new)) }
-    ensures sink_works { OnOk result (W.has_failed sink.new ≡ false) }
+/// The fault of a run as one of the program.
+fn fault_of_run(fault: RunFault) -> Fault
+    ensures { result ≡ fault_of_run fault }
 {
-    let mut world = World::of(alloc, &setting.topology, setting.schedule.seats(), planning)?;
-    for command in setting.schedule.commands() {
-        world.execute(alloc, &setting.topology, *command, sink)?;
-    }
-    sink.flush()?;
-    Ok(())
-}
-
-impl World<'_> {
-    /// Does what a command says.
-    fn execute<W: Sink>(
-        &mut self,
-        alloc: Global,
-        topology: &Topology,
-        command: SeatCommand,
-        sink: &mut W,
-    ) -> Result<(), RunFault>
-        requires { NamesManagers (length self.old.managers.items) command }
-        ensures does { Does W.written W.has_failed self.old self.new result sink.old sink.new
-            (after_command topology.now.nodes (value_of self.old) command) }
-    {
-        match command {
-            Command::Manager(seat) => self.seat(seat, sink),
-            Command::Ask(seat, what) => self.ask(seat, what, sink),
-            Command::Timeout(seat) => self.time_out(alloc, seat, sink),
-            Command::Floor(seat, floor) => {
-                self.raise_floor(seat, floor);
-                Ok(())
-            }
-            Command::Merge(seat, other) => self.merge(seat, other, sink),
-            Command::Show(seat, what) => self.show(seat, what, sink),
-            Command::Packet(which, fate) => self.handle_packet(which, fate, sink),
-            Command::Drain(most) => self.drain(most, sink),
-            Command::Cut(port) => self.cut(port, sink),
-            Command::Plug(one, other) => self.plug(one, other, sink),
-            Command::Ping(from, lid) => self.show_ping(topology, from, lid, sink),
-            Command::Tables => self.show_tables(alloc, sink),
-            Command::Flight => self.show_flight(topology, sink),
-        }
+    match fault {
+        RunFault::Write => Fault::Write,
+        RunFault::Memory => Fault::Memory,
     }
 }

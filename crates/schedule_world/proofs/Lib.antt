@@ -1,0 +1,10 @@
+pub mod Held
+pub mod Merging
+pub mod Order
+pub mod Ports
+pub mod Printing
+pub mod Seating
+pub mod Seats
+pub mod Sending
+pub mod Turns
+pub mod Written

@@ -1,0 +1,27 @@
+use Rattle.std.proofs.Common.{◌≡◌, ◌∙◌, List, ℕ, ap, subst}
+use Rattle.std.specs.Borrow.{Bor}
+use Rattle.std.specs.List.{flat_map}
+use Rattle.node_agents.specs.Agent.{Agent}
+use Rattle.schedule_world.specs.Prints.{Prints}
+use Rattle.schedule_world.specs.Tables.{all_held, held_line, switches, table_text, tables_text}
+use Rattle.schedule_world.proofs.Printing.{prints_same, prints_then}
+use Rattle.schedule_world.proofs.Turns.{flat_map_map}
+use Rattle.schedule_world.proofs.world.World.show_tables.Goals as goal
+
+abbrev here : Bor Agent → Agent
+here r = r.now
+
+pub returns : goal.returns
+unfolding tables_text
+returns g c =
+    let agents = c.args.self.now.fabric.agents in
+    let held : flat_map held_line c.deref.result.now ≡ flat_map held_line (all_held agents) = ap (flat_map held_line) (c.deref.ensures.value ∙ c.in_ok-lids.ensures) in
+    let tables : flat_map (λ r. table_text (here r)) c.deref-2.result.now ≡ flat_map table_text (switches agents) =
+    ap (flat_map (λ r. table_text (here r))) c.deref-2.ensures.value ∙ flat_map_map table_text here c.in_ok-switches.switches.items
+    ∙ ap (flat_map table_text) c.in_ok-switches.ensures in
+    let Printed : List ℕ → Type 0 = Prints g.W.Sink.written g.W.Sink.has_failed c.args.sink.now c.write_held.new.sink in
+    record {
+      prints = prints_then g.W.Sink.written g.W.Sink.has_failed c.write_tables.result c.args.sink.now c.write_held.new.sink c.write_tables.new.sink
+          (flat_map held_line (all_held agents)) (flat_map table_text (switches agents)) (subst Printed held c.in_ok-write_held.ensures.prints)
+          (prints_same g.W.Sink.written g.W.Sink.has_failed c.write_tables.result c.write_held.new.sink c.write_tables.new.sink _ _ tables c.write_tables.ensures.prints);
+    }

@@ -1,0 +1,7 @@
+pub mod Commands
+pub mod Flights
+pub mod Lines
+pub mod Prints
+pub mod Refusals
+pub mod Tables
+pub mod World

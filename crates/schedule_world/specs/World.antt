@@ -1,0 +1,121 @@
+-- A world: a simulated fabric and the managers that sit in it; what calls on them leave, and which lines tell of them.
+use Rattle.std.specs.Prelude.{◌≡◌, ℕ, Bool, List, [], ◌∷◌, ◌++◌, length, map, slice_get, slice_set, Option, None, Some}
+use Rattle.std.specs.Prelude.{Result, Ok, Err, OnOk}
+use Rattle.std.specs.Option.{option_map_or}
+use Rattle.fabric_model.specs.declared.cable.NodePort.{NodePort}
+use Rattle.fabric_sim.specs.declared.fault.FabricFault.{FabricFault}
+use Rattle.fabric_sim.specs.FabricFault.{fabric_fault_name}
+use Rattle.fabric_sim.specs.Changes.{after_inject}
+use Rattle.fabric_sim.specs.Delivery.{Called}
+use Rattle.fabric_sim.specs.Simulation.{Simulation}
+use Rattle.sm_manager.specs.declared.fault.ManagerFault.{ManagerFault}
+use Rattle.sm_manager.specs.declared.outgoing.Outgoing.{Outgoing}
+use Rattle.sm_manager.specs.Fault.{manager_fault_name}
+use Rattle.sm_manager.specs.Manager.{Manager}
+use Rattle.schedule_world.specs.Flights.{packet_out}
+use Rattle.schedule_world.specs.Prints.{PrintsUnless}
+use Rattle.schedule_world.specs.Refusals.{refusal_line}
+use Rattle.schedule_world.specs.declared.run_fault.RunFault.{RunFault}
+use Rattle.schedule_world.specs.declared.world.Seated.{Seated}
+use Rattle.schedule_world.specs.declared.world.World.{World}
+
+-- a manager of this name, at its seat
+pub record SeatedValue : Type 0 where
+  pub name : List ℕ
+  pub at : NodePort
+  pub manager : Manager
+
+-- the fabric, and the managers in the order of their lines
+pub record WorldValue : Type 0 where
+  pub fabric : Simulation
+  pub managers : List SeatedValue
+
+abbrev pub seated_value : Seated → SeatedValue
+seated_value s = record { name = s.seat.now.name; at = s.seat.now.at; manager = s.manager }
+
+abbrev pub value_of : World → WorldValue
+value_of w = record { fabric = w.fabric; managers = map seated_value w.managers.items }
+
+-- one after the other ----------------------------------------------------------------------------
+
+-- what is left of a fabric or of a world, and the lines that were printed
+pub record Outcome (S : Type 0) : Type 0 where
+  pub now : S
+  pub text : List ℕ
+
+abbrev pub quiet : {S : Type 0} → S → Outcome S
+quiet s = record { now = s; text = [] }
+
+abbrev pub shows : {S : Type 0} → List ℕ → S → Outcome S
+shows text s = record { now = s; text = text }
+
+-- and then what comes next
+abbrev pub and_then : {S : Type 0} → Outcome S → (S → Outcome S) → Outcome S
+and_then outcome next = record { now = (next outcome.now).now; text = outcome.text ++ (next outcome.now).text }
+
+-- the fabric ---------------------------------------------------------------------------------------
+
+-- a refusal is told by its line
+abbrev pub fabric_line : {R : Type 0} → Result R FabricFault → List ℕ
+fabric_line (Ok value) = []
+fabric_line (Err fault) = refusal_line (fabric_fault_name fault)
+
+-- a call of the fabric
+abbrev pub after_fabric : {R : Type 0} → Called R → Outcome Simulation
+after_fabric called = record { now = called.fabric; text = fabric_line called.result }
+
+-- the same in a world
+abbrev pub in_fabric : WorldValue → Outcome Simulation → Outcome WorldValue
+in_fabric w outcome = record { now = record w { fabric = outcome.now }; text = outcome.text }
+
+abbrev pub after_fabric_call : {R : Type 0} → WorldValue → Called R → Outcome WorldValue
+after_fabric_call w called = in_fabric w (after_fabric called)
+
+-- packets go out from a port, in their order
+abbrev pub after_inject_all : Simulation → NodePort → List Outgoing → Outcome Simulation
+after_inject_all fabric at [] = quiet fabric
+after_inject_all fabric at (out ∷ later) = and_then (after_fabric (after_inject fabric at (packet_out out))) (λ now. after_inject_all now at later)
+
+-- the managers -------------------------------------------------------------------------------------
+
+-- what is done with the manager of a seat; without one nothing
+abbrev pub at_seat : WorldValue → ℕ → (SeatedValue → Outcome WorldValue) → Outcome WorldValue
+at_seat w seat run = option_map_or run (slice_get w.managers seat) (quiet w)
+
+-- the manager of a seat is another one now
+abbrev pub with_manager : WorldValue → ℕ → SeatedValue → Manager → WorldValue
+with_manager w seat s manager = record w { managers = slice_set w.managers seat (record s { manager = manager }) }
+
+-- a refusal is told by its line
+abbrev pub manager_line : ManagerFault → List ℕ
+manager_line fault = refusal_line (manager_fault_name fault)
+
+-- a call of a manager: it is refused, or leaves this manager, and then comes what is next
+abbrev pub after_manager_call : (WorldValue → Outcome WorldValue) → WorldValue → ℕ → SeatedValue → Option ManagerFault → Manager → Outcome WorldValue
+after_manager_call next w seat s None manager = next (with_manager w seat s manager)
+after_manager_call next w seat s (Some fault) manager = shows (manager_line fault) w
+
+-- the manager of a seat is asked for something, that is refused for such a fault and leaves such a manager
+abbrev pub after_ask : (WorldValue → Outcome WorldValue) → WorldValue → ℕ → (Manager → Option ManagerFault) → (Manager → Manager) → Outcome WorldValue
+after_ask next w seat fault after = at_seat w seat (λ s. after_manager_call next w seat s (fault s.manager) (after s.manager))
+
+-- nothing is left to be sent
+abbrev pub emptied : Manager → Manager
+emptied m = record m { outgoing = [] }
+
+-- all that the manager of a seat has queued goes out
+abbrev pub after_send_by : WorldValue → ℕ → SeatedValue → Outcome WorldValue
+after_send_by w seat s = in_fabric (with_manager w seat s (emptied s.manager)) (after_inject_all w.fabric s.at s.manager.outgoing)
+
+unfoldable pub after_send : WorldValue → ℕ → Outcome WorldValue
+after_send w seat = at_seat w seat (after_send_by w seat)
+
+-- calls --------------------------------------------------------------------------------------------
+
+-- a call on a world does what an outcome says: there are as many managers as before, it leaves the outcome's world, and
+-- prints its text; where it ends early it says nothing of the world, and prints a beginning, or the output has failed
+pub record Does {W : Type 0} (written : W → Option (List ℕ)) (has_failed : W → Bool) (old new : World)
+    (result : Result (Unit {0}) RunFault) (sink sink' : W) (outcome : Outcome WorldValue) : Type 0 where
+  pub managers : length new.managers.items ≡ length old.managers.items
+  pub leaves : OnOk result (value_of new ≡ outcome.now)
+  pub prints : PrintsUnless written has_failed result sink sink' outcome.text

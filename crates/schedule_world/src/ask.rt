@@ -1,0 +1,161 @@
+//! The commands to managers.
+ghost use Rattle.std.specs.Prelude.{◌≡◌, ◌≢◌, ◌<◌, Err, Some, length, slice_get, slice_set, IfOk, OnErr, OnOk};
+ghost use Rattle.sm_manager.specs.Manager.{after_merge, outstanding};
+ghost use Rattle.schedule_world.specs.Commands.{after_ask_line, after_asked, after_floor_line, after_give_up};
+ghost use Rattle.schedule_world.specs.Commands.{after_manager_line, after_merge_line, after_timeout_line, asked_fault};
+ghost use Rattle.schedule_world.specs.World.{Does, value_of};
+ghost use Rattle.smp_bytes.specs.Judges.{JudgesButFor};
+ghost use Rattle.sm_manager.specs.Fault.{is_memory};
+
+use crate::refusals::{refuse_fabric, refuse_manager};
+use crate::run_fault::RunFault;
+use crate::world::{Seated, World};
+use byte_io::Sink;
+use schedule_file::Ask;
+use sm_manager::{Manager, ManagerFault};
+use smp_bytes::Generation;
+use std::alloc::{AllocError, Global};
+
+impl World<'_> {
+    /// A manager comes to sit at its port.
+    #[tactic(auto, using(crate::proofs::Seats::sits), unfolding(crate::specs::Commands::after_manager_line))]
+    pub(crate) fn seat<W: Sink>(&mut self, seat: usize, sink: &mut W) -> Result<(), RunFault>
+        requires { seat < length self.old.managers.items }
+        ensures does { Does W.written W.has_failed self.old self.new result sink.old sink.new
+            (after_manager_line (value_of self.old) seat) }
+    {
+        match self.fabric.seat(self.managers[seat].seat.at) {
+            Ok(()) => Ok(()),
+            Err(fault) => refuse_fabric(sink, fault),
+        }
+    }
+
+    /// A manager is asked for something. What it queues then goes out.
+    pub(crate) fn ask<W: Sink>(
+        &mut self,
+        seat: usize,
+        what: Ask,
+        sink: &mut W,
+    ) -> Result<(), RunFault>
+        requires { seat < length self.old.managers.items }
+        ensures does { Does W.written W.has_failed self.old self.new result sink.old sink.new
+            (after_ask_line (value_of self.old) seat what) }
+    {
+        if let Err(fault) = ask_manager(&mut self.managers[seat].manager, what) {
+            return refuse_manager(sink, fault);
+        }
+        self.send(seat, sink)
+    }
+
+    /// A manager forgets what is older than a generation.
+    pub(crate) fn raise_floor(&mut self, seat: usize, floor: Generation)
+        requires { seat < length self.old.managers.items }
+        ensures managers { length self.new.managers.items ≡ length self.old.managers.items }
+        ensures leaves { value_of self.new ≡ (after_floor_line (value_of self.old) seat floor).now }
+    {
+        self.managers[seat].manager.raise_floor(floor);
+    }
+
+    /// A manager takes in all that another knows. Its own facts tell it nothing.
+    #[tactic(auto, unfolding(crate::specs::Commands::after_merge_line))]
+    pub(crate) fn merge<W: Sink>(
+        &mut self,
+        seat: usize,
+        other: usize,
+        sink: &mut W,
+    ) -> Result<(), RunFault>
+        requires seat { seat < length self.old.managers.items }
+        requires other { other < length self.old.managers.items }
+        ensures does { Does W.written W.has_failed self.old self.new result sink.old sink.new
+            (after_merge_line (value_of self.old) seat other) }
+    {
+        if seat == other {
+            return Ok(());
+        }
+        match merge_at(&mut self.managers, seat, other) {
+            Ok(()) => Ok(()),
+            Err(fault) => refuse_manager(sink, fault),
+        }
+    }
+
+    /// A manager waits no more for the answers that it waits for now. What that brings up goes out.
+    pub(crate) fn time_out<W: Sink>(
+        &mut self,
+        alloc: Global,
+        seat: usize,
+        sink: &mut W,
+    ) -> Result<(), RunFault>
+        requires { seat < length self.old.managers.items }
+        ensures does { Does W.written W.has_failed self.old self.new result sink.old sink.new
+            (after_timeout_line (value_of self.old) seat) }
+    {
+        let waiting = waiting(alloc, &self.managers[seat].manager)?;
+        for transaction in &waiting {
+            self.give_up(seat, *transaction, sink)?;
+        }
+        self.send(seat, sink)
+    }
+
+    /// A manager waits no more for an answer.
+    fn give_up<W: Sink>(
+        &mut self,
+        seat: usize,
+        transaction: u64,
+        sink: &mut W,
+    ) -> Result<(), RunFault>
+        requires { seat < length self.old.managers.items }
+        ensures does { Does W.written W.has_failed self.old self.new result sink.old sink.new
+            (after_give_up (value_of self.old) seat transaction) }
+    {
+        match self.managers[seat].manager.on_timeout(transaction) {
+            Ok(()) => Ok(()),
+            Err(fault) => refuse_manager(sink, fault),
+        }
+    }
+}
+
+/// Asks a manager for something.
+fn ask_manager(manager: &mut Manager, what: Ask) -> Result<(), ManagerFault>
+    ensures judged { JudgesButFor is_memory result (asked_fault what manager.old) }
+    ensures ok { OnOk result (manager.new ≡ after_asked what manager.old) }
+    ensures err { OnErr result (manager.new ≡ manager.old) }
+{
+    match what {
+        Ask::Sweep => manager.begin_sweep(),
+        Ask::Write => manager.write_steps(),
+        Ask::Handover => manager.handover(),
+        Ask::Poll(lid) => manager.poll(lid),
+    }
+}
+
+/// One of these managers takes in all that another knows. It is out of the list meanwhile.
+fn merge_at(managers: &mut Vec<Seated>, seat: usize, other: usize) -> Result<(), ManagerFault>
+    requires seat { seat < length managers.old.items }
+    requires other { other < length managers.old.items }
+    requires apart { seat ≢ other }
+    ensures managers { length managers.new.items ≡ length managers.old.items }
+    ensures ok { (s o : _) → slice_get managers.old.items seat ≡ Some s
+        → slice_get managers.old.items other ≡ Some o
+        → OnOk result (managers.new.items ≡ slice_set managers.old.items seat
+        (record { seat = s.seat; manager = after_merge s.manager o.manager.store })) }
+    ensures memory { OnErr result (result ≡ Err ManagerFault.Memory) }
+{
+    let mut seated = managers.remove(seat);
+    let index = if seat < other { other - 1 } else { other };
+    let merged = seated.manager.merge_from(managers[index].manager.store());
+    match managers.insert(seat, seated) {
+        Ok(()) => merged,
+        Err(_) => unreachable!(),
+    }
+}
+
+/// The TransactionIDs of the requests for whose answers a manager waits, rising.
+fn waiting(alloc: Global, manager: &Manager) -> Result<Vec<u64>, AllocError>
+    ensures { IfOk result (λ waiting. waiting.items ≡ outstanding manager.now) }
+{
+    let mut waiting = Vec::new(alloc);
+    while let Some(transaction) = manager.outstanding(waiting.len()) {
+        waiting.push(transaction)?;
+    }
+    Ok(waiting)
+}

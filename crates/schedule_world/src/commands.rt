@@ -1,0 +1,73 @@
+//! The commands of a schedule, one after the other.
+ghost use Rattle.std.specs.Prelude.{◌≡◌, false, length, OnOk, IsTrue};
+ghost use Rattle.schedule_file.specs.Schedule.{IsScript, NamesManagers};
+ghost use Rattle.schedule_world.specs.Commands.{after_command, script_text};
+ghost use Rattle.schedule_world.specs.Prints.{PrintsUnless};
+ghost use Rattle.schedule_world.specs.World.{Does, value_of};
+
+use crate::run_fault::RunFault;
+use crate::world::World;
+use byte_io::Sink;
+use lft_blocks::Planning;
+use schedule_file::{Command, Schedule, SeatCommand};
+use std::alloc::Global;
+use topo_file::Topology;
+
+/// Runs the commands of a schedule in the fabric of its topology, with managers that plan so, and flushes.
+///
+/// A call that the fabric or a manager refuses is told by a line, and the run goes on. It ends where memory is refused,
+/// and has printed a beginning of its text then, or where the output fails.
+pub fn run_commands<W: Sink>(
+    alloc: Global,
+    topology: &Topology,
+    schedule: &Schedule,
+    planning: &Planning,
+    sink: &mut W,
+) -> Result<(), RunFault>
+    requires { IsScript topology.now.nodes schedule.now }
+    ensures prints { PrintsUnless W.written W.has_failed result sink.old sink.new
+        (script_text planning.now topology.now schedule.now) }
+    ensures flushed { OnOk result (IsTrue (W.is_flushed sink.new)) }
+    ensures sink_works { OnOk result (W.has_failed sink.new ≡ false) }
+{
+    let mut world = World::of(alloc, topology, schedule.seats(), planning)?;
+    for command in schedule.commands() {
+        world.execute(alloc, topology, *command, sink)?;
+    }
+    sink.flush()?;
+    Ok(())
+}
+
+impl World<'_> {
+    /// Does what a command says.
+    fn execute<W: Sink>(
+        &mut self,
+        alloc: Global,
+        topology: &Topology,
+        command: SeatCommand,
+        sink: &mut W,
+    ) -> Result<(), RunFault>
+        requires { NamesManagers (length self.old.managers.items) command }
+        ensures does { Does W.written W.has_failed self.old self.new result sink.old sink.new
+            (after_command topology.now.nodes (value_of self.old) command) }
+    {
+        match command {
+            Command::Manager(seat) => self.seat(seat, sink),
+            Command::Ask(seat, what) => self.ask(seat, what, sink),
+            Command::Timeout(seat) => self.time_out(alloc, seat, sink),
+            Command::Floor(seat, floor) => {
+                self.raise_floor(seat, floor);
+                Ok(())
+            }
+            Command::Merge(seat, other) => self.merge(seat, other, sink),
+            Command::Show(seat, what) => self.show(seat, what, sink),
+            Command::Packet(which, fate) => self.handle_packet(which, fate, sink),
+            Command::Drain(most) => self.drain(most, sink),
+            Command::Cut(port) => self.cut(port, sink),
+            Command::Plug(one, other) => self.plug(one, other, sink),
+            Command::Ping(from, lid) => self.show_ping(topology, from, lid, sink),
+            Command::Tables => self.show_tables(alloc, sink),
+            Command::Flight => self.show_flight(topology, sink),
+        }
+    }
+}

@@ -1,0 +1,16 @@
+//! A simulated fabric and the managers that sit in it: what each command of a schedule does there, and what it prints.
+#![tactic(auto)]
+
+mod ask;
+mod cables;
+mod commands;
+mod lines;
+mod packets;
+mod refusals;
+mod run_fault;
+mod show;
+mod tables;
+mod world;
+
+pub use commands::run_commands;
+pub use run_fault::RunFault;

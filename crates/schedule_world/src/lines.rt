@@ -1,0 +1,187 @@
+//! The lines that commands print.
+ghost use Rattle.std.specs.Prelude.{◌≡◌, decimal};
+ghost use Rattle.byte_io.specs.Writes.{Writes};
+ghost use Rattle.text_words.specs.Printed.{named_text, quoted_text};
+ghost use Rattle.topo_file.specs.Printed.{name_at};
+ghost use Rattle.schedule_world.specs.Lines.{count_text, counts_text, end_text, flight_line, ping_line};
+ghost use Rattle.schedule_world.specs.Lines.{port_text, progress_line, start_text, stage_text, state_line};
+
+use byte_io::{Sink, WriteFault, write_number};
+use fabric_model::{NodeId, NodePort};
+use fabric_sim::Ping;
+use sm_manager::Progress;
+use sm_state::SmState;
+use smp_bytes::Lid;
+use topo_file::Topology;
+
+/// The name of a node, and nothing where there is no such node.
+pub(crate) fn name_at(topology: &Topology, node: NodeId) -> &str
+    ensures { result.now ≡ name_at topology.now.nodes node }
+{
+    match topology.node(node) {
+        Some(node) => node.name.as_str(),
+        None => "",
+    }
+}
+
+/// Prints how far a manager is with its sweep.
+pub(crate) fn write_progress<W: Sink>(
+    sink: &mut W,
+    manager: &str,
+    progress: Progress,
+) -> Result<(), WriteFault>
+    ensures writes { Writes W.written W.has_failed result sink.old sink.new
+        (progress_line manager.now progress) }
+{
+    sink.write(b"progress ")?;
+    sink.write(manager.as_bytes())?;
+    write_stage(sink, progress)?;
+    sink.write(b"\n")
+}
+
+fn write_stage<W: Sink>(sink: &mut W, progress: Progress) -> Result<(), WriteFault>
+    ensures writes { Writes W.written W.has_failed result sink.old sink.new (stage_text progress) }
+{
+    match progress {
+        Progress::Never => sink.write(b" never"),
+        Progress::Running {
+            unanswered,
+            too_far,
+        } => {
+            sink.write(b" running")?;
+            write_counts(sink, unanswered, too_far)
+        }
+        Progress::Done {
+            unanswered,
+            too_far,
+        } => {
+            sink.write(b" done")?;
+            write_counts(sink, unanswered, too_far)
+        }
+    }
+}
+
+/// Prints a manager's state.
+pub(crate) fn write_state<W: Sink>(
+    sink: &mut W,
+    manager: &str,
+    state: SmState,
+) -> Result<(), WriteFault>
+    ensures writes { Writes W.written W.has_failed result sink.old sink.new
+        (state_line manager.now state) }
+{
+    sink.write(b"state ")?;
+    sink.write(manager.as_bytes())?;
+    sink.write(b" ")?;
+    sink.write(state.word().as_bytes())?;
+    sink.write(b"\n")
+}
+
+/// Prints how many requests were not answered, and how many ports lead too far.
+#[tactic(auto, unfolding(crate::specs::Lines::counts_text))]
+fn write_counts<W: Sink>(sink: &mut W, unanswered: u64, too_far: u64) -> Result<(), WriteFault>
+    ensures writes { Writes W.written W.has_failed result sink.old sink.new
+        (counts_text unanswered too_far) }
+{
+    write_count(sink, b" unanswered ", unanswered)?;
+    write_count(sink, b" toofar ", too_far)
+}
+
+/// Prints words, and how many.
+fn write_count<W: Sink>(sink: &mut W, words: &[u8], count: u64) -> Result<(), WriteFault>
+    ensures writes { Writes W.written W.has_failed result sink.old sink.new
+        (count_text words.now count) }
+{
+    sink.write(words)?;
+    write_number(sink, count)
+}
+
+/// Prints where a packet comes to that is sent from a port to a LID.
+pub(crate) fn write_ping<W: Sink>(
+    sink: &mut W,
+    topology: &Topology,
+    from: &NodePort,
+    lid: Lid,
+    ping: &Ping,
+) -> Result<(), WriteFault>
+    ensures writes { Writes W.written W.has_failed result sink.old sink.new
+        (ping_line topology.now.nodes from.now lid ping.now) }
+{
+    write_start(sink, topology, from, lid)?;
+    write_end(sink, topology, ping)?;
+    sink.write(b"\n")
+}
+
+/// Prints from where the packet is sent, and to which LID.
+#[tactic(auto, unfolding(crate::specs::Lines::start_text))]
+fn write_start<W: Sink>(
+    sink: &mut W,
+    topology: &Topology,
+    from: &NodePort,
+    lid: Lid,
+) -> Result<(), WriteFault>
+    ensures writes { Writes W.written W.has_failed result sink.old sink.new
+        (start_text topology.now.nodes from.now lid) }
+{
+    sink.write(b"ping ")?;
+    write_port(sink, topology, from)?;
+    sink.write(b" ")?;
+    write_number(sink, u64::from(lid.number()))
+}
+
+/// Prints where the packet comes to.
+#[tactic(auto, unfolding(crate::specs::Lines::end_text))]
+fn write_end<W: Sink>(sink: &mut W, topology: &Topology, ping: &Ping) -> Result<(), WriteFault>
+    ensures writes { Writes W.written W.has_failed result sink.old sink.new
+        (end_text topology.now.nodes ping.now) }
+{
+    match ping {
+        Ping::Reached(port, hops) => {
+            sink.write(b" reached ")?;
+            write_port(sink, topology, port)?;
+            sink.write(b" hops ")?;
+            write_number(sink, *hops as u64)
+        }
+        Ping::Lost(node) => {
+            sink.write(b" lost ")?;
+            write_name(sink, name_at(topology, *node))
+        }
+    }
+}
+
+/// Prints a port: its node's name in quotes, and its number in brackets.
+fn write_port<W: Sink>(sink: &mut W, topology: &Topology, port: &NodePort) -> Result<(), WriteFault>
+    ensures writes { Writes W.written W.has_failed result sink.old sink.new
+        (port_text topology.now.nodes port.now) }
+{
+    write_name(sink, name_at(topology, port.node))?;
+    sink.write(b"[")?;
+    write_number(sink, u64::from(port.port.number()))?;
+    sink.write(b"]")
+}
+
+/// Prints a name in quotes.
+fn write_name<W: Sink>(sink: &mut W, name: &str) -> Result<(), WriteFault>
+    ensures writes { Writes W.written W.has_failed result sink.old sink.new (quoted_text name.now) }
+{
+    sink.write(b"\"")?;
+    sink.write(name.as_bytes())?;
+    sink.write(b"\"")
+}
+
+/// Prints a packet in flight: its serial number, and the node where it waits.
+pub(crate) fn write_flight<W: Sink>(
+    sink: &mut W,
+    topology: &Topology,
+    serial: u64,
+    node: NodeId,
+) -> Result<(), WriteFault>
+    ensures writes { Writes W.written W.has_failed result sink.old sink.new
+        (flight_line topology.now.nodes serial node) }
+{
+    sink.write(b"packet ")?;
+    write_number(sink, serial)?;
+    sink.write(b" ")?;
+    write_name(sink, name_at(topology, node))?;
+    sink.write(b"\n")
+}

@@ -1,0 +1,139 @@
+//! The commands about packets in flight.
+ghost use Rattle.std.specs.Prelude.{◌≡◌, ◌<◌, length};
+ghost use Rattle.schedule_world.specs.Commands.{after_drain_line, after_fate, after_hand_up};
+ghost use Rattle.schedule_world.specs.Commands.{after_packet_line, after_step, after_take};
+ghost use Rattle.schedule_world.specs.Flights.{serial_of};
+ghost use Rattle.schedule_world.specs.World.{Does, value_of};
+
+use crate::refusals::{refuse_fabric, refuse_manager};
+use crate::run_fault::RunFault;
+use crate::world::World;
+use byte_io::Sink;
+use fabric_model::NodePort;
+use fabric_sim::{Delivered, Fabric, FabricFault, Packet};
+use schedule_file::{Fate, Which};
+
+impl World<'_> {
+    /// A packet in flight meets its fate.
+    #[tactic(auto, unfolding(crate::specs::Commands::after_packet_line))]
+    pub(crate) fn handle_packet<W: Sink>(
+        &mut self,
+        which: Which,
+        fate: Fate,
+        sink: &mut W,
+    ) -> Result<(), RunFault>
+        ensures does { Does W.written W.has_failed self.old self.new result sink.old sink.new
+            (after_packet_line (value_of self.old) which fate) }
+    {
+        let Some(serial) = serial(&self.fabric, which) else {
+            return refuse_fabric(sink, FabricFault::NoSuchPacket);
+        };
+        match fate {
+            Fate::Deliver => self.deliver(serial, sink),
+            Fate::Lose => self.lose(serial, sink),
+            Fate::Repeat => self.repeat(serial, sink),
+        }
+    }
+
+    /// A packet in flight is lost.
+    fn lose<W: Sink>(&mut self, serial: u64, sink: &mut W) -> Result<(), RunFault>
+        ensures does { Does W.written W.has_failed self.old self.new result sink.old sink.new
+            (after_fate (value_of self.old) Fate.Lose serial) }
+    {
+        match self.fabric.lose(serial) {
+            Ok(()) => Ok(()),
+            Err(fault) => refuse_fabric(sink, fault),
+        }
+    }
+
+    /// A packet in flight is there once more.
+    fn repeat<W: Sink>(&mut self, serial: u64, sink: &mut W) -> Result<(), RunFault>
+        ensures does { Does W.written W.has_failed self.old self.new result sink.old sink.new
+            (after_fate (value_of self.old) Fate.Repeat serial) }
+    {
+        match self.fabric.repeat(serial) {
+            Ok(_) => Ok(()),
+            Err(fault) => refuse_fabric(sink, fault),
+        }
+    }
+
+    /// The packet of the least serial number takes a step, at most so many times.
+    pub(crate) fn drain<W: Sink>(&mut self, most: u32, sink: &mut W) -> Result<(), RunFault>
+        ensures does { Does W.written W.has_failed self.old self.new result sink.old sink.new
+            (after_drain_line (value_of self.old) most) }
+    {
+        for _step in 0..most {
+            let Some(first) = self.fabric.in_flight(0) else {
+                return Ok(());
+            };
+            let serial = first.serial;
+            self.deliver(serial, sink)?;
+        }
+        Ok(())
+    }
+
+    /// The packet with a serial number takes one step. What comes to a manager is taken in by it, and what it
+    /// queues then goes out.
+    #[tactic(auto, using(crate::proofs::Printing::prints_then), unfolding(crate::specs::Commands::after_step))]
+    fn deliver<W: Sink>(&mut self, serial: u64, sink: &mut W) -> Result<(), RunFault>
+        ensures does { Does W.written W.has_failed self.old self.new result sink.old sink.new
+            (after_step (value_of self.old) serial) }
+    {
+        match self.fabric.deliver(serial) {
+            Ok(Delivered::ToManager(port, packet)) => self.hand_up(&port, &packet, sink),
+            Ok(_) => Ok(()),
+            Err(fault) => refuse_fabric(sink, fault),
+        }
+    }
+
+    /// The manager at a port takes a packet in, and what it queues then goes out. Where none sits
+    /// the packet is dropped.
+    #[tactic(auto, using(crate::proofs::Printing::prints_then, crate::proofs::Printing::ends_in), unfolding(crate::specs::Commands::after_hand_up, crate::specs::Commands::after_take_and_send))]
+    fn hand_up<W: Sink>(
+        &mut self,
+        port: &NodePort,
+        packet: &Packet,
+        sink: &mut W,
+    ) -> Result<(), RunFault>
+        ensures does { Does W.written W.has_failed self.old self.new result sink.old sink.new
+            (after_hand_up (value_of self.old) port.now packet.now) }
+    {
+        let Some(seat) = self.manager_at(port) else {
+            return Ok(());
+        };
+        self.take_in(seat, packet, sink)?;
+        self.send(seat, sink)
+    }
+
+    /// A manager takes a packet in.
+    fn take_in<W: Sink>(
+        &mut self,
+        seat: usize,
+        packet: &Packet,
+        sink: &mut W,
+    ) -> Result<(), RunFault>
+        requires { seat < length self.old.managers.items }
+        ensures does { Does W.written W.has_failed self.old self.new result sink.old sink.new
+            (after_take (value_of self.old) seat packet.now) }
+    {
+        let manager = &mut self.managers[seat].manager;
+        match manager.on_packet(&packet.bytes, Some(packet.slid)) {
+            Ok(()) => Ok(()),
+            Err(fault) => refuse_manager(sink, fault),
+        }
+    }
+}
+
+/// The serial number of the packet that a command is about; there is no last one where none is in
+/// flight.
+fn serial(fabric: &Fabric, which: Which) -> Option<u64>
+    ensures { result ≡ serial_of fabric.now.flights which }
+{
+    match which {
+        Which::Serial(serial) => Some(serial),
+        Which::Last => {
+            let last = fabric.flight_count().checked_sub(1)?;
+            Some(fabric.in_flight(last)?.serial)
+        }
+    }
+}
