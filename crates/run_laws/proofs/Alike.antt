@@ -56,7 +56,8 @@ later_lines_come_behind planning topology script lines = text_behind topology.no
 
 -- of managers in their seats
 module _ (one other : WorldValue) (seat seat' : ℕ) (s s' : SeatedValue) (there : slice_get one.managers seat ≡ Some s)
-    (there' : slice_get other.managers seat' ≡ Some s') (facts : s.manager.store ≡ s'.manager.store) (plannings : s.manager.planning ≡ s'.manager.planning) where
+    (there' : slice_get other.managers seat' ≡ Some s') (facts : s.manager.store ≡ s'.manager.store) (plannings : s.manager.planning
+    ≡ s'.manager.planning) where
   told_alike : (text : Planning → Facts → List ℕ)
       → option_map_or (λ (x : SeatedValue). text x.manager.planning x.manager.store) (slice_get one.managers seat) []
       ≡ option_map_or (λ (x : SeatedValue). text x.manager.planning x.manager.store) (slice_get other.managers seat') []
@@ -78,7 +79,8 @@ none_within [] i h e = omega (arith, h)
 none_within (x ∷ xs) zero h e = cc
 none_within (x ∷ xs) (suc i) h e = none_within xs i (omega (arith, h)) e
 
-seated : (count : ℕ) (planning : Planning) (managers : List SeatedValue) (accounts : Accounts) (seat : ℕ) → AreKnown count planning managers accounts → seat < count
+seated : (count : ℕ) (planning : Planning) (managers : List SeatedValue) (accounts : Accounts) (seat : ℕ) → AreKnown count planning managers accounts → seat
+    < count
     → (s : SeatedValue) × (slice_get managers seat ≡ Some s)
 seated count planning managers accounts seat known within = by_seat (slice_get managers seat) refl
   where
@@ -86,7 +88,8 @@ seated count planning managers accounts seat known within = by_seat (slice_get m
     by_seat None e = absurd (none_within managers seat (omega (arith, within, known.many)) e)
     by_seat (Some s) e = (s, e)
 
-tell_alike : (planning : Planning) (topology topology' : Layout) (script script' : Script) (seat seat' : ℕ) → seat < length script.seats → seat' < length script'.seats
+tell_alike : (planning : Planning) (topology topology' : Layout) (script script' : Script) (seat seat' : ℕ) → seat < length script.seats → seat'
+    < length script'.seats
     → view_at (account_after planning topology script seat).floor (account_after planning topology script seat).told
     ≡ view_at (account_after planning topology' script' seat').floor (account_after planning topology' script' seat').told
     → TellTheSame (world_after planning topology script) (world_after planning topology' script') seat seat'
@@ -94,7 +97,8 @@ tell_alike planning topology topology' script script' seat seat' within within' 
     let known = all_known planning topology script in
     let known' = all_known planning topology' script' in
     let s = seated (length script.seats) planning (world_after planning topology script).managers (account_after planning topology script) seat known within in
-    let s' = seated (length script'.seats) planning (world_after planning topology' script').managers (account_after planning topology' script') seat' known' within' in
+    let s' = seated (length script'.seats) planning (world_after planning topology' script').managers (account_after planning topology' script') seat' known'
+    within' in
     know_alike (world_after planning topology script) (world_after planning topology' script') seat seat' s.0 s'.0 s.1 s'.1
     (known.knows seat s.0 s.1 ∙ same ∙ sym (known'.knows seat' s'.0 s'.1)) (known.plannings seat s.0 s.1 ∙ sym (known'.plannings seat' s'.0 s'.1))
 
@@ -109,7 +113,8 @@ same_taken_in_same_lines planning topology topology' script script' seat seat' w
 
 -- plans behind a schedule ---------------------------------------------------------------------------------
 
-plans_twice : (planning : Planning) (topology : Layout) (script : Script) (seat other : ℕ) → TellTheSame (world_after planning topology script) (world_after planning topology script) seat other
+plans_twice : (planning : Planning) (topology : Layout) (script : Script) (seat other : ℕ)
+    → TellTheSame (world_after planning topology script) (world_after planning topology script) seat other
     → PrintsPlansAlike planning topology script seat other
 plans_twice planning topology script seat other alike =
     let w = world_after planning topology script in
@@ -126,7 +131,8 @@ same_taken_in_plans_alike planning topology script seat other within within' sam
 
 -- managers that merged ------------------------------------------------------------------------------------
 
-module _ (planning : Planning) (topology : Layout) (script : Script) (seat other : ℕ) (within : seat < length script.seats) (within' : other < length script.seats) where
+module _ (planning : Planning) (topology : Layout) (script : Script) (seat other : ℕ) (within : seat < length script.seats) (within' : other
+    < length script.seats) where
   abbrev count : ℕ
   count = length script.seats
 

@@ -44,7 +44,8 @@ module _ (nodes : List Node) (name : List ℕ) (m : Managing) where
       → (after_command nodes (as_world name m) (command.Ask 0 ask.Sweep)).now ≡ (after_send (as_world name (after_manager_event m Begin)) 0).now
   unfolding after_ask_line
   sweep_line none =
-      ap (λ (o : Option ManagerFault). (after_manager_call (λ now. after_send now 0) (as_world name m) 0 (seated_as name m) o (after_begin_sweep m.manager)).now) none
+      ap (λ (o : Option ManagerFault). (after_manager_call (λ now. after_send now 0) (as_world name m) 0 (seated_as name m) o
+      (after_begin_sweep m.manager)).now) none
       ∙ ap (λ (o : Option ManagerFault). (after_send (as_world name (managing_of m.scene m.seat (cond (is_none o)
       (after_begin_sweep m.manager) m.manager) m.out)) 0).now) (sym none)
 
@@ -53,7 +54,8 @@ module _ (nodes : List Node) (name : List ℕ) (m : Managing) where
       → (after_command nodes (as_world name m) (command.Ask 0 ask.Write)).now ≡ (after_send (as_world name (after_manager_event m Write)) 0).now
   unfolding after_ask_line
   write_line none =
-      ap (λ (o : Option ManagerFault). (after_manager_call (λ now. after_send now 0) (as_world name m) 0 (seated_as name m) o (after_write_steps m.manager)).now) none
+      ap (λ (o : Option ManagerFault). (after_manager_call (λ now. after_send now 0) (as_world name m) 0 (seated_as name m) o
+      (after_write_steps m.manager)).now) none
       ∙ ap (λ (o : Option ManagerFault). (after_send (as_world name (managing_of m.scene m.seat (cond (is_none o)
       (after_write_steps m.manager) m.manager) m.out)) 0).now) (sym none)
 
@@ -137,7 +139,8 @@ module _ (nodes : List Node) (w : WorldValue) (s : SeatedValue) (between after :
 
   keeps : AllKeep (plan_at m2) (IsOwnSet (fabric_of w.fabric) s.at (phases_by m2.manager m2.manager.sweep)) wrote.events m3
   keeps =
-      subst (λ (x : Manager). AllKeep (plan_of x.planning.rule x.planning.lmc (cells_of x.store)) (IsOwnSet (fabric_of w.fabric) s.at (phases_by x x.sweep)) wrote.events m3) (sym swept_is)
+      subst (λ (x : Manager). AllKeep (plan_of x.planning.rule x.planning.lmc (cells_of x.store)) (IsOwnSet (fabric_of w.fabric) s.at (phases_by x x.sweep))
+      wrote.events m3) (sym swept_is)
       (wrote.keep (subst (λ x. KeepsLines plan own nodes x after) (sym steps_so) b.keeps))
 
   brings : BringsUp start [] swept.events wrote.events

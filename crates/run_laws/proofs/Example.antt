@@ -64,7 +64,8 @@ manager_in (s ∷ later) = s.manager
 abbrev seated_as : List ℕ × NodePort → Manager → SeatedValue
 seated_as x m = record { name = x.0; at = x.1; manager = m }
 
-alone : (ms : List SeatedValue) → map {B = List ℕ × NodePort} (λ (s : SeatedValue). (s.name, s.at)) ms ≡ (65 ∷ [], port 0 1) ∷ [] → ms ≡ seated_with (manager_in ms) ∷ []
+alone : (ms : List SeatedValue) → map {B = List ℕ × NodePort} (λ (s : SeatedValue). (s.name, s.at)) ms ≡ (65 ∷ [], port 0 1) ∷ [] → ms
+    ≡ seated_with (manager_in ms) ∷ []
 unfolding manager_in
 alone [] e = absurd (cc)
 alone (s ∷ []) e =
@@ -236,7 +237,8 @@ keep_by : (w began : WorldValue) (m : Manager) (planning : Planning) (o : Option
 keep_by w began m planning o c by_planning by_cells are same keep =
     subst (λ (x : WorldValue). KeepsLines (plan_of m.planning.rule m.planning.lmc (cells_of m.store))
     (IsOwnSet (fabric_of with_own_seat) (port 0 1) (phases_by m m.sweep)) nodes x after) (sym same)
-    (subst (λ (ps : List Phase). KeepsLines (plan_of m.planning.rule m.planning.lmc (cells_of m.store)) (IsOwnSet (fabric_of with_own_seat) (port 0 1) ps) nodes began after)
+    (subst (λ (ps : List Phase). KeepsLines (plan_of m.planning.rule m.planning.lmc (cells_of m.store)) (IsOwnSet (fabric_of with_own_seat) (port 0 1) ps) nodes
+    began after)
     (sym are)
     (subst (λ (x : Planning). KeepsLines (plan_of x.rule x.lmc (cells_of m.store))
     (IsOwnSet (fabric_of with_own_seat) (port 0 1) (phases_with planning m o c)) nodes began after) (sym by_planning)
@@ -246,7 +248,8 @@ keep_by w began m planning o c by_planning by_cells are same keep =
 first_steps : at_first_steps nodes world between ≡ writing
 first_steps = ap (λ (w : WorldValue). (after_ask_line w 0 ask.Write).now) at_is ∙ writes
 
-keeps : KeepsLines (plan_of swept.planning.rule swept.planning.lmc (cells_of swept.store)) (IsOwnSet (fabric_of with_own_seat) (port 0 1) (phases_by swept swept.sweep))
+keeps : KeepsLines (plan_of swept.planning.rule swept.planning.lmc (cells_of swept.store))
+    (IsOwnSet (fabric_of with_own_seat) (port 0 1) (phases_by swept swept.sweep))
     nodes (at_first_steps nodes world between) after
 keeps =
     keep_by (at_first_steps nodes world between) writing swept in_pairs (Some the_sweep) cells planning_is known its_phases first_steps

@@ -97,7 +97,8 @@ module _ (m : Manager) (bytes : List ℕ) where
 -- what managers are asked for ----------------------------------------------------------------------------
 
 module _ (count : ℕ) (planning : Planning) where
-  sent_known : (w : WorldValue) (accounts : Accounts) (seat : ℕ) → AreKnown count planning w.managers accounts → AreKnown count planning (after_send w seat).now.managers accounts
+  sent_known : (w : WorldValue) (accounts : Accounts) (seat : ℕ) → AreKnown count planning w.managers accounts
+      → AreKnown count planning (after_send w seat).now.managers accounts
   unfolding after_send
   sent_known w accounts seat known =
       at_seat_is w seat (after_send_by w seat) (λ x. AreKnown count planning x.managers accounts) (λ _. known)
@@ -151,7 +152,8 @@ module _ (count : ℕ) (planning : Planning) where
       by_other (Some o) h =
           at_seat_is w seat _ (λ x. AreKnown count planning x.managers (with_more accounts seat (accounts other)))
           (nobody count planning w.managers accounts seat (accounts other) known)
-          (λ s there. grown count planning w accounts known seat s (after_merge s.manager o.manager.store) (accounts other) there refl (ap (merge s.manager.store) (h o refl)))
+          (λ s there. grown count planning w accounts known seat s (after_merge s.manager o.manager.store) (accounts other) there refl
+          (ap (merge s.manager.store) (h o refl)))
 
   floor_known : (w : WorldValue) (accounts : Accounts) (seat floor : ℕ) → AreKnown count planning w.managers accounts
       → AreKnown count planning (after_floor_line w seat floor).now.managers (with_more accounts seat (record { told = []; floor = floor }))
@@ -179,12 +181,14 @@ module _ (count : ℕ) (planning : Planning) where
           called_is quiet w seat s after.fault after.manager (λ x. AreKnown count planning x.managers (with_more accounts seat told))
           (λ why e. repeated count planning w accounts known seat s told there
           (ap (λ (m : Manager). m.store) (sym (packet_leaves s.manager packet.bytes (Some packet.slid) (fault_of packet.bytes) why e)) ∙ takes))
-          (grown count planning w accounts known seat s after.manager told there (planning_stays s.manager (calls.Packet packet.bytes (Some packet.slid))) takes)
+          (grown count planning w accounts known seat s after.manager told there (planning_stays s.manager (calls.Packet packet.bytes (Some packet.slid)))
+          takes)
 
       by_seat : (o : Option SeatedValue) → ((s : SeatedValue) → o ≡ Some s → slice_get w.managers seat ≡ Some s)
           → AreKnown count planning
           (option_map_or
-          (λ s. after_manager_call quiet w seat s (after_packet s.manager packet.bytes (Some packet.slid)).fault (after_packet s.manager packet.bytes (Some packet.slid)).manager)
+          (λ s. after_manager_call quiet w seat s (after_packet s.manager packet.bytes (Some packet.slid)).fault
+          (after_packet s.manager packet.bytes (Some packet.slid)).manager)
           o (quiet w)).now.managers
           (option_map_or (λ s. with_more accounts seat (record {
             told = sightings_of_call s.manager (calls.Packet packet.bytes
@@ -230,7 +234,8 @@ module _ (count : ℕ) (planning : Planning) where
   unfolding after_packet_line
   deliver_known w accounts which known = by_serial (serial_of w.fabric.flights which)
     where
-      by_serial : (o : Option ℕ) → AreKnown count planning (option_map_or (after_step w) o (shows (refusal_line (fabric_fault_name NoSuchPacket)) w)).now.managers
+      by_serial : (o : Option ℕ)
+          → AreKnown count planning (option_map_or (after_step w) o (shows (refusal_line (fabric_fault_name NoSuchPacket)) w)).now.managers
           (option_map_or (told_by_step w accounts) o accounts)
       by_serial None = known
       by_serial (Some serial) = step_known w accounts serial known
@@ -243,7 +248,8 @@ module _ (count : ℕ) (planning : Planning) where
       by_flight : (o : Option Flight)
           → ((x : WorldValue) (accounts' : Accounts) → AreKnown count planning x.managers accounts'
           → AreKnown count planning (after_drain_line x most).now.managers (told_by_drain x accounts' most))
-          → AreKnown count planning (option_map_or (λ flight. and_then (after_step w flight.serial) (λ now. after_drain_line now most)) o (quiet w)).now.managers
+          → AreKnown count planning (option_map_or (λ flight. and_then (after_step w flight.serial) (λ now. after_drain_line now most)) o
+          (quiet w)).now.managers
           (option_map_or (λ flight. told_by_drain (after_step w flight.serial).now (told_by_step w accounts flight.serial) most) o accounts)
       by_flight None later = known
       by_flight (Some flight) later =
@@ -252,7 +258,8 @@ module _ (count : ℕ) (planning : Planning) where
   -- a packet that is meant, of which managers learn nothing
   which_known : (w : WorldValue) (accounts : Accounts) (which : Which) (run : ℕ → Outcome WorldValue) → AreKnown count planning w.managers accounts
       → ((serial : ℕ) → (run serial).now.managers ≡ w.managers)
-      → AreKnown count planning (option_map_or run (serial_of w.fabric.flights which) (shows (refusal_line (fabric_fault_name NoSuchPacket)) w)).now.managers accounts
+      → AreKnown count planning (option_map_or run (serial_of w.fabric.flights which) (shows (refusal_line (fabric_fault_name NoSuchPacket)) w)).now.managers
+      accounts
   which_known w accounts which run known same = by_serial (serial_of w.fabric.flights which)
     where
       by_serial : (o : Option ℕ) → AreKnown count planning (option_map_or run o (shows (refusal_line (fabric_fault_name NoSuchPacket)) w)).now.managers accounts
@@ -294,9 +301,11 @@ module _ (count : ℕ) (planning : Planning) where
   commands_known nodes w accounts (command ∷ later) known =
       commands_known nodes (after_command nodes w command).now (told_by_command w accounts command) later (command_known nodes w accounts command known)
 
-pub all_known : (planning : Planning) (topology : Layout) (script : Script) → AreKnown (length script.seats) planning (world_after planning topology script).managers (account_after planning topology script)
+pub all_known : (planning : Planning) (topology : Layout) (script : Script)
+    → AreKnown (length script.seats) planning (world_after planning topology script).managers (account_after planning topology script)
 all_known planning topology script =
-    commands_known (length script.seats) planning topology.nodes (world_of planning topology script.seats) opened script.commands (all_new planning topology.nodes script.seats)
+    commands_known (length script.seats) planning topology.nodes (world_of planning topology script.seats) opened script.commands
+    (all_new planning topology.nodes script.seats)
 
 pub runs_are_accounted_for : RunsAreAccountedFor
 runs_are_accounted_for planning topology script = (all_known planning topology script).knows

@@ -235,7 +235,8 @@ module _ (plan : PlanValue) (own : OwnSets) (name : List ℕ) where
   took_lives m premise which h there same =
       let l = by_fault (after_packet m.manager h.packet.bytes (Some h.packet.slid)).fault in
       let then = after_manager_events l.events m in
-      goes_on m premise premise premise _ _ l (subst (λ (x : WorldValue). Lives then premise (after_send x 0).now) l.ends (sends_live then premise)) (λ h. h) (λ h. h)
+      goes_on m premise premise premise _ _ l (subst (λ (x : WorldValue). Lives then premise (after_send x 0).now) l.ends (sends_live then premise)) (λ h. h)
+      (λ h. h)
     where
       heard : after_manager_event m (Hear which) ≡ record m { manager = (after_packet m.manager h.packet.bytes (Some h.packet.slid)).manager }
       heard =
@@ -267,12 +268,14 @@ module _ (plan : PlanValue) (own : OwnSets) (name : List ℕ) where
       by_seat false c same = rests m premise
 
       by_tests : (b c : Bool) → is_seat_at m.scene.fabric h.at ≡ b → is_same_port m.seat h.at ≡ c
-          → Lives m premise (option_map_or (λ seat. after_take_and_send (as_world name m) seat h.packet) (seat_at (as_world name m) h.at) (quiet (as_world name m))).now
+          → Lives m premise (option_map_or (λ seat. after_take_and_send (as_world name m) seat h.packet) (seat_at (as_world name m) h.at)
+          (quiet (as_world name m))).now
       by_tests b c sits same =
           let at : seat_at (as_world name m) h.at ≡ cond b (cond c (Some 0) None) None =
           ap (λ t. cond t (position (λ (s : SeatedValue). is_same_port s.at h.at) (seated_as name m ∷ [])) None) sits
           ∙ ap (λ o. cond b o None) (index_in_one (λ (s : SeatedValue). is_same_port s.at h.at) (seated_as name m) c same) in
-          subst (λ (o : Option ℕ). Lives m premise (option_map_or (λ seat. after_take_and_send (as_world name m) seat h.packet) o (quiet (as_world name m))).now)
+          subst (λ (o : Option ℕ). Lives m premise
+          (option_map_or (λ seat. after_take_and_send (as_world name m) seat h.packet) o (quiet (as_world name m))).now)
           (sym at) (by_seat b c same)
 
   step_lives : (m : Managing) (premise : Type 0) (serial : ℕ) → (premise → KeepsStep plan own m.scene.fabric (Some serial))

@@ -105,7 +105,8 @@ module _ (count : ℕ) (planning : Planning) (w : WorldValue) (accounts : Accoun
 
   -- it takes in more
   pub grown : (seat : ℕ) (s : SeatedValue) (m : Manager) (more : Account) → slice_get w.managers seat ≡ Some s → m.planning ≡ s.manager.planning
-      → m.store ≡ merge s.manager.store (view_at more.floor more.told) → AreKnown count planning (with_manager w seat s m).managers (with_more accounts seat more)
+      → m.store ≡ merge s.manager.store (view_at more.floor more.told)
+      → AreKnown count planning (with_manager w seat s m).managers (with_more accounts seat more)
   grown seat s m more there same_planning takes =
       seated_known seat s m (with_more accounts seat more) there (λ other apart. more_there accounts seat other more apart) same_planning
       (takes ∙ told_more s.manager.store (accounts seat) more (known.knows seat s there)
@@ -134,7 +135,8 @@ module _ (count : ℕ) (planning : Planning) (w : WorldValue) (accounts : Accoun
               ∙ ap (λ (a : Account). view_at a.floor a.told) (sym (more_here accounts seat more) ∙ ap (with_more accounts seat more) (sym same))
 
 -- where nobody is in a seat, nothing is known of it
-pub nobody : (count : ℕ) (planning : Planning) (managers : List SeatedValue) (accounts : Accounts) (seat : ℕ) (more : Account) → AreKnown count planning managers accounts
+pub nobody : (count : ℕ) (planning : Planning) (managers : List SeatedValue) (accounts : Accounts) (seat : ℕ) (more : Account)
+    → AreKnown count planning managers accounts
     → slice_get managers seat ≡ None → AreKnown count planning managers (with_more accounts seat more)
 nobody count planning managers accounts seat more known none = record { many = known.many; plannings = known.plannings; knows = knows }
   where

@@ -1,4 +1,5 @@
--- What the managers of a world take in as a schedule is run: each what it is told, and what those whose facts it merges were.
+-- What the managers of a world take in as a schedule is run: each what it is told, and what those whose facts it merges
+-- were.
 use Rattle.std.specs.Prelude.{◌≡◌, ℕ, zero, suc, max, List, [], ◌∷◌, ◌++◌, slice_get, ◌==◌, if◌then◌else◌, Some, Result, Ok, Err}
 use Rattle.std.specs.Option.{option_map_or}
 use Rattle.fabric_model.specs.declared.cable.NodePort.{NodePort}
@@ -48,7 +49,11 @@ with_more accounts seat more other = if other == seat then joined (accounts othe
 -- what a packet tells the manager of a seat: the sightings of a report that it accepts, and nothing else
 abbrev pub told_by_packet : WorldValue → Accounts → Packet → ℕ → Accounts
 told_by_packet w accounts packet seat =
-    option_map_or (λ s. with_more accounts seat (record { told = sightings_of_call s.manager (calls.Packet packet.bytes (Some packet.slid)); floor = 1 }))
+    option_map_or (λ s. with_more accounts seat (record {
+      told =
+          sightings_of_call s.manager (calls.Packet packet.bytes (Some packet.slid));
+      floor = 1;
+    }))
     (slice_get w.managers seat) accounts
 
 -- a packet that comes to a port is taken in by the manager there
@@ -64,7 +69,8 @@ told_by_delivery w accounts (Err fault) = accounts
 
 -- the packet of a serial number takes one step
 abbrev pub told_by_step : WorldValue → Accounts → ℕ → Accounts
-told_by_step w accounts serial = let called = after_deliver w.fabric serial in told_by_delivery (after_fabric_call w called).now accounts called.result
+told_by_step w accounts serial = let called =
+    after_deliver w.fabric serial in told_by_delivery (after_fabric_call w called).now accounts called.result
 
 -- the packet that is meant does
 abbrev pub told_by_deliver : WorldValue → Accounts → Which → Accounts
@@ -74,13 +80,15 @@ told_by_deliver w accounts which = option_map_or (told_by_step w accounts) (seri
 abbrev pub told_by_drain : WorldValue → Accounts → ℕ → Accounts
 told_by_drain w accounts zero = accounts
 told_by_drain w accounts (suc most) =
-    option_map_or (λ flight. told_by_drain (after_step w flight.serial).now (told_by_step w accounts flight.serial) most) (slice_get w.fabric.flights 0) accounts
+    option_map_or (λ flight. told_by_drain (after_step w flight.serial).now (told_by_step w accounts flight.serial)
+    most) (slice_get w.fabric.flights 0) accounts
 
 -- managers ---------------------------------------------------------------------------------------
 
 -- the manager of a seat takes in all that another took in
 abbrev pub told_by_merge : WorldValue → Accounts → ℕ → ℕ → Accounts
-told_by_merge w accounts seat other = option_map_or (λ o. with_more accounts seat (accounts other)) (slice_get w.managers other) accounts
+told_by_merge w accounts seat other =
+    option_map_or (λ o. with_more accounts seat (accounts other)) (slice_get w.managers other) accounts
 
 -- all of them ------------------------------------------------------------------------------------
 
@@ -102,17 +110,21 @@ told_by_commands nodes w accounts (command ∷ later) =
 
 -- the world once a schedule was run
 abbrev pub world_after : Planning → Layout → Script → WorldValue
-world_after planning topology script = (after_commands topology.nodes (world_of planning topology script.seats) script.commands).now
+world_after planning topology script =
+    (after_commands topology.nodes (world_of planning topology script.seats) script.commands).now
 
 -- and what the manager of a seat has taken in by then
 abbrev pub account_after : Planning → Layout → Script → ℕ → Account
-account_after planning topology script = told_by_commands topology.nodes (world_of planning topology script.seats) opened script.commands
+account_after planning topology script =
+    told_by_commands topology.nodes (world_of planning topology script.seats) opened script.commands
 
 -- each manager knows the view of what it took in, at its greatest floor
 abbrev pub KnowWhatTheyTookIn : WorldValue → Accounts → Type 0
 KnowWhatTheyTookIn w accounts =
-    (seat : ℕ) (s : SeatedValue) → slice_get w.managers seat ≡ Some s → s.manager.store ≡ view_at (accounts seat).floor (accounts seat).told
+    (seat : ℕ) (s : SeatedValue) → slice_get w.managers seat ≡ Some s → s.manager.store
+    ≡ view_at (accounts seat).floor (accounts seat).told
 
 -- so it is after every run
 abbrev pub RunsAreAccountedFor : Type 0
-RunsAreAccountedFor = (planning : Planning) (topology : Layout) (script : Script) → KnowWhatTheyTookIn (world_after planning topology script) (account_after planning topology script)
+RunsAreAccountedFor = (planning : Planning) (topology : Layout) (script : Script)
+    → KnowWhatTheyTookIn (world_after planning topology script) (account_after planning topology script)

@@ -23,7 +23,8 @@ use Rattle.schedule_world.specs.Flights.{serial_of}
 use Rattle.schedule_world.specs.World.{SeatedValue, WorldValue}
 use Rattle.run_laws.specs.Reached.{EachPingSaysReached}
 
--- lines by which no sweep and no writing begins, no cable moves, no manager comes to sit, and none is given facts or a floor
+-- lines by which no sweep and no writing begins, no cable moves, no manager comes to sit, and none is given facts or a
+-- floor
 abbrev pub IsLine : SeatCommand → Type 0
 IsLine (command.Manager seat) = ⊥
 IsLine (command.Ask seat ask.Sweep) = ⊥
@@ -64,7 +65,8 @@ module _ (plan : PlanValue) (own : OwnSets) where
 
   abbrev pub KeepsLines : List Node → WorldValue → List SeatCommand → Type 0
   KeepsLines nodes w [] = Unit {0}
-  KeepsLines nodes w (command ∷ later) = KeepsLine w command × KeepsLines nodes (after_command nodes w command).now later
+  KeepsLines nodes w (command ∷ later) =
+      KeepsLine w command × KeepsLines nodes (after_command nodes w command).now later
 
 -- runs -------------------------------------------------------------------------------------------------
 
@@ -83,7 +85,8 @@ abbrev pub IsOnly : WorldValue → SeatedValue → Manager → Type 0
 IsOnly w s manager = w.managers ≡ record s { manager = manager } ∷ []
 
 -- One new manager sits on a fabric where nothing is on its way; it is told to sweep, and some time later to write.
-pub record BringsUpAlone (nodes : List Node) (w : WorldValue) (s : SeatedValue) (between after : List SeatCommand) : Type 0 where
+pub record BringsUpAlone (nodes : List Node) (w : WorldValue) (s : SeatedValue) (between after : List SeatCommand) :
+    Type 0 where
   pub port_guid : ℕ
   pub priority : ℕ
   -- an LMC that there is
@@ -104,18 +107,21 @@ pub record BringsUpAlone (nodes : List Node) (w : WorldValue) (s : SeatedValue) 
   pub whole : IsWhole sweep
   pub begins : writing_fault swept ≡ None
   -- each Set that an agent takes from then on, unless it is one of the writing's own, carries the plan's values
-  pub keeps : KeepsLines (plan_of swept.planning.rule swept.planning.lmc (cells_of swept.store)) (IsOwnSet (fabric_of w.fabric) s.at (phases_by swept swept.sweep)) nodes
+  pub keeps : KeepsLines (plan_of swept.planning.rule swept.planning.lmc (cells_of swept.store))
+      (IsOwnSet (fabric_of w.fabric) s.at (phases_by swept swept.sweep)) nodes
       (at_first_steps nodes w between) after
   -- and it is finished in the end
   pub writer : Manager
   pub only_at_end : IsOnly (at_end nodes w between after) s writer
   pub written : is_written writer ≡ true
 
--- then each `ping` from an end port of what its port is joined to, for each LID of the plan, says that it reached the owner
+-- then each `ping` from an end port of what its port is joined to, for each LID of the plan, says that it reached the
+-- owner
 abbrev pub RunsOfOneAreReached : Type 0
 RunsOfOneAreReached = (nodes : List Node) (w : WorldValue) (s : SeatedValue) (between after : List SeatCommand)
     → (b : BringsUpAlone nodes w s between after)
-    → EachPingSaysReached (plan_of b.swept.planning.rule b.swept.planning.lmc (cells_of b.swept.store)) (at_end nodes w between after) s.at
+    → EachPingSaysReached (plan_of b.swept.planning.rule b.swept.planning.lmc (cells_of b.swept.store))
+    (at_end nodes w between after) s.at
 
 -- there is such a run: a fabric, a manager on it, and lines
 pub record SomeRunOfOne : Type 0 where

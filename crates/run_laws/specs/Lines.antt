@@ -19,18 +19,22 @@ abbrev pub LaterLinesComeBehind : Type 0
 LaterLinesComeBehind =
     (planning : Planning) (topology : Layout) (script : Script) (lines : List SeatCommand)
     → script_text planning topology (and_lines script lines)
-    ≡ script_text planning topology script ++ (after_commands topology.nodes (world_after planning topology script) lines).text
+    ≡ script_text planning topology script
+    ++ (after_commands topology.nodes (world_after planning topology script) lines).text
 
 -- a manager of one world and a manager of another print the same of what they know, and the same plan
 pub record TellTheSame (one other : WorldValue) (seat seat' : ℕ) : Type 0 where
   pub facts : shown_of one seat Facts ≡ shown_of other seat' Facts
   pub plan : shown_of one seat Plan ≡ shown_of other seat' Plan
 
--- two managers, of one run or of two under the same LMC, that took in the same, in whatever order and however often, and have one greatest floor
+-- two managers, of one run or of two under the same LMC, that took in the same, in whatever order and however often,
+-- and have one greatest floor
 abbrev pub SameTakenInSameLines : Type 0
 SameTakenInSameLines =
-    (planning : Planning) (topology topology' : Layout) (script script' : Script) (seat seat' : ℕ) → seat < length script.seats → seat' < length script'.seats
-    → HaveSameMembers (account_after planning topology script seat).told (account_after planning topology' script' seat').told
+    (planning : Planning) (topology topology' : Layout) (script script' : Script) (seat seat' : ℕ) → seat
+    < length script.seats → seat' < length script'.seats
+    → HaveSameMembers (account_after planning topology script seat).told
+    (account_after planning topology' script' seat').told
     → (account_after planning topology script seat).floor ≡ (account_after planning topology' script' seat').floor
     → TellTheSame (world_after planning topology script) (world_after planning topology' script') seat seat'
 
@@ -38,18 +42,22 @@ SameTakenInSameLines =
 pub record PrintsPlansAlike (planning : Planning) (topology : Layout) (script : Script) (seat other : ℕ) : Type 0 where
   pub plan : List ℕ
   pub twice :
-      script_text planning topology (and_lines script (Show seat Plan ∷ Show other Plan ∷ [])) ≡ script_text planning topology script ++ (plan ++ plan)
+      script_text planning topology (and_lines script (Show seat Plan ∷ Show other Plan ∷ []))
+      ≡ script_text planning topology script ++ (plan ++ plan)
 
 -- where they took in the same, and have one greatest floor
 abbrev pub SameTakenInPlansAlike : Type 0
 SameTakenInPlansAlike =
-    (planning : Planning) (topology : Layout) (script : Script) (seat other : ℕ) → seat < length script.seats → other < length script.seats
-    → HaveSameMembers (account_after planning topology script seat).told (account_after planning topology script other).told
+    (planning : Planning) (topology : Layout) (script : Script) (seat other : ℕ) → seat < length script.seats → other
+    < length script.seats
+    → HaveSameMembers (account_after planning topology script seat).told
+    (account_after planning topology script other).told
     → (account_after planning topology script seat).floor ≡ (account_after planning topology script other).floor
     → PrintsPlansAlike planning topology script seat other
 
 -- and whenever each has merged what the other knows
 abbrev pub MergedManagersPlanAlike : Type 0
 MergedManagersPlanAlike =
-    (planning : Planning) (topology : Layout) (script : Script) (seat other : ℕ) → seat < length script.seats → other < length script.seats
+    (planning : Planning) (topology : Layout) (script : Script) (seat other : ℕ) → seat < length script.seats → other
+    < length script.seats
     → PrintsPlansAlike planning topology (and_lines script (Merge seat other ∷ Merge other seat ∷ [])) seat other

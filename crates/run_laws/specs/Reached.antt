@@ -21,11 +21,12 @@ use Rattle.schedule_world.specs.Lines.{ping_line}
 use Rattle.schedule_world.specs.World.{WorldValue}
 
 -- the line says that the packet reaches the port of that end port, over so many wires
-pub record SaysReached (nodes : List Node) (w : WorldValue) (source : NodePort) (lid : ℕ) (owner : EndPort) : Type 0 where
-  pub target : NodePort
-  pub is_owner : IsPortNamed (fabric_of w.fabric) owner.node owner.port target
-  pub hops : ℕ
-  pub line : ping_shown nodes w source lid ≡ ping_line nodes source lid (Reached target hops)
+pub record SaysReached (nodes : List Node) (w : WorldValue) (source : NodePort) (lid : ℕ) (owner : EndPort) : Type 0
+  where
+    pub target : NodePort
+    pub is_owner : IsPortNamed (fabric_of w.fabric) owner.node owner.port target
+    pub hops : ℕ
+    pub line : ping_shown nodes w source lid ≡ ping_line nodes source lid (Reached target hops)
 
 -- each `ping` from an end port of what the origin is joined to, for each LID of the plan, says so of its owner
 abbrev pub EachPingSaysReached : PlanValue → WorldValue → NodePort → Type 0
@@ -35,14 +36,16 @@ EachPingSaysReached plan w origin = (nodes : List Node) (source : NodePort) → 
 
 -- so it is where facts agree with what an end port of a world's fabric is joined to, and their plan is held there
 abbrev pub HeldPlansAreReached : Type 0
-HeldPlansAreReached = (rule : RuleValue) (lmc : ℕ) (facts : Facts) (w : WorldValue) (origin : NodePort) → ¬ (IsNoRoom lmc (cells_of facts)) → IsSimulation w.fabric
+HeldPlansAreReached = (rule : RuleValue) (lmc : ℕ) (facts : Facts) (w : WorldValue) (origin : NodePort)
+    → ¬ (IsNoRoom lmc (cells_of facts)) → IsSimulation w.fabric
     → IsEndPort (fabric_of w.fabric) origin
     → AgreesOn (IsJoinedTo (fabric_of w.fabric) origin) (cells_of facts) (fabric_of w.fabric)
     → HoldsPlan (IsJoinedTo (fabric_of w.fabric) origin) (plan_of rule lmc (cells_of facts)) (fabric_of w.fabric)
     → EachPingSaysReached (plan_of rule lmc (cells_of facts)) w origin
 
--- and where the fabric is as it is once a manager has brought its subnet up: after a sweep with every answer, a writing that is
--- finished, and nothing else that writes other values
+-- and where the fabric is as it is once a manager has brought its subnet up: after a sweep with every answer, a writing
+-- that is finished, and nothing else that writes other values
 abbrev pub WrittenPlansAreReached : Type 0
 WrittenPlansAreReached = (m : Managing) (before between after : List ManagerEvent) → BringsUp m before between after
-    → (w : WorldValue) → w.fabric ≡ (at_end m before between after).scene.fabric → EachPingSaysReached (plan_at (at_writing m before between)) w m.seat
+    → (w : WorldValue) → w.fabric ≡ (at_end m before between after).scene.fabric
+    → EachPingSaysReached (plan_at (at_writing m before between)) w m.seat

@@ -36,7 +36,8 @@ manager_same : (before : Script) (seat : Result Seat ScheduleFault)
 manager_same before (Ok seat) = refl
 manager_same before (Err fault) = refl
 
-line_same : (nodes : List Node) (number : ℕ) (before : Script) (told : Option ScheduleLine) → seen (with_line nodes number before told) ≡ seats_with nodes number before.seats told
+line_same : (nodes : List Node) (number : ℕ) (before : Script) (told : Option ScheduleLine) → seen (with_line nodes number before told)
+    ≡ seats_with nodes number before.seats told
 line_same nodes number before None = refl
 line_same nodes number before (Some line.Empty) = refl
 line_same nodes number before (Some (line.Manager new)) = manager_same before (new_seat nodes before.seats number new)
@@ -48,10 +49,12 @@ then_same : (told : Result Script ScheduleFault) (seats : Result (List Seat) Sch
 then_same (Ok now) seats f g e h = h now ∙ ap (λ r. r >>= g) e
 then_same (Err fault) seats f g e h = ap (λ r. r >>= g) e
 
-lines_same : (nodes : List Node) (number : ℕ) (before : Script) (ls : List (List ℕ)) → seen (with_lines nodes number before ls) ≡ seats_in nodes number before.seats ls
+lines_same : (nodes : List Node) (number : ℕ) (before : Script) (ls : List (List ℕ)) → seen (with_lines nodes number before ls)
+    ≡ seats_in nodes number before.seats ls
 lines_same nodes number before [] = refl
 lines_same nodes number before (l ∷ ls) =
-    then_same (with_line nodes number before (line_of l)) (seats_with nodes number before.seats (line_of l)) (λ now. with_lines nodes (number + 1) now ls) (λ now. seats_in nodes (number + 1) now ls)
+    then_same (with_line nodes number before (line_of l)) (seats_with nodes number before.seats (line_of l)) (λ now. with_lines nodes (number
+    + 1) now ls) (λ now. seats_in nodes (number + 1) now ls)
     (line_same nodes number before (line_of l)) (λ now. lines_same nodes (number + 1) now ls)
 
 told_same : (nodes : List Node) (ls : List (List ℕ)) → seen (schedule_of_lines nodes ls) ≡ seats_in nodes 1 [] ls
@@ -60,7 +63,8 @@ told_same nodes ls = lines_same nodes 1 (record { seats = []; commands = [] }) l
 -- lines, and then another: where the first tell these managers
 one_more : (nodes : List Node) (number : ℕ) (seats kept : List Seat) (front : List (List ℕ)) (l : List ℕ) (ls : List (List ℕ))
     → seats_in nodes number seats front ≡ Ok kept
-    → seats_in nodes number seats (front ++ l ∷ ls) ≡ (seats_with nodes (number + length front) kept (line_of l) >>= λ now. seats_in nodes (number + length front + 1) now ls)
+    → seats_in nodes number seats (front ++ l ∷ ls)
+    ≡ (seats_with nodes (number + length front) kept (line_of l) >>= λ now. seats_in nodes (number + length front + 1) now ls)
 one_more nodes number seats kept [] l ls e =
     let same : seats ≡ kept = cc in
     let none_more : number ≡ number + 0 = omega arith in
@@ -132,7 +136,8 @@ left_err (Ok now) fault seats e = absurd e
 left_err (Err f) fault seats e = ap Err (sym e)
 
 -- it has a fault
-pub first_found : (nodes : List Node) (text rest later : List ℕ) (seats seats' : List Seat) (number : ℕ) (l : List ℕ) (fault : ScheduleFault) → HasJudged nodes text rest seats number
+pub first_found : (nodes : List Node) (text rest later : List ℕ) (seats seats' : List Seat) (number : ℕ) (l : List ℕ) (fault : ScheduleFault)
+    → HasJudged nodes text rest seats number
     → lines rest ≡ l ∷ lines later → Leaves (seats_with nodes (number + 1) seats (line_of l)) (Err fault) seats'
     → fault_of (schedule_of_lines nodes (lines text)) ≡ Some fault
 first_found nodes text rest later seats seats' number l fault h e left =
@@ -143,7 +148,8 @@ script_of : (told : Result Script ScheduleFault) (seats : List Seat) → seen to
 script_of (Ok script) seats e = (script, refl, cc)
 script_of (Err fault) seats e = absurd (cc)
 
-left_full : (told : Result (List Seat) ScheduleFault) (seats : List Seat) → Leaves told (Ok false) seats → (now : List Seat) × (told ≡ Ok now) × (64 < length now)
+left_full : (told : Result (List Seat) ScheduleFault) (seats : List Seat) → Leaves told (Ok false) seats → (now : List Seat) × (told ≡ Ok now)
+    × (64 < length now)
 left_full (Ok now) seats h = (now, refl, h)
 left_full (Err fault) seats h = absurd h
 
@@ -153,7 +159,8 @@ pub is_crowded : (nodes : List Node) (text rest later : List ℕ) (seats seats' 
     → IsSoundOrCrowded nodes (lines text)
 is_crowded nodes text rest later seats seats' number l h e left =
     let full = left_full _ seats' left in
-    let s = script_of (schedule_of_lines nodes (h.front ++ l ∷ [])) full.0 (told_same nodes (h.front ++ l ∷ []) ∙ kept_more nodes text rest seats full.0 number l h full.1) in
+    let s = script_of (schedule_of_lines nodes (h.front ++ l ∷ [])) full.0 (told_same nodes (h.front ++ l ∷ [])
+    ∙ kept_more nodes text rest seats full.0 number l h full.1) in
     let Many : List Seat → Type 0 = λ xs. 64 < length xs in
     inr (record {
       front = h.front ++ l ∷ [];
@@ -208,13 +215,15 @@ command_plain number (Some given) = tt
 line_plain : (nodes : List Node) (number : ℕ) (before : Script) (told : Option ScheduleLine) → IsPlain (with_line nodes number before told)
 line_plain nodes number before None = tt
 line_plain nodes number before (Some line.Empty) = tt
-line_plain nodes number before (Some (line.Manager new)) = plain_then (new_seat nodes before.seats number new) _ (seat_plain nodes before.seats number new) (λ seat. tt)
+line_plain nodes number before (Some (line.Manager new)) =
+    plain_then (new_seat nodes before.seats number new) _ (seat_plain nodes before.seats number new) (λ seat. tt)
 line_plain nodes number before (Some (line.Command named)) =
     plain_then (where_known number (command_of nodes before.seats named)) _ (command_plain number (command_of nodes before.seats named)) (λ c. tt)
 
 lines_plain : (nodes : List Node) (number : ℕ) (before : Script) (ls : List (List ℕ)) → IsPlain (with_lines nodes number before ls)
 lines_plain nodes number before [] = tt
-lines_plain nodes number before (l ∷ ls) = plain_then (with_line nodes number before (line_of l)) _ (line_plain nodes number before (line_of l)) (λ now. lines_plain nodes (number + 1) now ls)
+lines_plain nodes number before (l ∷ ls) =
+    plain_then (with_line nodes number before (line_of l)) _ (line_plain nodes number before (line_of l)) (λ now. lines_plain nodes (number + 1) now ls)
 
 told_fault : (told : Result Script ScheduleFault) (why : ScheduleFault) → fault_of told ≡ Some why → told ≡ Err why
 told_fault (Ok told) why e = absurd (cc)
@@ -227,11 +236,13 @@ refuses (fault.Name line) told e = e
 refuses (fault.Seat line) told e = e
 
 -- the text is refused for its first fault
-pub first_refuses : (nodes : List Node) (text : List ℕ) (why : ScheduleFault) → fault_of (schedule_of_lines nodes (lines text)) ≡ Some why → IsRefused why (schedule_of nodes text)
+pub first_refuses : (nodes : List Node) (text : List ℕ) (why : ScheduleFault) → fault_of (schedule_of_lines nodes (lines text)) ≡ Some why
+    → IsRefused why (schedule_of nodes text)
 unfolding schedule_of
 first_refuses nodes text why e = refuses why (schedule_of_lines nodes (lines text)) (told_fault (schedule_of_lines nodes (lines text)) why e)
 
 -- and that is never out of memory
 pub first_plain : (nodes : List Node) (text : List ℕ) → fault_of (schedule_of_lines nodes (lines text)) ≡ Some fault.Memory → ⊥
 first_plain nodes text e =
-    subst (λ (r : Result Script ScheduleFault). IsPlain r) (told_fault (schedule_of_lines nodes (lines text)) fault.Memory e) (lines_plain nodes 1 (record { seats = []; commands = [] }) (lines text))
+    subst (λ (r : Result Script ScheduleFault). IsPlain r) (told_fault (schedule_of_lines nodes (lines text)) fault.Memory e)
+    (lines_plain nodes 1 (record { seats = []; commands = [] }) (lines text))

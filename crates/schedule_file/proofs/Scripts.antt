@@ -80,7 +80,8 @@ seated nodes seats number new (Some p) =
 new_seat_range : (nodes : List Node) (seats : List Seat) (number : ℕ) (new : NewManager)
     → IfOk (new_seat nodes seats number new) (λ seat. is_seat nodes seat.at ≡ true)
 new_seat_range nodes seats number new =
-    unless (λ seat. is_seat nodes seat.at ≡ true) (is_some (seat_of seats new.name)) (fault.Name number) _ (seated nodes seats number new (port_of nodes new.at))
+    unless (λ seat. is_seat nodes seat.at
+    ≡ true) (is_some (seat_of seats new.name)) (fault.Name number) _ (seated nodes seats number new (port_of nodes new.at))
 
 -- so many managers and one more
 more : (count : ℕ) (given : SeatCommand) → NamesManagers count given → NamesManagers (count + 1) given

@@ -46,14 +46,16 @@ bracketed_number word = option_and_then (number_up_to 255) (option_and_then alon
 -- a node's name in quotes, and at once behind it a port in brackets
 abbrev pub port_name : List ℕ → Option PortName
 port_name word =
-    option_and_then (λ x. option_and_then (λ name. option_map (λ port. record { node = name; port = port }) (bracketed_number x.1)) (name_in x.0))
+    option_and_then (λ x. option_and_then
+    (λ name. option_map (λ port. record { node = name; port = port }) (bracketed_number x.1)) (name_in x.0))
     (enclosed 34 34 word)
 
 -- a new manager: its name, its port and its priority
 abbrev pub new_manager : List (List ℕ) → Option NewManager
 new_manager [] = None
 new_manager (name ∷ rest) =
-    option_and_then (λ x. option_and_then (λ n. option_and_then (λ p. option_map (λ q. record { name = n; at = p; priority = q })
+    option_and_then (λ x. option_and_then
+    (λ n. option_and_then (λ p. option_map (λ q. record { name = n; at = p; priority = q })
     (number_up_to 15 x.1)) (port_name x.0)) (manager_name_in name)) (pair rest)
 
 -- a generation in decimal

@@ -30,7 +30,8 @@ IsSoundOrCrowded nodes lines = (fault_of (schedule_of_lines nodes lines) ≡ Non
 abbrev pub seats_with : List Node → ℕ → List Seat → Option ScheduleLine → Result (List Seat) ScheduleFault
 seats_with nodes number seats None = Err (Syntax number)
 seats_with nodes number seats (Some line.Empty) = Ok seats
-seats_with nodes number seats (Some (line.Manager new)) = new_seat nodes seats number new >>= λ seat. Ok (seats ++ seat ∷ [])
+seats_with nodes number seats (Some (line.Manager new)) =
+    new_seat nodes seats number new >>= λ seat. Ok (seats ++ seat ∷ [])
 seats_with nodes number seats (Some (line.Command named)) =
     where_known number (command_of nodes seats named) >>= λ command. Ok seats
 

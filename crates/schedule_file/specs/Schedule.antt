@@ -102,20 +102,27 @@ new_seat nodes seats number new =
 
 -- a manager more
 abbrev pub with_seat : Script → Seat → Script
-with_seat before seat = record { seats = before.seats ++ seat ∷ []; commands = before.commands ++ command.Manager (length before.seats) ∷ [] }
+with_seat before seat =
+    record {
+      seats = before.seats ++ seat ∷ [];
+      commands = before.commands ++ command.Manager (length before.seats)
+          ∷ [];
+    }
 
 -- what a line of this number adds to the lines before it
 abbrev pub with_line : List Node → ℕ → Script → Option ScheduleLine → Result Script ScheduleFault
 with_line nodes number before None = Err (fault.Syntax number)
 with_line nodes number before (Some line.Empty) = Ok before
-with_line nodes number before (Some (line.Manager new)) = new_seat nodes before.seats number new >>= λ seat. Ok (with_seat before seat)
+with_line nodes number before (Some (line.Manager new)) =
+    new_seat nodes before.seats number new >>= λ seat. Ok (with_seat before seat)
 with_line nodes number before (Some (line.Command named)) =
     where_known number (command_of nodes before.seats named) >>= λ command. Ok (with_command before command)
 
 -- what lines add that count from this number
 abbrev pub with_lines : List Node → ℕ → Script → List (List ℕ) → Result Script ScheduleFault
 with_lines nodes number before [] = Ok before
-with_lines nodes number before (line ∷ later) = with_line nodes number before (line_of line) >>= λ now. with_lines nodes (number + 1) now later
+with_lines nodes number before (line ∷ later) =
+    with_line nodes number before (line_of line) >>= λ now. with_lines nodes (number + 1) now later
 
 -- what all lines tell
 abbrev pub schedule_of_lines : List Node → List (List ℕ) → Result Script ScheduleFault

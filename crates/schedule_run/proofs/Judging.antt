@@ -85,7 +85,11 @@ told_topology text layout h e = record { utf8 = is_utf8-from_IsUtf8 text h; told
 
 pub script_spelled_badly : (first : ℕ) (nodes : List Node) (text : List ℕ) → ¬ (IsUtf8 text) → RefusesScript first nodes text (Text (first + 1) NotUtf8)
 script_spelled_badly first nodes text h = record {
-  refused = (inr refl, λ of_text. ap (λ b. if b then fault_of_script (first + 1) (schedule_of nodes text) else Some (Text (first + 1) NotUtf8)) (not_utf8 text h));
+  refused = (
+    inr refl,
+    λ of_text. ap (λ b. if b then fault_of_script (first + 1) (schedule_of nodes text) else Some (Text (first + 1) NotUtf8))
+        (not_utf8 text h),
+  );
   hides = tt;
   no_topology = λ topology. tt;
 }
@@ -110,7 +114,8 @@ hides_below input nodes text (schedule.Syntax line) h = tt
 hides_below input nodes text (schedule.Name line) h = tt
 hides_below input nodes text (schedule.Seat line) h = tt
 
-pub schedule_refused : (first : ℕ) (nodes : List Node) (text : List ℕ) (fault : ScheduleFault) → IsUtf8 text → schedules.IsRefused fault (schedule_of nodes text)
+pub schedule_refused : (first : ℕ) (nodes : List Node) (text : List ℕ) (fault : ScheduleFault) → IsUtf8 text
+    → schedules.IsRefused fault (schedule_of nodes text)
     → (fault ≡ schedule.Memory → IsSoundOrCrowded nodes (lines text)) → RefusesScript first nodes text (Text (first + 1) (Schedule fault))
 schedule_refused first nodes text fault h e hides = record {
   refused = schedule_judged first nodes text fault h e;

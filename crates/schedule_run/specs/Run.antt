@@ -1,4 +1,5 @@
--- A run of a schedule: its inputs are read in order, the text of roots where managers plan from some, the topology and the schedule, and then judged.
+-- A run of a schedule: its inputs are read in order, the text of roots where managers plan from some, the topology and
+-- the schedule, and then judged.
 use Rattle.std.specs.Prelude.{◌≡◌, ◌⊎◌, ◌+◌, ◌&&◌, ◌==◌, ℕ, Bool, true, List, [], ◌∷◌, ◌++◌, Option, Some, None, Result, Ok, Err, IsTrue, if◌then◌else◌}
 use Rattle.std.specs.List.{list_any}
 use Rattle.std.specs.Str.{is_utf8}
@@ -39,16 +40,19 @@ fault_of_script input (Err fault) = Some (Text input (Schedule fault))
 
 -- what is wrong with its text for a fabric that has these nodes
 abbrev pub schedule_fault : ℕ → List Node → List ℕ → Option Fault
-schedule_fault input nodes text = if is_utf8 text then fault_of_script input (schedule_of nodes text) else Some (Text input NotUtf8)
+schedule_fault input nodes text =
+    if is_utf8 text then fault_of_script input (schedule_of nodes text) else Some (Text input NotUtf8)
 
 -- what is wrong with the topology at an input or, where it is sound, with the text of the schedule behind it
 abbrev pub fault_behind : ℕ → Result Layout TopoFault → List ℕ → Option Fault
 fault_behind input (Ok layout) schedule = schedule_fault (input + 1) layout.nodes schedule
 fault_behind input (Err fault) schedule = Some (Text input (Topology fault))
 
--- the first fault of the texts of a topology, which is at an input, and of a schedule, at the next one, where they have a fault
+-- the first fault of the texts of a topology, which is at an input, and of a schedule, at the next one, where they have
+-- a fault
 abbrev pub input_fault : ℕ → List ℕ → List ℕ → Option Fault
-input_fault input topology schedule = if is_utf8 topology then fault_behind input (topology_of topology) schedule else Some (Text input NotUtf8)
+input_fault input topology schedule =
+    if is_utf8 topology then fault_behind input (topology_of topology) schedule else Some (Text input NotUtf8)
 
 -- the bytes tell this topology
 pub record TellsTopology (text : List ℕ) (layout : Layout) : Type 0 where
@@ -57,7 +61,8 @@ pub record TellsTopology (text : List ℕ) (layout : Layout) : Type 0 where
 
 -- a fault of one of the two texts, of which the first is at an input, is the one that is found, or out of memory
 abbrev pub IsRefused : ℕ → Option Fault → Fault → Type 0
-IsRefused first found (Text input fault) = ((input ≡ first) ⊎ (input ≡ first + 1)) × (is_of_text fault ≡ true → found ≡ Some (Text input fault))
+IsRefused first found (Text input fault) =
+    ((input ≡ first) ⊎ (input ≡ first + 1)) × (is_of_text fault ≡ true → found ≡ Some (Text input fault))
 IsRefused first found fault = ⊥
 
 -- out of memory for a topology hides no fault of a line, but for a link's peer and ports
@@ -70,7 +75,8 @@ abbrev pub HidesBelowManagers : List Node → List ℕ → Fault → Type 0
 HidesBelowManagers nodes schedule (Text input (Schedule schedules.Memory)) = IsSoundOrCrowded nodes (lines schedule)
 HidesBelowManagers nodes schedule _ = Unit {0}
 
--- the text of a schedule, behind the topology at an input, is refused for its first fault, or memory was wanting as it was judged
+-- the text of a schedule, behind the topology at an input, is refused for its first fault, or memory was wanting as it
+-- was judged
 pub record RefusesScript (first : ℕ) (nodes : List Node) (text : List ℕ) (fault : Fault) : Type 0 where
   pub refused : IsRefused first (schedule_fault (first + 1) nodes text) fault
   pub hides : HidesBelowManagers nodes text fault
@@ -80,7 +86,8 @@ pub record RefusesScript (first : ℕ) (nodes : List Node) (text : List ℕ) (fa
 pub record RefusesTexts (first : ℕ) (topology schedule : List ℕ) (fault : Fault) : Type 0 where
   pub refused : IsRefused first (input_fault first topology schedule) fault
   pub hides : HidesLinksAlone topology fault
-  pub hides_in_schedule : (layout : Layout) → TellsTopology topology layout → HidesBelowManagers layout.nodes schedule fault
+  pub hides_in_schedule : (layout : Layout) → TellsTopology topology layout
+      → HidesBelowManagers layout.nodes schedule fault
 
 -- reading ---------------------------------------------------------------------------------------
 
@@ -91,19 +98,22 @@ pub record AreTexts {S : Type 0} (sources : List S) : Type 0 where
   pub are : sources ≡ topology ∷ schedule ∷ []
 
 -- both sources were read to their ends, and these are their bytes
-pub record AreRead {S : Type 0} (left : S → Option (List ℕ)) (has_failed : S → Bool) (old new : S) (old' new' : S) (topology schedule : List ℕ) : Type 0 where
+pub record AreRead {S : Type 0} (left : S → Option (List ℕ)) (has_failed : S
+    → Bool) (old new : S) (old' new' : S) (topology schedule : List ℕ) : Type 0 where
   pub topology_read : IsReadWhole left has_failed old new topology
   pub schedule_read : IsReadWhole left has_failed old' new' schedule
 
 -- the topology can't be read whole, and the schedule was not touched
-pub record FailsAtTopology {S : Type 0} (left : S → Option (List ℕ)) (has_failed : S → Bool) (interruptions : S → ℕ) (first : ℕ) (old new old' new' : S)
+pub record FailsAtTopology {S : Type 0} (left : S → Option (List ℕ)) (has_failed : S → Bool) (interruptions : S
+    → ℕ) (first : ℕ) (old new old' new' : S)
     (input : ℕ) (fault : FileFault) : Type 0 where
   pub is_first : input ≡ first
   pub fails : FailsToRead left has_failed interruptions old new fault
   pub untouched : new' ≡ old'
 
 -- the topology was read, and the schedule can't be read whole
-pub record FailsAtSchedule {S : Type 0} (left : S → Option (List ℕ)) (has_failed : S → Bool) (interruptions : S → ℕ) (first : ℕ) (old new old' new' : S)
+pub record FailsAtSchedule {S : Type 0} (left : S → Option (List ℕ)) (has_failed : S → Bool) (interruptions : S
+    → ℕ) (first : ℕ) (old new old' new' : S)
     (input : ℕ) (fault : FileFault) : Type 0 where
   pub is_second : input ≡ first + 1
   pub topology : List ℕ
@@ -111,7 +121,8 @@ pub record FailsAtSchedule {S : Type 0} (left : S → Option (List ℕ)) (has_fa
   pub fails : FailsToRead left has_failed interruptions old' new' fault
 
 -- the fault is that of the source that can't be read whole, the topology's first, which is at this input
-abbrev pub FailsToReadThem : {S : Type 0} → (S → Option (List ℕ)) → (S → Bool) → (S → ℕ) → ℕ → S → S → S → S → Fault → Type 0
+abbrev pub FailsToReadThem : {S : Type 0} → (S → Option (List ℕ)) → (S → Bool) → (S → ℕ) → ℕ → S → S → S → S → Fault
+    → Type 0
 FailsToReadThem left has_failed interruptions first old new old' new' (File input fault) =
     FailsAtTopology left has_failed interruptions first old new old' new' input fault
     ⊎ FailsAtSchedule left has_failed interruptions first old new old' new' input fault
@@ -123,7 +134,8 @@ pub record Tells (topology schedule : List ℕ) (layout : Layout) (script : Scri
   pub schedule_told : schedule_of layout.nodes schedule ≡ Ok script
 
 -- both sources were read to their ends, and this is what they tell
-pub record AreTold {S : Type 0} (left : S → Option (List ℕ)) (has_failed : S → Bool) (olds news : List S) (layout : Layout) (script : Script) : Type 0 where
+pub record AreTold {S : Type 0} (left : S → Option (List ℕ)) (has_failed : S
+    → Bool) (olds news : List S) (layout : Layout) (script : Script) : Type 0 where
   pub were : AreTexts olds
   pub are : AreTexts news
   pub topology : List ℕ
@@ -132,20 +144,23 @@ pub record AreTold {S : Type 0} (left : S → Option (List ℕ)) (has_failed : S
   pub tells : Tells topology schedule layout script
 
 -- they were read to their ends, and what they say is refused with this fault
-pub record AreRefused {S : Type 0} (left : S → Option (List ℕ)) (has_failed : S → Bool) (first : ℕ) (old new old' new' : S) (fault : Fault) : Type 0 where
+pub record AreRefused {S : Type 0} (left : S → Option (List ℕ)) (has_failed : S
+    → Bool) (first : ℕ) (old new old' new' : S) (fault : Fault) : Type 0 where
   pub topology : List ℕ
   pub schedule : List ℕ
   pub read : AreRead left has_failed old new old' new' topology schedule
   pub refuses : RefusesTexts first topology schedule fault
 
 -- a source can't be read whole, or what both say is refused
-abbrev pub IsTextsFault : {S : Type 0} → (S → Option (List ℕ)) → (S → Bool) → (S → ℕ) → ℕ → S → S → S → S → Fault → Type 0
+abbrev pub IsTextsFault : {S : Type 0} → (S → Option (List ℕ)) → (S → Bool) → (S → ℕ) → ℕ → S → S → S → S → Fault
+    → Type 0
 IsTextsFault left has_failed interruptions first old new old' new' fault =
     FailsToReadThem left has_failed interruptions first old new old' new' fault
     ⊎ AreRefused left has_failed first old new old' new' fault
 
 -- why the two texts tell nothing, of which the first is at this input
-pub record AreNotTold {S : Type 0} (left : S → Option (List ℕ)) (has_failed : S → Bool) (interruptions : S → ℕ) (first : ℕ) (olds news : List S)
+pub record AreNotTold {S : Type 0} (left : S → Option (List ℕ)) (has_failed : S → Bool) (interruptions : S
+    → ℕ) (first : ℕ) (olds news : List S)
     (fault : Fault) : Type 0 where
   pub were : AreTexts olds
   pub are : AreTexts news
@@ -163,8 +178,10 @@ has_switch nodes guid = list_any (is_switch_with guid) nodes
 
 -- running ---------------------------------------------------------------------------------------
 
--- the inputs were read, the text that the rule takes and then topology and schedule: this is the rule, and this is what they tell
-pub record HaveTold {S : Type 0} (left : S → Option (List ℕ)) (has_failed : S → Bool) (asked : RuleAsked) (olds news : List S)
+-- the inputs were read, the text that the rule takes and then topology and schedule: this is the rule, and this is what
+-- they tell
+pub record HaveTold {S : Type 0} (left : S → Option (List ℕ)) (has_failed : S
+    → Bool) (asked : RuleAsked) (olds news : List S)
     (rule : RuleValue) (layout : Layout) (script : Script) : Type 0 where
   pub roots : List S
   pub roots' : List S
@@ -175,8 +192,10 @@ pub record HaveTold {S : Type 0} (left : S → Option (List ℕ)) (has_failed : 
   pub rule_read : IsRuleRead left has_failed asked roots roots' rule
   pub told : AreTold left has_failed texts texts' layout script
 
--- all were read, each root that was asked for is a switch of the topology, and this holds of what the run of what they say by managers that plan so prints
-pub record HasRun {S : Type 0} (left : S → Option (List ℕ)) (has_failed : S → Bool) (lmc : ℕ) (asked : RuleAsked) (olds news : List S)
+-- all were read, each root that was asked for is a switch of the topology, and this holds of what the run of what they
+-- say by managers that plan so prints
+pub record HasRun {S : Type 0} (left : S → Option (List ℕ)) (has_failed : S
+    → Bool) (lmc : ℕ) (asked : RuleAsked) (olds news : List S)
     (prints : List ℕ → Type 0) : Type 0 where
   pub rule : RuleValue
   pub layout : Layout
@@ -188,7 +207,8 @@ pub record HasRun {S : Type 0} (left : S → Option (List ℕ)) (has_failed : S 
 -- faults ----------------------------------------------------------------------------------------
 
 -- topology or schedule is refused behind the text that the rule takes
-pub record RefusesInput {S : Type 0} (left : S → Option (List ℕ)) (has_failed : S → Bool) (interruptions : S → ℕ) (asked : RuleAsked)
+pub record RefusesInput {S : Type 0} (left : S → Option (List ℕ)) (has_failed : S → Bool) (interruptions : S
+    → ℕ) (asked : RuleAsked)
     (olds news : List S) (fault : Fault) : Type 0 where
   pub roots : List S
   pub roots' : List S
@@ -201,7 +221,8 @@ pub record RefusesInput {S : Type 0} (left : S → Option (List ℕ)) (has_faile
   pub why : AreNotTold left has_failed interruptions (texts_for asked) texts texts' fault
 
 -- all were read, and managers can't plan by the roots
-pub record RefusesRoots {S : Type 0} (left : S → Option (List ℕ)) (has_failed : S → Bool) (asked : RuleAsked) (olds news : List S) (fault : Fault) : Type 0 where
+pub record RefusesRoots {S : Type 0} (left : S → Option (List ℕ)) (has_failed : S
+    → Bool) (asked : RuleAsked) (olds news : List S) (fault : Fault) : Type 0 where
   pub rule : RuleValue
   pub layout : Layout
   pub script : Script
@@ -211,7 +232,8 @@ pub record RefusesRoots {S : Type 0} (left : S → Option (List ℕ)) (has_faile
   pub refused : rule_fault (has_switch layout.nodes) asked rule ≡ Some why
 
 -- nothing is refused, and the output failed as it was run
-pub record FailsToWrite {S : Type 0} (left : S → Option (List ℕ)) (has_failed : S → Bool) (asked : RuleAsked) (olds news : List S)
+pub record FailsToWrite {S : Type 0} (left : S → Option (List ℕ)) (has_failed : S
+    → Bool) (asked : RuleAsked) (olds news : List S)
     (sink_failed : Bool) : Type 0 where
   pub rule : RuleValue
   pub layout : Layout
@@ -226,13 +248,17 @@ fault_of_run runs.Write = Write
 fault_of_run runs.Memory = Memory
 
 -- the run ended early; where memory was refused as it went on, this holds of what it would have printed
-abbrev pub StopsEarly : {S : Type 0} → (S → Option (List ℕ)) → (S → Bool) → ℕ → RuleAsked → List S → List S → (List ℕ → Type 0) → Bool → Fault → Type 0
-StopsEarly left has_failed lmc asked olds news prints sink_failed Write = FailsToWrite left has_failed asked olds news sink_failed
-StopsEarly left has_failed lmc asked olds news prints sink_failed Memory = HasRun left has_failed lmc asked olds news prints
+abbrev pub StopsEarly : {S : Type 0} → (S → Option (List ℕ)) → (S → Bool) → ℕ → RuleAsked → List S → List S
+    → (List ℕ → Type 0) → Bool → Fault → Type 0
+StopsEarly left has_failed lmc asked olds news prints sink_failed Write =
+    FailsToWrite left has_failed asked olds news sink_failed
+StopsEarly left has_failed lmc asked olds news prints sink_failed Memory =
+    HasRun left has_failed lmc asked olds news prints
 StopsEarly left has_failed lmc asked olds news prints sink_failed fault = ⊥
 
 -- why a run over open inputs ends early
-abbrev pub IsRunFault : {S : Type 0} → (S → Option (List ℕ)) → (S → Bool) → (S → ℕ) → ℕ → RuleAsked → List S → List S → (List ℕ → Type 0) → Bool
+abbrev pub IsRunFault : {S : Type 0} → (S → Option (List ℕ)) → (S → Bool) → (S → ℕ) → ℕ → RuleAsked → List S → List S
+    → (List ℕ → Type 0) → Bool
     → Fault → Type 0
 IsRunFault left has_failed interruptions lmc asked olds news prints sink_failed fault =
     RefusesRule left has_failed interruptions asked olds news fault

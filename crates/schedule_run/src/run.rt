@@ -14,20 +14,20 @@ use schedule_world::{RunFault, run_commands};
 use sm_cli::{Fault, RuleAsked, read_rule};
 use std::alloc::Global;
 
-/// Runs a schedule in the simulated fabric of a topology, with managers that plan 2^LMC LIDs for each adapter port by the
-/// rule that is asked for. The inputs are the text of roots, where one is asked for, the topology and the schedule. The
-/// roots are read to their end and judged, then both others are read to their ends, the topology first, and then judged,
-/// the topology first; then there has to be a root, where a text names them, and each has to be a switch of the topology.
-/// Then the commands are run in their order, and their output is flushed.
+/// Runs a schedule in the simulated fabric of a topology, with managers that plan 2^LMC LIDs for each adapter port by
+/// the rule that is asked for. The inputs are the text of roots, where one is asked for, the topology and the schedule.
+/// The roots are read to their end and judged, then both others are read to their ends, the topology first, and then
+/// judged, the topology first; then there has to be a root, where a text names them, and each has to be a switch of the
+/// topology. Then the commands are run in their order, and their output is flushed.
 ///
-/// What is written is `run_text` of the two texts: the lines of all commands in turn. Where an input is refused nothing is
-/// written; where memory is refused as the commands are run it is a beginning of that text; how much went out before a
-/// write failed is not said. A call that the fabric or a manager refuses is told by a line with its fault's name, and the
-/// run goes on; only out of memory ends it. `docs/FORMATS.md` has the table of the commands.
+/// What is written is `run_text` of the two texts: the lines of all commands in turn. Where an input is refused nothing
+/// is written; where memory is refused as the commands are run it is a beginning of that text; how much went out before
+/// a write failed is not said. A call that the fabric or a manager refuses is told by a line with its fault's name, and
+/// the run goes on; only out of memory ends it. `docs/FORMATS.md` has the table of the commands.
 ///
-/// It takes the memory of the texts, of the fabric and of what is in flight and known. A delivery takes one step where the
-/// packet of the least serial number is delivered, as `drain` does, and a search elsewhere, and what the manager takes for
-/// the packet where it comes to one. Roots take besides a walk over the nodes for each.
+/// It takes the memory of the texts, of the fabric and of what is in flight and known. A delivery takes one step where
+/// the packet of the least serial number is delivered, as `drain` does, and a search elsewhere, and what the manager
+/// takes for the packet where it comes to one. Roots take besides a walk over the nodes for each.
 pub fn run_schedule<S: Source, W: Sink>(
     alloc: Global,
     inputs: &mut [S],

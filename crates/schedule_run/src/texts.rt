@@ -26,8 +26,8 @@ pub(crate) struct Setting {
     pub(crate) schedule: Schedule,
 }
 
-/// What both texts tell, or their first fault. Both are read to their ends, the topology first, and then judged. So many
-/// inputs come before them.
+/// What both texts tell, or their first fault. Both are read to their ends, the topology first, and then judged. So
+/// many inputs come before them.
 pub(crate) fn read_setting<S: Source>(
     alloc: Global,
     before: usize,

@@ -70,7 +70,8 @@ abbrev pub Key : Type 0
 Key = ℕ × ℕ × ℕ
 
 key_total : IsTotalOrder key_cmp
-key_total = then_total (then_total (on_total (λ (x : Key). x.0) nat_cmp_total) (on_total (λ (x : Key). x.1) nat_cmp_total)) (on_total (λ (x : Key). x.2) nat_cmp_total)
+key_total = then_total (then_total (on_total (λ (x : Key). x.0) nat_cmp_total) (on_total (λ (x : Key). x.1) nat_cmp_total))
+    (on_total (λ (x : Key). x.2) nat_cmp_total)
 
 abbrev pub key_of : Held → Key
 key_of x = (x.0, x.1, x.2)

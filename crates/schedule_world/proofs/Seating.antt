@@ -16,15 +16,18 @@ told f (Some x) n e = let same : f x ≡ n = cc in sym same
 
 -- a manager as it is made
 pub is_seated : (planning : Planning) (nodes : List Node) (seat : Seat) (guid : ℕ) (m : Manager)
-    → option_map (λ (node : Node). node.guid + seat.at.port) (slice_get nodes seat.at.node) ≡ Some guid → m ≡ new_manager guid seat.at.port seat.priority planning
+    → option_map (λ (node : Node). node.guid + seat.at.port) (slice_get nodes seat.at.node) ≡ Some guid → m
+    ≡ new_manager guid seat.at.port seat.priority planning
     → record { name = seat.name; at = seat.at; manager = m } ≡ new_seated planning nodes seat
 is_seated planning nodes seat guid m e same =
     let Value : Type 0 = SeatedValue in
     let made : Manager → Value = λ m. record { name = seat.name; at = seat.at; manager = m } in
-    ap made (same ∙ ap (λ g. new_manager g seat.at.port seat.priority planning) (told (λ (node : Node). node.guid + seat.at.port) (slice_get nodes seat.at.node) guid e))
+    ap made (same ∙ ap (λ g. new_manager g seat.at.port seat.priority planning) (told (λ (node : Node). node.guid
+    + seat.at.port) (slice_get nodes seat.at.node) guid e))
 
 -- one seat more
-pub seated_more : (planning : Planning) (nodes : List Node) (seats : List Seat) (i : ℕ) (seat : Seat) (before : List SeatedValue) (s : SeatedValue) → i < length seats
+pub seated_more : (planning : Planning) (nodes : List Node) (seats : List Seat) (i : ℕ) (seat : Seat) (before : List SeatedValue) (s : SeatedValue) → i
+    < length seats
     → seat ≡ get_or seats i seat → before ≡ map (new_seated planning nodes) (take i seats) → s ≡ new_seated planning nodes seat
     → before ++ s ∷ [] ≡ map (new_seated planning nodes) (take (i + 1) seats)
 seated_more planning nodes seats i seat before s h here so_far same =

@@ -14,7 +14,8 @@ first_of m [] out e = absurd (cc)
 first_of m (x ∷ later) out e = let same : x ≡ out = cc in ap (λ y. y ∷ later) same
 
 -- the first packet of a queue, and those after it
-pub first_goes : (m left : Manager) (out : Outgoing) (fabric : Simulation) (at : NodePort) → Some out ≡ (after_take_outgoing m).packet → left ≡ (after_take_outgoing m).manager
+pub first_goes : (m left : Manager) (out : Outgoing) (fabric : Simulation) (at : NodePort) → Some out ≡ (after_take_outgoing m).packet → left
+    ≡ (after_take_outgoing m).manager
     → after_inject_all fabric at m.outgoing ≡ and_then (after_fabric (after_inject fabric at (packet_out out))) (λ now. after_inject_all now at left.outgoing)
 first_goes m left out fabric at e same =
     ap (after_inject_all fabric at) (first_of m m.outgoing out (sym e) ∙ ap (λ m. out ∷ m.outgoing) (sym same))
@@ -24,7 +25,8 @@ none_of m [] e = refl
 none_of m (x ∷ later) e = absurd (cc)
 
 -- none is left
-pub none_goes : (m : Manager) (fabric : Simulation) (at : NodePort) → (after_take_outgoing m).packet ≡ None → after_inject_all fabric at m.outgoing ≡ quiet fabric
+pub none_goes : (m : Manager) (fabric : Simulation) (at : NodePort) → (after_take_outgoing m).packet ≡ None → after_inject_all fabric at m.outgoing
+    ≡ quiet fabric
 none_goes m fabric at e = ap (after_inject_all fabric at) (none_of m m.outgoing e)
 
 emptied_of : (m : Manager) (queue : List Outgoing) → emptied (taken_of m queue).manager ≡ emptied m

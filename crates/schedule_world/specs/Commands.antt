@@ -85,23 +85,27 @@ after_floor_line w seat floor = at_seat w seat (λ s. quiet (with_manager w seat
 -- `timeout M`: the manager gives up a request
 unfoldable pub after_give_up : WorldValue → ℕ → ℕ → Outcome WorldValue
 after_give_up w seat transaction =
-    after_ask quiet w seat (λ m. (manager.after_timeout m transaction).fault) (λ m. (manager.after_timeout m transaction).manager)
+    after_ask quiet w seat (λ m. (manager.after_timeout m transaction).fault)
+    (λ m. (manager.after_timeout m transaction).manager)
 
 -- one after the other
 abbrev pub after_giving_up : WorldValue → ℕ → List ℕ → Outcome WorldValue
 after_giving_up w seat [] = quiet w
-after_giving_up w seat (transaction ∷ later) = and_then (after_give_up w seat transaction) (λ now. after_giving_up now seat later)
+after_giving_up w seat (transaction ∷ later) =
+    and_then (after_give_up w seat transaction) (λ now. after_giving_up now seat later)
 
 -- all that wait as the line begins, and then it sends what it has queued
 unfoldable pub after_timeout_line : WorldValue → ℕ → Outcome WorldValue
-after_timeout_line w seat = at_seat w seat (λ s. and_then (after_giving_up w seat (outstanding s.manager)) (λ now. after_send now seat))
+after_timeout_line w seat =
+    at_seat w seat (λ s. and_then (after_giving_up w seat (outstanding s.manager)) (λ now. after_send now seat))
 
 -- packets ------------------------------------------------------------------------------------------
 
 -- the manager of a seat takes in a packet, or refuses it
 abbrev pub after_take : WorldValue → ℕ → Packet → Outcome WorldValue
 after_take w seat packet =
-    after_ask quiet w seat (λ m. (manager.after_packet m packet.bytes (Some packet.slid)).fault) (λ m. (manager.after_packet m packet.bytes (Some packet.slid)).manager)
+    after_ask quiet w seat (λ m. (manager.after_packet m packet.bytes (Some packet.slid)).fault)
+    (λ m. (manager.after_packet m packet.bytes (Some packet.slid)).manager)
 
 -- and sends what it has queued
 unfoldable pub after_take_and_send : WorldValue → ℕ → Packet → Outcome WorldValue
@@ -124,7 +128,8 @@ after_arrival w (Err fault) = quiet w
 
 -- the packet of a serial number takes one step
 unfoldable pub after_step : WorldValue → ℕ → Outcome WorldValue
-after_step w serial = let called = after_deliver w.fabric serial in and_then (after_fabric_call w called) (λ now. after_arrival now called.result)
+after_step w serial = let called =
+    after_deliver w.fabric serial in and_then (after_fabric_call w called) (λ now. after_arrival now called.result)
 
 -- the packet of a serial number meets its fate, by `deliver`, `lose` or `repeat`
 abbrev pub after_fate : WorldValue → Fate → ℕ → Outcome WorldValue
@@ -142,7 +147,8 @@ after_packet_line w which fate =
 abbrev pub after_drain_line : WorldValue → ℕ → Outcome WorldValue
 after_drain_line w zero = quiet w
 after_drain_line w (suc most) =
-    option_map_or (λ flight. and_then (after_step w flight.serial) (λ now. after_drain_line now most)) (slice_get w.fabric.flights 0) (quiet w)
+    option_map_or (λ flight. and_then (after_step w flight.serial) (λ now. after_drain_line now most))
+    (slice_get w.fabric.flights 0) (quiet w)
 
 -- `flight`: a packet, and where it waits
 abbrev pub flight_shown : List Node → Flight → List ℕ
@@ -211,7 +217,8 @@ after_command nodes w command.Flight = shows (flights_text nodes w.fabric.flight
 -- line by line
 abbrev pub after_commands : List Node → WorldValue → List SeatCommand → Outcome WorldValue
 after_commands nodes w [] = quiet w
-after_commands nodes w (command ∷ later) = and_then (after_command nodes w command) (λ now. after_commands nodes now later)
+after_commands nodes w (command ∷ later) =
+    and_then (after_command nodes w command) (λ now. after_commands nodes now later)
 
 -- the manager of a seat, and how it plans: an adapter's port has the GUID that lies so far above its node's
 abbrev pub new_seated : Planning → List Node → Seat → SeatedValue
@@ -221,11 +228,13 @@ new_seated planning nodes seat =
 
 -- the fabric of a topology, whose first packet has the serial number 1, and a manager for each seat
 abbrev pub world_of : Planning → Layout → List Seat → WorldValue
-world_of planning topology seats = record { fabric = simulation_of topology 1; managers = map (new_seated planning topology.nodes) seats }
+world_of planning topology seats =
+    record { fabric = simulation_of topology 1; managers = map (new_seated planning topology.nodes) seats }
 
 -- what the run of a schedule prints, and how its managers plan
 unfoldable pub script_text : Planning → Layout → Script → List ℕ
-script_text planning topology script = (after_commands topology.nodes (world_of planning topology script.seats) script.commands).text
+script_text planning topology script =
+    (after_commands topology.nodes (world_of planning topology script.seats) script.commands).text
 
 abbrev pub schedule_text : Planning → Layout → Result Script ScheduleFault → List ℕ
 schedule_text planning topology (Ok script) = script_text planning topology script

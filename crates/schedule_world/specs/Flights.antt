@@ -16,7 +16,8 @@ serial_of flights (Serial serial) = Some serial
 
 -- a packet as it goes out: to a LID, or on a directed route, where the LIDs of both ends are the permissive one
 abbrev pub packet_out : Outgoing → Packet
-packet_out outgoing = record { bytes = outgoing.packet; slid = 0xFFFF; dlid = option_map_or (λ lid. lid) outgoing.to 0xFFFF }
+packet_out outgoing =
+    record { bytes = outgoing.packet; slid = 0xFFFF; dlid = option_map_or (λ lid. lid) outgoing.to 0xFFFF }
 
 -- the fabric with the packet of this serial number lost; there may be none that is meant
 abbrev pub without : Simulation → Option ℕ → Simulation

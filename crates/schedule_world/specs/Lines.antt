@@ -51,4 +51,5 @@ ping_line nodes source lid ping = start_text nodes source lid ++ end_text nodes 
 
 -- a packet in flight: its serial number, and the node where it waits
 abbrev pub flight_line : List Node → ℕ → ℕ → List ℕ
-flight_line nodes serial number = codes "packet " ++ decimal serial ++ codes " " ++ quoted_text (name_at nodes number) ++ codes "\n"
+flight_line nodes serial number =
+    codes "packet " ++ decimal serial ++ codes " " ++ quoted_text (name_at nodes number) ++ codes "\n"

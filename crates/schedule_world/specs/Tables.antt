@@ -27,7 +27,8 @@ Held = ℕ × ℕ × ℕ × ℕ
 
 -- those of a node, from port 0 on
 abbrev pub held_by : Agent → List Held
-held_by a = filter (λ x. not (x.0 == 0)) (map (λ port. (base_lid_at a port, a.node.guid, port, lmc_at a port)) (range_with_len 0 (a.node.ports + 1)))
+held_by a = filter (λ x. not (x.0 == 0))
+    (map (λ port. (base_lid_at a port, a.node.guid, port, lmc_at a port)) (range_with_len 0 (a.node.ports + 1)))
 
 -- by LID, GUID and port
 abbrev pub key_cmp : ℕ × ℕ × ℕ → ℕ × ℕ × ℕ → Ordering

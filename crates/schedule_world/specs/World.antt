@@ -74,7 +74,8 @@ after_fabric_call w called = in_fabric w (after_fabric called)
 -- packets go out from a port, in their order
 abbrev pub after_inject_all : Simulation → NodePort → List Outgoing → Outcome Simulation
 after_inject_all fabric at [] = quiet fabric
-after_inject_all fabric at (out ∷ later) = and_then (after_fabric (after_inject fabric at (packet_out out))) (λ now. after_inject_all now at later)
+after_inject_all fabric at (out ∷ later) =
+    and_then (after_fabric (after_inject fabric at (packet_out out))) (λ now. after_inject_all now at later)
 
 -- the managers -------------------------------------------------------------------------------------
 
@@ -91,13 +92,16 @@ abbrev pub manager_line : ManagerFault → List ℕ
 manager_line fault = refusal_line (manager_fault_name fault)
 
 -- a call of a manager: it is refused, or leaves this manager, and then comes what is next
-abbrev pub after_manager_call : (WorldValue → Outcome WorldValue) → WorldValue → ℕ → SeatedValue → Option ManagerFault → Manager → Outcome WorldValue
+abbrev pub after_manager_call : (WorldValue → Outcome WorldValue) → WorldValue → ℕ → SeatedValue → Option ManagerFault
+    → Manager → Outcome WorldValue
 after_manager_call next w seat s None manager = next (with_manager w seat s manager)
 after_manager_call next w seat s (Some fault) manager = shows (manager_line fault) w
 
 -- the manager of a seat is asked for something, that is refused for such a fault and leaves such a manager
-abbrev pub after_ask : (WorldValue → Outcome WorldValue) → WorldValue → ℕ → (Manager → Option ManagerFault) → (Manager → Manager) → Outcome WorldValue
-after_ask next w seat fault after = at_seat w seat (λ s. after_manager_call next w seat s (fault s.manager) (after s.manager))
+abbrev pub after_ask : (WorldValue → Outcome WorldValue) → WorldValue → ℕ → (Manager → Option ManagerFault)
+    → (Manager → Manager) → Outcome WorldValue
+after_ask next w seat fault after =
+    at_seat w seat (λ s. after_manager_call next w seat s (fault s.manager) (after s.manager))
 
 -- nothing is left to be sent
 abbrev pub emptied : Manager → Manager
@@ -105,7 +109,8 @@ emptied m = record m { outgoing = [] }
 
 -- all that the manager of a seat has queued goes out
 abbrev pub after_send_by : WorldValue → ℕ → SeatedValue → Outcome WorldValue
-after_send_by w seat s = in_fabric (with_manager w seat s (emptied s.manager)) (after_inject_all w.fabric s.at s.manager.outgoing)
+after_send_by w seat s =
+    in_fabric (with_manager w seat s (emptied s.manager)) (after_inject_all w.fabric s.at s.manager.outgoing)
 
 unfoldable pub after_send : WorldValue → ℕ → Outcome WorldValue
 after_send w seat = at_seat w seat (after_send_by w seat)

@@ -78,7 +78,8 @@ fn comes_to(manager: &mut Manager, state: SmState) -> bool {
     manager.state() == state
 }
 
-/// Whether the next packet is the answer with this status, and tells what the manager says of itself, or what was asked.
+/// Whether the next packet is the answer with this status, and tells what the manager says of itself, or what was
+/// asked.
 fn answers(manager: &mut Manager, status: Status, to: Option<Lid>) -> bool {
     let state = manager.state();
     let Some(out) = manager.take_outgoing() else {

@@ -10,4 +10,5 @@ pub returns-in-Some-clause-memory : goal.returns-in-Some-clause-memory
 returns-in-Some-clause-memory c = λ e.
     let same : c.in-Some.fault ≡ Memory = cc in
     absurd (first_plain c.args.topology.now.nodes c.args.text.now
-    (ap (λ t. fault_of (schedule_of_lines c.args.topology.now.nodes (lines t))) (sym c.as_bytes-in-Err-2.ensures.value) ∙ c.in-Some.ensures.found ∙ ap Some same))
+    (ap (λ t. fault_of (schedule_of_lines c.args.topology.now.nodes (lines t))) (sym c.as_bytes-in-Err-2.ensures.value) ∙ c.in-Some.ensures.found
+    ∙ ap Some same))

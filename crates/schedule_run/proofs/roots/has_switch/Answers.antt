@@ -8,12 +8,14 @@ use Rattle.schedule_run.proofs.roots.has_switch.Goals as goal
 
 pub loop-number-preserved : goal.loop-number-preserved
 loop-number-preserved c =
-    none_more c.args.topology.now.nodes c.args.guid c.loop-number.number c.unwrap.result.now (ap (slice_get c.args.topology.now.nodes) (sym c.new.ensures) ∙ sym c.node.ensures.node ∙ ap option_copied c.unwrap.ensures)
+    none_more c.args.topology.now.nodes c.args.guid c.loop-number.number c.unwrap.result.now (ap (slice_get c.args.topology.now.nodes) (sym c.new.ensures)
+    ∙ sym c.node.ensures.node ∙ ap option_copied c.unwrap.ensures)
     (sym c.is_switch_with.ensures ∙ c.if-is_switch_with.false) c.loop-number.invariant
 
 pub returns-then-is_switch_with : goal.returns-then-is_switch_with
 returns-then-is_switch_with c =
-    sym (one_found c.args.topology.now.nodes c.args.guid c.loop-number.number c.unwrap.result.now (ap (slice_get c.args.topology.now.nodes) (sym c.new.ensures) ∙ sym c.node.ensures.node ∙ ap option_copied c.unwrap.ensures)
+    sym (one_found c.args.topology.now.nodes c.args.guid c.loop-number.number c.unwrap.result.now (ap (slice_get c.args.topology.now.nodes) (sym c.new.ensures)
+    ∙ sym c.node.ensures.node ∙ ap option_copied c.unwrap.ensures)
     (sym c.is_switch_with.ensures ∙ c.if-is_switch_with.true))
 
 pub returns : goal.returns

@@ -7,7 +7,8 @@ use Rattle.schedule_run.proofs.Judging.{script_spelled_badly, script_found, sche
 use Rattle.schedule_run.proofs.texts.judge_schedule.Goals as goal
 
 pub returns-in_default-clause-refused : goal.returns-in_default-clause-refused
-returns-in_default-clause-refused c = rw c.refused.ensures (script_spelled_badly c.args.first c.args.topology.now.nodes c.args.bytes.now c.in_default.ensures.cases.0)
+returns-in_default-clause-refused c =
+    rw c.refused.ensures (script_spelled_badly c.args.first c.args.topology.now.nodes c.args.bytes.now c.in_default.ensures.cases.0)
 
 pub returns-in-Ok-parse-clause-sound : goal.returns-in-Ok-parse-clause-sound
 returns-in-Ok-parse-clause-sound c =

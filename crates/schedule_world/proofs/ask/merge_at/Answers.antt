@@ -28,6 +28,7 @@ returns-clause-ok c = λ s o there also.
     (λ e. c.in-Ok.ensures.items
     ∙ ap (λ xs. insert xs seat (with_one c.remove-seated.result c.merge_from-merged.new.self)) c.remove-seated.ensures.items
     ∙ put_again items seat _ c.requires.seat
-    ∙ ap (λ m. set items seat (with_one c.remove-seated.result m)) (e ∙ ap (after_merge c.remove-seated.result.manager) (c.store.ensures ∙ ap (λ t. t.manager.store) theirs))
+    ∙ ap (λ m. set items seat (with_one c.remove-seated.result m)) (e
+    ∙ ap (after_merge c.remove-seated.result.manager) (c.store.ensures ∙ ap (λ t. t.manager.store) theirs))
     ∙ ap (λ t. set items seat (with_one t (after_merge t.manager o.manager.store))) mine)
     c.merge_from-merged.ensures.ok

@@ -16,7 +16,8 @@ loop-command-init g c =
     record {
       managers = sym (length-map c.in_ok-world.world.managers.items seated_value) ∙ ap (λ w. length w.managers) c.in_ok-world.ensures
           ∙ length-map c.seats.result.now (new_seated c.args.planning.now nodes) ∙ ap length c.seats.ensures;
-      runs = begins g.W.Sink.written g.W.Sink.has_failed c.args.sink.now (after_commands nodes (value_of c.in_ok-world.world) c.commands-command-items.result.now);
+      runs = begins g.W.Sink.written g.W.Sink.has_failed c.args.sink.now
+          (after_commands nodes (value_of c.in_ok-world.world) c.commands-command-items.result.now);
     }
 
 pub loop-command-preserved : goal.loop-command-preserved
@@ -27,10 +28,12 @@ loop-command-preserved g c =
     let command = c.command-item.result in
     let w = value_of c.loop-command.world in
     let whole = after_commands nodes (value_of c.in_ok-world.world) items in
-    let Under : g.row.W.Denot → Outcome WorldValue → Type 0 = λ now outcome. IsUnderWay g.W.Sink.written g.W.Sink.has_failed c.args.sink.now now whole outcome in
+    let Under : g.row.W.Denot → Outcome WorldValue → Type 0 =
+    λ now outcome. IsUnderWay g.W.Sink.written g.W.Sink.has_failed c.args.sink.now now whole outcome in
     let there = slice_get_read items (length items) i command refl c.loop-command-test.true c.command-item.is in
     let gone = goes_on g.W.Sink.written g.W.Sink.has_failed c.args.sink.now c.loop-command.sink c.execute.new.sink whole (after_command nodes w command)
-    (λ now. after_commands nodes now (drop (i + 1) items)) (subst (Under c.loop-command.sink) (commands_next nodes w items i command there) c.loop-command.invariant.runs)
+    (λ now. after_commands nodes now (drop (i + 1) items)) (subst (Under c.loop-command.sink) (commands_next nodes w items i command there)
+    c.loop-command.invariant.runs)
     c.in_ok-execute.ensures.does.prints in
     record {
       managers = c.in_ok-execute.ensures.does.managers ∙ c.loop-command.invariant.managers;
@@ -52,8 +55,10 @@ returns-in_err-execute-clause-prints g c =
     let all = ap (λ xs. after_commands nodes (value_of c.in_ok-world.world) xs) c.commands-command-items.ensures
     ∙ ap (λ v. after_commands nodes v c.args.schedule.now.commands)
     (c.in_ok-world.ensures ∙ ap (world_of c.args.planning.now c.args.topology.now) c.seats.ensures) in
-    rw (p.1, p.2) (prints_same g.W.Sink.written g.W.Sink.has_failed (failed_with c.in_err-execute.field-0.0) c.args.sink.now c.execute.new.sink _ _ (ap (λ r. r.text) all)
-    (stops_in g.W.Sink.written g.W.Sink.has_failed c.in_err-execute.field-0.0 c.args.sink.now c.loop-command.sink c.execute.new.sink whole (after_command nodes w command)
+    rw (p.1, p.2) (prints_same g.W.Sink.written g.W.Sink.has_failed (failed_with c.in_err-execute.field-0.0) c.args.sink.now c.execute.new.sink _ _
+    (ap (λ r. r.text) all)
+    (stops_in g.W.Sink.written g.W.Sink.has_failed c.in_err-execute.field-0.0 c.args.sink.now c.loop-command.sink c.execute.new.sink whole
+    (after_command nodes w command)
     (λ now. after_commands nodes now (drop (i + 1) items)) (subst Under (commands_next nodes w items i command there) c.loop-command.invariant.runs)
     c.in_err-execute.ensures.does.prints))
 

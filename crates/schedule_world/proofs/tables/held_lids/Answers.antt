@@ -12,7 +12,8 @@ use Rattle.schedule_world.proofs.tables.held_lids.Goals as goal
 pub loop-number-preserved : goal.loop-number-preserved
 loop-number-preserved c =
     more_held c.args.fabric.now.agents c.loop-number.number c.unwrap.result.now c.loop-number.held.items c.hold_lids.new.held.items
-    (ap (slice_get c.args.fabric.now.agents) (sym c.new.ensures) ∙ sym c.agent.ensures ∙ ap option_copied c.unwrap.ensures) c.loop-number.invariant c.in_ok-hold_lids.ensures
+    (ap (slice_get c.args.fabric.now.agents) (sym c.new.ensures) ∙ sym c.agent.ensures
+    ∙ ap option_copied c.unwrap.ensures) c.loop-number.invariant c.in_ok-hold_lids.ensures
 
 pub returns : goal.returns
 returns c =

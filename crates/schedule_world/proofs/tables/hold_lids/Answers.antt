@@ -9,7 +9,8 @@ loop-port-preserved c =
     held_more c.args.agent.now c.args.held.now.items c.loop-port.held.items c.if-number-ne0.held.items c.loop-port.port c.loop-port.invariant
     (elim c.if-number-ne0.branch [
       | then-number-ne0+in_ok-push w ↦ ap (λ v. v.items) w.held-is ∙ w.in_ok-push.ensures.items
-          ∙ holds c.args.agent.now _ _ _ _ _ _ c.base_lid-lid.ensures w.guid.ensures c.new-port.ensures w.lmc-lmc.ensures (λ e. w.if-number-ne0.true (c.number.ensures ∙ e))
+          ∙ holds c.args.agent.now _ _ _ _ _ _ c.base_lid-lid.ensures w.guid.ensures c.new-port.ensures w.lmc-lmc.ensures
+          (λ e. w.if-number-ne0.true (c.number.ensures ∙ e))
       | else-number-ne0 w ↦ ap (λ v. v.items) w.held-is
           ∙ holds_none c.args.agent.now _ _ _ _ c.base_lid-lid.ensures c.new-port.ensures (sym c.number.ensures ∙ w.if-number-ne0.false)
     ])
@@ -19,7 +20,8 @@ returns-after-number-ne0 c =
     let more = held_more c.args.agent.now c.args.held.now.items c.loop-port.held.items c.if-number-ne0.held.items c.loop-port.port c.loop-port.invariant
     (elim c.if-number-ne0.branch [
       | then-number-ne0+in_ok-push w ↦ ap (λ v. v.items) w.held-is ∙ w.in_ok-push.ensures.items
-          ∙ holds c.args.agent.now _ _ _ _ _ _ c.base_lid-lid.ensures w.guid.ensures c.new-port.ensures w.lmc-lmc.ensures (λ e. w.if-number-ne0.true (c.number.ensures ∙ e))
+          ∙ holds c.args.agent.now _ _ _ _ _ _ c.base_lid-lid.ensures w.guid.ensures c.new-port.ensures w.lmc-lmc.ensures
+          (λ e. w.if-number-ne0.true (c.number.ensures ∙ e))
       | else-number-ne0 w ↦ ap (λ v. v.items) w.held-is
           ∙ holds_none c.args.agent.now _ _ _ _ c.base_lid-lid.ensures c.new-port.ensures (sym c.number.ensures ∙ w.if-number-ne0.false)
     ]) in

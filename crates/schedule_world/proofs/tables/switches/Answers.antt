@@ -36,4 +36,5 @@ returns c =
     ap (map here) (sorted_is_in_order (λ x y. is_lt (nat_cmp (guid_of x) (guid_of y))) guid_ranks c.loop-number.switches.items c.sort_by_key.new.self.items
     (c.in_ok-sort_by_key.ensures.sorted guid_of tells) (c.in_ok-sort_by_key.ensures.stable guid_of tells))
     ∙ map_in_order here (λ x y. is_lt (nat_cmp x.node.guid y.node.guid)) c.loop-number.switches.items
-    ∙ ap (in_order (λ x y. is_lt (nat_cmp x.node.guid y.node.guid))) (c.loop-number.invariant ∙ ap (filter is_switch) (take_all c.loop-number.number agents all))
+    ∙ ap (in_order (λ x y. is_lt (nat_cmp x.node.guid y.node.guid))) (c.loop-number.invariant
+    ∙ ap (filter is_switch) (take_all c.loop-number.number agents all))

@@ -18,7 +18,8 @@ loop-b-preserved g c =
     let top : c.from.result ≡ a.top = c.from.ensures ∙ c.number.ensures ∙ c.top.ensures in
     goes_on g.W.Sink.written g.W.Sink.has_failed c.args.sink.now c.loop-b.sink c.write_block.new.sink whole (shows (block_shown a b) tt)
     (λ u. lines_from (block_shown a) (blocks_to a.top) (b + 1))
-    (subst Under (lines_next (block_shown a) (blocks_to a.top) b b (block_there a.top b (subst (λ (t : ℕ). b < t / 64 + 1) top c.loop-b-test.true))) c.loop-b.invariant)
+    (subst Under (lines_next (block_shown a) (blocks_to a.top) b b (block_there a.top b (subst (λ (t : ℕ). b < t / 64 + 1) top c.loop-b-test.true)))
+    c.loop-b.invariant)
     (wrote g.W.Sink.written g.W.Sink.has_failed c.in_ok-write_block.field-0 c.loop-b.sink c.write_block.new.sink (block_shown a b)
     (subst Written c.block.ensures c.in_ok-write_block.ensures))
 

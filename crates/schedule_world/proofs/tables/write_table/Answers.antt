@@ -16,5 +16,6 @@ returns g c =
     record {
       prints = prints_then g.W.Sink.written g.W.Sink.has_failed c.write_blocks.result c.args.sink.now c.write_switch.new.sink c.write_blocks.new.sink
           (switch_line a.top a.node.guid) (blocks_text a)
-          (wrote g.W.Sink.written g.W.Sink.has_failed c.in_ok-write_switch.field-0 c.args.sink.now c.write_switch.new.sink _ written) c.write_blocks.ensures.prints;
+          (wrote g.W.Sink.written g.W.Sink.has_failed c.in_ok-write_switch.field-0 c.args.sink.now c.write_switch.new.sink _ written)
+          c.write_blocks.ensures.prints;
     }

@@ -8,4 +8,5 @@ use Rattle.schedule_world.proofs.tables.write_tables.Given as goal
 -- those from this one on are yet to be shown
 abbrev pub invariant-loop-switch : goal.invariant-loop-switch
 invariant-loop-switch g l =
-    IsUnderWay g.W.Sink.written g.W.Sink.has_failed l.initial.sink l.sink (lines_from (λ (agent : Bor Agent). table_text agent.now) l.switches 0) (lines_from (λ (agent : Bor Agent). table_text agent.now) l.switches l.switch-index)
+    IsUnderWay g.W.Sink.written g.W.Sink.has_failed l.initial.sink l.sink (lines_from (λ (agent : Bor Agent). table_text agent.now) l.switches 0)
+    (lines_from (λ (agent : Bor Agent). table_text agent.now) l.switches l.switch-index)

@@ -18,7 +18,8 @@ loop-outgoing-preserved g c =
     let left = c.take_outgoing.new.self in
     let Under : g.row.W.Denot → Outcome Simulation → Type 0 = λ now outcome. IsUnderWay g.W.Sink.written g.W.Sink.has_failed old now whole outcome in
     let first = first_goes c.loop-outgoing.manager left c.in-Some.outgoing fabric at c.in-Some.ensures.packet c.in-Some.ensures.manager in
-    let gone = goes_on g.W.Sink.written g.W.Sink.has_failed old c.loop-outgoing.sink c.send_one.new.sink whole part (λ now. after_inject_all now at left.outgoing)
+    let gone = goes_on g.W.Sink.written g.W.Sink.has_failed old c.loop-outgoing.sink c.send_one.new.sink whole part
+    (λ now. after_inject_all now at left.outgoing)
     (subst (Under c.loop-outgoing.sink) first c.loop-outgoing.invariant.sends) c.in_ok-send_one.ensures.prints in
     record {
       sends = subst (λ f. Under c.send_one.new.sink (after_inject_all f at left.outgoing)) (sym c.in_ok-send_one.ensures.fabric) gone;
@@ -36,5 +37,6 @@ returns-in_err-send_one-clause-prints g c =
     let first = first_goes c.loop-outgoing.manager left c.in-Some.outgoing fabric at c.in-Some.ensures.packet c.in-Some.ensures.manager in
     rw (p.1, p.2) (stops_in g.W.Sink.written g.W.Sink.has_failed c.in_err-send_one.field-0.0 c.args.sink.now c.loop-outgoing.sink c.send_one.new.sink whole part
     (λ now. after_inject_all now at left.outgoing)
-    (subst (λ outcome. IsUnderWay g.W.Sink.written g.W.Sink.has_failed c.args.sink.now c.loop-outgoing.sink whole outcome) first c.loop-outgoing.invariant.sends)
+    (subst (λ outcome. IsUnderWay g.W.Sink.written g.W.Sink.has_failed c.args.sink.now c.loop-outgoing.sink whole outcome) first
+    c.loop-outgoing.invariant.sends)
     c.in_err-send_one.ensures.prints)

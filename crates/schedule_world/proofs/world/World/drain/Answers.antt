@@ -11,7 +11,8 @@ loop-step-preserved g c =
     let w = value_of c.loop-step.self in
     let left = c.args.most - (c.loop-step._step + 1) in
     let whole = after_drain_line (value_of c.args.self.now) c.args.most in
-    let Under : g.row.W.Denot → Outcome WorldValue → Type 0 = λ now outcome. IsUnderWay g.W.Sink.written g.W.Sink.has_failed c.args.sink.now now whole outcome in
+    let Under : g.row.W.Denot → Outcome WorldValue → Type 0 =
+    λ now outcome. IsUnderWay g.W.Sink.written g.W.Sink.has_failed c.args.sink.now now whole outcome in
     let gone = goes_on g.W.Sink.written g.W.Sink.has_failed c.args.sink.now c.loop-step.sink c.deliver.new.sink whole
     (after_step w c.in-Some.first.now.serial) (λ now. after_drain_line now left)
     (subst (Under c.loop-step.sink) (drain_next w c.args.most c.loop-step._step c.in-Some.first.now c.loop-step-test.true (sym c.in-Some.ensures))
@@ -34,7 +35,8 @@ returns-in_err-deliver g c =
         leaves = tt;
         prints = stops_in g.W.Sink.written g.W.Sink.has_failed c.in_err-deliver.field-0.0 c.args.sink.now c.loop-step.sink c.deliver.new.sink whole
             (after_step w c.in-Some.first.now.serial) (λ now. after_drain_line now (c.args.most - (c.loop-step._step + 1)))
-            (subst Under (drain_next w c.args.most c.loop-step._step c.in-Some.first.now c.loop-step-test.true (sym c.in-Some.ensures)) c.loop-step.invariant.drains)
+            (subst Under (drain_next w c.args.most c.loop-step._step c.in-Some.first.now c.loop-step-test.true (sym c.in-Some.ensures))
+            c.loop-step.invariant.drains)
             c.in_err-deliver.ensures.does.prints;
       });
     }

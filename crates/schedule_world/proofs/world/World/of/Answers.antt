@@ -13,7 +13,8 @@ loop-seat-preserved c =
     let nodes = c.args.topology.now.nodes in
     let seat = c.seat-item.result in
     ap (map seated_value) c.in_ok-push.ensures.items ∙ map-append seated_value c.loop-seat.managers.items _
-    ∙ seated_more c.args.planning.now nodes c.args.seats.now c.loop-seat.seat-index seat (map seated_value c.loop-seat.managers.items) _ c.loop-seat-test.true c.seat-item.is
+    ∙ seated_more c.args.planning.now nodes c.args.seats.now c.loop-seat.seat-index seat (map seated_value c.loop-seat.managers.items) _ c.loop-seat-test.true
+    c.seat-item.is
     c.loop-seat.invariant (is_seated c.args.planning.now nodes seat c.port_guid-guid.result c.new-manager.result c.port_guid-guid.ensures
     (c.new-manager.ensures ∙ ap (new_manager c.port_guid-guid.result seat.at.port seat.priority) c.in_ok-own.ensures))
 

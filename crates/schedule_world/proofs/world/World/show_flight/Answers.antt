@@ -30,6 +30,7 @@ returns g c =
     let flights = c.args.self.now.fabric.flights in
     let all : length flights ≤ c.loop-i.i = omega (arith, c.flight_count-i-end.ensures) in
     record {
-      prints = is_over g.W.Sink.written g.W.Sink.has_failed c.args.sink.now c.loop-i.sink (lines_from (flight_shown c.args.topology.now.nodes) flights 0) _ c.loop-i.invariant
+      prints = is_over g.W.Sink.written g.W.Sink.has_failed c.args.sink.now c.loop-i.sink (lines_from (flight_shown c.args.topology.now.nodes) flights 0) _
+          c.loop-i.invariant
           (ap (λ r. r.text) (lines_none (flight_shown c.args.topology.now.nodes) flights c.loop-i.i all));
     }

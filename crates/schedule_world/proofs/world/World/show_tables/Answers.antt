@@ -15,7 +15,8 @@ pub returns : goal.returns
 unfolding tables_text
 returns g c =
     let agents = c.args.self.now.fabric.agents in
-    let held : flat_map held_line c.deref.result.now ≡ flat_map held_line (all_held agents) = ap (flat_map held_line) (c.deref.ensures.value ∙ c.in_ok-lids.ensures) in
+    let held : flat_map held_line c.deref.result.now ≡ flat_map held_line (all_held agents) =
+    ap (flat_map held_line) (c.deref.ensures.value ∙ c.in_ok-lids.ensures) in
     let tables : flat_map (λ r. table_text (here r)) c.deref-2.result.now ≡ flat_map table_text (switches agents) =
     ap (flat_map (λ r. table_text (here r))) c.deref-2.ensures.value ∙ flat_map_map table_text here c.in_ok-switches.switches.items
     ∙ ap (flat_map table_text) c.in_ok-switches.ensures in
@@ -23,5 +24,6 @@ returns g c =
     record {
       prints = prints_then g.W.Sink.written g.W.Sink.has_failed c.write_tables.result c.args.sink.now c.write_held.new.sink c.write_tables.new.sink
           (flat_map held_line (all_held agents)) (flat_map table_text (switches agents)) (subst Printed held c.in_ok-write_held.ensures.prints)
-          (prints_same g.W.Sink.written g.W.Sink.has_failed c.write_tables.result c.write_held.new.sink c.write_tables.new.sink _ _ tables c.write_tables.ensures.prints);
+          (prints_same g.W.Sink.written g.W.Sink.has_failed c.write_tables.result c.write_held.new.sink c.write_tables.new.sink _ _ tables
+          c.write_tables.ensures.prints);
     }

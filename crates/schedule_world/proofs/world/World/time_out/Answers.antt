@@ -14,7 +14,8 @@ loop-transaction-preserved g c =
     let seat = c.args.seat in
     let w = value_of c.loop-transaction.self in
     let whole = after_giving_up (value_of c.args.self.now) seat items in
-    let Under : g.row.W.Denot → Outcome WorldValue → Type 0 = λ now outcome. IsUnderWay g.W.Sink.written g.W.Sink.has_failed c.args.sink.now now whole outcome in
+    let Under : g.row.W.Denot → Outcome WorldValue → Type 0 =
+    λ now outcome. IsUnderWay g.W.Sink.written g.W.Sink.has_failed c.args.sink.now now whole outcome in
     let gone = goes_on g.W.Sink.written g.W.Sink.has_failed c.args.sink.now c.loop-transaction.sink c.give_up.new.sink whole
     (after_give_up w seat (get_or items i 0)) (λ now. after_giving_up now seat (drop (i + 1) items))
     (subst (Under c.loop-transaction.sink) (given_next w seat items i c.loop-transaction-test.true) c.loop-transaction.invariant.gives_up)
@@ -32,7 +33,8 @@ returns-in_err-give_up g c =
     let seat = c.args.seat in
     let w = value_of c.loop-transaction.self in
     let whole = after_giving_up (value_of c.args.self.now) seat items in
-    let Under : Outcome WorldValue → Type 0 = λ outcome. IsUnderWay g.W.Sink.written g.W.Sink.has_failed c.args.sink.now c.loop-transaction.sink whole outcome in
+    let Under : Outcome WorldValue → Type 0 =
+    λ outcome. IsUnderWay g.W.Sink.written g.W.Sink.has_failed c.args.sink.now c.loop-transaction.sink whole outcome in
     let run = timed_out c.args.self.now.fabric c.args.self.now.managers.items seat c.index.result.now c.requires c.index.ensures items
     (c.deref-transaction-items.ensures.value ∙ c.in_ok-waiting.ensures) in
     record {
