@@ -1,6 +1,6 @@
 -- The next entries of the switches, by what each does by the tables held and by the plan.
-use Rattle.std.specs.Prelude.{ℕ, ◌==◌, Bool, List, map, if◌then◌else◌}
-use Rattle.std.specs.List.{zip}
+use Rattle.std.specs.Prelude.{ℕ, ◌==◌, ◌||◌, Bool, List, map, if◌then◌else◌}
+use Rattle.std.specs.List.{list_all, zip}
 use Rattle.subnet_view.specs.declared.end_port.EndPort.{EndPort}
 use Rattle.audit.specs.declared.end.Cause.TheVariants.{NoEntry}
 use Rattle.audit.specs.declared.end.End.TheVariants.{Taken, Lost}
@@ -50,6 +50,10 @@ next_by port leads delivers mends x =
 abbrev pub chosen_by : EndPort → (NextHop → Bool) → (NextHop → Bool) → (NextHop → Bool) → List SwitchStep
     → List SwitchStep → List ℕ
 chosen_by port leads delivers mends held plan = map (next_by port leads delivers mends) (zip held plan)
+
+-- from each switch the plan leads on, or the tables held deliver: then nothing is to be mended
+abbrev pub is_whole : (NextHop → Bool) → (NextHop → Bool) → List SwitchStep → List SwitchStep → Bool
+is_whole leads delivers held plan = list_all (λ x. leads x.1.hop || delivers x.0.hop) (zip held plan)
 
 -- those of all switches
 abbrev pub mends_of : EndPort → (NextHop → Bool) → List SwitchStep → List SwitchStep → NextHop → Bool

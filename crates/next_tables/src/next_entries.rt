@@ -1,7 +1,7 @@
 //! The next entries of the switches for a LID that the same end port holds in the tables held and in the plan.
 ghost use Rattle.std.specs.Prelude.{◌≡◌, IfOk};
 ghost use Rattle.next_tables.specs.SwitchSteps.{agreed_by, agreed_of, arrives_by, chosen_by, hops_of, mending_by, mending_of};
-ghost use Rattle.next_tables.specs.SwitchSteps.{next_by, next_of, patch_by, patch_entry_by};
+ghost use Rattle.next_tables.specs.SwitchSteps.{is_whole, next_by, next_of, patch_by, patch_entry_by};
 
 use audit::walk_ends::{end_of, ends, is_to, onward};
 use audit::{Cause, End, NextHop, SwitchStep, is_at};
@@ -9,7 +9,8 @@ use std::alloc::{AllocError, Global};
 use subnet_view::EndPort;
 
 /// The next entries of the switches, by what each does by the tables held and by the plan. Takes for each switch some
-/// steps for each of three walks, by the number of digits of the longest way's length.
+/// steps for each of two walks, by the number of digits of the longest way's length, and of a third where the plan does
+/// not lead on from each switch, or the tables held deliver.
 pub(crate) fn next_entries(
     alloc: Global,
     port: &EndPort,
@@ -22,6 +23,9 @@ pub(crate) fn next_entries(
     let hops = hops(alloc, held)?;
     let settled = ends(alloc, agreed)?;
     let delivered = ends(alloc, hops)?;
+    if is_whole(port, &settled, &delivered, held, plan) {
+        return chosen(alloc, port, &settled, &delivered, &[], held, plan);
+    }
     let mending = mending(alloc, port, &delivered, held, plan)?;
     let mended = ends(alloc, mending)?;
     chosen(alloc, port, &settled, &delivered, &mended, held, plan)
@@ -57,6 +61,21 @@ fn hops(alloc: Global, steps: &[SwitchStep]) -> Result<Vec<NextHop>, AllocError>
     ensures { IfOk result (λ hops. hops.items ≡ hops_of steps.now) }
 {
     steps.iter().map(|step| step.hop).collect(alloc)
+}
+
+/// Whether from each switch the plan's entry leads on, or the tables held deliver the packet, by where walks end.
+fn is_whole(
+    port: &EndPort,
+    settled: &[NextHop],
+    delivered: &[NextHop],
+    held: &[SwitchStep],
+    plan: &[SwitchStep],
+) -> bool
+    ensures { result ≡ is_whole (arrives_by port.now settled.now) (arrives_by port.now delivered.now)
+        held.now plan.now }
+{
+    held.iter().zip(plan.iter()).all(|(held, plan)| arrives_by(port, settled, plan.hop)
+        || arrives_by(port, delivered, held.hop))
 }
 
 /// What each switch does where it is mended, by where the walks by the tables held end.
