@@ -3,7 +3,7 @@ ghost use Rattle.std.specs.Prelude.{◌≡◌, ◌⊎◌, Bool, IfOk, IsTrue};
 ghost use Rattle.std.specs.Io.KnownBytes.{Appends};
 ghost use Rattle.ibsm.specs.Asked.{LacksInputs};
 ghost use Rattle.next_run.specs.RunNext.{IsSaid};
-ghost use Rattle.schedule_run.specs.Prints.{PrintsSome};
+ghost use Rattle.schedule_world.specs.Prints.{PrintsSome};
 ghost use Rattle.ibsm.specs.Ending.{IsDone, PerformsWords, SaysWhyOfWords, status_after};
 
 use crate::arguments::{command_line, roots_without_spread};
