@@ -1,6 +1,7 @@
 -- What an audit of tables and files does: it reads all of them, and writes how packets fare, or says which one it
 -- refuses.
 use Rattle.std.specs.Prelude.{◌≡◌, ◌↔◌, ◌⊎◌, ℕ, Bool, List, ◌++◌, Option, IsTrue}
+use Rattle.byte_io.specs.Source.{SourceState}
 use Rattle.fact_store.specs.View.{Facts, cells_of}
 use Rattle.plan_file.specs.Held.{HeldPlan}
 use Rattle.audit_report.specs.AuditText.{audit_text}
@@ -11,7 +12,7 @@ use Rattle.sm_cli.specs.InputFiles.{HasRead, IsRefusedFile}
 use Rattle.sm_cli.specs.InputTables.{AreNoTables, AreTables}
 
 -- the inputs were read, the tables and then the files, and say this
-pub record AreRead {S : Type 0} (left : S → Option (List ℕ)) (has_failed : S → Bool) (floor : ℕ) (olds news : List S)
+pub record AreRead {S : Type 0} (state : S → SourceState) (floor : ℕ) (olds news : List S)
     (held : HeldPlan) (facts : Facts) : Type 0 where
   pub tables : List S
   pub tables' : List S
@@ -19,8 +20,8 @@ pub record AreRead {S : Type 0} (left : S → Option (List ℕ)) (has_failed : S
   pub files' : List S
   pub were : olds ≡ tables ++ files
   pub are : news ≡ tables' ++ files'
-  pub tables_read : AreTables left has_failed tables tables' held
-  pub files_read : HasRead left has_failed floor files files' facts
+  pub tables_read : AreTables state tables tables' held
+  pub files_read : HasRead state floor files files' facts
 
 -- this holds of what was written, which says how packets fare, and whether they pass is told
 pub record IsAudited (facts : Facts) (held : HeldPlan) (prints : List ℕ → Type 0) (passed : Bool) : Type 0 where
@@ -30,11 +31,11 @@ pub record IsAudited (facts : Facts) (held : HeldPlan) (prints : List ℕ → Ty
   pub judged : IsTrue passed ↔ Passes (cells_of facts) held
 
 -- all were read, and how packets fare was written
-pub record HasAudited {S : Type 0} (left : S → Option (List ℕ)) (has_failed : S → Bool) (floor : ℕ) (olds news : List S)
+pub record HasAudited {S : Type 0} (state : S → SourceState) (floor : ℕ) (olds news : List S)
     (prints : List ℕ → Type 0) (passed : Bool) : Type 0 where
   pub held : HeldPlan
   pub facts : Facts
-  pub read : AreRead left has_failed floor olds news held facts
+  pub read : AreRead state floor olds news held facts
   pub audited : IsAudited facts held prints passed
 
 -- why what was read is not answered
@@ -44,19 +45,17 @@ IsAnswerFault sink_failed Memory = Unit {0}
 IsAnswerFault sink_failed fault = ⊥
 
 -- the tables are refused, and no other input was touched
-pub record RefusesTables {S : Type 0} (left : S → Option (List ℕ)) (has_failed : S → Bool) (interruptions : S
-    → ℕ) (olds news : List S)
+pub record RefusesTables {S : Type 0} (state : S → SourceState) (olds news : List S)
     (fault : Fault) : Type 0 where
   pub tables : List S
   pub tables' : List S
   pub others : List S
   pub were : olds ≡ tables ++ others
   pub are : news ≡ tables' ++ others
-  pub why : AreNoTables left has_failed interruptions 0 tables tables' fault
+  pub why : AreNoTables state 0 tables tables' fault
 
 -- the tables were read, and a file is refused
-pub record RefusesFiles {S : Type 0} (left : S → Option (List ℕ)) (has_failed : S → Bool) (interruptions : S
-    → ℕ) (olds news : List S)
+pub record RefusesFiles {S : Type 0} (state : S → SourceState) (olds news : List S)
     (fault : Fault) : Type 0 where
   pub tables : List S
   pub tables' : List S
@@ -65,22 +64,21 @@ pub record RefusesFiles {S : Type 0} (left : S → Option (List ℕ)) (has_faile
   pub were : olds ≡ tables ++ files
   pub are : news ≡ tables' ++ files'
   pub held : HeldPlan
-  pub tables_read : AreTables left has_failed tables tables' held
-  pub why : IsRefusedFile left has_failed interruptions 1 files files' fault
+  pub tables_read : AreTables state tables tables' held
+  pub why : IsRefusedFile state 1 files files' fault
 
 -- all were read, and what they say is not answered
-pub record FailsToAudit {S : Type 0} (left : S → Option (List ℕ)) (has_failed : S
-    → Bool) (floor : ℕ) (olds news : List S)
+pub record FailsToAudit {S : Type 0} (state : S → SourceState) (floor : ℕ) (olds news : List S)
     (sink_failed : Bool) (fault : Fault) : Type 0 where
   pub held : HeldPlan
   pub facts : Facts
-  pub read : AreRead left has_failed floor olds news held facts
+  pub read : AreRead state floor olds news held facts
   pub why : IsAnswerFault sink_failed fault
 
 -- why an audit over open inputs ends early
-abbrev pub IsAuditFault : {S : Type 0} → (S → Option (List ℕ)) → (S → Bool) → (S → ℕ) → ℕ → List S → List S → Bool
+abbrev pub IsAuditFault : {S : Type 0} → (S → SourceState) → ℕ → List S → List S → Bool
     → Fault → Type 0
-IsAuditFault left has_failed interruptions floor olds news sink_failed fault =
-    RefusesTables left has_failed interruptions olds news fault
-    ⊎ (RefusesFiles left has_failed interruptions olds news fault
-    ⊎ FailsToAudit left has_failed floor olds news sink_failed fault)
+IsAuditFault state floor olds news sink_failed fault =
+    RefusesTables state olds news fault
+    ⊎ (RefusesFiles state olds news fault
+    ⊎ FailsToAudit state floor olds news sink_failed fault)

@@ -21,11 +21,11 @@ pub fn run_audit<S: Source, W: Sink>(
     sink: &mut W,
 ) -> Result<bool, Fault>
     requires { 1 ≤ length inputs.old }
-    ensures done { IfOk result (HasAudited S.left S.has_failed floor inputs.old inputs.new
+    ensures done { IfOk result (HasAudited S.state floor inputs.old inputs.new
         (Appends (W.written sink.old) (W.written sink.new))) }
     ensures flushed { OnOk result (IsTrue (W.is_flushed sink.new)) }
     ensures sink_works { OnOk result (W.has_failed sink.new ≡ false) }
-    ensures refused { IfErr result (IsAuditFault S.left S.has_failed S.interruptions floor
+    ensures refused { IfErr result (IsAuditFault S.state floor
         inputs.old inputs.new (W.has_failed sink.new)) }
     ensures nothing_written { OnErr result ((result ≡ Err Fault.Write) ⊎ (sink.new ≡ sink.old)) }
 {

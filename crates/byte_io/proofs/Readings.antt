@@ -5,6 +5,7 @@ use Rattle.std.specs.Io.KnownBytes.{Consumes}
 use Rattle.byte_io.specs.Reading.{EachCallTakes, GivesPiece, IsAnswered, IsSpentBefore, ReadingState, Takes, state_of}
 use Rattle.byte_io.specs.declared.reading.Reading.{Reading}
 use Rattle.byte_io.proofs.Bytes.{Consumes-trans}
+use Rattle.byte_io.specs.Source.{SourceState}
 
 -- no call was made yet
 pub record IsUntouched (old new : ReadingState) : Type 0 where
@@ -12,14 +13,14 @@ pub record IsUntouched (old new : ReadingState) : Type 0 where
   pub calls : new.calls ≡ old.calls
 
 -- the start of a reading
-abbrev pub fresh : {S : Type 0} → (S → Option (List ℕ)) → (S → Bool) → (S → ℕ) → S → ReadingState
-fresh left has_failed interruptions source =
-    record { left = left source; has_failed = has_failed source; interruptions = interruptions source; bytes = 0; calls = 0 }
+abbrev pub fresh : {S : Type 0} → (S → SourceState) → S → ReadingState
+fresh state source =
+    record { left = (state source).left; has_failed = (state source).has_failed; interruptions = (state source).interruptions; bytes = 0; calls = 0 }
 
-pub state_of-fresh : {S : Type 0} (left : S → Option (List ℕ)) (has_failed : S → Bool) (interruptions : S → ℕ) (r : Reading S) (source : S)
+pub state_of-fresh : {S : Type 0} (state : S → SourceState) (r : Reading S) (source : S)
     → r.source.now ≡ source → r.budget.bytes ≡ 0 → r.budget.calls ≡ 0
-    → state_of left has_failed interruptions r ≡ fresh left has_failed interruptions source
-state_of-fresh left has_failed interruptions r source same bytes calls = rw (same, bytes, calls) refl
+    → state_of state r ≡ fresh state source
+state_of-fresh state r source same bytes calls = rw (same, bytes, calls) refl
 
 -- nothing was taken yet, and no call made
 abbrev pub IsFresh : ReadingState → Type 0

@@ -5,6 +5,7 @@ use Rattle.byte_io.specs.Budget.{IsSpent}
 use Rattle.byte_io.specs.declared.reading.PieceFault.{PieceFault}
 use Rattle.byte_io.specs.declared.reading.PieceFault.TheVariants.{Read, TooLong}
 use Rattle.byte_io.specs.declared.reading.Reading.{Reading}
+use Rattle.byte_io.specs.Source.{SourceState}
 
 -- what the source has left, whether it failed and how often it was interrupted, and the bytes and calls of the reading
 pub record ReadingState : Type 0 where
@@ -14,11 +15,11 @@ pub record ReadingState : Type 0 where
   pub bytes : ℕ
   pub calls : ℕ
 
-abbrev pub state_of : {S : Type 0} → (S → Option (List ℕ)) → (S → Bool) → (S → ℕ) → Reading S → ReadingState
-state_of left has_failed interruptions r = record {
-  left = left r.source.now;
-  has_failed = has_failed r.source.now;
-  interruptions = interruptions r.source.now;
+abbrev pub state_of : {S : Type 0} → (S → SourceState) → Reading S → ReadingState
+state_of state r = record {
+  left = (state r.source.now).left;
+  has_failed = (state r.source.now).has_failed;
+  interruptions = (state r.source.now).interruptions;
   bytes = r.budget.bytes;
   calls = r.budget.calls;
 }
@@ -69,7 +70,7 @@ GivesAt (Err Read) old new room = FailsToGive old new
 GivesAt (Err TooLong) old new room = IsSpentBefore old new
 
 -- what a reading gives in this room, and what becomes of it
-abbrev pub Gives : {S : Type 0} → (S → Option (List ℕ)) → (S → Bool) → (S → ℕ) → Result ℕ PieceFault → Reading S
+abbrev pub Gives : {S : Type 0} → (S → SourceState) → Result ℕ PieceFault → Reading S
     → Reading S → List ℕ → Type 0
-Gives left has_failed interruptions result old new room =
-    GivesAt result (state_of left has_failed interruptions old) (state_of left has_failed interruptions new) room
+Gives state result old new room =
+    GivesAt result (state_of state old) (state_of state new) room

@@ -1,7 +1,14 @@
--- What one call of a source counts as.
-use Rattle.std.specs.Prelude.{ℕ, Result, Ok, Err}
+-- What a source is, and what one call of it counts as.
+use Rattle.std.specs.Prelude.{ℕ, Bool, List, Option, Result, Ok, Err}
 use Rattle.byte_io.specs.declared.source.ReadError.{ReadError}
 use Rattle.byte_io.specs.declared.source.ReadError.TheVariants.{Failed, Interrupted}
+
+-- the bytes that are left, where they are known; whether a call has failed, and so does each later one; and how many
+-- calls were interrupted
+pub record SourceState : Type 0 where
+  pub left : Option (List ℕ)
+  pub has_failed : Bool
+  pub interruptions : ℕ
 
 -- 1 for a call that was interrupted, and 0 for any other
 abbrev pub interruption : Result ℕ ReadError → ℕ

@@ -28,11 +28,7 @@ impl<'b> FromBytes<'b> {
 }
 
 impl<'b> Source for FromBytes<'b> {
-    ghost left = { λ s. Some s };
-
-    ghost has_failed = { λ _. false };
-
-    ghost interruptions = { λ _. 0 };
+    ghost state = { λ s. record { left = Some s; has_failed = false; interruptions = 0 } };
 
     /// Gives as many bytes as are left and have room; what stands in `room` behind them stays.
     fn read(&mut self, room: &mut [u8]) -> Result<usize, ReadError>

@@ -16,9 +16,8 @@ pub struct FromRead<R> {
 
 impl<R: Read> FromRead<R> {
     pub fn new(reader: R) -> Self
-        ensures left { ⟦<FromRead<R> as Source>⟧.left result ≡ R.remaining reader }
-        ensures has_failed { ⟦<FromRead<R> as Source>⟧.has_failed result ≡ false }
-        ensures interruptions { ⟦<FromRead<R> as Source>⟧.interruptions result ≡ 0 }
+        ensures { ⟦<FromRead<R> as Source>⟧.state result
+            ≡ record { left = R.remaining reader; has_failed = false; interruptions = 0 } }
     {
         FromRead {
             reader,
@@ -29,11 +28,11 @@ impl<R: Read> FromRead<R> {
 }
 
 impl<R: Read> Source for FromRead<R> {
-    ghost left = { λ s. R.remaining s.reader };
-
-    ghost has_failed = { λ s. s.has_failed };
-
-    ghost interruptions = { λ s. s.interruptions };
+    ghost state = { λ s. record {
+      left = R.remaining s.reader;
+      has_failed = s.has_failed;
+      interruptions = s.interruptions;
+    } };
 
     /// An interrupted read that can't be counted any more counts as failed.
     fn read(&mut self, room: &mut [u8]) -> Result<usize, ReadError> {

@@ -47,7 +47,7 @@ impl<'s, S: Source> Reading<'s, S> {
     pub fn piece(&mut self, room: &mut [u8]) -> Result<usize, PieceFault>
         requires some { 0 < length room.old }
         ensures same_source { self.new.source.ghost_name ≡ self.old.source.ghost_name }
-        ensures gives { Gives S.left S.has_failed S.interruptions result
+        ensures gives { Gives S.state result
             self.old self.new room.new }
     {
         while !self.budget.is_spent() {
@@ -71,14 +71,14 @@ fn read_front<S: Source>(source: &mut S, room: &mut [u8], most: usize) -> Result
     requires { most ≤ length room.old }
     ensures within { IfOk result (λ n. n ≤ most) }
     ensures bytes { IfOk result (λ n.
-        Consumes (S.left source.old) (S.left source.new) (take n room.new)) }
+        Consumes (S.state source.old).left (S.state source.new).left (take n room.new)) }
     ensures room { length room.new ≡ length room.old }
-    ensures end { IfOk result (λ n. n ≡ 0 → 0 < most → IsAtEnd (S.left source.new)) }
-    ensures err { OnErr result (Keeps (S.left source.old) (S.left source.new)) }
-    ensures failed { (result ≡ Err ReadError.Failed) ↔ IsTrue (S.has_failed source.new) }
-    ensures stays { IsTrue (S.has_failed source.old) → IsTrue (S.has_failed source.new) }
-    ensures interrupted { S.interruptions source.new
-        ≡ S.interruptions source.old + interruption result }
+    ensures end { IfOk result (λ n. n ≡ 0 → 0 < most → IsAtEnd (S.state source.new).left) }
+    ensures err { OnErr result (Keeps (S.state source.old).left (S.state source.new).left) }
+    ensures failed { (result ≡ Err ReadError.Failed) ↔ IsTrue (S.state source.new).has_failed }
+    ensures stays { IsTrue (S.state source.old).has_failed → IsTrue (S.state source.new).has_failed }
+    ensures interrupted { (S.state source.new).interruptions
+        ≡ (S.state source.old).interruptions + interruption result }
 {
     source.read(&mut room[..most])
 }

@@ -1,4 +1,4 @@
-ghost use Rattle.std.specs.Prelude.{◌≡◌, slice_index};
+ghost use Rattle.std.specs.Prelude.{◌≡◌};
 
 use smp_bytes::{Guid, PortNum};
 use std::cmp::Ordering;
@@ -21,18 +21,22 @@ pub enum Key {
 }
 
 impl Key {
-    ghost use Rattle.fact_store.specs.Key.{key_numbers};
+    ghost use Rattle.fact_store.specs.Key.{key_guid, key_kind, key_numbers, key_port, kind_word};
 
     /// The number of its kind, the GUID and the port.
     fn sort_key(&self) -> [u64; 3]
         ensures { result ≡ key_numbers self.now }
     {
-        [self.kind(), self.guid(), self.port()]
+        [
+            u64::from(self.kind()),
+            self.guid().number(),
+            u64::from(self.port().number()),
+        ]
     }
 
-    /// From 1 on, in the order of the kinds.
-    fn kind(&self) -> u64
-        ensures { result ≡ slice_index (key_numbers self.now) 0 }
+    /// The number of its kind, from 1 on, in the order of the kinds.
+    pub fn kind(&self) -> u8
+        ensures { result ≡ key_kind self.now }
     {
         match *self {
             Key::Node(_) => 1,
@@ -44,9 +48,23 @@ impl Key {
         }
     }
 
+    /// The word for its kind: `node`, `portguid`, `link`, `port`, `claim` or `cap`.
+    pub fn word(&self) -> &'static str
+        ensures { result.now ≡ kind_word self.now }
+    {
+        match *self {
+            Key::Node(_) => "node",
+            Key::PortGuid(..) => "portguid",
+            Key::Link(..) => "link",
+            Key::Port(..) => "port",
+            Key::Claim(..) => "claim",
+            Key::Cap(_) => "cap",
+        }
+    }
+
     /// The GUID of the node.
-    fn guid(&self) -> u64
-        ensures { result ≡ slice_index (key_numbers self.now) 1 }
+    pub fn guid(&self) -> Guid
+        ensures { result ≡ key_guid self.now }
     {
         match *self {
             Key::Node(node)
@@ -54,20 +72,20 @@ impl Key {
             | Key::Link(node, _)
             | Key::Port(node, _)
             | Key::Claim(node, _)
-            | Key::Cap(node) => node.number(),
+            | Key::Cap(node) => node,
         }
     }
 
     /// The port, and 0 where there is none.
-    fn port(&self) -> u64
-        ensures { result ≡ slice_index (key_numbers self.now) 2 }
+    pub fn port(&self) -> PortNum
+        ensures { result ≡ key_port self.now }
     {
         match *self {
-            Key::Node(_) | Key::Cap(_) => 0,
+            Key::Node(_) | Key::Cap(_) => PortNum::new(0),
             Key::PortGuid(_, port)
             | Key::Link(_, port)
             | Key::Port(_, port)
-            | Key::Claim(_, port) => u64::from(port.number()),
+            | Key::Claim(_, port) => port,
         }
     }
 }

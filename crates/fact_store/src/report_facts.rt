@@ -121,7 +121,7 @@ fn sightings_of_kind(
 {
     let (node, local_port) = (info.node_guid, info.local_port_num);
     let guid_port = match kind {
-        NodeType::Switch => PortNum::new(0),
+        NodeType::Switch => PortNum::MANAGEMENT,
         NodeType::ChannelAdapter | NodeType::Router => local_port,
     };
     let ports = Value::Kind(kind, info.num_ports);
@@ -154,7 +154,7 @@ fn are_ports_in_range(context: &Context, kind: NodeType, info: &NodeInfo) -> boo
 {
     let asked_by = info.local_port_num.number();
     let may_be_asked = match context {
-        Context::Start => kind == NodeType::Switch || asked_by > 0,
+        Context::Start => kind.is_switch() || asked_by > 0,
         Context::Via(_, via) => asked_by > 0 && is_cabled_port(via.number()),
         Context::About(_) => asked_by > 0,
     };

@@ -1,6 +1,7 @@
 -- How a task over files ends: what was done, or its status and the line on standard error that says why.
 use Rattle.std.specs.Prelude.{◌≡◌, ◌⊎◌, ◌≤◌, ◌+◌, Bool, true, false, List, [], ℕ, Option, Some, None, Result, IsTrue, map, slice_get}
 use Rattle.std.specs.Borrow.{Bor}
+use Rattle.byte_io.specs.Source.{SourceState}
 use Rattle.clap.specs.declared.parser.matches.ArgMatches.{ArgMatches}
 use Rattle.sm_cli.specs.Asked.{rule_for, texts_for}
 use Rattle.sm_cli.specs.ExitStatus.{status_of}
@@ -30,16 +31,16 @@ HasEnoughNames (Run lmc rule) count = count ≡ texts_for rule + 2
 
 -- what a task does with open inputs, where this holds of what it prints, and this of what it says on standard error;
 -- what judges nothing passes
-abbrev pub Does : {S : Type 0} → (S → Option (List ℕ)) → (S → Bool) → Task → List S → List S → (List ℕ → Type 0)
+abbrev pub Does : {S : Type 0} → (S → SourceState) → Task → List S → List S → (List ℕ → Type 0)
     → (List ℕ → Type 0) → Bool → Type 0
-Does left has_failed (Answer request) olds news prints says passed =
-    (passed ≡ true) × HasAnswered left has_failed request olds news prints
-Does left has_failed (Audit floor) olds news prints says passed =
-    HasAudited left has_failed floor olds news prints passed
-Does left has_failed (Next asked) olds news prints says passed =
-    HasStepped left has_failed asked olds news prints says passed
-Does left has_failed (Run lmc rule) olds news prints says passed =
-    (passed ≡ true) × HasRun left has_failed lmc rule olds news prints
+Does state (Answer request) olds news prints says passed =
+    (passed ≡ true) × HasAnswered state request olds news prints
+Does state (Audit floor) olds news prints says passed =
+    HasAudited state floor olds news prints passed
+Does state (Next asked) olds news prints says passed =
+    HasStepped state asked olds news prints says passed
+Does state (Run lmc rule) olds news prints says passed =
+    (passed ≡ true) × HasRun state lmc rule olds news prints
 
 -- where a task is done, standard error stays as it was; but a step says there what it has to
 abbrev pub StaysSilent : {E : Type 0} → Task → E → E → Type 0
@@ -47,13 +48,12 @@ StaysSilent (Next asked) errors errors' = Unit {0}
 StaysSilent task errors errors' = errors' ≡ errors
 
 -- the files with these names were opened, and the task was done with them
-pub record Performs {S : Type 0} (answers : List ℕ → Result S OpenFault → Type 0) (left : S
-    → Option (List ℕ)) (has_failed : S → Bool) (task : Task)
+pub record Performs {S : Type 0} (answers : List ℕ → Result S OpenFault → Type 0) (state : S → SourceState) (task : Task)
     (names : List (Bor (List ℕ))) (prints says : List ℕ → Type 0) (passed : Bool) : Type 0 where
   pub olds : List S
   pub news : List S
   pub opened : AreOpened answers names olds
-  pub does : Does left has_failed task olds news prints says passed
+  pub does : Does state task olds news prints says passed
 
 -- the words ask for a task, and name its inputs
 pub record AsksWhole (matches : ArgMatches) : Type 0 where
@@ -63,11 +63,10 @@ pub record AsksWhole (matches : ArgMatches) : Type 0 where
   pub named : names_asked matches task ≡ Some (map (λ name. name.now) names)
 
 -- so they do, and it was done with these
-pub record PerformsWords {S : Type 0} (answers : List ℕ → Result S OpenFault → Type 0) (left : S
-    → Option (List ℕ)) (has_failed : S → Bool)
+pub record PerformsWords {S : Type 0} (answers : List ℕ → Result S OpenFault → Type 0) (state : S → SourceState)
     (matches : ArgMatches) (prints says : List ℕ → Type 0) (passed : Bool) : Type 0 where
   pub asked : AsksWhole matches
-  pub performed : Performs answers left has_failed asked.task asked.names prints says passed
+  pub performed : Performs answers state asked.task asked.names prints says passed
 
 -- what the program ends with where all is done, and where what was audited does not pass
 abbrev pub status_after : Bool → ExitStatus
@@ -82,34 +81,30 @@ IsDone status = (passed : Bool) × (status ≡ status_after passed)
 
 -- why a task over open inputs ends early; where memory was refused as a run went on, this holds of what it would have
 -- printed
-abbrev pub IsFaultOver : {S : Type 0} → (S → Option (List ℕ)) → (S → Bool) → (S → ℕ) → Task → List S → List S
+abbrev pub IsFaultOver : {S : Type 0} → (S → SourceState) → Task → List S → List S
     → (List ℕ → Type 0) → Bool → Fault → Type 0
-IsFaultOver left has_failed interruptions (Answer request) olds news prints output_failed fault =
-    IsFaultOf left has_failed interruptions request olds news output_failed fault
-IsFaultOver left has_failed interruptions (Audit floor) olds news prints output_failed fault =
-    IsAuditFault left has_failed interruptions floor olds news output_failed fault
-IsFaultOver left has_failed interruptions (Next asked) olds news prints output_failed fault =
-    IsStepFault left has_failed interruptions asked olds news output_failed fault
-IsFaultOver left has_failed interruptions (Run lmc rule) olds news prints output_failed fault =
-    IsRunFault left has_failed interruptions lmc rule olds news prints output_failed fault
+IsFaultOver state (Answer request) olds news prints output_failed fault =
+    IsFaultOf state request olds news output_failed fault
+IsFaultOver state (Audit floor) olds news prints output_failed fault =
+    IsAuditFault state floor olds news output_failed fault
+IsFaultOver state (Next asked) olds news prints output_failed fault =
+    IsStepFault state asked olds news output_failed fault
+IsFaultOver state (Run lmc rule) olds news prints output_failed fault =
+    IsRunFault state lmc rule olds news prints output_failed fault
 
 -- the files were opened, and the task over them ends with the fault
-pub record FailsOverFiles {S : Type 0} (answers : List ℕ → Result S OpenFault → Type 0) (left : S
-    → Option (List ℕ)) (has_failed : S → Bool)
-    (interruptions : S → ℕ) (task : Task) (names : List (Bor (List ℕ))) (prints : List ℕ
+pub record FailsOverFiles {S : Type 0} (answers : List ℕ → Result S OpenFault → Type 0) (state : S → SourceState) (task : Task) (names : List (Bor (List ℕ))) (prints : List ℕ
     → Type 0) (output_failed : Bool) (fault : Fault) : Type 0 where
   pub olds : List S
   pub news : List S
   pub opened : AreOpened answers names olds
-  pub fails : IsFaultOver left has_failed interruptions task olds news prints output_failed fault
+  pub fails : IsFaultOver state task olds news prints output_failed fault
 
 -- why a task is not done: its files are not open, or it ends early
-abbrev pub IsTaskFault : {S : Type 0} → (List ℕ → Result S OpenFault → Type 0) → (S → Option (List ℕ)) → (S → Bool)
-    → (S → ℕ)
-    → Task → List (Bor (List ℕ)) → (List ℕ → Type 0) → Bool → Fault → Type 0
-IsTaskFault answers left has_failed interruptions task names prints output_failed fault =
+abbrev pub IsTaskFault : {S : Type 0} → (List ℕ → Result S OpenFault → Type 0) → (S → SourceState) → Task → List (Bor (List ℕ)) → (List ℕ → Type 0) → Bool → Fault → Type 0
+IsTaskFault answers state task names prints output_failed fault =
     IsOpenFault answers names fault
-    ⊎ FailsOverFiles answers left has_failed interruptions task names prints output_failed fault
+    ⊎ FailsOverFiles answers state task names prints output_failed fault
 
 -- a run prints as it goes on, and may lack memory then; each other task prints once it is done
 abbrev pub PrintsAsItGoes : Task → Type 0
@@ -150,12 +145,10 @@ pub record SaysWhy (task : Task) (names : List (Bor (List ℕ))) (IsFault : Faul
   pub said : IsSaid errors errors' errors_failed (fault_line names fault)
 
 -- so it is with the task that words ask for, over the files that they name
-pub record SaysWhyOfWords {S : Type 0} (answers : List ℕ → Result S OpenFault → Type 0) (left : S
-    → Option (List ℕ)) (has_failed : S → Bool)
-    (interruptions : S → ℕ) (matches : ArgMatches) (prints : List ℕ
+pub record SaysWhyOfWords {S : Type 0} (answers : List ℕ → Result S OpenFault → Type 0) (state : S → SourceState) (matches : ArgMatches) (prints : List ℕ
     → Type 0) (output_failed : Bool) (stays : Type 0) (status : ExitStatus)
     (errors errors' : Option (List ℕ)) (errors_failed : Bool) : Type 0 where
   pub asked : AsksWhole matches
   pub says : SaysWhy asked.task asked.names
-      (IsTaskFault answers left has_failed interruptions asked.task asked.names prints output_failed) stays status
+      (IsTaskFault answers state asked.task asked.names prints output_failed) stays status
       errors errors' errors_failed

@@ -32,14 +32,14 @@ where
     E: Write,
     requires { HasEnoughNames task (length names.now) }
     ensures done { (passed : Bool) → result ≡ status_after passed
-        → Performs (R.answers rt.now) R.Opened.left R.Opened.has_failed task names.now
+        → Performs (R.answers rt.now) R.Opened.state task names.now
         (Appends (⟦<ToWrite<O> as Sink>⟧.written output.old) (⟦<ToWrite<O> as Sink>⟧.written output.new))
         (IsSaid (⟦<ToWrite<E> as Sink>⟧.written errors.old) (⟦<ToWrite<E> as Sink>⟧.written errors.new)
         (⟦<ToWrite<E> as Sink>⟧.has_failed errors.new)) passed }
     ensures flushed { IsDone result → IsTrue (⟦<ToWrite<O> as Sink>⟧.is_flushed output.new) }
     ensures silent { IsDone result → StaysSilent task errors.old errors.new }
     ensures says_why { IsDone result ⊎ SaysWhy task names.now
-        (IsTaskFault (R.answers rt.now) R.Opened.left R.Opened.has_failed R.Opened.interruptions task names.now
+        (IsTaskFault (R.answers rt.now) R.Opened.state task names.now
         (PrintsSome ⟦<ToWrite<O> as Sink>⟧.written ⟦<ToWrite<O> as Sink>⟧.has_failed output.old output.new)
         (⟦<ToWrite<O> as Sink>⟧.has_failed output.new))
         (output.new ≡ output.old) result (⟦<ToWrite<E> as Sink>⟧.written errors.old)
@@ -75,13 +75,13 @@ where
     O: Write,
     E: Write,
     requires { HasEnoughNames task (length names.now) }
-    ensures done { IfOk result (λ passed. Performs (R.answers rt.now) R.Opened.left R.Opened.has_failed task names.now
+    ensures done { IfOk result (λ passed. Performs (R.answers rt.now) R.Opened.state task names.now
         (Appends (⟦<ToWrite<O> as Sink>⟧.written output.old) (⟦<ToWrite<O> as Sink>⟧.written output.new))
         (IsSaid (⟦<ToWrite<E> as Sink>⟧.written errors.old) (⟦<ToWrite<E> as Sink>⟧.written errors.new)
         (⟦<ToWrite<E> as Sink>⟧.has_failed errors.new)) passed) }
     ensures flushed { OnOk result (IsTrue (⟦<ToWrite<O> as Sink>⟧.is_flushed output.new)) }
     ensures refused { IfErr result
-        (IsTaskFault (R.answers rt.now) R.Opened.left R.Opened.has_failed R.Opened.interruptions
+        (IsTaskFault (R.answers rt.now) R.Opened.state
         task names.now
         (PrintsSome ⟦<ToWrite<O> as Sink>⟧.written ⟦<ToWrite<O> as Sink>⟧.has_failed output.old output.new)
         (⟦<ToWrite<O> as Sink>⟧.has_failed output.new)) }

@@ -1,20 +1,19 @@
 -- Each rule that can be asked for is one of routing, and hangs on the wires and on what leaf switches there are alone.
 use Rattle.std.proofs.Common.{ap}
-use Rattle.std.specs.Prelude.{None, Some}
 use Rattle.fact_store.specs.View.{cells_of}
 use Rattle.subnet_view.specs.Graph.{graph_of}
 use Rattle.updown_routes.specs.Updown.{updown}
 use Rattle.subnet_view.proofs.Graphs.{graph_law}
 use Rattle.updown_routes.proofs.Routed.{updown_is_routing}
 use Rattle.spread_routes.specs.LeafSwitches.{leaf_switches_of}
-use Rattle.lft_blocks.specs.Rules.{RulesAreRoutings, RulesStay}
+use Rattle.lft_blocks.specs.Rules.{RulesAreRoutings, RulesStay, spread_from, up_and_down}
 use Rattle.spread_routes.specs.Spread.{spread_by}
 use Rattle.spread_routes.proofs.Whole.{spread_by_is_routing}
 
 pub rules_are_routings : RulesAreRoutings
-rules_are_routings None facts = updown_is_routing (graph_of (cells_of facts)) (graph_law facts)
-rules_are_routings (Some roots) facts = spread_by_is_routing (graph_of (cells_of facts)) (leaf_switches_of (cells_of facts)) roots (graph_law facts)
+rules_are_routings up_and_down facts = updown_is_routing (graph_of (cells_of facts)) (graph_law facts)
+rules_are_routings (spread_from roots) facts = spread_by_is_routing (graph_of (cells_of facts)) (leaf_switches_of (cells_of facts)) roots (graph_law facts)
 
 pub rules_stay : RulesStay
-rules_stay None x y graph leaves = ap updown graph
-rules_stay (Some roots) x y graph leaves = λ i. spread_by (graph i) (leaves i) roots
+rules_stay up_and_down x y graph leaves = ap updown graph
+rules_stay (spread_from roots) x y graph leaves = λ i. spread_by (graph i) (leaves i) roots

@@ -1,5 +1,5 @@
 -- The rules that can be asked for, on the wires of a view.
-use Rattle.std.specs.Prelude.{◌≡◌, ℕ, List, Option, None, Some}
+use Rattle.std.specs.Prelude.{◌≡◌, ℕ, List}
 use Rattle.fact_store.specs.View.{Facts, cells_of}
 use Rattle.subnet_view.specs.Reading.{Cells}
 use Rattle.subnet_view.specs.Graph.{graph_of}
@@ -10,21 +10,19 @@ use Rattle.lft_blocks.specs.declared.rule.Rule.TheVariants.{UpDown, Spread}
 use Rattle.spread_routes.specs.LeafSwitches.{leaf_switches_of}
 use Rattle.spread_routes.specs.Spread.{spread_by}
 
--- a rule by its roots: None is up and down, and has none; Some is to spread, by these roots, of which there may be none
-abbrev pub RuleValue : Type 0
-RuleValue = Option (List ℕ)
-
-abbrev pub up_and_down : RuleValue
-up_and_down = None
+-- a rule of routing: up and down; or to spread, from these roots, of which there may be none
+pub data RuleValue : Type 0 where
+  up_and_down : RuleValue
+  spread_from : List ℕ → RuleValue
 
 abbrev pub value_of : Rule → RuleValue
-value_of UpDown = None
-value_of (Spread roots) = Some roots.items
+value_of UpDown = up_and_down
+value_of (Spread roots) = spread_from roots.items
 
 -- what such a rule makes of the wires of a view
 abbrev pub routing_by : RuleValue → Cells → Routing
-routing_by None cells = updown (graph_of cells)
-routing_by (Some roots) cells = spread_by (graph_of cells) (leaf_switches_of cells) roots
+routing_by up_and_down cells = updown (graph_of cells)
+routing_by (spread_from roots) cells = spread_by (graph_of cells) (leaf_switches_of cells) roots
 
 -- what a rule does
 abbrev pub rule_of : Rule → Cells → Routing

@@ -58,7 +58,7 @@ fn attachment_of(wires: &Wires, port: EndPort) -> Option<(Guid, PortNum)>
     ensures { result ≡ attachment_of (cells_of wires.now) port }
 {
     if is_usable(wires.store(), port.node) {
-        Some((port.node, PortNum::new(0)))
+        Some((port.node, PortNum::MANAGEMENT))
     } else {
         wires.attached(port.node, port.port)
     }

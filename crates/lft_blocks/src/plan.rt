@@ -9,7 +9,7 @@ ghost use Rattle.subnet_view.specs.Graph.{guids_of};
 ghost use Rattle.subnet_view.specs.Reading.{switches};
 ghost use Rattle.updown_routes.specs.Updown.{updown};
 ghost use Rattle.lft_blocks.specs.Entries.{block_count};
-ghost use Rattle.lft_blocks.specs.Rules.{routing_by, rule_of};
+ghost use Rattle.lft_blocks.specs.Rules.{routing_by, rule_of, spread_from, up_and_down};
 ghost use Rattle.lft_blocks.specs.Arrival.{EveryPacketArrivesBy};
 ghost use Rattle.lft_blocks.specs.Attachments.{AreWithin};
 ghost use Rattle.lft_blocks.specs.TableRows.{attachment_by_index};
@@ -142,7 +142,7 @@ fn by_spread(
 ) -> Result<(Vec<Guid>, Vec<Table>), Refused>
     ensures switches { IfOk result (λ found. found.0.items ≡ switches (cells_of wires.now)) }
     ensures tables { IfOk result (λ found. found.1.items
-        ≡ tables_by (routing_by (Some roots.now) (cells_of wires.now)) (cells_of wires.now) lids.now) }
+        ≡ tables_by (routing_by (spread_from roots.now) (cells_of wires.now)) (cells_of wires.now) lids.now) }
 {
     let graph = SwitchGraph::of(alloc, wires)?;
     let count = block_count(lids.top());
@@ -159,7 +159,7 @@ fn by_updown(
 ) -> Result<(Vec<Guid>, Vec<Table>), Refused>
     ensures switches { IfOk result (λ found. found.0.items ≡ switches (cells_of wires.now)) }
     ensures tables { IfOk result (λ found. found.1.items
-        ≡ tables_by (routing_by None (cells_of wires.now)) (cells_of wires.now) lids.now) }
+        ≡ tables_by (routing_by up_and_down (cells_of wires.now)) (cells_of wires.now) lids.now) }
 {
     let graph = Graph::of(alloc, wires)?;
     let count = block_count(lids.top());

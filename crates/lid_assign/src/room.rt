@@ -9,10 +9,8 @@ use crate::fault::NoRoom;
 use crate::without_memory::runs_out;
 use attr_codec::Lmc;
 use fact_store::{Sighting, Store};
+use smp_bytes::Lid;
 use subnet_view::{cap, count_end_ports, usable_guid};
-
-/// The first number that is no unicast LID.
-const END: u16 = 0xC000;
 
 /// Whether an end port of the view finds no LID, and how many end ports there are then. Takes no memory. Walks
 /// the cells twice where there are no fewer end ports than the room, or where their ranges have room one beside
@@ -58,7 +56,7 @@ pub(crate) fn room_and_end_ports(store: &Store) -> NoRoom
 pub(crate) fn room(store: &Store) -> u16
     ensures { result ≡ room (cells_of store.now) }
 {
-    let mut least = END;
+    let mut least = Lid::UNICAST_END;
     for sighting in store.cells() {
         if let Some(cap) = usable_cap(store, &sighting) {
             least = least.min(cap);

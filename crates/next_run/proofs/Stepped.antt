@@ -1,6 +1,7 @@
 -- A step over inputs that are read one after the other: what is written, and why it ends early.
 use Rattle.std.proofs.Common.{◌≡◌, ◌∙◌, ◌+◌, ap, ℕ, Bool, List, ◌++◌, Option, None, Some, Result, Ok, Err, inl, inr, refl}
 use Rattle.std.specs.Prelude.{IfErr, IfOk}
+use Rattle.byte_io.specs.Source.{SourceState}
 use Rattle.fact_store.specs.View.{Facts, cells_of}
 use Rattle.subnet_view.specs.Reading.{is_usable}
 use Rattle.lft_blocks.specs.Rules.{RuleValue}
@@ -20,8 +21,8 @@ pub parted : {S : Type 0} (inputs roots others tables files : List S) → inputs
     → inputs ≡ roots ++ (tables ++ files)
 parted inputs roots others tables files e f = e ∙ ap (λ rest. roots ++ rest) f
 
-module _ {S : Type 0} (left : S → Option (List ℕ)) (has_failed : S → Bool) (asked : StepAsked) (olds roots roots' tables tables' files files' : List S)
-    (were : olds ≡ roots ++ (tables ++ files)) (rule : RuleValue) (rule_read : IsRuleRead left has_failed asked.rule roots roots' rule) where
+module _ {S : Type 0} (state : S → SourceState) (asked : StepAsked) (olds roots roots' tables tables' files files' : List S)
+    (were : olds ≡ roots ++ (tables ++ files)) (rule : RuleValue) (rule_read : IsRuleRead state asked.rule roots roots' rule) where
   abbrev inputs_were : Inputs olds
   inputs_were = record { roots = roots; tables = tables; files = files; are = were }
 
@@ -29,10 +30,10 @@ module _ {S : Type 0} (left : S → Option (List ℕ)) (has_failed : S → Bool)
   inputs_are = record { roots = roots'; tables = tables'; files = files'; are = refl }
 
   -- the tables are refused
-  pub tables_refused : (interruptions : S → ℕ) (sink_failed : Bool) (fault : Fault)
-      → AreNoTables left has_failed interruptions (texts_for asked.rule) tables tables' fault → files' ≡ files
-      → IsStepFault left has_failed interruptions asked olds (roots' ++ (tables' ++ files')) sink_failed fault
-  tables_refused interruptions sink_failed fault why untouched = inr (inl (record {
+  pub tables_refused : (sink_failed : Bool) (fault : Fault)
+      → AreNoTables state (texts_for asked.rule) tables tables' fault → files' ≡ files
+      → IsStepFault state asked olds (roots' ++ (tables' ++ files')) sink_failed fault
+  tables_refused sink_failed fault why untouched = inr (inl (record {
     were = inputs_were;
     are = inputs_are;
     rule = rule;
@@ -41,12 +42,12 @@ module _ {S : Type 0} (left : S → Option (List ℕ)) (has_failed : S → Bool)
     untouched = untouched;
   }))
 
-  module _ (held : HeldPlan) (tables_read : AreTables left has_failed tables tables' held) where
+  module _ (held : HeldPlan) (tables_read : AreTables state tables tables' held) where
     -- a file is refused
-    pub files_refused : (interruptions : S → ℕ) (sink_failed : Bool) (fault : Fault)
-        → IsRefusedFile left has_failed interruptions (texts_for asked.rule + 1) files files' fault
-        → IsStepFault left has_failed interruptions asked olds (roots' ++ (tables' ++ files')) sink_failed fault
-    files_refused interruptions sink_failed fault why = inr (inr (inl (record {
+    pub files_refused : (sink_failed : Bool) (fault : Fault)
+        → IsRefusedFile state (texts_for asked.rule + 1) files files' fault
+        → IsStepFault state asked olds (roots' ++ (tables' ++ files')) sink_failed fault
+    files_refused sink_failed fault why = inr (inr (inl (record {
       were = inputs_were;
       are = inputs_are;
       rule = rule;
@@ -56,8 +57,8 @@ module _ {S : Type 0} (left : S → Option (List ℕ)) (has_failed : S → Bool)
       why = why;
     })))
 
-    module _ (facts : Facts) (files_read : HasRead left has_failed asked.floor files files' facts) where
-      abbrev all_read : AreRead left has_failed asked olds (roots' ++ (tables' ++ files')) rule held facts
+    module _ (facts : Facts) (files_read : HasRead state asked.floor files files' facts) where
+      abbrev all_read : AreRead state asked olds (roots' ++ (tables' ++ files')) rule held facts
       all_read = record {
         were = inputs_were;
         are = inputs_are;
@@ -67,10 +68,10 @@ module _ {S : Type 0} (left : S → Option (List ℕ)) (has_failed : S → Bool)
       }
 
       -- no plan goes by the roots
-      pub roots_refused : (interruptions : S → ℕ) (sink_failed : Bool) (why : TextFault)
+      pub roots_refused : (sink_failed : Bool) (why : TextFault)
           → rule_fault (is_usable (cells_of facts)) asked.rule rule ≡ Some why
-          → IsStepFault left has_failed interruptions asked olds (roots' ++ (tables' ++ files')) sink_failed (Text 0 why)
-      roots_refused interruptions sink_failed why e = inr (inr (inr (inl (record {
+          → IsStepFault state asked olds (roots' ++ (tables' ++ files')) sink_failed (Text 0 why)
+      roots_refused sink_failed why e = inr (inr (inr (inl (record {
         rule = rule;
         held = held;
         facts = facts;
@@ -82,14 +83,14 @@ module _ {S : Type 0} (left : S → Option (List ℕ)) (has_failed : S → Bool)
 
       module _ (sound : rule_fault (is_usable (cells_of facts)) asked.rule rule ≡ None) where
         pub stepped : (result : Result Bool Fault) (prints says : List ℕ → Type 0) → IfOk result (IsStep asked.lmc rule facts held prints says)
-            → IfOk result (HasStepped left has_failed asked olds (roots' ++ (tables' ++ files')) prints says)
+            → IfOk result (HasStepped state asked olds (roots' ++ (tables' ++ files')) prints says)
         stepped (Ok passed) prints says step =
             record { rule = rule; held = held; facts = facts; read = all_read; sound = sound; step = step }
         stepped (Err fault) prints says step = tt
 
-        pub not_stepped : (interruptions : S → ℕ) (sink_failed : Bool) (result : Result Bool Fault)
+        pub not_stepped : (sink_failed : Bool) (result : Result Bool Fault)
             → IfErr result (StopsStep (texts_for asked.rule) asked.lmc rule facts held sink_failed)
-            → IfErr result (IsStepFault left has_failed interruptions asked olds (roots' ++ (tables' ++ files')) sink_failed)
-        not_stepped interruptions sink_failed (Ok passed) stops = tt
-        not_stepped interruptions sink_failed (Err fault) stops =
+            → IfErr result (IsStepFault state asked olds (roots' ++ (tables' ++ files')) sink_failed)
+        not_stepped sink_failed (Ok passed) stops = tt
+        not_stepped sink_failed (Err fault) stops =
             inr (inr (inr (inr (record { rule = rule; held = held; facts = facts; read = all_read; sound = sound; stops = stops }))))

@@ -2,6 +2,7 @@
 -- write next, or says why it can't.
 use Rattle.std.specs.Prelude.{◌≡◌, ◌⊎◌, ◌+◌, ◌↔◌, ℕ, Bool, List, [], ◌∷◌, ◌++◌, Option, None, Some, IsTrue}
 use Rattle.std.specs.Io.KnownBytes.{Appends}
+use Rattle.byte_io.specs.Source.{SourceState}
 use Rattle.fact_store.specs.View.{Facts, cells_of}
 use Rattle.subnet_view.specs.Reading.{Cells, is_usable}
 use Rattle.lid_assign.specs.LidFault.{no_room}
@@ -93,79 +94,73 @@ pub record Inputs {S : Type 0} (inputs : List S) : Type 0 where
   pub are : inputs ≡ roots ++ (tables ++ files)
 
 -- they were read, and say this
-pub record AreRead {S : Type 0} (left : S → Option (List ℕ)) (has_failed : S
-    → Bool) (asked : StepAsked) (olds news : List S)
+pub record AreRead {S : Type 0} (state : S → SourceState) (asked : StepAsked) (olds news : List S)
     (rule : RuleValue) (held : HeldPlan) (facts : Facts) : Type 0 where
   pub were : Inputs olds
   pub are : Inputs news
-  pub rule_read : IsRuleRead left has_failed asked.rule were.roots are.roots rule
-  pub tables_read : AreTables left has_failed were.tables are.tables held
-  pub files_read : HasRead left has_failed asked.floor were.files are.files facts
+  pub rule_read : IsRuleRead state asked.rule were.roots are.roots rule
+  pub tables_read : AreTables state were.tables are.tables held
+  pub files_read : HasRead state asked.floor were.files are.files facts
 
 -- they were read, each root that was asked for is a usable switch, and the step was written
-pub record HasStepped {S : Type 0} (left : S → Option (List ℕ)) (has_failed : S
-    → Bool) (asked : StepAsked) (olds news : List S)
+pub record HasStepped {S : Type 0} (state : S → SourceState) (asked : StepAsked) (olds news : List S)
     (prints says : List ℕ → Type 0) (passed : Bool) : Type 0 where
   pub rule : RuleValue
   pub held : HeldPlan
   pub facts : Facts
-  pub read : AreRead left has_failed asked olds news rule held facts
+  pub read : AreRead state asked olds news rule held facts
   pub sound : rule_fault (is_usable (cells_of facts)) asked.rule rule ≡ None
   pub step : IsStep asked.lmc rule facts held prints says passed
 
 -- faults ----------------------------------------------------------------------------------------
 
 -- the tables are refused behind the text that the rule takes, and no file was touched
-pub record RefusesTables {S : Type 0} (left : S → Option (List ℕ)) (has_failed : S → Bool) (interruptions : S
-    → ℕ) (asked : StepAsked)
+pub record RefusesTables {S : Type 0} (state : S → SourceState) (asked : StepAsked)
     (olds news : List S) (fault : Fault) : Type 0 where
   pub were : Inputs olds
   pub are : Inputs news
   pub rule : RuleValue
-  pub rule_read : IsRuleRead left has_failed asked.rule were.roots are.roots rule
-  pub why : AreNoTables left has_failed interruptions (texts_for asked.rule) were.tables are.tables fault
+  pub rule_read : IsRuleRead state asked.rule were.roots are.roots rule
+  pub why : AreNoTables state (texts_for asked.rule) were.tables are.tables fault
   pub untouched : are.files ≡ were.files
 
 -- both were read, and a file is refused
-pub record RefusesFiles {S : Type 0} (left : S → Option (List ℕ)) (has_failed : S → Bool) (interruptions : S
-    → ℕ) (asked : StepAsked)
+pub record RefusesFiles {S : Type 0} (state : S → SourceState) (asked : StepAsked)
     (olds news : List S) (fault : Fault) : Type 0 where
   pub were : Inputs olds
   pub are : Inputs news
   pub rule : RuleValue
-  pub rule_read : IsRuleRead left has_failed asked.rule were.roots are.roots rule
+  pub rule_read : IsRuleRead state asked.rule were.roots are.roots rule
   pub held : HeldPlan
-  pub tables_read : AreTables left has_failed were.tables are.tables held
-  pub why : IsRefusedFile left has_failed interruptions (texts_for asked.rule + 1) were.files are.files fault
+  pub tables_read : AreTables state were.tables are.tables held
+  pub why : IsRefusedFile state (texts_for asked.rule + 1) were.files are.files fault
 
 -- all were read, and no plan goes by the roots
-pub record RefusesRoots {S : Type 0} (left : S → Option (List ℕ)) (has_failed : S
-    → Bool) (asked : StepAsked) (olds news : List S) (fault : Fault) : Type 0 where
+pub record RefusesRoots {S : Type 0} (state : S → SourceState) (asked : StepAsked) (olds news : List S) (fault : Fault) : Type 0 where
   pub rule : RuleValue
   pub held : HeldPlan
   pub facts : Facts
-  pub read : AreRead left has_failed asked olds news rule held facts
+  pub read : AreRead state asked olds news rule held facts
   pub why : TextFault
   pub is : fault ≡ Text 0 why
   pub refused : rule_fault (is_usable (cells_of facts)) asked.rule rule ≡ Some why
 
 -- all were read, and the step is not written
-pub record FailsToStep {S : Type 0} (left : S → Option (List ℕ)) (has_failed : S
-    → Bool) (asked : StepAsked) (olds news : List S)
+pub record FailsToStep {S : Type 0} (state : S → SourceState) (asked : StepAsked) (olds news : List S)
     (sink_failed : Bool) (fault : Fault) : Type 0 where
   pub rule : RuleValue
   pub held : HeldPlan
   pub facts : Facts
-  pub read : AreRead left has_failed asked olds news rule held facts
+  pub read : AreRead state asked olds news rule held facts
   pub sound : rule_fault (is_usable (cells_of facts)) asked.rule rule ≡ None
   pub stops : StopsStep (texts_for asked.rule) asked.lmc rule facts held sink_failed fault
 
 -- why a step over open inputs ends early
-abbrev pub IsStepFault : {S : Type 0} → (S → Option (List ℕ)) → (S → Bool) → (S → ℕ) → StepAsked → List S → List S
+abbrev pub IsStepFault : {S : Type 0} → (S → SourceState) → StepAsked → List S → List S
     → Bool → Fault → Type 0
-IsStepFault left has_failed interruptions asked olds news sink_failed fault =
-    RefusesRule left has_failed interruptions asked.rule olds news fault
-    ⊎ (RefusesTables left has_failed interruptions asked olds news fault
-    ⊎ (RefusesFiles left has_failed interruptions asked olds news fault
-    ⊎ (RefusesRoots left has_failed asked olds news fault
-    ⊎ FailsToStep left has_failed asked olds news sink_failed fault)))
+IsStepFault state asked olds news sink_failed fault =
+    RefusesRule state asked.rule olds news fault
+    ⊎ (RefusesTables state asked olds news fault
+    ⊎ (RefusesFiles state asked olds news fault
+    ⊎ (RefusesRoots state asked olds news fault
+    ⊎ FailsToStep state asked olds news sink_failed fault)))

@@ -43,12 +43,12 @@ pub fn run_next<S: Source, W: Sink, E: Sink>(
     told: &mut E,
 ) -> Result<bool, Fault>
     requires { texts_for asked.rule + 1 ≤ length inputs.old }
-    ensures done { IfOk result (HasStepped S.left S.has_failed asked inputs.old inputs.new
+    ensures done { IfOk result (HasStepped S.state asked inputs.old inputs.new
         (Appends (W.written sink.old) (W.written sink.new))
         (IsSaid (E.written told.old) (E.written told.new) (E.has_failed told.new))) }
     ensures flushed { OnOk result (IsTrue (W.is_flushed sink.new)) }
     ensures sink_works { OnOk result (W.has_failed sink.new ≡ false) }
-    ensures refused { IfErr result (IsStepFault S.left S.has_failed S.interruptions asked
+    ensures refused { IfErr result (IsStepFault S.state asked
         inputs.old inputs.new (W.has_failed sink.new)) }
     ensures nothing_written { OnErr result ((result ≡ Err Fault.Write) ⊎ (sink.new ≡ sink.old)) }
     ensures nothing_told { OnErr result (told.new ≡ told.old) }

@@ -1,7 +1,7 @@
 -- TextLine after line: what the lines so far leave, with those to come, is what the text says.
 use Rattle.std.proofs.Common.{◌≡◌, ℕ, ◌+◌, ◌<◌, ◌≤◌, List, [], ◌∷◌, length, None, Some, Ok, Err, sym, ap, ◌∙◌, arith}
 use Rattle.text_words.specs.Text.{lines}
-use Rattle.plan_file.specs.declared.fault.PlanLineFault.{PlanLineFault}
+use Rattle.plan_file.specs.PlanTextFault.{PlanLineFault}
 use Rattle.plan_file.specs.declared.item.Item.{Item}
 use Rattle.plan_file.specs.declared.last_lines.LastLines.{LastLines}
 use Rattle.plan_file.specs.Held.{HeldPlan, nothing_held}

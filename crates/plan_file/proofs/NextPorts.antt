@@ -17,7 +17,7 @@ use Rattle.spread_labels.specs.declared.label.Mark.{Mark}
 use Rattle.spread_labels.specs.Labels.{candidates_by, marks}
 use Rattle.spread_routes.specs.LeafSwitches.{leaf_switches_of}
 use Rattle.spread_routes.specs.Rule.{Spreading, by_positions, position, taken}
-use Rattle.lft_blocks.specs.Rules.{RuleValue, routing_by}
+use Rattle.lft_blocks.specs.Rules.{RuleValue, routing_by, spread_from, up_and_down}
 use Rattle.spread_routes.specs.Spread.{grading_of, keys_by, number_there, spread_by}
 use Rattle.lft_blocks.proofs.RulesRoute.{rules_are_routings}
 
@@ -42,14 +42,14 @@ spread_has_cost graph leaf_switches roots lid s t port h =
 
 pub next_has_cost : (rule : RuleValue) (facts : Facts) (lid s t port : ℕ) → IsSwitch (graph_of (cells_of facts)) s → IsSwitch (graph_of (cells_of facts)) t
     → (routing_by rule (cells_of facts)).next lid s t ≡ Some port → HasCost (routing_by rule (cells_of facts)) s t
-next_has_cost None facts lid s t port is_s is_t h =
+next_has_cost up_and_down facts lid s t port is_s is_t h =
     let graph = graph_of (cells_of facts) in
     let good = graph_law facts in
-    elim (in_one_component graph s t) as (λ b. in_one_component graph s t ≡ b → HasCost (routing_by None (cells_of facts)) s t) [
+    elim (in_one_component graph s t) as (λ b. in_one_component graph s t ≡ b → HasCost (routing_by up_and_down (cells_of facts)) s t) [
       | true ↦ λ j. cost_in_component graph good s t is_s is_t j
       | false ↦ λ j. absurd (none-some port (sym (no_cost_between graph good s t is_s j).1 ∙ h))
     ] refl
-next_has_cost (Some roots) facts lid s t port is_s is_t h = spread_has_cost (graph_of (cells_of facts)) (leaf_switches_of (cells_of facts)) roots lid s t port h
+next_has_cost (spread_from roots) facts lid s t port is_s is_t h = spread_has_cost (graph_of (cells_of facts)) (leaf_switches_of (cells_of facts)) roots lid s t port h
 
 first_edge : (graph : List SwitchEdges) (rule : Routing) (lid s t port : ℕ) (es : List Edge) → (s == t) ≡ false → rule.next lid s t ≡ Some port
     → FollowsRule rule lid t s es → Passes graph s es → (e : Edge) × Contains (edges_at graph s) e × (e.port ≡ port)

@@ -11,7 +11,7 @@ use Rattle.hex.specs.Hex.{decode_pairs}
 use Rattle.hex.proofs.HexLemmas.{decode_pairs-ok}
 use Rattle.text_words.specs.Text.{lines, words}
 use Rattle.text_words.specs.Number.{number_of}
-use Rattle.plan_file.specs.declared.fault.PlanLineFault.{PlanLineFault}
+use Rattle.plan_file.specs.PlanTextFault.{PlanLineFault}
 use Rattle.plan_file.specs.declared.held.HeldBlock.{HeldBlock}
 use Rattle.plan_file.specs.declared.held.HeldLid.{HeldLid}
 use Rattle.plan_file.specs.declared.held.HeldSwitch.{HeldSwitch}

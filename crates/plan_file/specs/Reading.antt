@@ -3,7 +3,7 @@ use Rattle.std.specs.Prelude.{ℕ, ◌+◌, ◌-◌, ◌^◌, ◌==◌, ◌||◌
 use Rattle.text_words.specs.Text.{lines}
 use Rattle.plan_file.specs.declared.fault.PlanTextError.{PlanTextError}
 use Rattle.plan_file.specs.declared.fault.PlanTextError.TheVariants as wrong
-use Rattle.plan_file.specs.declared.fault.PlanLineFault.{PlanLineFault}
+use Rattle.plan_file.specs.PlanTextFault.{PlanLineFault}
 use Rattle.plan_file.specs.declared.line.TextLine.{TextLine}
 use Rattle.plan_file.specs.declared.line.TextLine.TheVariants as line
 use Rattle.plan_file.specs.declared.item.Item.{Item}

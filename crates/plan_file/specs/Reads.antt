@@ -1,12 +1,12 @@
 -- What reading the lines of a text answers.
 use Rattle.std.specs.Prelude.{◌≡◌, List, ℕ, None, Some, Result, Ok, Err}
-use Rattle.plan_file.specs.declared.fault.PlanTextFault.{PlanTextFault}
-use Rattle.plan_file.specs.declared.fault.PlanTextFault.TheVariants.{TextLine, Memory}
+use Rattle.plan_file.specs.PlanTextFault.{PlanTextFault}
+use Rattle.text_words.specs.declared.fault.LinesFault.TheVariants.{Line, Memory}
 use Rattle.plan_file.specs.Held.{HeldPlan}
 use Rattle.plan_file.specs.Reading.{first_fault, held_of}
 
 -- exactly what the text says or its first fault, unless memory was refused
 abbrev pub IsReadAs : List ℕ → Result HeldPlan PlanTextFault → Type 0
 IsReadAs text (Ok held) = (first_fault text ≡ None) × (held ≡ held_of text)
-IsReadAs text (Err (TextLine fault)) = first_fault text ≡ Some fault
+IsReadAs text (Err (Line fault)) = first_fault text ≡ Some fault
 IsReadAs text (Err Memory) = Unit {0}

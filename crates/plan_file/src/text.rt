@@ -2,13 +2,13 @@ ghost use Rattle.std.specs.Prelude.{◌≡◌, IfOk, option_map};
 ghost use Rattle.smp_bytes.specs.Judges.{JudgesButFor};
 ghost use Rattle.plan_file.specs.Reading.{first_fault, held_of};
 ghost use Rattle.plan_file.specs.Reads.{IsReadAs};
-ghost use Rattle.plan_file.specs.PlanTextFault.{is_memory};
+ghost use Rattle.text_words.specs.Faults.{is_memory};
 
 use crate::fault::{PlanLineFault, PlanTextFault};
 use crate::held::Held;
 use crate::last_lines::LastLines;
 use std::alloc::Global;
-use text_words::split_line;
+use text_words::{LinesFault, split_line};
 
 /// Reads a plan's text: a line for each end port, by its first LID and with its LMC where that is told, and of each
 /// switch, by rising GUID, its line and those of its blocks, by rising number. Lines end with LF or CR LF, empty ones
@@ -27,14 +27,14 @@ use text_words::split_line;
 ///
 /// The first fault of its lines, and `Memory` where they have none.
 pub fn parse(alloc: Global, text: &[u8]) -> Result<Held, PlanTextFault>
-    ensures judged { JudgesButFor is_memory result (option_map PlanTextFault.TextLine (first_fault text.now)) }
+    ensures judged { JudgesButFor is_memory result (option_map LinesFault.Line (first_fault text.now)) }
     ensures held { IfOk result (λ held. held ≡ held_of text.now) }
 {
     match read_lines(alloc, text) {
         Ok(held) => Ok(held),
-        Err(PlanTextFault::TextLine(fault)) => Err(PlanTextFault::TextLine(fault)),
+        Err(PlanTextFault::Line(fault)) => Err(PlanTextFault::Line(fault)),
         Err(PlanTextFault::Memory) => match first_fault(text) {
-            Some(fault) => Err(PlanTextFault::TextLine(fault)),
+            Some(fault) => Err(PlanTextFault::Line(fault)),
             None => Err(PlanTextFault::Memory),
         },
     }

@@ -54,7 +54,7 @@ fn block_step(sweep: &Sweep, plan: &Plan, guid: Guid, b: usize) -> Option<Step>
     step_at(
         sweep,
         guid,
-        PortNum::new(0),
+        PortNum::MANAGEMENT,
         AttributeId::LINEAR_FORWARDING_TABLE,
         b as u32,
         *block,
@@ -98,7 +98,7 @@ fn top_step(sweep: &Sweep, top: Lid, guid: Guid) -> Option<Step>
     step_at(
         sweep,
         guid,
-        PortNum::new(0),
+        PortNum::MANAGEMENT,
         AttributeId::SWITCH_INFO,
         0,
         top_data(top),

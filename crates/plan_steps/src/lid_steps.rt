@@ -22,7 +22,7 @@ pub(crate) fn own_lid(store: &Store, lids: &LidMap, own_guid: Guid, port: PortNu
             return *lid;
         }
     }
-    Lid::new(0)
+    Lid::NONE
 }
 
 /// Whether an end port has this number, and is known to have this GUID.

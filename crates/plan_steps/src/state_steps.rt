@@ -120,7 +120,7 @@ fn vertex_port(store: &Store, guid: Guid, port: PortNum) -> PortNum
     ensures { result ≡ vertex_port (cells_of store.now) (guid, port) }
 {
     if is_usable(store, guid) {
-        PortNum::new(0)
+        PortNum::MANAGEMENT
     } else {
         port
     }
@@ -134,6 +134,6 @@ fn state_data(lids: &LidMap, master: Lid, state: PortState, guid: Guid, port: Po
     let lmc = lids.lmc_of(&end);
     match lids.lid_of(end) {
         Some(lid) => port_data(lid, lmc, master, state),
-        None => port_data(Lid::new(0), Lmc::ZERO, Lid::new(0), state),
+        None => port_data(Lid::NONE, Lmc::ZERO, Lid::NONE, state),
     }
 }

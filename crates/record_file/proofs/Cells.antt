@@ -18,7 +18,8 @@ use Rattle.fact_store.specs.declared.value.Value.{Value}
 use Rattle.fact_store.specs.declared.value.Value.TheVariants.{Kind, Guid, Peer, Up, Lid, Count}
 use Rattle.attr_codec.specs.NodeTypeNumber.{number_of_type, type_of_number}
 use Rattle.fact_store.specs.Sighting.{IsSighting, is_any_port, is_cabled_port, is_cell_of, is_generation, is_guid, is_key, is_sighting, is_value_of}
-use Rattle.record_file.specs.CellRecord.{candidate, cell_of, filled_up, flag_byte, if_sighting, if_spelled, key_guid, key_of, key_port, kind_byte}
+use Rattle.fact_store.specs.Key.{key_guid, key_kind, key_port}
+use Rattle.record_file.specs.CellRecord.{candidate, cell_of, filled_up, flag_byte, if_sighting, if_spelled, key_of}
 use Rattle.record_file.specs.CellRecord.{record_bytes, value_bytes, value_of}
 
 -- the tests of ranges ---------------------------------------------------------------
@@ -71,7 +72,7 @@ candidate-disputed bytes key generation k other g = let no_value : slice_index b
 
 -- the spelling of a cell and back ------------------------------------------------------
 
-key_again : (key : Key) (guid : ℕ) → guid ≡ key_guid key → key_of (kind_byte key) guid (key_port key) ≡ Some key
+key_again : (key : Key) (guid : ℕ) → guid ≡ key_guid key → key_of (key_kind key) guid (key_port key) ≡ Some key
 key_again (Node g) guid e = ap (λ n. Some (Node n)) e
 key_again (PortGuid g p) guid e = ap (λ n. Some (PortGuid n p)) e
 key_again (Link g p) guid e = ap (λ n. Some (Link n p)) e

@@ -30,6 +30,7 @@ use Rattle.record_file.specs.declared.file_fault.FileFault.TheVariants.{BadCell,
 use Rattle.record_file.specs.declared.format.Format.{Format}
 use Rattle.record_file.specs.declared.format.Format.TheVariants.{Cells}
 use Rattle.std.specs.Io.KnownBytes.{Consumes, IsAtEnd}
+use Rattle.byte_io.specs.Source.{SourceState}
 use Rattle.record_file.specs.Absorbs.{AbsorbsFrom}
 use Rattle.record_file.specs.CellRecord.{cell_of, record_bytes}
 use Rattle.record_file.specs.Head.{IsFormat, floor_of, floored_magic, head_bytes, head_size}
@@ -358,7 +359,7 @@ taken_whole left left' n m bytes rest old new before after h =
     (subst (λ (b : Option (List ℕ)). P left b) after (h.consumed, h.decided)) in
     sym (ends.0 ∙ ap (λ r. h.taken ++ r) ends.1 ∙ append-nil h.taken)
 
-pub absorbing_reads_back : {S : Type 0} (left : S → Option (List ℕ)) (interruptions : S → ℕ) → AbsorbingReadsBack left interruptions
-absorbing_reads_back left interruptions source source' head_floor bytes rest facts new before after is absorbed =
-    let whole = taken_whole (left source) (left source') (interruptions source) (interruptions source') bytes rest no_facts new before after absorbed in
+pub absorbing_reads_back : {S : Type 0} (state : S → SourceState) → AbsorbingReadsBack state
+absorbing_reads_back state source source' head_floor bytes rest facts new before after is absorbed =
+    let whole = taken_whole (state source).left (state source').left (state source).interruptions (state source').interruptions bytes rest no_facts new before after absorbed in
     absorbed.held ∙ merge_empty (facts_in absorbed.taken) ∙ ap facts_in whole ∙ (read_back head_floor bytes facts is).says

@@ -2,6 +2,7 @@
 use Rattle.std.specs.Prelude.{◌≡◌, ◌⊎◌, ℕ, true, nat_eq, ◌+◌, ◌<◌, ◌≤◌, ◌^◌, List, [], ◌∷◌, ◌++◌, Option, None, Result, Ok, Err, IfSome, length}
 use Rattle.std.specs.List.{concat, starts_with}
 use Rattle.std.specs.Io.KnownBytes.{Consumes, IsAtEnd}
+use Rattle.byte_io.specs.Source.{SourceState}
 use Rattle.fact_store.specs.View.{Facts, view}
 use Rattle.fact_store.specs.Merge.{merge}
 use Rattle.record_file.specs.declared.file_fault.FileFault.{FileFault}
@@ -88,14 +89,14 @@ pub record AbsorbsFrom (left left' : Option (List ℕ)) (interruptions interrupt
   pub bounded : IsBounded answer (length taken) interruptions interruptions'
 
 -- what absorbing this source with this answer does to it and to the store
-abbrev pub Absorbs : {S : Type 0} → (S → Option (List ℕ)) → (S → ℕ) → Result (Unit {0}) FileFault → S → S → Facts
+abbrev pub Absorbs : {S : Type 0} → (S → SourceState) → Result (Unit {0}) FileFault → S → S → Facts
     → Facts → Type 0
-Absorbs left interruptions answer source source' old new =
-    AbsorbsFrom (left source) (left source') (interruptions source) (interruptions source') answer old new
+Absorbs state answer source source' old new =
+    AbsorbsFrom (state source).left (state source').left (state source).interruptions (state source').interruptions answer old new
 
 -- where the bytes of a source are known, the answer is what reading all of them answers
-abbrev pub AnswersKnown : {S : Type 0} → (S → Option (List ℕ)) → (S → ℕ) → Result (Unit {0}) FileFault → S → S → Type 0
-AnswersKnown left interruptions answer source source' =
-    IfSome (left source) (λ bytes. IfSome (left source')
+abbrev pub AnswersKnown : {S : Type 0} → (S → SourceState) → Result (Unit {0}) FileFault → S → S → Type 0
+AnswersKnown state answer source source' =
+    IfSome (state source).left (λ bytes. IfSome (state source').left
     (λ rest. AnswersOutcome answer bytes
-    (WasInterruptedTooOften bytes rest (interruptions source) (interruptions source'))))
+    (WasInterruptedTooOften bytes rest (state source).interruptions (state source').interruptions)))

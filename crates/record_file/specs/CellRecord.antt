@@ -7,36 +7,12 @@ use Rattle.attr_codec.specs.NodeTypeNumber.{number_of_type, type_of_number}
 use Rattle.fact_join.specs.declared.cell.Cell.{Cell}
 use Rattle.fact_join.specs.declared.cell.Cell.TheVariants.{Known, Disputed}
 use Rattle.fact_join.specs.Cell.{generation_of}
+use Rattle.fact_store.specs.Key.{key_guid, key_kind, key_port}
 use Rattle.fact_store.specs.Sighting.{is_sighting}
 use Rattle.fact_store.specs.declared.key.Key.{Key}
 use Rattle.fact_store.specs.declared.key.Key.TheVariants.{Node, PortGuid, Link, Port, Claim, Cap}
 use Rattle.fact_store.specs.declared.value.Value.{Value}
 use Rattle.fact_store.specs.declared.value.Value.TheVariants.{Kind, Guid, Peer, Up, Lid, Count}
-
--- 1 to 6
-abbrev pub kind_byte : Key → ℕ
-kind_byte (Node g) = 1
-kind_byte (PortGuid g p) = 2
-kind_byte (Link g p) = 3
-kind_byte (Port g p) = 4
-kind_byte (Claim g p) = 5
-kind_byte (Cap g) = 6
-
-abbrev pub key_guid : Key → ℕ
-key_guid (Node g) = g
-key_guid (PortGuid g p) = g
-key_guid (Link g p) = g
-key_guid (Port g p) = g
-key_guid (Claim g p) = g
-key_guid (Cap g) = g
-
-abbrev pub key_port : Key → ℕ
-key_port (Node g) = 0
-key_port (PortGuid g p) = p
-key_port (Link g p) = p
-key_port (Port g p) = p
-key_port (Claim g p) = p
-key_port (Cap g) = 0
 
 abbrev pub flag_byte : Bool → ℕ
 flag_byte true = 1
@@ -66,7 +42,7 @@ filled_up n bytes = bytes ++ replicate (n - length bytes) 0
 -- the spelling of a cell
 abbrev pub record_bytes : Key × Cell Value → List ℕ
 record_bytes e =
-    kind_byte e.0 ∷ state_byte e.1 ∷ key_port e.0 ∷ 0 ∷
+    key_kind e.0 ∷ state_byte e.1 ∷ key_port e.0 ∷ 0 ∷
     (to_be_bytes w32 (generation_of e.1) ++ to_be_bytes w64 (key_guid e.0) ++ filled_up 16 (cell_value_bytes e.1))
 
 -- the keys of this GUID and port; a node and a table's room have no port
@@ -75,7 +51,7 @@ keys_of guid port = Node guid ∷ PortGuid guid port ∷ Link guid port ∷ Port
 
 -- the one of them with this kind byte
 abbrev pub key_of : ℕ → ℕ → ℕ → Option Key
-key_of kind guid port = find (λ key. kind == kind_byte key) (keys_of guid port)
+key_of kind guid port = find (λ key. kind == key_kind key) (keys_of guid port)
 
 -- the value of the key's kind in these bytes
 abbrev pub value_of : Key → List ℕ → Option Value

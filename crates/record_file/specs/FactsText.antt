@@ -6,18 +6,10 @@ use Rattle.fact_join.specs.declared.cell.Cell.{Cell}
 use Rattle.fact_join.specs.declared.cell.Cell.TheVariants.{Known, Disputed}
 use Rattle.fact_store.specs.declared.key.Key.{Key}
 use Rattle.fact_store.specs.declared.key.Key.TheVariants.{Node, PortGuid, Link, Port, Claim, Cap}
+use Rattle.fact_store.specs.Key.{kind_word}
 use Rattle.fact_store.specs.View.{Facts, cells_of}
 use Rattle.fact_store.specs.declared.value.Value.{Value}
 use Rattle.fact_store.specs.declared.value.Value.TheVariants.{Kind, Guid, Peer, Up, Lid, Count}
-
--- the word of what a fact is about
-abbrev pub kind_word : Key → List ℕ
-kind_word (Node guid) = codes "node"
-kind_word (PortGuid guid port) = codes "portguid"
-kind_word (Link guid port) = codes "link"
-kind_word (Port guid port) = codes "port"
-kind_word (Claim guid port) = codes "claim"
-kind_word (Cap guid) = codes "cap"
 
 -- the node or the port that a fact is about
 abbrev pub subject_text : Key → List ℕ

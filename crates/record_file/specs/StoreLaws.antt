@@ -1,6 +1,7 @@
 -- Laws of store files.
 use Rattle.std.specs.Prelude.{◌≡◌, ◌↔◌, ℕ, ◌<◌, ◌^◌, true, nat_eq, List, Option, Some, Ok, length}
 use Rattle.std.specs.List.{starts_with}
+use Rattle.byte_io.specs.Source.{SourceState}
 use Rattle.fact_join.specs.declared.cell.Cell.{Cell}
 use Rattle.fact_store.specs.declared.key.Key.{Key}
 use Rattle.fact_store.specs.declared.value.Value.{Value}
@@ -55,8 +56,8 @@ FactsHaveOneSpelling = (bytes others : List ℕ) → IsFlooredFile bytes → IsF
     ≡ facts_in others → bytes ≡ others
 
 -- and whoever absorbs the whole file of some facts into an empty store holds these facts
-abbrev pub AbsorbingReadsBack : {S : Type 0} → (S → Option (List ℕ)) → (S → ℕ) → Type 0
-AbsorbingReadsBack {S} left interruptions =
-    (source source' : S) (head_floor : Option ℕ) (bytes rest : List ℕ) (facts new : Facts) → left source ≡ Some bytes
-    → left source' ≡ Some rest
-    → IsStoreFile head_floor bytes facts → Absorbs left interruptions (Ok tt) source source' no_facts new → new ≡ facts
+abbrev pub AbsorbingReadsBack : {S : Type 0} → (S → SourceState) → Type 0
+AbsorbingReadsBack {S} state =
+    (source source' : S) (head_floor : Option ℕ) (bytes rest : List ℕ) (facts new : Facts) → (state source).left ≡ Some bytes
+    → (state source').left ≡ Some rest
+    → IsStoreFile head_floor bytes facts → Absorbs state (Ok tt) source source' no_facts new → new ≡ facts

@@ -1,15 +1,15 @@
 -- What reading a source whole takes of it, and how it ends where it can't be read whole.
 use Rattle.std.specs.Prelude.{◌≡◌, ◌⊎◌, ℕ, ◌+◌, ◌<◌, ◌≤◌, ◌^◌, Bool, false, List, Option, IsTrue, length}
 use Rattle.std.specs.Io.KnownBytes.{Consumes, IsAtEnd}
+use Rattle.byte_io.specs.Source.{SourceState}
 use Rattle.record_file.specs.declared.file_fault.FileFault.{FileFault}
 use Rattle.record_file.specs.declared.file_fault.FileFault.TheVariants.{Read, Memory, TooLong}
 
 -- the source was read to its end, and these are its bytes
-pub record IsReadWhole {S : Type 0} (left : S → Option (List ℕ)) (has_failed : S
-    → Bool) (old new : S) (bytes : List ℕ) : Type 0 where
-  pub consumed : Consumes (left old) (left new) bytes
-  pub at_end : IsAtEnd (left new)
-  pub works : has_failed new ≡ false
+pub record IsReadWhole {S : Type 0} (state : S → SourceState) (old new : S) (bytes : List ℕ) : Type 0 where
+  pub consumed : Consumes (state old).left (state new).left bytes
+  pub at_end : IsAtEnd (state new).left
+  pub works : (state new).has_failed ≡ false
   pub short : length bytes < 2 ^ 40
 
 -- 2^40 bytes were taken, or 2^40 calls made that took bytes or were interrupted
@@ -28,8 +28,8 @@ IsReadFault Memory taken has_failed interruptions interruptions' =
 IsReadFault fault taken has_failed interruptions interruptions' = ⊥
 
 -- the source can't be read whole, for this fault
-pub record FailsToRead {S : Type 0} (left : S → Option (List ℕ)) (has_failed : S → Bool) (interruptions : S → ℕ)
+pub record FailsToRead {S : Type 0} (state : S → SourceState)
     (old new : S) (fault : FileFault) : Type 0 where
   pub taken : List ℕ
-  pub consumed : Consumes (left old) (left new) taken
-  pub why : IsReadFault fault taken (has_failed new) (interruptions old) (interruptions new)
+  pub consumed : Consumes (state old).left (state new).left taken
+  pub why : IsReadFault fault taken (state new).has_failed (state old).interruptions (state new).interruptions

@@ -15,10 +15,10 @@ const READ_LEN: usize = 4096;
 /// it held before, and the floor and the whole records that stand before the fault. Who wants all or nothing absorbs
 /// into a fresh store and merges.
 pub fn absorb<S: Source>(source: &mut S, store: &mut Store) -> Result<(), FileFault>
-    ensures read { (result ≡ Err FileFault.Read) ↔ IsTrue (S.has_failed source.new) }
-    ensures absorbs { Absorbs S.left S.interruptions result
+    ensures read { (result ≡ Err FileFault.Read) ↔ IsTrue (S.state source.new).has_failed }
+    ensures absorbs { Absorbs S.state result
         source.old source.new store.old store.new }
-    ensures known { AnswersKnown S.left S.interruptions result source.old source.new }
+    ensures known { AnswersKnown S.state result source.old source.new }
 {
     absorb_by::<READ_LEN, S>(source, store)
 }
@@ -30,10 +30,10 @@ pub fn absorb_by<const N: usize, S: Source>(
 ) -> Result<(), FileFault>
     requires some { 0 < N }
     requires most { N ≤ 4096 }
-    ensures read { (result ≡ Err FileFault.Read) ↔ IsTrue (S.has_failed source.new) }
-    ensures absorbs { Absorbs S.left S.interruptions result
+    ensures read { (result ≡ Err FileFault.Read) ↔ IsTrue (S.state source.new).has_failed }
+    ensures absorbs { Absorbs S.state result
         source.old source.new store.old store.new }
-    ensures known { AnswersKnown S.left S.interruptions result source.old source.new }
+    ensures known { AnswersKnown S.state result source.old source.new }
 {
     let mut reading = Reading::new(source);
     let mut absorber = Absorber::new();

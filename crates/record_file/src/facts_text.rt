@@ -2,26 +2,12 @@
 ghost use Rattle.std.specs.Prelude.{◌≡◌, IsTrue, OnOk};
 ghost use Rattle.byte_io.specs.Writes.{Writes};
 ghost use Rattle.fact_store.specs.Sighting.{AreInRange};
-ghost use Rattle.record_file.specs.FactsText.{kind_word, subject_text, key_text, value_text, cell_text, fact_text, line_text, floor_line, facts_text};
+ghost use Rattle.record_file.specs.FactsText.{subject_text, key_text, value_text, cell_text, fact_text, line_text, floor_line, facts_text};
 
 use byte_io::{Sink, WriteFault, write_guid, write_number, write_port};
 use fact_join::Cell;
 use fact_store::{Key, Sighting, Store, Value};
 use smp_bytes::Generation;
-
-/// The word of what a fact is about.
-fn kind_word(key: &Key) -> &'static str
-    ensures { result.now ≡ kind_word key.now }
-{
-    match key {
-        Key::Node(_) => "node",
-        Key::PortGuid(..) => "portguid",
-        Key::Link(..) => "link",
-        Key::Port(..) => "port",
-        Key::Claim(..) => "claim",
-        Key::Cap(_) => "cap",
-    }
-}
 
 /// Writes the node or the port that a fact is about.
 fn write_subject<W: Sink>(sink: &mut W, key: &Key) -> Result<(), WriteFault>
@@ -40,7 +26,7 @@ fn write_subject<W: Sink>(sink: &mut W, key: &Key) -> Result<(), WriteFault>
 fn write_key<W: Sink>(sink: &mut W, key: &Key) -> Result<(), WriteFault>
     ensures writes { Writes W.written W.has_failed result sink.old sink.new (key_text key.now) }
 {
-    sink.write(kind_word(key).as_bytes())?;
+    sink.write(key.word().as_bytes())?;
     sink.write(b" ")?;
     write_subject(sink, key)
 }

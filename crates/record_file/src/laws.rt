@@ -54,7 +54,7 @@ pub fn facts_have_one_spelling()
 
 /// A store that was empty holds these facts once their file was absorbed.
 pub fn absorbing_reads_back<S: Source>()
-    ensures { AbsorbingReadsBack S.left S.interruptions }
+    ensures { AbsorbingReadsBack S.state }
 {}
 
 /// A file that comes in pieces is taken in as it is in whole, where no piece wants memory.

@@ -2,7 +2,7 @@
 ghost use Rattle.std.specs.Prelude.{◌≡◌, ◌<◌, ◌^◌, length, IsTrue, OnOk, option_and_then};
 ghost use Rattle.fact_store.specs.View.{cells_of};
 ghost use Rattle.fact_store.specs.Sighting.{AreInRange};
-ghost use Rattle.record_file.specs.CellRecord.{candidate, cell_of as cell_in, cell_value_bytes, filled_up, if_sighting, key_guid, key_of as key_with, key_port, kind_byte, record_bytes, state_byte, value_bytes, value_of as value_in};
+ghost use Rattle.record_file.specs.CellRecord.{candidate, cell_of as cell_in, cell_value_bytes, filled_up, if_sighting, key_of as key_with, record_bytes, state_byte, value_bytes, value_of as value_in};
 ghost use Rattle.record_file.specs.StoreFile.{store_bytes};
 ghost use Rattle.byte_io.specs.Writes.{Writes};
 
@@ -42,26 +42,13 @@ pub(crate) fn record_of(sighting: &Sighting) -> [u8; RECORD_LEN]
     let key = sighting.key();
     let cell = sighting.cell();
     let mut bytes = [0; RECORD_LEN];
-    bytes[0] = kind_byte(&key);
+    bytes[0] = key.kind();
     bytes[1] = state_byte(&cell);
-    bytes[2] = port_of(&key).number();
+    bytes[2] = key.port().number();
     bytes[4..8].copy_from_slice(&cell.generation().number().to_be_bytes());
-    bytes[8..16].copy_from_slice(&guid_of(&key).number().to_be_bytes());
+    bytes[8..16].copy_from_slice(&key.guid().number().to_be_bytes());
     bytes[16..].copy_from_slice(&cell_value_bytes(&cell));
     bytes
-}
-
-fn kind_byte(key: &Key) -> u8
-    ensures { result ≡ kind_byte key.now }
-{
-    match *key {
-        Key::Node(_) => 1,
-        Key::PortGuid(..) => 2,
-        Key::Link(..) => 3,
-        Key::Port(..) => 4,
-        Key::Claim(..) => 5,
-        Key::Cap(_) => 6,
-    }
 }
 
 /// 1 for a known value, 2 for a dispute.
@@ -71,30 +58,6 @@ fn state_byte(cell: &Cell<Value>) -> u8
     match cell {
         Cell::Known(..) => 1,
         Cell::Disputed(_) => 2,
-    }
-}
-
-/// The port of a key, or 0 where it has none.
-fn port_of(key: &Key) -> PortNum
-    ensures { result ≡ key_port key.now }
-{
-    match *key {
-        Key::Node(_) | Key::Cap(_) => PortNum::new(0),
-        Key::PortGuid(_, port) | Key::Link(_, port) | Key::Port(_, port) | Key::Claim(_, port) =>
-            port,
-    }
-}
-
-fn guid_of(key: &Key) -> Guid
-    ensures { result ≡ key_guid key.now }
-{
-    match *key {
-        Key::Node(guid)
-        | Key::PortGuid(guid, _)
-        | Key::Link(guid, _)
-        | Key::Port(guid, _)
-        | Key::Claim(guid, _)
-        | Key::Cap(guid) => guid,
     }
 }
 

@@ -17,8 +17,8 @@ const READ_LEN: usize = 4096;
 /// that `Memory`, whichever comes first.
 pub fn read_whole<S: Source>(alloc: Global, source: &mut S) -> Result<Vec<u8>, FileFault>
     ensures whole { IfOk result (λ bytes.
-        IsReadWhole S.left S.has_failed source.old source.new bytes.items) }
-    ensures fails { IfErr result (FailsToRead S.left S.has_failed S.interruptions
+        IsReadWhole S.state source.old source.new bytes.items) }
+    ensures fails { IfErr result (FailsToRead S.state
         source.old source.new) }
 {
     let mut reading = Reading::new(source);

@@ -8,9 +8,9 @@ use Rattle.text_words.specs.Text.{lines}
 use Rattle.roots_file.specs.Line.{root_on}
 use Rattle.roots_file.specs.Reading.{is_among, is_root, more_by, names, roots_of, then_from, with_line, with_lines, wrong_below}
 use Rattle.roots_file.specs.RootsTextFault.{Reads}
-use Rattle.roots_file.specs.declared.fault.RootsTextFault.{RootsTextFault}
-use Rattle.roots_file.specs.declared.fault.RootsTextFault.TheVariants.{Line, Memory}
-use Rattle.roots_file.specs.declared.fault.RootsLineFault.{RootsLineFault}
+use Rattle.roots_file.specs.RootsTextFault.{RootsTextFault}
+use Rattle.text_words.specs.declared.fault.LinesFault.TheVariants.{Line, Memory}
+use Rattle.roots_file.specs.RootsTextFault.{RootsLineFault}
 use Rattle.roots_file.specs.declared.fault.RootsTextError.{RootsTextError}
 use Rattle.roots_file.specs.declared.fault.RootsTextError.TheVariants.{Repeated}
 

@@ -4,7 +4,7 @@ use Rattle.std.specs.List.{list_any}
 use Rattle.text_words.specs.Text.{lines}
 use Rattle.roots_file.specs.declared.fault.RootsTextError.{RootsTextError}
 use Rattle.roots_file.specs.declared.fault.RootsTextError.TheVariants.{Repeated}
-use Rattle.roots_file.specs.declared.fault.RootsLineFault.{RootsLineFault}
+use Rattle.roots_file.specs.RootsTextFault.{RootsLineFault}
 use Rattle.roots_file.specs.Line.{root_on}
 
 -- whether a root is among these

@@ -5,14 +5,15 @@ ghost use Rattle.smp_bytes.specs.Judges.{JudgesButFor};
 ghost use Rattle.text_words.specs.Text.{lines};
 ghost use Rattle.roots_file.specs.Line.{root_on};
 ghost use Rattle.roots_file.specs.Reading.{names, roots_of, with_line, wrong_below};
-ghost use Rattle.roots_file.specs.RootsTextFault.{Reads, is_memory};
+ghost use Rattle.roots_file.specs.RootsTextFault.{Reads};
+ghost use Rattle.text_words.specs.Faults.{is_memory};
 
 use crate::fault::{RootsLineFault, RootsTextError, RootsTextFault};
 use crate::line::root_on;
 use crate::roots::Roots;
 use smp_bytes::Guid;
 use std::alloc::Global;
-use text_words::split_line;
+use text_words::{LinesFault, split_line};
 
 /// Reads a text of roots: one GUID a line, as 1 to 16 hex digits, or the same behind `0x`. Lines end with LF or
 /// CR LF, empty ones are skipped, and `#` begins a comment:
@@ -31,7 +32,7 @@ use text_words::split_line;
 /// The first fault of its lines, and `Memory` where they have none.
 pub fn parse(alloc: Global, text: &[u8]) -> Result<Vec<Guid>, RootsTextFault>
     ensures judged { JudgesButFor is_memory result
-        (option_map RootsTextFault.Line (result_err (roots_of text.now))) }
+        (option_map LinesFault.Line (result_err (roots_of text.now))) }
     ensures roots { IfOk result (λ roots. roots_of text.now ≡ Ok roots.items) }
 {
     match read_lines(alloc, text) {

@@ -12,7 +12,7 @@ use byte_io::{Sink, Source};
 /// bytes, whatever they are read from and written to.
 #[tactic(auto, using(crate::proofs::Repeated::texts_decide_output))]
 pub fn texts_decide_output<S: Source, W: Sink>()
-    ensures { TextsDecideOutput S.left S.has_failed W.written }
+    ensures { TextsDecideOutput S.state W.written }
 {}
 
 /// What stands behind a schedule changes nothing of what it prints.

@@ -9,7 +9,6 @@ use crate::manager_name::ManagerName;
 use crate::named::{NamedCommand, PortName};
 use crate::schedule::Seat;
 use fabric_model::NodePort;
-use smp_bytes::NodeType;
 use topo_file::{Node, Topology};
 
 /// A command as it is run: managers by the indices of their seats, from 0, and nodes by theirs.
@@ -102,5 +101,5 @@ fn is_seat(topology: &Topology, port: &NodePort) -> bool
 fn may_seat(node: &Node, port: u8) -> bool
     ensures { result ≡ may_seat node.now port }
 {
-    node.kind != NodeType::Switch && 1 <= port && port <= node.ports
+    !node.kind.is_switch() && 1 <= port && port <= node.ports
 }

@@ -15,6 +15,7 @@ use Rattle.schedule_world.specs.declared.run_fault.RunFault.{RunFault}
 use Rattle.schedule_world.specs.declared.run_fault.RunFault.TheVariants.{Write, Memory}
 use Rattle.schedule_world.proofs.Printing.{failed_with}
 use Rattle.std.specs.Io.KnownBytes.{Appends}
+use Rattle.byte_io.specs.Source.{SourceState}
 
 -- what they tell is run
 pub runs_text : (planning : Planning) (topology schedule : List ℕ) (layout : Layout) (script : Script) → Tells topology schedule layout script
@@ -22,10 +23,10 @@ pub runs_text : (planning : Planning) (topology schedule : List ℕ) (layout : L
 runs_text planning topology schedule layout script tells =
     sym (ap (λ r. topology_text planning r schedule) tells.topology_told.told ∙ ap (schedule_text planning layout) tells.schedule_told)
 
-module _ {S : Type 0} (left : S → Option (List ℕ)) (has_failed : S → Bool) (lmc : ℕ) (asked : RuleAsked) (olds roots roots' texts texts' : List S)
-    (were : olds ≡ roots ++ texts) (rule : RuleValue) (layout : Layout) (script : Script) (rule_read : IsRuleRead left has_failed asked roots roots' rule)
-    (told : AreTold left has_failed texts texts' layout script) where
-  abbrev all_told : HaveTold left has_failed asked olds (roots' ++ texts') rule layout script
+module _ {S : Type 0} (state : S → SourceState) (lmc : ℕ) (asked : RuleAsked) (olds roots roots' texts texts' : List S)
+    (were : olds ≡ roots ++ texts) (rule : RuleValue) (layout : Layout) (script : Script) (rule_read : IsRuleRead state asked roots roots' rule)
+    (told : AreTold state texts texts' layout script) where
+  abbrev all_told : HaveTold state asked olds (roots' ++ texts') rule layout script
   all_told = record {
     roots = roots;
     roots' = roots';
@@ -38,10 +39,10 @@ module _ {S : Type 0} (left : S → Option (List ℕ)) (has_failed : S → Bool)
   }
 
   -- managers can't plan by the roots
-  pub roots_refused : (interruptions : S → ℕ) (prints : List ℕ → Type 0) (sink_failed : Bool) (why : TextFault)
+  pub roots_refused : (prints : List ℕ → Type 0) (sink_failed : Bool) (why : TextFault)
       → rule_fault (has_switch layout.nodes) asked rule ≡ Some why
-      → IsRunFault left has_failed interruptions lmc asked olds (roots' ++ texts') prints sink_failed (Text 0 why)
-  roots_refused interruptions prints sink_failed why e = inr (inr (inl (record {
+      → IsRunFault state lmc asked olds (roots' ++ texts') prints sink_failed (Text 0 why)
+  roots_refused prints sink_failed why e = inr (inr (inl (record {
     rule = rule;
     layout = layout;
     script = script;
@@ -52,7 +53,7 @@ module _ {S : Type 0} (left : S → Option (List ℕ)) (has_failed : S → Bool)
   })))
 
   module _ (sound : rule_fault (has_switch layout.nodes) asked rule ≡ None) (planning : Planning) (by : planning ≡ record { lmc = lmc; rule = rule }) where
-    has_run : (prints : List ℕ → Type 0) → prints (script_text planning layout script) → HasRun left has_failed lmc asked olds (roots' ++ texts') prints
+    has_run : (prints : List ℕ → Type 0) → prints (script_text planning layout script) → HasRun state lmc asked olds (roots' ++ texts') prints
     has_run prints p =
         let Printed : Planning → Type 0 = λ way. prints (run_text way told.topology told.schedule) in record {
           rule = rule;
@@ -66,12 +67,12 @@ module _ {S : Type 0} (left : S → Option (List ℕ)) (has_failed : S → Bool)
     -- what was printed was appended
     pub has_printed : {W : Type 0} (written : W → Option (List ℕ)) (failed : W → Bool) (sink sink' : W)
         → Prints written failed sink sink' (script_text planning layout script)
-        → HasRun left has_failed lmc asked olds (roots' ++ texts') (Appends (written sink) (written sink'))
+        → HasRun state lmc asked olds (roots' ++ texts') (Appends (written sink) (written sink'))
     has_printed written failed sink sink' p = has_run (Appends (written sink) (written sink')) p.grown
 
     stops : {W : Type 0} (written : W → Option (List ℕ)) (failed : W → Bool) (fault : RunFault) (sink sink' : W)
         → PrintsUnless written failed (failed_with fault) sink sink' (script_text planning layout script)
-        → StopsEarly left has_failed lmc asked olds (roots' ++ texts') (PrintsSome written failed sink sink') (failed sink') (fault_of_run fault)
+        → StopsEarly state lmc asked olds (roots' ++ texts') (PrintsSome written failed sink sink') (failed sink') (fault_of_run fault)
     stops written failed Write sink sink' p = record {
       rule = rule;
       layout = layout;
@@ -82,7 +83,7 @@ module _ {S : Type 0} (left : S → Option (List ℕ)) (has_failed : S → Bool)
     }
     stops written failed Memory sink sink' p = has_run (PrintsSome written failed sink sink') p
 
-    pub run_fails : {W : Type 0} (interruptions : S → ℕ) (written : W → Option (List ℕ)) (failed : W → Bool) (fault : RunFault) (sink sink' : W)
+    pub run_fails : {W : Type 0} (written : W → Option (List ℕ)) (failed : W → Bool) (fault : RunFault) (sink sink' : W)
         → PrintsUnless written failed (failed_with fault) sink sink' (script_text planning layout script)
-        → IsRunFault left has_failed interruptions lmc asked olds (roots' ++ texts') (PrintsSome written failed sink sink') (failed sink') (fault_of_run fault)
-    run_fails interruptions written failed fault sink sink' p = inr (inr (inr (stops written failed fault sink sink' p)))
+        → IsRunFault state lmc asked olds (roots' ++ texts') (PrintsSome written failed sink sink') (failed sink') (fault_of_run fault)
+    run_fails written failed fault sink sink' p = inr (inr (inr (stops written failed fault sink sink' p)))

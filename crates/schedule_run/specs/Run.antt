@@ -3,6 +3,7 @@
 use Rattle.std.specs.Prelude.{◌≡◌, ◌⊎◌, ◌+◌, ◌&&◌, ◌==◌, ℕ, Bool, true, List, [], ◌∷◌, ◌++◌, Option, Some, None, Result, Ok, Err, IsTrue, if◌then◌else◌}
 use Rattle.std.specs.List.{list_any}
 use Rattle.std.specs.Str.{is_utf8}
+use Rattle.byte_io.specs.Source.{SourceState}
 use Rattle.smp_bytes.specs.NodeType.{is_switch}
 use Rattle.record_file.specs.Whole.{IsReadWhole, FailsToRead}
 use Rattle.record_file.specs.declared.file_fault.FileFault.{FileFault}
@@ -98,35 +99,32 @@ pub record AreTexts {S : Type 0} (sources : List S) : Type 0 where
   pub are : sources ≡ topology ∷ schedule ∷ []
 
 -- both sources were read to their ends, and these are their bytes
-pub record AreRead {S : Type 0} (left : S → Option (List ℕ)) (has_failed : S
-    → Bool) (old new : S) (old' new' : S) (topology schedule : List ℕ) : Type 0 where
-  pub topology_read : IsReadWhole left has_failed old new topology
-  pub schedule_read : IsReadWhole left has_failed old' new' schedule
+pub record AreRead {S : Type 0} (state : S → SourceState) (old new : S) (old' new' : S) (topology schedule : List ℕ) : Type 0 where
+  pub topology_read : IsReadWhole state old new topology
+  pub schedule_read : IsReadWhole state old' new' schedule
 
 -- the topology can't be read whole, and the schedule was not touched
-pub record FailsAtTopology {S : Type 0} (left : S → Option (List ℕ)) (has_failed : S → Bool) (interruptions : S
-    → ℕ) (first : ℕ) (old new old' new' : S)
+pub record FailsAtTopology {S : Type 0} (state : S → SourceState) (first : ℕ) (old new old' new' : S)
     (input : ℕ) (fault : FileFault) : Type 0 where
   pub is_first : input ≡ first
-  pub fails : FailsToRead left has_failed interruptions old new fault
+  pub fails : FailsToRead state old new fault
   pub untouched : new' ≡ old'
 
 -- the topology was read, and the schedule can't be read whole
-pub record FailsAtSchedule {S : Type 0} (left : S → Option (List ℕ)) (has_failed : S → Bool) (interruptions : S
-    → ℕ) (first : ℕ) (old new old' new' : S)
+pub record FailsAtSchedule {S : Type 0} (state : S → SourceState) (first : ℕ) (old new old' new' : S)
     (input : ℕ) (fault : FileFault) : Type 0 where
   pub is_second : input ≡ first + 1
   pub topology : List ℕ
-  pub read : IsReadWhole left has_failed old new topology
-  pub fails : FailsToRead left has_failed interruptions old' new' fault
+  pub read : IsReadWhole state old new topology
+  pub fails : FailsToRead state old' new' fault
 
 -- the fault is that of the source that can't be read whole, the topology's first, which is at this input
-abbrev pub FailsToReadThem : {S : Type 0} → (S → Option (List ℕ)) → (S → Bool) → (S → ℕ) → ℕ → S → S → S → S → Fault
+abbrev pub FailsToReadThem : {S : Type 0} → (S → SourceState) → ℕ → S → S → S → S → Fault
     → Type 0
-FailsToReadThem left has_failed interruptions first old new old' new' (File input fault) =
-    FailsAtTopology left has_failed interruptions first old new old' new' input fault
-    ⊎ FailsAtSchedule left has_failed interruptions first old new old' new' input fault
-FailsToReadThem left has_failed interruptions first old new old' new' fault = ⊥
+FailsToReadThem state first old new old' new' (File input fault) =
+    FailsAtTopology state first old new old' new' input fault
+    ⊎ FailsAtSchedule state first old new old' new' input fault
+FailsToReadThem state first old new old' new' fault = ⊥
 
 -- the texts tell this topology and, for it, this schedule
 pub record Tells (topology schedule : List ℕ) (layout : Layout) (script : Script) : Type 0 where
@@ -134,37 +132,34 @@ pub record Tells (topology schedule : List ℕ) (layout : Layout) (script : Scri
   pub schedule_told : schedule_of layout.nodes schedule ≡ Ok script
 
 -- both sources were read to their ends, and this is what they tell
-pub record AreTold {S : Type 0} (left : S → Option (List ℕ)) (has_failed : S
-    → Bool) (olds news : List S) (layout : Layout) (script : Script) : Type 0 where
+pub record AreTold {S : Type 0} (state : S → SourceState) (olds news : List S) (layout : Layout) (script : Script) : Type 0 where
   pub were : AreTexts olds
   pub are : AreTexts news
   pub topology : List ℕ
   pub schedule : List ℕ
-  pub read : AreRead left has_failed were.topology are.topology were.schedule are.schedule topology schedule
+  pub read : AreRead state were.topology are.topology were.schedule are.schedule topology schedule
   pub tells : Tells topology schedule layout script
 
 -- they were read to their ends, and what they say is refused with this fault
-pub record AreRefused {S : Type 0} (left : S → Option (List ℕ)) (has_failed : S
-    → Bool) (first : ℕ) (old new old' new' : S) (fault : Fault) : Type 0 where
+pub record AreRefused {S : Type 0} (state : S → SourceState) (first : ℕ) (old new old' new' : S) (fault : Fault) : Type 0 where
   pub topology : List ℕ
   pub schedule : List ℕ
-  pub read : AreRead left has_failed old new old' new' topology schedule
+  pub read : AreRead state old new old' new' topology schedule
   pub refuses : RefusesTexts first topology schedule fault
 
 -- a source can't be read whole, or what both say is refused
-abbrev pub IsTextsFault : {S : Type 0} → (S → Option (List ℕ)) → (S → Bool) → (S → ℕ) → ℕ → S → S → S → S → Fault
+abbrev pub IsTextsFault : {S : Type 0} → (S → SourceState) → ℕ → S → S → S → S → Fault
     → Type 0
-IsTextsFault left has_failed interruptions first old new old' new' fault =
-    FailsToReadThem left has_failed interruptions first old new old' new' fault
-    ⊎ AreRefused left has_failed first old new old' new' fault
+IsTextsFault state first old new old' new' fault =
+    FailsToReadThem state first old new old' new' fault
+    ⊎ AreRefused state first old new old' new' fault
 
 -- why the two texts tell nothing, of which the first is at this input
-pub record AreNotTold {S : Type 0} (left : S → Option (List ℕ)) (has_failed : S → Bool) (interruptions : S
-    → ℕ) (first : ℕ) (olds news : List S)
+pub record AreNotTold {S : Type 0} (state : S → SourceState) (first : ℕ) (olds news : List S)
     (fault : Fault) : Type 0 where
   pub were : AreTexts olds
   pub are : AreTexts news
-  pub why : IsTextsFault left has_failed interruptions first were.topology are.topology were.schedule are.schedule fault
+  pub why : IsTextsFault state first were.topology are.topology were.schedule are.schedule fault
 
 -- roots -----------------------------------------------------------------------------------------
 
@@ -180,8 +175,7 @@ has_switch nodes guid = list_any (is_switch_with guid) nodes
 
 -- the inputs were read, the text that the rule takes and then topology and schedule: this is the rule, and this is what
 -- they tell
-pub record HaveTold {S : Type 0} (left : S → Option (List ℕ)) (has_failed : S
-    → Bool) (asked : RuleAsked) (olds news : List S)
+pub record HaveTold {S : Type 0} (state : S → SourceState) (asked : RuleAsked) (olds news : List S)
     (rule : RuleValue) (layout : Layout) (script : Script) : Type 0 where
   pub roots : List S
   pub roots' : List S
@@ -189,26 +183,24 @@ pub record HaveTold {S : Type 0} (left : S → Option (List ℕ)) (has_failed : 
   pub texts' : List S
   pub were : olds ≡ roots ++ texts
   pub are : news ≡ roots' ++ texts'
-  pub rule_read : IsRuleRead left has_failed asked roots roots' rule
-  pub told : AreTold left has_failed texts texts' layout script
+  pub rule_read : IsRuleRead state asked roots roots' rule
+  pub told : AreTold state texts texts' layout script
 
 -- all were read, each root that was asked for is a switch of the topology, and this holds of what the run of what they
 -- say by managers that plan so prints
-pub record HasRun {S : Type 0} (left : S → Option (List ℕ)) (has_failed : S
-    → Bool) (lmc : ℕ) (asked : RuleAsked) (olds news : List S)
+pub record HasRun {S : Type 0} (state : S → SourceState) (lmc : ℕ) (asked : RuleAsked) (olds news : List S)
     (prints : List ℕ → Type 0) : Type 0 where
   pub rule : RuleValue
   pub layout : Layout
   pub script : Script
-  pub read : HaveTold left has_failed asked olds news rule layout script
+  pub read : HaveTold state asked olds news rule layout script
   pub sound : rule_fault (has_switch layout.nodes) asked rule ≡ None
   pub printed : prints (run_text (record { lmc = lmc; rule = rule }) read.told.topology read.told.schedule)
 
 -- faults ----------------------------------------------------------------------------------------
 
 -- topology or schedule is refused behind the text that the rule takes
-pub record RefusesInput {S : Type 0} (left : S → Option (List ℕ)) (has_failed : S → Bool) (interruptions : S
-    → ℕ) (asked : RuleAsked)
+pub record RefusesInput {S : Type 0} (state : S → SourceState) (asked : RuleAsked)
     (olds news : List S) (fault : Fault) : Type 0 where
   pub roots : List S
   pub roots' : List S
@@ -217,28 +209,26 @@ pub record RefusesInput {S : Type 0} (left : S → Option (List ℕ)) (has_faile
   pub were : olds ≡ roots ++ texts
   pub are : news ≡ roots' ++ texts'
   pub rule : RuleValue
-  pub rule_read : IsRuleRead left has_failed asked roots roots' rule
-  pub why : AreNotTold left has_failed interruptions (texts_for asked) texts texts' fault
+  pub rule_read : IsRuleRead state asked roots roots' rule
+  pub why : AreNotTold state (texts_for asked) texts texts' fault
 
 -- all were read, and managers can't plan by the roots
-pub record RefusesRoots {S : Type 0} (left : S → Option (List ℕ)) (has_failed : S
-    → Bool) (asked : RuleAsked) (olds news : List S) (fault : Fault) : Type 0 where
+pub record RefusesRoots {S : Type 0} (state : S → SourceState) (asked : RuleAsked) (olds news : List S) (fault : Fault) : Type 0 where
   pub rule : RuleValue
   pub layout : Layout
   pub script : Script
-  pub read : HaveTold left has_failed asked olds news rule layout script
+  pub read : HaveTold state asked olds news rule layout script
   pub why : TextFault
   pub is : fault ≡ Text 0 why
   pub refused : rule_fault (has_switch layout.nodes) asked rule ≡ Some why
 
 -- nothing is refused, and the output failed as it was run
-pub record FailsToWrite {S : Type 0} (left : S → Option (List ℕ)) (has_failed : S
-    → Bool) (asked : RuleAsked) (olds news : List S)
+pub record FailsToWrite {S : Type 0} (state : S → SourceState) (asked : RuleAsked) (olds news : List S)
     (sink_failed : Bool) : Type 0 where
   pub rule : RuleValue
   pub layout : Layout
   pub script : Script
-  pub read : HaveTold left has_failed asked olds news rule layout script
+  pub read : HaveTold state asked olds news rule layout script
   pub sound : rule_fault (has_switch layout.nodes) asked rule ≡ None
   pub failed : IsTrue sink_failed
 
@@ -248,20 +238,20 @@ fault_of_run runs.Write = Write
 fault_of_run runs.Memory = Memory
 
 -- the run ended early; where memory was refused as it went on, this holds of what it would have printed
-abbrev pub StopsEarly : {S : Type 0} → (S → Option (List ℕ)) → (S → Bool) → ℕ → RuleAsked → List S → List S
+abbrev pub StopsEarly : {S : Type 0} → (S → SourceState) → ℕ → RuleAsked → List S → List S
     → (List ℕ → Type 0) → Bool → Fault → Type 0
-StopsEarly left has_failed lmc asked olds news prints sink_failed Write =
-    FailsToWrite left has_failed asked olds news sink_failed
-StopsEarly left has_failed lmc asked olds news prints sink_failed Memory =
-    HasRun left has_failed lmc asked olds news prints
-StopsEarly left has_failed lmc asked olds news prints sink_failed fault = ⊥
+StopsEarly state lmc asked olds news prints sink_failed Write =
+    FailsToWrite state asked olds news sink_failed
+StopsEarly state lmc asked olds news prints sink_failed Memory =
+    HasRun state lmc asked olds news prints
+StopsEarly state lmc asked olds news prints sink_failed fault = ⊥
 
 -- why a run over open inputs ends early
-abbrev pub IsRunFault : {S : Type 0} → (S → Option (List ℕ)) → (S → Bool) → (S → ℕ) → ℕ → RuleAsked → List S → List S
+abbrev pub IsRunFault : {S : Type 0} → (S → SourceState) → ℕ → RuleAsked → List S → List S
     → (List ℕ → Type 0) → Bool
     → Fault → Type 0
-IsRunFault left has_failed interruptions lmc asked olds news prints sink_failed fault =
-    RefusesRule left has_failed interruptions asked olds news fault
-    ⊎ (RefusesInput left has_failed interruptions asked olds news fault
-    ⊎ (RefusesRoots left has_failed asked olds news fault
-    ⊎ StopsEarly left has_failed lmc asked olds news prints sink_failed fault))
+IsRunFault state lmc asked olds news prints sink_failed fault =
+    RefusesRule state asked olds news fault
+    ⊎ (RefusesInput state asked olds news fault
+    ⊎ (RefusesRoots state asked olds news fault
+    ⊎ StopsEarly state lmc asked olds news prints sink_failed fault))

@@ -7,7 +7,7 @@ ghost use Rattle.schedule_run.specs.Run.{has_switch, is_switch_with};
 use fabric_model::NodeId;
 use lft_blocks::Rule;
 use sm_cli::{RuleAsked, TextFault, fault_of_first};
-use smp_bytes::{Guid, NodeType};
+use smp_bytes::Guid;
 use topo_file::{Node, Topology};
 
 /// Why managers can't plan by the rule that was asked for, if so: it has no root though a text names them, or one is no
@@ -54,5 +54,5 @@ fn has_switch(topology: &Topology, guid: Guid) -> bool
 fn is_switch_with(guid: Guid, node: &Node) -> bool
     ensures { result ≡ is_switch_with guid node.now }
 {
-    node.kind == NodeType::Switch && node.guid == guid
+    node.kind.is_switch() && node.guid == guid
 }

@@ -36,11 +36,11 @@ pub fn run_schedule<S: Source, W: Sink>(
     sink: &mut W,
 ) -> Result<(), Fault>
     requires { length inputs.old ≡ texts_for asked + 2 }
-    ensures done { OnOk result (HasRun S.left S.has_failed lmc asked inputs.old inputs.new
+    ensures done { OnOk result (HasRun S.state lmc asked inputs.old inputs.new
         (Appends (W.written sink.old) (W.written sink.new))) }
     ensures flushed { OnOk result (IsTrue (W.is_flushed sink.new)) }
     ensures sink_works { OnOk result (W.has_failed sink.new ≡ false) }
-    ensures refused { IfErr result (IsRunFault S.left S.has_failed S.interruptions lmc asked
+    ensures refused { IfErr result (IsRunFault S.state lmc asked
         inputs.old inputs.new
         (PrintsSome W.written W.has_failed sink.old sink.new) (W.has_failed sink.new)) }
     ensures nothing_written { OnErr result ((result ≡ Err Fault.Write)

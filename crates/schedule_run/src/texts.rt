@@ -35,11 +35,11 @@ pub(crate) fn read_setting<S: Source>(
 ) -> Result<Setting, Fault>
     requires two { length texts.old ≡ 2 }
     requires few { before < 2 }
-    ensures told { IfOk result (λ setting. AreTold S.left S.has_failed texts.old texts.new
+    ensures told { IfOk result (λ setting. AreTold S.state texts.old texts.new
         setting.topology setting.schedule) }
     ensures script { IfOk result (λ setting. IsScript setting.topology.nodes setting.schedule) }
     ensures refused { IfErr result
-        (AreNotTold S.left S.has_failed S.interruptions before texts.old texts.new) }
+        (AreNotTold S.state before texts.old texts.new) }
 {
     let (topology, schedule) = texts.split_at_mut(1);
     let texts = match read_texts(alloc, before, &mut topology[0], &mut schedule[0]) {
@@ -60,10 +60,10 @@ fn read_texts<S: Source>(
     schedule: &mut S,
 ) -> Result<Texts, Fault>
     requires { first < 2 }
-    ensures read { IfOk result (λ texts. AreRead S.left S.has_failed
+    ensures read { IfOk result (λ texts. AreRead S.state
         topology.old topology.new schedule.old schedule.new
         texts.topology.items texts.schedule.items) }
-    ensures refused { IfErr result (FailsToReadThem S.left S.has_failed S.interruptions first
+    ensures refused { IfErr result (FailsToReadThem S.state first
         topology.old topology.new schedule.old schedule.new) }
 {
     let topology = match read_whole(alloc, topology) {

@@ -2,6 +2,7 @@
 use Rattle.std.proofs.Common.{◌≡◌, ℕ, Bool, List, ◌++◌, Option, None, Some, Result, Ok, Err, inl, inr, refl, subst}
 use Rattle.std.specs.Prelude.{IfErr, OnOk}
 use Rattle.std.proofs.lemmas.Result.{IfErr-weaker}
+use Rattle.byte_io.specs.Source.{SourceState}
 use Rattle.fact_store.specs.View.{Facts, cells_of}
 use Rattle.subnet_view.specs.Reading.{is_usable}
 use Rattle.lft_blocks.specs.Rules.{RuleValue}
@@ -15,10 +16,10 @@ use Rattle.sm_cli.specs.declared.fault.Fault.{Fault}
 use Rattle.sm_cli.specs.declared.fault.Fault.TheVariants.{Text}
 use Rattle.sm_cli.specs.declared.text_fault.TextFault.{TextFault}
 
-module _ {S : Type 0} (left : S → Option (List ℕ)) (has_failed : S → Bool) (request : Invocation) (asked : RuleAsked) (is : asked ≡ rule_for request.output)
+module _ {S : Type 0} (state : S → SourceState) (request : Invocation) (asked : RuleAsked) (is : asked ≡ rule_for request.output)
     (olds texts texts' files files' : List S) (were : olds ≡ texts ++ files) (rule : RuleValue) (facts : Facts)
-    (rule_read : IsRuleRead left has_failed asked texts texts' rule) (files_read : HasRead left has_failed request.floor files files' facts) where
-  all_read : AreRead left has_failed (rule_for request.output) request.floor olds (texts' ++ files') rule facts
+    (rule_read : IsRuleRead state asked texts texts' rule) (files_read : HasRead state request.floor files files' facts) where
+  all_read : AreRead state (rule_for request.output) request.floor olds (texts' ++ files') rule facts
   all_read = record {
     texts = texts;
     texts' = texts';
@@ -26,13 +27,13 @@ module _ {S : Type 0} (left : S → Option (List ℕ)) (has_failed : S → Bool)
     files' = files';
     were = were;
     are = refl;
-    rule_read = subst (λ (a : RuleAsked). IsRuleRead left has_failed a texts texts' rule) is rule_read;
+    rule_read = subst (λ (a : RuleAsked). IsRuleRead state a texts texts' rule) is rule_read;
     files_read = files_read;
   }
 
-  pub roots_refused : (interruptions : S → ℕ) (sink_failed : Bool) (why : TextFault) → rule_fault (is_usable (cells_of facts)) asked rule ≡ Some why
-      → IsFaultOf left has_failed interruptions request olds (texts' ++ files') sink_failed (Text 0 why)
-  roots_refused interruptions sink_failed why e = inr (inr (inl (record {
+  pub roots_refused : (sink_failed : Bool) (why : TextFault) → rule_fault (is_usable (cells_of facts)) asked rule ≡ Some why
+      → IsFaultOf state request olds (texts' ++ files') sink_failed (Text 0 why)
+  roots_refused sink_failed why e = inr (inr (inl (record {
     rule = rule;
     facts = facts;
     read = all_read;
@@ -46,7 +47,7 @@ module _ {S : Type 0} (left : S → Option (List ℕ)) (has_failed : S → Bool)
     is_sound = subst (λ (a : RuleAsked). rule_fault (is_usable (cells_of facts)) a rule ≡ None) is sound
 
     pub answered : (result : Result (Unit {0}) Fault) (prints : List ℕ → Type 0) → OnOk result (prints (answer_to request.output rule facts))
-        → OnOk result (IsAnswered request.output facts) → OnOk result (HasAnswered left has_failed request olds (texts' ++ files') prints)
+        → OnOk result (IsAnswered request.output facts) → OnOk result (HasAnswered state request olds (texts' ++ files') prints)
     answered (Ok u) prints a can = record {
       rule = rule;
       facts = facts;
@@ -57,10 +58,10 @@ module _ {S : Type 0} (left : S → Option (List ℕ)) (has_failed : S → Bool)
     }
     answered (Err fault) prints a can = tt
 
-    pub not_answered : (interruptions : S → ℕ) (sink_failed : Bool) (result : Result (Unit {0}) Fault)
+    pub not_answered : (sink_failed : Bool) (result : Result (Unit {0}) Fault)
         → IfErr result (IsAnswerFault request.output facts sink_failed)
-        → IfErr result (IsFaultOf left has_failed interruptions request olds (texts' ++ files') sink_failed)
-    not_answered interruptions sink_failed result fails = IfErr-weaker result _ _ (λ fault why. inr (inr (inr (record {
+        → IfErr result (IsFaultOf state request olds (texts' ++ files') sink_failed)
+    not_answered sink_failed result fails = IfErr-weaker result _ _ (λ fault why. inr (inr (inr (record {
       rule = rule;
       facts = facts;
       read = all_read;

@@ -3,10 +3,10 @@ use Rattle.std.proofs.Common.{◌≡◌, ◌==◌, ℕ, false, List, [], ◌∷�
 use Rattle.std.specs.Prelude.{option_map, if◌then◌else◌}
 use Rattle.std.specs.Result.{result_err}
 use Rattle.roots_file.specs.Reading.{roots_of}
-use Rattle.roots_file.specs.RootsTextFault.{is_memory}
-use Rattle.roots_file.specs.declared.fault.RootsLineFault.{RootsLineFault}
-use Rattle.roots_file.specs.declared.fault.RootsTextFault.{RootsTextFault as RootsFault}
-use Rattle.roots_file.specs.declared.fault.RootsTextFault.TheVariants as wrong
+use Rattle.text_words.specs.Faults.{is_memory}
+use Rattle.roots_file.specs.RootsTextFault.{RootsLineFault}
+use Rattle.roots_file.specs.RootsTextFault.{RootsTextFault as RootsFault}
+use Rattle.text_words.specs.declared.fault.LinesFault.TheVariants as wrong
 use Rattle.sm_cli.specs.declared.text_fault.TextFault.TheVariants.{NoSwitch}
 use Rattle.sm_cli.specs.InputRule.{IsFaultOfText, fault_of_first}
 

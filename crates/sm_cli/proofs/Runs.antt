@@ -6,6 +6,7 @@ use Rattle.std.proofs.lemmas.List.{get_or-set_same, flat_map_more}
 use Rattle.std.proofs.lemmas.Option.{slice_get-get_or}
 use Rattle.std.specs.Prelude.{max, nat_lt, IfSome, slice_get}
 use Rattle.std.specs.List.{flat_map}
+use Rattle.byte_io.specs.Source.{SourceState}
 use Rattle.fact_store.specs.Seen.{seen}
 use Rattle.fact_store.specs.View.{Facts, raised, view_at, no_facts}
 use Rattle.fact_store.specs.Merge.{merge}
@@ -75,10 +76,10 @@ inside [] k x e = absurd (cc)
 inside (y ∷ xs) zero x e = omega arith
 inside (y ∷ xs) (suc k) x e = let i = inside xs k x e in omega arith
 
-module _ {S : Type 0} (left : S → Option (List ℕ)) (has_failed : S → Bool) where
+module _ {S : Type 0} (state : S → SourceState) where
   -- what was read of the sources before an input stays when the one there is read
-  pub reads_stay : (olds news : List S) (files : List (List ℕ)) (input : ℕ) (after : S) → length files ≡ input → AreReadAs left has_failed olds news files
-      → AreReadAs left has_failed olds (set news input after) files
+  pub reads_stay : (olds news : List S) (files : List (List ℕ)) (input : ℕ) (after : S) → length files ≡ input → AreReadAs state olds news files
+      → AreReadAs state olds (set news input after) files
   reads_stay olds news files input after as_many before k file at =
       let r = before k file at in
       let low : k < input = let i = inside files k file at in omega arith in
@@ -93,11 +94,11 @@ module _ {S : Type 0} (left : S → Option (List ℕ)) (has_failed : S → Bool)
   -- one more source was read
   pub read_more :
       (olds news : List S) (files : List (List ℕ)) (input : ℕ) (old after : S) (file : List ℕ)
-      → length files ≡ input → AreReadAs left has_failed olds news files → slice_get olds input ≡ Some old → input < length news
-      → IsReadAs left has_failed old after file
-      → AreReadAs left has_failed olds (set news input after) (files ++ file ∷ [])
+      → length files ≡ input → AreReadAs state olds news files → slice_get olds input ≡ Some old → input < length news
+      → IsReadAs state old after file
+      → AreReadAs state olds (set news input after) (files ++ file ∷ [])
   read_more olds news files input old after file as_many before there within read k f at =
-      elim (nat_lt k (length files)) as (λ t. nat_lt k (length files) ≡ t → IsReadAt left has_failed olds (set news input after) k f) [
+      elim (nat_lt k (length files)) as (λ t. nat_lt k (length files) ≡ t → IsReadAt state olds (set news input after) k f) [
         | true ↦ λ p. reads_stay olds news files input after as_many before k f (sym (front_of_more files file k (ltb-true _ _ p)) ∙ at)
         | false ↦ λ p.
             let same = last_of_more files file k (ltb-false _ _ p) f at in
@@ -107,16 +108,16 @@ module _ {S : Type 0} (left : S → Option (List ℕ)) (has_failed : S → Bool)
               new = after;
               there = ap (slice_get olds) here ∙ there;
               there_after = ap (slice_get (set news input after)) here ∙ there_after news input after within;
-              read = subst (IsReadAs left has_failed old after) same.1 read;
+              read = subst (IsReadAs state old after) same.1 read;
             }
       ] refl
 
   -- a source was absorbed into an empty store, which was then merged into another
   pub reads_into :
-      (interruptions : S → ℕ) (u : Unit {0}) (old new : S) (fresh store all sum : Facts)
-      → fresh ≡ no_facts → Absorbs left interruptions (Ok u) old new fresh store → has_failed new ≡ false → sum ≡ merge all store
-      → ReadsInto left has_failed old new all sum
-  reads_into interruptions u old new fresh store all sum is_fresh a works e = record {
+      (u : Unit {0}) (old new : S) (fresh store all sum : Facts)
+      → fresh ≡ no_facts → Absorbs state (Ok u) old new fresh store → (state new).has_failed ≡ false → sum ≡ merge all store
+      → ReadsInto state old new all sum
+  reads_into u old new fresh store all sum is_fresh a works e = record {
     file = a.taken;
     read = record { consumed = a.consumed; at_end = a.decided; accepted = a.answered; works = works };
     merged = e ∙ ap (merge all) (a.held ∙ ap (λ x. merge x (facts_in a.taken)) is_fresh ∙ merge_empty (facts_in a.taken));
@@ -124,10 +125,10 @@ module _ {S : Type 0} (left : S → Option (List ℕ)) (has_failed : S → Bool)
 
   -- or there was no memory for that
   pub refuses_merge :
-      (interruptions : S → ℕ) (u : Unit {0}) (old new : S) (fresh store : Facts)
-      → Absorbs left interruptions (Ok u) old new fresh store → has_failed new ≡ false
-      → Refuses left has_failed interruptions old new Memory
-  refuses_merge interruptions u old new fresh store a works = record {
+      (u : Unit {0}) (old new : S) (fresh store : Facts)
+      → Absorbs state (Ok u) old new fresh store → (state new).has_failed ≡ false
+      → Refuses state old new Memory
+  refuses_merge u old new fresh store a works = record {
     taken = a.taken;
     consumed = a.consumed;
     answered = tt;
@@ -135,16 +136,16 @@ module _ {S : Type 0} (left : S → Option (List ℕ)) (has_failed : S → Bool)
     bounded = a.bounded;
     no_fault_before = λ e. inl (accepted_has_no_fault a.taken a.answered);
     read = (λ e. absurd (cc), λ failed. let f : IsTrue false = subst IsTrue works failed in absurd (cc));
-    known = nothing_known (left old) (left new);
+    known = nothing_known (state old).left (state new).left;
   }
 
   -- or the source was refused
   pub refuses_file :
-      (interruptions : S → ℕ) (fault : FileFault) (old new : S) (fresh store : Facts)
-      → Absorbs left interruptions (Err fault) old new fresh store
-      → (◌≡◌ {A = Result (Unit {0}) FileFault} (Err fault) (Err Read) ↔ IsTrue (has_failed new))
-      → AnswersKnown left interruptions (Err fault) old new → Refuses left has_failed interruptions old new fault
-  refuses_file interruptions fault old new fresh store a read known = record {
+      (fault : FileFault) (old new : S) (fresh store : Facts)
+      → Absorbs state (Err fault) old new fresh store
+      → (◌≡◌ {A = Result (Unit {0}) FileFault} (Err fault) (Err Read) ↔ IsTrue (state new).has_failed)
+      → AnswersKnown state (Err fault) old new → Refuses state old new fault
+  refuses_file fault old new fresh store a read known = record {
     taken = a.taken;
     consumed = a.consumed;
     answered = a.answered;
@@ -174,13 +175,12 @@ facts-none floor facts facts' e up =
     up ∙ ap (λ x. raised x floor) e ∙ raising_forgets 1 floor [] ∙ at_same_floor (max 1 floor) floor (seen []) (omega arith)
 
 -- the first sources were read, the others are as they were, and the facts are what the files say
-pub record HasReadSome {S : Type 0} (left : S → Option (List ℕ)) (has_failed : S
-    → Bool) (floor : ℕ) (olds news : List S) (input : ℕ) (facts : Facts) : Type 0 where
+pub record HasReadSome {S : Type 0} (state : S → SourceState) (floor : ℕ) (olds news : List S) (input : ℕ) (facts : Facts) : Type 0 where
   pub as_many : length news ≡ length olds
   pub untouched : (k : ℕ) → input ≤ k → slice_get news k ≡ slice_get olds k
   pub files : List (List ℕ)
   pub one_each : length files ≡ input
-  pub read : AreReadAs left has_failed olds news files
+  pub read : AreReadAs state olds news files
   pub told : facts ≡ facts_of floor files
 
 -- a source that was read to its end has not failed

@@ -2,6 +2,7 @@
 use Rattle.std.specs.Prelude.{◌≡◌, ◌↔◌, ◌+◌, ℕ, max, map, fold, Bool, false, List, [], Option, Some, Ok, Err, IsTrue, length, slice_get}
 use Rattle.std.specs.List.{flat_map}
 use Rattle.std.specs.Io.KnownBytes.{Consumes, IsAtEnd}
+use Rattle.byte_io.specs.Source.{SourceState}
 use Rattle.fact_store.specs.Merge.{merge}
 use Rattle.fact_store.specs.View.{Facts, view_at}
 use Rattle.record_file.specs.Absorbs.{AnswersKnown, AnswersOutcome, HasNoFaultBefore, IsBounded, IsDecided, WasInterruptedTooOften}
@@ -20,78 +21,71 @@ abbrev pub facts_of : ℕ → List (List ℕ) → Facts
 facts_of floor files = view_at (floor_among floor files) (flat_map kept files)
 
 -- the source was read to its end: this was its file, which is accepted
-pub record IsReadAs {S : Type 0} (left : S → Option (List ℕ)) (has_failed : S
-    → Bool) (old new : S) (file : List ℕ) : Type 0 where
-  pub consumed : Consumes (left old) (left new) file
-  pub at_end : IsAtEnd (left new)
+pub record IsReadAs {S : Type 0} (state : S → SourceState) (old new : S) (file : List ℕ) : Type 0 where
+  pub consumed : Consumes (state old).left (state new).left file
+  pub at_end : IsAtEnd (state new).left
   pub accepted : outcome file ≡ Ok tt
-  pub works : has_failed new ≡ false
+  pub works : (state new).has_failed ≡ false
 
 -- a source was read to its end, and what its file says was merged into the facts
-pub record ReadsInto {S : Type 0} (left : S → Option (List ℕ)) (has_failed : S
-    → Bool) (old new : S) (facts facts' : Facts) : Type 0 where
+pub record ReadsInto {S : Type 0} (state : S → SourceState) (old new : S) (facts facts' : Facts) : Type 0 where
   pub file : List ℕ
-  pub read : IsReadAs left has_failed old new file
+  pub read : IsReadAs state old new file
   pub merged : facts' ≡ merge facts (facts_in file)
 
 -- the one of the sources at an input was read
-pub record IsReadAt {S : Type 0} (left : S → Option (List ℕ)) (has_failed : S
-    → Bool) (olds news : List S) (input : ℕ) (file : List ℕ) : Type 0 where
+pub record IsReadAt {S : Type 0} (state : S → SourceState) (olds news : List S) (input : ℕ) (file : List ℕ) : Type 0 where
   pub old : S
   pub new : S
   pub there : slice_get olds input ≡ Some old
   pub there_after : slice_get news input ≡ Some new
-  pub read : IsReadAs left has_failed old new file
+  pub read : IsReadAs state old new file
 
 -- so were the first of the sources, one for each of the files
-abbrev pub AreReadAs : {S : Type 0} → (S → Option (List ℕ)) → (S → Bool) → List S → List S → List (List ℕ) → Type 0
-AreReadAs left has_failed olds news files =
-    (input : ℕ) (file : List ℕ) → slice_get files input ≡ Some file → IsReadAt left has_failed olds news input file
+abbrev pub AreReadAs : {S : Type 0} → (S → SourceState) → List S → List S → List (List ℕ) → Type 0
+AreReadAs state olds news files =
+    (input : ℕ) (file : List ℕ) → slice_get files input ≡ Some file → IsReadAt state olds news input file
 
 -- all sources were read, and this is what their files say
-pub record HasRead {S : Type 0} (left : S → Option (List ℕ)) (has_failed : S
-    → Bool) (floor : ℕ) (olds news : List S) (facts : Facts) : Type 0 where
+pub record HasRead {S : Type 0} (state : S → SourceState) (floor : ℕ) (olds news : List S) (facts : Facts) : Type 0 where
   pub files : List (List ℕ)
   pub one_each : length files ≡ length olds
-  pub read : AreReadAs left has_failed olds news files
+  pub read : AreReadAs state olds news files
   pub told : facts ≡ facts_of floor files
 
 -- reading the source ended with this fault: it is that of the bytes that were taken, or a read or a growth failed
 -- before any
-pub record Refuses {S : Type 0} (left : S → Option (List ℕ)) (has_failed : S → Bool) (interruptions : S
-    → ℕ) (old new : S) (fault : FileFault) : Type 0 where
+pub record Refuses {S : Type 0} (state : S → SourceState) (old new : S) (fault : FileFault) : Type 0 where
   pub taken : List ℕ
-  pub consumed : Consumes (left old) (left new) taken
+  pub consumed : Consumes (state old).left (state new).left taken
   pub answered : AnswersOutcome (Err fault) taken
-      (WasInterruptedTooOften taken [] (interruptions old) (interruptions new))
-  pub decided : IsDecided (Err fault) taken (IsAtEnd (left new))
-  pub bounded : IsBounded (Err fault) (length taken) (interruptions old) (interruptions new)
+      (WasInterruptedTooOften taken [] (state old).interruptions (state new).interruptions)
+  pub decided : IsDecided (Err fault) taken (IsAtEnd (state new).left)
+  pub bounded : IsBounded (Err fault) (length taken) (state old).interruptions (state new).interruptions
   pub no_fault_before : fault ≡ NoMemory → HasNoFaultBefore taken
-  pub read : (fault ≡ Read) ↔ IsTrue (has_failed new)
-  pub known : AnswersKnown left interruptions (Err fault) old new
+  pub read : (fault ≡ Read) ↔ IsTrue (state new).has_failed
+  pub known : AnswersKnown state (Err fault) old new
 
 -- the sources before an input were read, and reading the one there ends with this fault
-pub record RefusesFile {S : Type 0} (left : S → Option (List ℕ)) (has_failed : S → Bool) (interruptions : S
-    → ℕ) (olds news : List S) (input : ℕ) (fault : FileFault) : Type 0 where
+pub record RefusesFile {S : Type 0} (state : S → SourceState) (olds news : List S) (input : ℕ) (fault : FileFault) : Type 0 where
   pub files : List (List ℕ)
   pub as_many : length files ≡ input
-  pub read : AreReadAs left has_failed olds news files
+  pub read : AreReadAs state olds news files
   pub old : S
   pub new : S
   pub there : slice_get olds input ≡ Some old
   pub there_after : slice_get news input ≡ Some new
-  pub refuses : Refuses left has_failed interruptions old new fault
+  pub refuses : Refuses state old new fault
 
 -- a file is refused, and the fault is that of its input: so many come before the files
-pub record IsRefusedAt {S : Type 0} (left : S → Option (List ℕ)) (has_failed : S → Bool) (interruptions : S
-    → ℕ) (before : ℕ) (olds news : List S)
+pub record IsRefusedAt {S : Type 0} (state : S → SourceState) (before : ℕ) (olds news : List S)
     (input : ℕ) (fault : FileFault) : Type 0 where
   pub index : ℕ
   pub is : input ≡ before + index
-  pub refuses : RefusesFile left has_failed interruptions olds news index fault
+  pub refuses : RefusesFile state olds news index fault
 
-abbrev pub IsRefusedFile : {S : Type 0} → (S → Option (List ℕ)) → (S → Bool) → (S → ℕ) → ℕ → List S → List S → Fault
+abbrev pub IsRefusedFile : {S : Type 0} → (S → SourceState) → ℕ → List S → List S → Fault
     → Type 0
-IsRefusedFile left has_failed interruptions before olds news (File input fault) =
-    IsRefusedAt left has_failed interruptions before olds news input fault
-IsRefusedFile left has_failed interruptions before olds news fault = ⊥
+IsRefusedFile state before olds news (File input fault) =
+    IsRefusedAt state before olds news input fault
+IsRefusedFile state before olds news fault = ⊥

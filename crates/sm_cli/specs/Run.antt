@@ -1,6 +1,7 @@
 -- What a run over files does: it reads its inputs in order, and writes what the files say together, or says why it
 -- can't.
 use Rattle.std.specs.Prelude.{◌≡◌, ◌⊎◌, ℕ, Bool, List, ◌++◌, Option, None, Some, IsTrue}
+use Rattle.byte_io.specs.Source.{SourceState}
 use Rattle.fact_store.specs.Sighting.{AreInRange}
 use Rattle.fact_store.specs.View.{Facts, cells_of}
 use Rattle.record_file.specs.FactsText.{facts_text}
@@ -59,8 +60,7 @@ IsAnswerFault what facts sink_failed fault = ⊥
 -- runs ------------------------------------------------------------------------------------------
 
 -- the inputs were read, the text that the rule takes and then the files: this is the rule, and this is what they say
-pub record AreRead {S : Type 0} (left : S → Option (List ℕ)) (has_failed : S
-    → Bool) (asked : RuleAsked) (floor : ℕ) (olds news : List S)
+pub record AreRead {S : Type 0} (state : S → SourceState) (asked : RuleAsked) (floor : ℕ) (olds news : List S)
     (rule : RuleValue) (facts : Facts) : Type 0 where
   pub texts : List S
   pub texts' : List S
@@ -68,17 +68,16 @@ pub record AreRead {S : Type 0} (left : S → Option (List ℕ)) (has_failed : S
   pub files' : List S
   pub were : olds ≡ texts ++ files
   pub are : news ≡ texts' ++ files'
-  pub rule_read : IsRuleRead left has_failed asked texts texts' rule
-  pub files_read : HasRead left has_failed floor files files' facts
+  pub rule_read : IsRuleRead state asked texts texts' rule
+  pub files_read : HasRead state floor files files' facts
 
 -- they were read, each root that was asked for is a usable switch, and this holds of what was written: what the files
 -- say
-pub record HasAnswered {S : Type 0} (left : S → Option (List ℕ)) (has_failed : S
-    → Bool) (request : Invocation) (olds news : List S)
+pub record HasAnswered {S : Type 0} (state : S → SourceState) (request : Invocation) (olds news : List S)
     (prints : List ℕ → Type 0) : Type 0 where
   pub rule : RuleValue
   pub facts : Facts
-  pub read : AreRead left has_failed (rule_for request.output) request.floor olds news rule facts
+  pub read : AreRead state (rule_for request.output) request.floor olds news rule facts
   pub sound : rule_fault (is_usable (cells_of facts)) (rule_for request.output) rule ≡ None
   pub can_be : IsAnswered request.output facts
   pub answered : prints (answer_to request.output rule facts)
@@ -86,19 +85,17 @@ pub record HasAnswered {S : Type 0} (left : S → Option (List ℕ)) (has_failed
 -- faults ----------------------------------------------------------------------------------------
 
 -- the text that the rule takes is refused, and no other input was touched
-pub record RefusesRule {S : Type 0} (left : S → Option (List ℕ)) (has_failed : S → Bool) (interruptions : S
-    → ℕ) (asked : RuleAsked)
+pub record RefusesRule {S : Type 0} (state : S → SourceState) (asked : RuleAsked)
     (olds news : List S) (fault : Fault) : Type 0 where
   pub texts : List S
   pub texts' : List S
   pub others : List S
   pub were : olds ≡ texts ++ others
   pub are : news ≡ texts' ++ others
-  pub why : IsRuleFault left has_failed interruptions asked texts texts' fault
+  pub why : IsRuleFault state asked texts texts' fault
 
 -- it was read, and a file is refused
-pub record RefusesFiles {S : Type 0} (left : S → Option (List ℕ)) (has_failed : S → Bool) (interruptions : S
-    → ℕ) (asked : RuleAsked)
+pub record RefusesFiles {S : Type 0} (state : S → SourceState) (asked : RuleAsked)
     (olds news : List S) (fault : Fault) : Type 0 where
   pub texts : List S
   pub texts' : List S
@@ -107,35 +104,33 @@ pub record RefusesFiles {S : Type 0} (left : S → Option (List ℕ)) (has_faile
   pub were : olds ≡ texts ++ files
   pub are : news ≡ texts' ++ files'
   pub rule : RuleValue
-  pub rule_read : IsRuleRead left has_failed asked texts texts' rule
-  pub why : IsRefusedFile left has_failed interruptions (texts_for asked) files files' fault
+  pub rule_read : IsRuleRead state asked texts texts' rule
+  pub why : IsRefusedFile state (texts_for asked) files files' fault
 
 -- all were read, and no plan goes by the roots
-pub record RefusesRoots {S : Type 0} (left : S → Option (List ℕ)) (has_failed : S
-    → Bool) (asked : RuleAsked) (floor : ℕ) (olds news : List S)
+pub record RefusesRoots {S : Type 0} (state : S → SourceState) (asked : RuleAsked) (floor : ℕ) (olds news : List S)
     (fault : Fault) : Type 0 where
   pub rule : RuleValue
   pub facts : Facts
-  pub read : AreRead left has_failed asked floor olds news rule facts
+  pub read : AreRead state asked floor olds news rule facts
   pub why : TextFault
   pub is : fault ≡ Text 0 why
   pub refused : rule_fault (is_usable (cells_of facts)) asked rule ≡ Some why
 
 -- all were read, and what they say is not answered
-pub record FailsToAnswer {S : Type 0} (left : S → Option (List ℕ)) (has_failed : S
-    → Bool) (request : Invocation) (olds news : List S)
+pub record FailsToAnswer {S : Type 0} (state : S → SourceState) (request : Invocation) (olds news : List S)
     (sink_failed : Bool) (fault : Fault) : Type 0 where
   pub rule : RuleValue
   pub facts : Facts
-  pub read : AreRead left has_failed (rule_for request.output) request.floor olds news rule facts
+  pub read : AreRead state (rule_for request.output) request.floor olds news rule facts
   pub sound : rule_fault (is_usable (cells_of facts)) (rule_for request.output) rule ≡ None
   pub fails : IsAnswerFault request.output facts sink_failed fault
 
 -- why a run over open inputs ends early
-abbrev pub IsFaultOf : {S : Type 0} → (S → Option (List ℕ)) → (S → Bool) → (S → ℕ) → Invocation → List S → List S → Bool
+abbrev pub IsFaultOf : {S : Type 0} → (S → SourceState) → Invocation → List S → List S → Bool
     → Fault → Type 0
-IsFaultOf left has_failed interruptions request olds news sink_failed fault =
-    RefusesRule left has_failed interruptions (rule_for request.output) olds news fault
-    ⊎ (RefusesFiles left has_failed interruptions (rule_for request.output) olds news fault
-    ⊎ (RefusesRoots left has_failed (rule_for request.output) request.floor olds news fault
-    ⊎ FailsToAnswer left has_failed request olds news sink_failed fault))
+IsFaultOf state request olds news sink_failed fault =
+    RefusesRule state (rule_for request.output) olds news fault
+    ⊎ (RefusesFiles state (rule_for request.output) olds news fault
+    ⊎ (RefusesRoots state (rule_for request.output) request.floor olds news fault
+    ⊎ FailsToAnswer state request olds news sink_failed fault))

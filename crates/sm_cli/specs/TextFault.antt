@@ -4,10 +4,10 @@ use Rattle.topo_file.specs.declared.fault.TopoFault.TheVariants as topology
 use Rattle.topo_file.specs.TopoFault as topologies
 use Rattle.schedule_file.specs.declared.fault.ScheduleFault.TheVariants as schedule
 use Rattle.schedule_file.specs.ScheduleFault as schedules
-use Rattle.plan_file.specs.declared.fault.PlanTextFault.TheVariants as tables
-use Rattle.plan_file.specs.PlanTextFault as plans
-use Rattle.roots_file.specs.declared.fault.RootsTextFault.TheVariants as roots
-use Rattle.roots_file.specs.RootsTextFault as root_texts
+use Rattle.text_words.specs.Faults as lines
+use Rattle.text_words.specs.declared.fault.LinesFault.TheVariants as line
+use Rattle.plan_file.specs.PlanTextFault as tables
+use Rattle.roots_file.specs.RootsTextFault as roots
 use Rattle.smp_bytes.specs.Text.{guid_text}
 use Rattle.sm_cli.specs.declared.text_fault.TextFault.{TextFault}
 use Rattle.sm_cli.specs.declared.text_fault.TextFault.TheVariants.{NotUtf8, Topology, Schedule, Tables, Roots, NoRoot, NoSwitch, Moves}
@@ -16,8 +16,8 @@ abbrev pub text_fault_line : TextFault → Option ℕ
 text_fault_line NotUtf8 = None
 text_fault_line (Topology fault) = topologies.fault_line fault
 text_fault_line (Schedule fault) = schedules.fault_line fault
-text_fault_line (Tables fault) = plans.fault_line fault
-text_fault_line (Roots fault) = root_texts.fault_line fault
+text_fault_line (Tables fault) = lines.fault_line fault
+text_fault_line (Roots fault) = lines.fault_line fault
 text_fault_line NoRoot = None
 text_fault_line (NoSwitch guid) = None
 text_fault_line (Moves lid) = None
@@ -26,8 +26,8 @@ abbrev pub text_fault_word : TextFault → List ℕ
 text_fault_word NotUtf8 = codes "not UTF-8"
 text_fault_word (Topology fault) = topologies.fault_word fault
 text_fault_word (Schedule fault) = schedules.fault_word fault
-text_fault_word (Tables fault) = plans.fault_word fault
-text_fault_word (Roots fault) = root_texts.fault_word fault
+text_fault_word (Tables fault) = lines.fault_word tables.wrong_word fault
+text_fault_word (Roots fault) = lines.fault_word roots.wrong_word fault
 text_fault_word NoRoot = codes "no root"
 text_fault_word (NoSwitch guid) = codes "no usable switch"
 text_fault_word (Moves lid) = codes "moves"
@@ -46,8 +46,8 @@ text_fault_lid _ = None
 abbrev pub is_of_text : TextFault → Bool
 is_of_text (Topology topology.Memory) = false
 is_of_text (Schedule schedule.Memory) = false
-is_of_text (Tables tables.Memory) = false
-is_of_text (Roots roots.Memory) = false
+is_of_text (Tables line.Memory) = false
+is_of_text (Roots line.Memory) = false
 is_of_text _ = true
 
 -- the line, before what is said of it

@@ -17,9 +17,9 @@ pub fn read_files<S: Source>(
     floor: Generation,
 ) -> Result<Store, Fault>
     requires { before + length files.old ≤ usize.MAX }
-    ensures read { IfOk result (HasRead S.left S.has_failed floor files.old files.new) }
+    ensures read { IfOk result (HasRead S.state floor files.old files.new) }
     ensures refused { IfErr result
-        (IsRefusedFile S.left S.has_failed S.interruptions before files.old files.new) }
+        (IsRefusedFile S.state before files.old files.new) }
 {
     let mut all = Store::new(alloc);
     all.raise_floor(floor);
@@ -36,9 +36,9 @@ pub fn read_files<S: Source>(
 
 /// Reads one file into a store of its own, and merges that into the store of all.
 fn read_into<S: Source>(all: &mut Store, alloc: Global, source: &mut S) -> Result<(), FileFault>
-    ensures read { OnOk result (ReadsInto S.left S.has_failed
+    ensures read { OnOk result (ReadsInto S.state
         source.old source.new all.old all.new) }
-    ensures refused { IfErr result (Refuses S.left S.has_failed S.interruptions
+    ensures refused { IfErr result (Refuses S.state
         source.old source.new) }
 {
     let mut store = Store::new(alloc);

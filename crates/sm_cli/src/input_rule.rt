@@ -23,9 +23,9 @@ use subnet_view::is_usable;
 pub fn read_rule<S: Source>(alloc: Global, asked: RuleAsked, texts: &mut [S]) -> Result<Rule, Fault>
     requires { length texts.old ≡ texts_for asked }
     ensures read { IfOk result (λ rule.
-        IsRuleRead S.left S.has_failed asked texts.old texts.new (value_of rule)) }
+        IsRuleRead S.state asked texts.old texts.new (value_of rule)) }
     ensures refused { IfErr result
-        (IsRuleFault S.left S.has_failed S.interruptions asked texts.old texts.new) }
+        (IsRuleFault S.state asked texts.old texts.new) }
 {
     match asked {
         RuleAsked::UpDown => Ok(Rule::UpDown),
@@ -42,9 +42,9 @@ pub fn read_rule<S: Source>(alloc: Global, asked: RuleAsked, texts: &mut [S]) ->
 /// The roots that a text names, which is read to its end.
 fn read_roots<S: Source>(alloc: Global, roots: &mut S) -> Result<Vec<Guid>, Fault>
     ensures read { IfOk result (λ found.
-        IsRoots S.left S.has_failed roots.old roots.new found.items) }
+        IsRoots S.state roots.old roots.new found.items) }
     ensures refused { IfErr result
-        (IsRootsFault S.left S.has_failed S.interruptions roots.old roots.new) }
+        (IsRootsFault S.state roots.old roots.new) }
 {
     let text = match read_whole(alloc, roots) {
         Ok(text) => text,

@@ -12,9 +12,9 @@ use std::alloc::Global;
 /// What the text of tables says, the one of these sources, at this input of a run. It is read to its end.
 pub fn read_tables<S: Source>(alloc: Global, input: usize, texts: &mut [S]) -> Result<Held, Fault>
     requires { length texts.old ≡ 1 }
-    ensures read { IfOk result (AreTables S.left S.has_failed texts.old texts.new) }
+    ensures read { IfOk result (AreTables S.state texts.old texts.new) }
     ensures refused { IfErr result
-        (AreNoTables S.left S.has_failed S.interruptions input texts.old texts.new) }
+        (AreNoTables S.state input texts.old texts.new) }
 {
     match read_text(alloc, input, &mut texts[0]) {
         Ok(held) => Ok(held),
@@ -24,9 +24,9 @@ pub fn read_tables<S: Source>(alloc: Global, input: usize, texts: &mut [S]) -> R
 
 /// The same of one source.
 fn read_text<S: Source>(alloc: Global, input: usize, source: &mut S) -> Result<Held, Fault>
-    ensures read { IfOk result (IsTables S.left S.has_failed source.old source.new) }
+    ensures read { IfOk result (IsTables S.state source.old source.new) }
     ensures refused { IfErr result
-        (IsTablesFault S.left S.has_failed S.interruptions input source.old source.new) }
+        (IsTablesFault S.state input source.old source.new) }
 {
     let text = match read_whole(alloc, source) {
         Ok(text) => text,

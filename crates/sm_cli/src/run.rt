@@ -31,11 +31,11 @@ pub fn run_files<S: Source, W: Sink>(
     sink: &mut W,
 ) -> Result<(), Fault>
     requires { texts_for (rule_for request.output) ≤ length inputs.old }
-    ensures done { OnOk result (HasAnswered S.left S.has_failed request inputs.old inputs.new
+    ensures done { OnOk result (HasAnswered S.state request inputs.old inputs.new
         (Appends (W.written sink.old) (W.written sink.new))) }
     ensures flushed { OnOk result (IsTrue (W.is_flushed sink.new)) }
     ensures sink_works { OnOk result (W.has_failed sink.new ≡ false) }
-    ensures refused { IfErr result (IsFaultOf S.left S.has_failed S.interruptions request
+    ensures refused { IfErr result (IsFaultOf S.state request
         inputs.old inputs.new (W.has_failed sink.new)) }
     ensures nothing_written { OnErr result ((result ≡ Err Fault.Write) ⊎ (sink.new ≡ sink.old)) }
 {

@@ -1,4 +1,4 @@
-ghost use Rattle.std.specs.Prelude.{◌≡◌, Some, decimal};
+ghost use Rattle.std.specs.Prelude.{◌≡◌, ◌/◌, ◌%◌, Some, decimal};
 
 use std::fmt;
 use std::marker::Model;
@@ -18,6 +18,12 @@ impl Model for Lid {
 }
 
 impl Lid {
+    /// The number that is no LID: what a port holds that was given none.
+    pub const NONE: Self = Lid(0);
+
+    /// The number behind the last unicast LID, 0xBFFF (addressing).
+    pub const UNICAST_END: u16 = 0xC000;
+
     pub const fn new(number: u16) -> Self
         ensures { result ≡ number }
     {
@@ -28,6 +34,20 @@ impl Lid {
         ensures { result ≡ self }
     {
         self.0
+    }
+
+    /// The number of the block of a forwarding table that has its entry (LinearForwardingTable).
+    pub const fn block(self) -> u16
+        ensures { result ≡ self / 64 }
+    {
+        self.0 / 64
+    }
+
+    /// The index of its entry in that block.
+    pub const fn in_block(self) -> usize
+        ensures { result ≡ self % 64 }
+    {
+        (self.0 % 64) as usize
     }
 }
 

@@ -1,4 +1,5 @@
 ghost use Rattle.std.specs.Prelude.{◌≡◌};
+ghost use Rattle.smp_bytes.specs.NodeType.{is_switch};
 ghost use Rattle.smp_bytes.specs.Text.{type_word};
 
 use std::fmt;
@@ -12,6 +13,12 @@ pub enum NodeType {
 }
 
 impl NodeType {
+    pub const fn is_switch(self) -> bool
+        ensures { result ≡ is_switch self }
+    {
+        matches!(self, NodeType::Switch)
+    }
+
     /// `ca`, `switch` or `router`.
     pub fn word(self) -> &'static str
         ensures { result.now ≡ type_word self }

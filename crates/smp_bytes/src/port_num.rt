@@ -18,6 +18,9 @@ impl Model for PortNum {
 }
 
 impl PortNum {
+    /// The management port of a switch.
+    pub const MANAGEMENT: Self = PortNum(0);
+
     pub const fn new(number: u8) -> Self
         ensures { result ≡ number }
     {

@@ -122,7 +122,7 @@ fn first_of(vertices: &[Vertex], guid: Guid) -> Option<&Vertex>
     requires { AreInOrder vertex_key vertices.now }
     ensures { option_copied result ≡ first_vertex vertices.now guid }
 {
-    let index = vertex_index(vertices, guid, PortNum::new(0));
+    let index = vertex_index(vertices, guid, PortNum::MANAGEMENT);
     if is_vertex_of(vertices, index, guid) {
         vertex_in(vertices, index)
     } else {

@@ -205,7 +205,7 @@ fn vertex_of(path: &Path<63>, info: &NodeInfo, kind: NodeType, ports: u8) -> Ver
     ensures { result ≡ vertex_of path.now info.now kind ports }
 {
     let port = match kind {
-        NodeType::Switch => PortNum::new(0),
+        NodeType::Switch => PortNum::MANAGEMENT,
         NodeType::ChannelAdapter | NodeType::Router => info.local_port_num,
     };
     Vertex {

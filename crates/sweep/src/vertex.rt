@@ -24,7 +24,7 @@ impl Vertex {
     pub(crate) fn is_switch(&self) -> bool
         ensures { result ≡ is_switch self.now.kind }
     {
-        self.kind == NodeType::Switch
+        self.kind.is_switch()
     }
 }
 

@@ -1,3 +1,4 @@
+pub mod Faults
 pub mod NodeName
 pub mod Number
 pub mod Printed

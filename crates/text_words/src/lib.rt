@@ -2,11 +2,13 @@
 //! that words tell.
 #![tactic(auto)]
 
+mod fault;
 mod name;
 mod numbers;
 mod quoted;
 mod text;
 
+pub use fault::{LineError, LineFault, LinesFault};
 pub use name::NodeName;
 pub use numbers::{count, guid, number, port_number};
 pub use quoted::{bracketed_port, enclosed, named_port, quoted_name};

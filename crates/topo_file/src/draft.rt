@@ -8,7 +8,6 @@ use crate::line::{LinkLine, NodeLine, TopologyLine, read_line};
 use crate::node::Node;
 use crate::nodes::Nodes;
 use fabric_model::NodeId;
-use smp_bytes::NodeType;
 use std::alloc::Global;
 use std::marker::Model;
 
@@ -88,7 +87,7 @@ pub(crate) fn node(number: usize, line: NodeLine) -> Result<Node, TopoFault>
         return Err(TopoFault::Ports { line: number });
     };
     let last = line.guid.number().checked_add(u64::from(ports));
-    if line.kind != NodeType::Switch && last.is_none() {
+    if !line.kind.is_switch() && last.is_none() {
         return Err(TopoFault::GuidRange { line: number });
     }
     Ok(Node {

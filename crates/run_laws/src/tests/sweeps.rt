@@ -79,11 +79,7 @@ struct AtMost<'b> {
 impl<'b> Source for AtMost<'b> {
     ghost use Rattle.std.specs.Prelude.{Some};
 
-    ghost left = { λ s. Some s.bytes };
-
-    ghost has_failed = { λ s. s.has_failed };
-
-    ghost interruptions = { λ _. 0 };
+    ghost state = { λ s. record { left = Some s.bytes; has_failed = s.has_failed; interruptions = 0 } };
 
     fn read(&mut self, room: &mut [u8]) -> Result<usize, ReadError> {
         if self.has_failed || room.len() > self.most {

@@ -111,7 +111,7 @@ const PEER: TopoFault = TopoFault::Peer { line: 3 };
 
 const SEAT: ScheduleFault = ScheduleFault::Seat { line: 3 };
 
-const LID: plan_file::PlanTextFault = plan_file::PlanTextFault::TextLine(
+const LID: plan_file::PlanTextFault = plan_file::PlanTextFault::Line(
     plan_file::PlanLineFault {
         line: 3,
         wrong: plan_file::PlanTextError::Lid,

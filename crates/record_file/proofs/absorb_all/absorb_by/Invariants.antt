@@ -7,8 +7,8 @@ use Rattle.record_file.proofs.absorb_all.absorb_by.Given as goal
 -- pieces were taken and fed, without a fault
 abbrev pub invariant-loop-count : goal.invariant-loop-count
 invariant-loop-count g l =
-    let start = fresh g.S.Source.left g.S.Source.has_failed g.S.Source.interruptions l.fn.source in
-    let now = state_of g.S.Source.left g.S.Source.has_failed g.S.Source.interruptions l.reading in
+    let start = fresh g.S.Source.state l.fn.source in
+    let now = state_of g.S.Source.state l.reading in
     record {
       same_source : l.reading.source.ghost_name ≡ l.initial.reading.source.ghost_name;
       progress : (taken : List ℕ) × Progress start now l.absorber l.initial.store l.store taken;

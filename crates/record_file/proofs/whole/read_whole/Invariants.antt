@@ -6,8 +6,8 @@ use Rattle.record_file.proofs.whole.read_whole.Given as goal
 -- so many bytes were taken, in whole pieces
 abbrev pub invariant-loop-bytes : goal.invariant-loop-bytes
 invariant-loop-bytes g l =
-    let start = fresh g.S.Source.left g.S.Source.has_failed g.S.Source.interruptions l.fn.source in
-    let now = state_of g.S.Source.left g.S.Source.has_failed g.S.Source.interruptions l.reading in
+    let start = fresh g.S.Source.state l.fn.source in
+    let now = state_of g.S.Source.state l.reading in
     record {
       same_source : l.reading.source.ghost_name ≡ l.initial.reading.source.ghost_name;
       taken : HasTaken start now l.bytes.items;

@@ -16,7 +16,7 @@ returns-in-Err-clause-refused g c =
       refuses = record {
         files = i.invariant.files;
         as_many = i.invariant.one_each;
-        read = reads_stay g.S.Source.left g.S.Source.has_failed c.args.files.now i.files i.invariant.files i.index c.read_into.new.source
+        read = reads_stay g.S.Source.state c.args.files.now i.files i.invariant.files i.index c.read_into.new.source
             i.invariant.one_each i.invariant.read;
         old = get_or i.files i.index c.index-files-index.result;
         new = c.read_into.new.source;
@@ -40,7 +40,7 @@ loop-index-preserved g c =
       untouched = λ k h. elsewhere i.files i.index c.read_into.new.source k h ∙ i.invariant.untouched k (omega arith);
       files = files ++ r.file ∷ [];
       one_each = length-append files (r.file ∷ []) ∙ ap (λ n. n + 1) i.invariant.one_each;
-      read = read_more g.S.Source.left g.S.Source.has_failed c.args.files.now i.files files i.index (get_or i.files i.index c.index-files-index.result)
+      read = read_more g.S.Source.state c.args.files.now i.files files i.index (get_or i.files i.index c.index-files-index.result)
           c.read_into.new.source r.file
           i.invariant.one_each i.invariant.read there within r.read;
       told = facts-more c.args.floor files r.file i.all c.read_into.new.all i.invariant.told r.merged;

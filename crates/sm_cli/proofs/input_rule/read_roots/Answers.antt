@@ -8,7 +8,7 @@ pub returns-clause-refused : goal.returns-clause-refused
 returns-clause-refused g c =
     let value = c.deref.ensures.value in
     let same : c.in-Ok.text.items ≡ c.deref.result.now = cc in
-    let Whole : List ℕ → Type 0 = λ text. IsReadWhole g.S.Source.left g.S.Source.has_failed c.args.roots.now c.read_whole.new.source text in (
+    let Whole : List ℕ → Type 0 = λ text. IsReadWhole g.S.Source.state c.args.roots.now c.read_whole.new.source text in (
       refl,
       record {
         text = c.deref.result.now;

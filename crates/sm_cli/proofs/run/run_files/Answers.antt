@@ -7,15 +7,15 @@ use Rattle.sm_cli.proofs.run.run_files.Goals as goal
 
 pub returns-in-Some-clause-refused : goal.returns-in-Some-clause-refused
 returns-in-Some-clause-refused g c =
-    roots_refused g.S.Source.left g.S.Source.has_failed c.args.request c.rule-asked.result c.rule-asked.ensures c.args.inputs.now
+    roots_refused g.S.Source.state c.args.request c.rule-asked.result c.rule-asked.ensures c.args.inputs.now
     c.split_at_mut-texts.result.0.now c.read_rule.new.texts c.split_at_mut-texts.result.1.now c.read_files.new.files c.split_at_mut-texts.ensures.value
-    (value_of c.in-Ok.rule) c.in-Ok-read_files.store c.in-Ok.ensures.read c.in-Ok-read_files.ensures.read g.S.Source.interruptions
+    (value_of c.in-Ok.rule) c.in-Ok-read_files.store c.in-Ok.ensures.read c.in-Ok-read_files.ensures.read
     (g.W.Sink.has_failed c.args.sink.now) c.in-Some.fault (sym c.rule_fault.ensures ∙ c.in-Some.is)
 
 pub returns-clause-done : goal.returns-clause-done
 returns-clause-done g c =
     let none : c.rule_fault.result ≡ None = grind arith in
-    answered g.S.Source.left g.S.Source.has_failed c.args.request c.rule-asked.result c.rule-asked.ensures c.args.inputs.now
+    answered g.S.Source.state c.args.request c.rule-asked.result c.rule-asked.ensures c.args.inputs.now
     c.split_at_mut-texts.result.0.now c.read_rule.new.texts c.split_at_mut-texts.result.1.now c.read_files.new.files c.split_at_mut-texts.ensures.value
     (value_of c.in-Ok.rule) c.in-Ok-read_files.store c.in-Ok.ensures.read c.in-Ok-read_files.ensures.read (sym c.rule_fault.ensures ∙ none)
     c.write_answer.result (Appends (g.W.Sink.written c.args.sink.now) (g.W.Sink.written c.write_answer.new.sink)) c.write_answer.ensures.answered
@@ -24,7 +24,7 @@ returns-clause-done g c =
 pub returns-clause-refused : goal.returns-clause-refused
 returns-clause-refused g c =
     let none : c.rule_fault.result ≡ None = grind arith in
-    not_answered g.S.Source.left g.S.Source.has_failed c.args.request c.rule-asked.result c.rule-asked.ensures c.args.inputs.now
+    not_answered g.S.Source.state c.args.request c.rule-asked.result c.rule-asked.ensures c.args.inputs.now
     c.split_at_mut-texts.result.0.now c.read_rule.new.texts c.split_at_mut-texts.result.1.now c.read_files.new.files c.split_at_mut-texts.ensures.value
     (value_of c.in-Ok.rule) c.in-Ok-read_files.store c.in-Ok.ensures.read c.in-Ok-read_files.ensures.read (sym c.rule_fault.ensures ∙ none)
-    g.S.Source.interruptions (g.W.Sink.has_failed c.write_answer.new.sink) c.write_answer.result c.write_answer.ensures.refused
+    (g.W.Sink.has_failed c.write_answer.new.sink) c.write_answer.result c.write_answer.ensures.refused

@@ -6,15 +6,15 @@ use Rattle.byte_io.proofs.reading.Reading.piece.Given as goal
 -- nothing was taken, each call was interrupted, and none failed
 abbrev pub invariant-loop-self : goal.invariant-loop-self
 invariant-loop-self g l =
-    let old = state_of g.S.Source.left g.S.Source.has_failed g.S.Source.interruptions l.initial.self in
-    let now = state_of g.S.Source.left g.S.Source.has_failed g.S.Source.interruptions l.self in
+    let old = state_of g.S.Source.state l.initial.self in
+    let now = state_of g.S.Source.state l.self in
     record {
       same_source : l.self.source.ghost_name ≡ l.initial.self.source.ghost_name;
       room : 0 < length l.room;
       taken : Takes old now [];
       each : EachCallTakes old now;
-      kept : g.S.Source.has_failed l.self.source.now ≡ g.S.Source.has_failed l.initial.self.source.now;
-      untouched : IsTrue (g.S.Source.has_failed l.self.source.now) → IsUntouched old now;
+      kept : (g.S.Source.state l.self.source.now).has_failed ≡ (g.S.Source.state l.initial.self.source.now).has_failed;
+      untouched : IsTrue (g.S.Source.state l.self.source.now).has_failed → IsUntouched old now;
     }
 
 abbrev pub decreases-loop-self : goal.decreases-loop-self

@@ -1,0 +1,24 @@
+-- What is said of a text that is not read: the line that has the fault, and a word.
+use Rattle.std.specs.Prelude.{◌≡◌, ℕ, List, Bool, true, false, ◌++◌, Option, None, Some, Result, Ok, Err, codes, decimal}
+use Rattle.text_words.specs.declared.fault.LineFault.{LineFault}
+use Rattle.text_words.specs.declared.fault.LinesFault.{LinesFault}
+use Rattle.text_words.specs.declared.fault.LinesFault.TheVariants.{Line, Memory}
+
+abbrev pub is_memory : {E : Type 0} → LinesFault E → Bool
+is_memory (Line fault) = false
+is_memory Memory = true
+
+-- what `{}` writes, by the words for what can be wrong
+abbrev pub fault_text : {E : Type 0} → (E → List ℕ) → LinesFault E → List ℕ
+fault_text word (Line fault) = codes "line " ++ decimal fault.line ++ codes ": " ++ word fault.wrong
+fault_text word Memory = codes "out of memory"
+
+-- the line that has the fault
+abbrev pub fault_line : {E : Type 0} → LinesFault E → Option ℕ
+fault_line (Line fault) = Some fault.line
+fault_line Memory = None
+
+-- what is said of it
+abbrev pub fault_word : {E : Type 0} → (E → List ℕ) → LinesFault E → List ℕ
+fault_word word (Line fault) = word fault.wrong
+fault_word word Memory = codes "out of memory"
