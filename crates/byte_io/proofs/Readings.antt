@@ -1,5 +1,5 @@
 -- A reading from its start on, one piece after the other.
-use Rattle.std.proofs.Common.{◌≡◌, ◌⊎◌, inl, inr, ℕ, ◌+◌, ◌<◌, ◌≤◌, ◌^◌, Bool, false, List, [], ◌++◌, Option, None, Some, length, take, refl, ◌∙◌}
+use Rattle.std.proofs.Common.{◌≡◌, ◌⊎◌, inl, inr, ℕ, ◌+◌, ◌<◌, ◌≤◌, ◌^◌, false, List, [], ◌++◌, Option, None, Some, length, take, refl, ◌∙◌}
 use Rattle.std.proofs.Common.{subst, arith, append-nil, length-append}
 use Rattle.std.specs.Io.KnownBytes.{Consumes}
 use Rattle.byte_io.specs.Reading.{EachCallTakes, GivesPiece, IsAnswered, IsSpentBefore, ReadingState, Takes, state_of}

@@ -21,8 +21,7 @@ use Rattle.record_file.specs.Head.{IsFormat, floor_told, floored, floored_magic,
 use Rattle.record_file.specs.RecordFile.{Judgement, fault_or, first_fault, floor_in, judged, kept, key_in, last_key, outcome}
 use Rattle.record_file.specs.RecordFile.{record_size, sightings_by, sightings_then}
 use Rattle.record_file.proofs.Beginnings.{floor-fault, floor-known, floor-some}
-use Rattle.record_file.proofs.Beginnings.{kept-fault, outcome-fault, within}
-use Rattle.record_file.proofs.Beginnings as first
+use Rattle.record_file.proofs.Beginnings.{kept-fault, outcome-fault}
 use Rattle.record_file.proofs.Formats.{judged-bad}
 use Rattle.record_file.proofs.Heads.{Begins, begins, floor-none, head-behind, head-cut, head-early, head-short, header_is, length-head}
 use Rattle.record_file.proofs.Heads as head

@@ -22,8 +22,7 @@ use Rattle.record_file.specs.RecordFile.{sightings_by}
 use Rattle.record_file.proofs.Beginnings.{Found, bad_part_stays, floor-at_least_one, floor-fault, floor-known, floor-long, floor-some, floor-stays, found}
 use Rattle.record_file.proofs.Beginnings.{kept-fault, kept-long, late, long-stays, outcome-fault, well, within}
 use Rattle.record_file.proofs.Beginnings as first
-use Rattle.record_file.proofs.Heads.{begins, format_in-head, head-cut, head-early}
-use Rattle.record_file.proofs.Heads as head
+use Rattle.record_file.proofs.Heads.{format_in-head, head-cut, head-early}
 use Rattle.record_file.proofs.Records.{bytes_of, ending-long, ending-part, ending-whole, fault_in-part}
 use Rattle.record_file.proofs.Records.{good_records, kept-part, length-file}
 use Rattle.record_file.proofs.Records.{outcome-part}

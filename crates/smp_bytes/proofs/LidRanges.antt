@@ -1,9 +1,9 @@
 -- The LIDs of a port with LMC 0.
-use Rattle.std.proofs.Common.{◌≡◌, ℕ, zero, suc, ◌+◌, ◌*◌, ◌^◌, ◌≤◌, ◌<◌, Bool, true, false, refl, arith, ◌==◌}
-use Rattle.std.proofs.lemmas.Bool.{eqb-true, eqb-false, eq-eqb, ne_eqb}
+use Rattle.std.proofs.Common.{◌≡◌, ℕ, zero, suc, ◌+◌, ◌^◌, ◌≤◌, true, refl, arith, ◌==◌}
+use Rattle.std.proofs.lemmas.Bool.{eqb-true}
 use Rattle.std.proofs.lemmas.Nat.{pow_pos}
 use Rattle.std.proofs.Math.Nat.{pow-succ'}
-use Rattle.smp_bytes.specs.LidRange.{is_among, has_lid}
+use Rattle.smp_bytes.specs.LidRange.{has_lid}
 
 -- it is the one
 pub has_one_lid : (base lid : ℕ) → has_lid base 0 lid ≡ (base == lid)

@@ -1,6 +1,5 @@
 -- What is said of a text that is not read: the line that has the fault, and a word.
-use Rattle.std.specs.Prelude.{◌≡◌, ℕ, List, Bool, true, false, ◌++◌, Option, None, Some, Result, Ok, Err, codes, decimal}
-use Rattle.text_words.specs.declared.fault.LineFault.{LineFault}
+use Rattle.std.specs.Prelude.{ℕ, List, Bool, true, false, ◌++◌, Option, None, Some, codes, decimal}
 use Rattle.text_words.specs.declared.fault.LinesFault.{LinesFault}
 use Rattle.text_words.specs.declared.fault.LinesFault.TheVariants.{Line, Memory}
 

@@ -111,12 +111,10 @@ const PEER: TopoFault = TopoFault::Peer { line: 3 };
 
 const SEAT: ScheduleFault = ScheduleFault::Seat { line: 3 };
 
-const LID: plan_file::PlanTextFault = plan_file::PlanTextFault::Line(
-    plan_file::PlanLineFault {
-        line: 3,
-        wrong: plan_file::PlanTextError::Lid,
-    },
-);
+const LID: plan_file::PlanTextFault = plan_file::PlanTextFault::Line(plan_file::PlanLineFault {
+    line: 3,
+    wrong: plan_file::PlanTextError::Lid,
+});
 
 const AGAIN: roots_file::RootsTextFault = roots_file::RootsTextFault::Line(
     roots_file::RootsLineFault {
