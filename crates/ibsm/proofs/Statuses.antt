@@ -67,7 +67,6 @@ done_is_other false e = cc
 
 -- so a task that was begun does not end as words that ask for nothing
 pub not_usage : (task : Task) (names : List (Bor (List ℕ))) (IsFault : Fault → Type 0) (stays : Type 0) (status : ExitStatus)
-    (errors errors' : Option (List ℕ)) (errors_failed : Bool)
-    → IsDone status ⊎ SaysWhy task names IsFault stays status errors errors' errors_failed → status ≡ Usage → ⊥
-not_usage task names IsFault stays status errors errors' errors_failed (inl done) e = done_is_other done.0 (sym done.1 ∙ e)
-not_usage task names IsFault stays status errors errors' errors_failed (inr says) e = never_usage says.fault (sym says.ends ∙ e)
+    (says : List ℕ → Type 0) → IsDone status ⊎ SaysWhy task names IsFault stays status says → status ≡ Usage → ⊥
+not_usage task names IsFault stays status says (inl done) e = done_is_other done.0 (sym done.1 ∙ e)
+not_usage task names IsFault stays status says (inr why) e = never_usage why.fault (sym why.ends ∙ e)

@@ -48,8 +48,8 @@ StaysSilent (Next asked) errors errors' = Unit {0}
 StaysSilent task errors errors' = errors' ≡ errors
 
 -- the files with these names were opened, and the task was done with them
-pub record Performs {S : Type 0} (answers : List ℕ → Result S OpenFault → Type 0) (state : S → SourceState) (task : Task)
-    (names : List (Bor (List ℕ))) (prints says : List ℕ → Type 0) (passed : Bool) : Type 0 where
+pub record Performs {S : Type 0} (answers : List ℕ → Result S OpenFault → Type 0) (state : S → SourceState)
+    (task : Task) (names : List (Bor (List ℕ))) (prints says : List ℕ → Type 0) (passed : Bool) : Type 0 where
   pub olds : List S
   pub news : List S
   pub opened : AreOpened answers names olds
@@ -93,15 +93,17 @@ IsFaultOver state (Run lmc rule) olds news prints output_failed fault =
     IsRunFault state lmc rule olds news prints output_failed fault
 
 -- the files were opened, and the task over them ends with the fault
-pub record FailsOverFiles {S : Type 0} (answers : List ℕ → Result S OpenFault → Type 0) (state : S → SourceState) (task : Task) (names : List (Bor (List ℕ))) (prints : List ℕ
-    → Type 0) (output_failed : Bool) (fault : Fault) : Type 0 where
+pub record FailsOverFiles {S : Type 0} (answers : List ℕ → Result S OpenFault → Type 0) (state : S → SourceState)
+    (task : Task) (names : List (Bor (List ℕ))) (prints : List ℕ → Type 0) (output_failed : Bool)
+    (fault : Fault) : Type 0 where
   pub olds : List S
   pub news : List S
   pub opened : AreOpened answers names olds
   pub fails : IsFaultOver state task olds news prints output_failed fault
 
 -- why a task is not done: its files are not open, or it ends early
-abbrev pub IsTaskFault : {S : Type 0} → (List ℕ → Result S OpenFault → Type 0) → (S → SourceState) → Task → List (Bor (List ℕ)) → (List ℕ → Type 0) → Bool → Fault → Type 0
+abbrev pub IsTaskFault : {S : Type 0} → (List ℕ → Result S OpenFault → Type 0) → (S → SourceState) → Task
+    → List (Bor (List ℕ)) → (List ℕ → Type 0) → Bool → Fault → Type 0
 IsTaskFault answers state task names prints output_failed fault =
     IsOpenFault answers names fault
     ⊎ FailsOverFiles answers state task names prints output_failed fault
@@ -133,22 +135,20 @@ name_of names Memory = []
 abbrev pub fault_line : List (Bor (List ℕ)) → Fault → List ℕ
 fault_line names fault = program_line (fault_text (name_of names fault) fault)
 
--- a task over the files with these names has a fault: it ends with the fault's status, the fault is said on standard
--- error, and the output stays
-pub record SaysWhy (task : Task) (names : List (Bor (List ℕ))) (IsFault : Fault
-    → Type 0) (stays : Type 0) (status : ExitStatus)
-    (errors errors' : Option (List ℕ)) (errors_failed : Bool) : Type 0 where
+-- a task over the files with these names has a fault: it ends with the fault's status, this holds of the line that says
+-- the fault, and the output stays
+pub record SaysWhy (task : Task) (names : List (Bor (List ℕ))) (IsFault : Fault → Type 0) (stays : Type 0)
+    (status : ExitStatus) (says : List ℕ → Type 0) : Type 0 where
   pub fault : Fault
   pub why : IsFault fault
   pub kept : KeepsOutput task stays fault
   pub ends : status ≡ status_of fault
-  pub said : IsSaid errors errors' errors_failed (fault_line names fault)
+  pub said : says (fault_line names fault)
 
 -- so it is with the task that words ask for, over the files that they name
-pub record SaysWhyOfWords {S : Type 0} (answers : List ℕ → Result S OpenFault → Type 0) (state : S → SourceState) (matches : ArgMatches) (prints : List ℕ
-    → Type 0) (output_failed : Bool) (stays : Type 0) (status : ExitStatus)
-    (errors errors' : Option (List ℕ)) (errors_failed : Bool) : Type 0 where
+pub record SaysWhyOfWords {S : Type 0} (answers : List ℕ → Result S OpenFault → Type 0) (state : S → SourceState)
+    (matches : ArgMatches) (prints : List ℕ → Type 0) (output_failed : Bool) (stays : Type 0) (status : ExitStatus)
+    (says : List ℕ → Type 0) : Type 0 where
   pub asked : AsksWhole matches
-  pub says : SaysWhy asked.task asked.names
-      (IsTaskFault answers state asked.task asked.names prints output_failed) stays status
-      errors errors' errors_failed
+  pub why : SaysWhy asked.task asked.names
+      (IsTaskFault answers state asked.task asked.names prints output_failed) stays status says

@@ -34,16 +34,15 @@ where
     ensures done { (passed : Bool) → result ≡ status_after passed
         → Performs (R.answers rt.now) R.Opened.state task names.now
         (Appends (⟦<ToWrite<O> as Sink>⟧.written output.old) (⟦<ToWrite<O> as Sink>⟧.written output.new))
-        (IsSaid (⟦<ToWrite<E> as Sink>⟧.written errors.old) (⟦<ToWrite<E> as Sink>⟧.written errors.new)
-        (⟦<ToWrite<E> as Sink>⟧.has_failed errors.new)) passed }
+        (IsSaid ⟦<ToWrite<E> as Sink>⟧.written ⟦<ToWrite<E> as Sink>⟧.has_failed errors.old errors.new) passed }
     ensures flushed { IsDone result → IsTrue (⟦<ToWrite<O> as Sink>⟧.is_flushed output.new) }
     ensures silent { IsDone result → StaysSilent task errors.old errors.new }
     ensures says_why { IsDone result ⊎ SaysWhy task names.now
         (IsTaskFault (R.answers rt.now) R.Opened.state task names.now
         (PrintsSome ⟦<ToWrite<O> as Sink>⟧.written ⟦<ToWrite<O> as Sink>⟧.has_failed output.old output.new)
         (⟦<ToWrite<O> as Sink>⟧.has_failed output.new))
-        (output.new ≡ output.old) result (⟦<ToWrite<E> as Sink>⟧.written errors.old)
-        (⟦<ToWrite<E> as Sink>⟧.written errors.new) (⟦<ToWrite<E> as Sink>⟧.has_failed errors.new) }
+        (output.new ≡ output.old) result
+        (IsSaid ⟦<ToWrite<E> as Sink>⟧.written ⟦<ToWrite<E> as Sink>⟧.has_failed errors.old errors.new) }
 {
     match perform(rt, task, names, output, errors) {
         Ok(passed) => status_after(passed),
@@ -77,8 +76,7 @@ where
     requires { HasEnoughNames task (length names.now) }
     ensures done { IfOk result (λ passed. Performs (R.answers rt.now) R.Opened.state task names.now
         (Appends (⟦<ToWrite<O> as Sink>⟧.written output.old) (⟦<ToWrite<O> as Sink>⟧.written output.new))
-        (IsSaid (⟦<ToWrite<E> as Sink>⟧.written errors.old) (⟦<ToWrite<E> as Sink>⟧.written errors.new)
-        (⟦<ToWrite<E> as Sink>⟧.has_failed errors.new)) passed) }
+        (IsSaid ⟦<ToWrite<E> as Sink>⟧.written ⟦<ToWrite<E> as Sink>⟧.has_failed errors.old errors.new) passed) }
     ensures flushed { OnOk result (IsTrue (⟦<ToWrite<O> as Sink>⟧.is_flushed output.new)) }
     ensures refused { IfErr result
         (IsTaskFault (R.answers rt.now) R.Opened.state
@@ -110,8 +108,8 @@ where
 /// Says the fault of a run over the files with these names, and what the program ends with.
 pub(crate) fn say<E: Write>(errors: &mut ToWrite<E>, names: &[&str], fault: &Fault) -> ExitStatus
     ensures status { result ≡ status_of fault.now }
-    ensures said { IsSaid (⟦<ToWrite<E> as Sink>⟧.written errors.old) (⟦<ToWrite<E> as Sink>⟧.written errors.new)
-        (⟦<ToWrite<E> as Sink>⟧.has_failed errors.new) (fault_line names.now fault.now) }
+    ensures said { IsSaid ⟦<ToWrite<E> as Sink>⟧.written ⟦<ToWrite<E> as Sink>⟧.has_failed errors.old errors.new
+        (fault_line names.now fault.now) }
 {
     let _ = write_fault(errors, fault, name_of(names, fault));
     fault.status()

@@ -81,15 +81,13 @@ where
     ensures done { IfOk result (λ status. (passed : Bool) → status ≡ status_after passed
         → PerformsWords (R.answers rt.now) R.Opened.state matches.now
         (Appends (⟦<ToWrite<O> as Sink>⟧.written output.old) (⟦<ToWrite<O> as Sink>⟧.written output.new))
-        (IsSaid (⟦<ToWrite<E> as Sink>⟧.written errors.old) (⟦<ToWrite<E> as Sink>⟧.written errors.new)
-        (⟦<ToWrite<E> as Sink>⟧.has_failed errors.new)) passed) }
+        (IsSaid ⟦<ToWrite<E> as Sink>⟧.written ⟦<ToWrite<E> as Sink>⟧.has_failed errors.old errors.new) passed) }
     ensures flushed { IfOk result (λ status. IsDone status → IsTrue (⟦<ToWrite<O> as Sink>⟧.is_flushed output.new)) }
     ensures says_why { IfOk result (λ status. IsDone status ⊎ ((status ≡ ExitStatus.Usage)
         ⊎ SaysWhyOfWords (R.answers rt.now) R.Opened.state matches.now
         (PrintsSome ⟦<ToWrite<O> as Sink>⟧.written ⟦<ToWrite<O> as Sink>⟧.has_failed output.old output.new)
         (⟦<ToWrite<O> as Sink>⟧.has_failed output.new) (output.new ≡ output.old) status
-        (⟦<ToWrite<E> as Sink>⟧.written errors.old) (⟦<ToWrite<E> as Sink>⟧.written errors.new)
-        (⟦<ToWrite<E> as Sink>⟧.has_failed errors.new))) }
+        (IsSaid ⟦<ToWrite<E> as Sink>⟧.written ⟦<ToWrite<E> as Sink>⟧.has_failed errors.old errors.new))) }
     ensures usage { IfOk result (λ status. status ≡ ExitStatus.Usage → LacksInputs matches.now) }
 {
     let Some(task) = task_of(matches) else {

@@ -33,10 +33,10 @@ some_cycle cells held next [] waits none = absurd waits
 some_cycle cells held next (channel ∷ later) waits none = (waits, none)
 
 -- a text was written, or that has failed
-pub was_said : (result : Result (Unit {0}) WriteFault) (written written' : Option (List ℕ)) (failed : Bool) (text : List ℕ)
-    → OnOk result (Appends written written' text) → OnErr result (IsTrue failed) → IsSaid written written' failed text
-was_said (Ok u) written written' failed text ok err = inr ok
-was_said (Err fault) written written' failed text ok err = inl err
+pub was_said : {W : Type 0} (written : W → Option (List ℕ)) (has_failed : W → Bool) (result : Result (Unit {0}) WriteFault) (old new : W) (text : List ℕ)
+    → OnOk result (Appends (written old) (written new) text) → OnErr result (IsTrue (has_failed new)) → IsSaid written has_failed old new text
+was_said written has_failed (Ok u) old new text ok err = inr ok
+was_said written has_failed (Err fault) old new text ok err = inl err
 
 module _ (lmc : ℕ) (rule : RuleValue) (facts : Facts) (held : HeldPlan) (plan : PlanValue) (is_plan : plan ≡ plan_of rule lmc (cells_of facts))
     (told_plan : HeldPlan) (is_told : told_plan ≡ held_plan plan) (known : Facts) (is_known : known ≡ facts) (before to next after : HeldPlan)

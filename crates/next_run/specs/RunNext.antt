@@ -53,8 +53,8 @@ abbrev pub IsLoopInStep : Cells → HeldPlan → HeldPlan → List ℕ → List 
 IsLoopInStep cells held next cycle lids = IsCycleInStep cells held next cycle × AreLoopLids cells held next cycle lids
 
 -- a text was written, or what it is written on has failed
-abbrev pub IsSaid : Option (List ℕ) → Option (List ℕ) → Bool → List ℕ → Type 0
-IsSaid written written' has_failed text = IsTrue has_failed ⊎ Appends written written' text
+abbrev pub IsSaid : {W : Type 0} → (W → Option (List ℕ)) → (W → Bool) → W → W → List ℕ → Type 0
+IsSaid written has_failed old new text = IsTrue (has_failed new) ⊎ Appends (written old) (written new) text
 
 -- there is room for the plan and no LID moves; of what was written and said this holds: the step, and a shortest credit
 -- loop, or that there is none, as it passes
@@ -136,7 +136,8 @@ pub record RefusesFiles {S : Type 0} (state : S → SourceState) (asked : StepAs
   pub why : IsRefusedFile state (texts_for asked.rule + 1) were.files are.files fault
 
 -- all were read, and no plan goes by the roots
-pub record RefusesRoots {S : Type 0} (state : S → SourceState) (asked : StepAsked) (olds news : List S) (fault : Fault) : Type 0 where
+pub record RefusesRoots {S : Type 0} (state : S → SourceState) (asked : StepAsked) (olds news : List S) (fault : Fault)
+    : Type 0 where
   pub rule : RuleValue
   pub held : HeldPlan
   pub facts : Facts

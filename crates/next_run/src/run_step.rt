@@ -45,7 +45,7 @@ pub fn run_next<S: Source, W: Sink, E: Sink>(
     requires { texts_for asked.rule + 1 ≤ length inputs.old }
     ensures done { IfOk result (HasStepped S.state asked inputs.old inputs.new
         (Appends (W.written sink.old) (W.written sink.new))
-        (IsSaid (E.written told.old) (E.written told.new) (E.has_failed told.new))) }
+        (IsSaid E.written E.has_failed told.old told.new)) }
     ensures flushed { OnOk result (IsTrue (W.is_flushed sink.new)) }
     ensures sink_works { OnOk result (W.has_failed sink.new ≡ false) }
     ensures refused { IfErr result (IsStepFault S.state asked
@@ -88,7 +88,7 @@ fn step<W: Sink, E: Sink>(
 ) -> Result<bool, Fault>
     ensures done { IfOk result (IsStep lmc (value_of rule.now) store.now held.now
         (Appends (W.written sink.old) (W.written sink.new))
-        (IsSaid (E.written told.old) (E.written told.new) (E.has_failed told.new))) }
+        (IsSaid E.written E.has_failed told.old told.new)) }
     ensures flushed { OnOk result (IsTrue (W.is_flushed sink.new)) }
     ensures sink_works { OnOk result (W.has_failed sink.new ≡ false) }
     ensures refused { IfErr result (StopsStep input lmc (value_of rule.now) store.now held.now

@@ -49,7 +49,8 @@ next_has_cost up_and_down facts lid s t port is_s is_t h =
       | true ↦ λ j. cost_in_component graph good s t is_s is_t j
       | false ↦ λ j. absurd (none-some port (sym (no_cost_between graph good s t is_s j).1 ∙ h))
     ] refl
-next_has_cost (spread_from roots) facts lid s t port is_s is_t h = spread_has_cost (graph_of (cells_of facts)) (leaf_switches_of (cells_of facts)) roots lid s t port h
+next_has_cost (spread_from roots) facts lid s t port is_s is_t h =
+    spread_has_cost (graph_of (cells_of facts)) (leaf_switches_of (cells_of facts)) roots lid s t port h
 
 first_edge : (graph : List SwitchEdges) (rule : Routing) (lid s t port : ℕ) (es : List Edge) → (s == t) ≡ false → rule.next lid s t ≡ Some port
     → FollowsRule rule lid t s es → Passes graph s es → (e : Edge) × Contains (edges_at graph s) e × (e.port ≡ port)

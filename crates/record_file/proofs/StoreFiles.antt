@@ -361,5 +361,6 @@ taken_whole left left' n m bytes rest old new before after h =
 
 pub absorbing_reads_back : {S : Type 0} (state : S → SourceState) → AbsorbingReadsBack state
 absorbing_reads_back state source source' head_floor bytes rest facts new before after is absorbed =
-    let whole = taken_whole (state source).left (state source').left (state source).interruptions (state source').interruptions bytes rest no_facts new before after absorbed in
+    let whole = taken_whole (state source).left (state source').left (state source).interruptions (state source').interruptions bytes rest no_facts new
+    before after absorbed in
     absorbed.held ∙ merge_empty (facts_in absorbed.taken) ∙ ap facts_in whole ∙ (read_back head_floor bytes facts is).says

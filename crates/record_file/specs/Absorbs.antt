@@ -89,10 +89,11 @@ pub record AbsorbsFrom (left left' : Option (List ℕ)) (interruptions interrupt
   pub bounded : IsBounded answer (length taken) interruptions interruptions'
 
 -- what absorbing this source with this answer does to it and to the store
-abbrev pub Absorbs : {S : Type 0} → (S → SourceState) → Result (Unit {0}) FileFault → S → S → Facts
-    → Facts → Type 0
+abbrev pub Absorbs : {S : Type 0} → (S → SourceState) → Result (Unit {0}) FileFault → S → S → Facts → Facts
+    → Type 0
 Absorbs state answer source source' old new =
-    AbsorbsFrom (state source).left (state source').left (state source).interruptions (state source').interruptions answer old new
+    AbsorbsFrom (state source).left (state source').left (state source).interruptions (state source').interruptions
+    answer old new
 
 -- where the bytes of a source are known, the answer is what reading all of them answers
 abbrev pub AnswersKnown : {S : Type 0} → (S → SourceState) → Result (Unit {0}) FileFault → S → S → Type 0

@@ -58,6 +58,6 @@ FactsHaveOneSpelling = (bytes others : List ℕ) → IsFlooredFile bytes → IsF
 -- and whoever absorbs the whole file of some facts into an empty store holds these facts
 abbrev pub AbsorbingReadsBack : {S : Type 0} → (S → SourceState) → Type 0
 AbsorbingReadsBack {S} state =
-    (source source' : S) (head_floor : Option ℕ) (bytes rest : List ℕ) (facts new : Facts) → (state source).left ≡ Some bytes
-    → (state source').left ≡ Some rest
+    (source source' : S) (head_floor : Option ℕ) (bytes rest : List ℕ) (facts new : Facts)
+    → (state source).left ≡ Some bytes → (state source').left ≡ Some rest
     → IsStoreFile head_floor bytes facts → Absorbs state (Ok tt) source source' no_facts new → new ≡ facts

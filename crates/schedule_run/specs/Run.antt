@@ -99,7 +99,8 @@ pub record AreTexts {S : Type 0} (sources : List S) : Type 0 where
   pub are : sources ≡ topology ∷ schedule ∷ []
 
 -- both sources were read to their ends, and these are their bytes
-pub record AreRead {S : Type 0} (state : S → SourceState) (old new : S) (old' new' : S) (topology schedule : List ℕ) : Type 0 where
+pub record AreRead {S : Type 0} (state : S → SourceState) (old new : S) (old' new' : S)
+    (topology schedule : List ℕ) : Type 0 where
   pub topology_read : IsReadWhole state old new topology
   pub schedule_read : IsReadWhole state old' new' schedule
 
@@ -132,7 +133,8 @@ pub record Tells (topology schedule : List ℕ) (layout : Layout) (script : Scri
   pub schedule_told : schedule_of layout.nodes schedule ≡ Ok script
 
 -- both sources were read to their ends, and this is what they tell
-pub record AreTold {S : Type 0} (state : S → SourceState) (olds news : List S) (layout : Layout) (script : Script) : Type 0 where
+pub record AreTold {S : Type 0} (state : S → SourceState) (olds news : List S) (layout : Layout)
+    (script : Script) : Type 0 where
   pub were : AreTexts olds
   pub are : AreTexts news
   pub topology : List ℕ
@@ -141,7 +143,8 @@ pub record AreTold {S : Type 0} (state : S → SourceState) (olds news : List S)
   pub tells : Tells topology schedule layout script
 
 -- they were read to their ends, and what they say is refused with this fault
-pub record AreRefused {S : Type 0} (state : S → SourceState) (first : ℕ) (old new old' new' : S) (fault : Fault) : Type 0 where
+pub record AreRefused {S : Type 0} (state : S → SourceState) (first : ℕ) (old new old' new' : S)
+    (fault : Fault) : Type 0 where
   pub topology : List ℕ
   pub schedule : List ℕ
   pub read : AreRead state old new old' new' topology schedule
@@ -213,7 +216,8 @@ pub record RefusesInput {S : Type 0} (state : S → SourceState) (asked : RuleAs
   pub why : AreNotTold state (texts_for asked) texts texts' fault
 
 -- all were read, and managers can't plan by the roots
-pub record RefusesRoots {S : Type 0} (state : S → SourceState) (asked : RuleAsked) (olds news : List S) (fault : Fault) : Type 0 where
+pub record RefusesRoots {S : Type 0} (state : S → SourceState) (asked : RuleAsked) (olds news : List S) (fault : Fault)
+    : Type 0 where
   pub rule : RuleValue
   pub layout : Layout
   pub script : Script

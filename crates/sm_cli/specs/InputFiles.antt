@@ -34,7 +34,8 @@ pub record ReadsInto {S : Type 0} (state : S → SourceState) (old new : S) (fac
   pub merged : facts' ≡ merge facts (facts_in file)
 
 -- the one of the sources at an input was read
-pub record IsReadAt {S : Type 0} (state : S → SourceState) (olds news : List S) (input : ℕ) (file : List ℕ) : Type 0 where
+pub record IsReadAt {S : Type 0} (state : S → SourceState) (olds news : List S) (input : ℕ)
+    (file : List ℕ) : Type 0 where
   pub old : S
   pub new : S
   pub there : slice_get olds input ≡ Some old
@@ -47,7 +48,8 @@ AreReadAs state olds news files =
     (input : ℕ) (file : List ℕ) → slice_get files input ≡ Some file → IsReadAt state olds news input file
 
 -- all sources were read, and this is what their files say
-pub record HasRead {S : Type 0} (state : S → SourceState) (floor : ℕ) (olds news : List S) (facts : Facts) : Type 0 where
+pub record HasRead {S : Type 0} (state : S → SourceState) (floor : ℕ) (olds news : List S)
+    (facts : Facts) : Type 0 where
   pub files : List (List ℕ)
   pub one_each : length files ≡ length olds
   pub read : AreReadAs state olds news files
@@ -67,7 +69,8 @@ pub record Refuses {S : Type 0} (state : S → SourceState) (old new : S) (fault
   pub known : AnswersKnown state (Err fault) old new
 
 -- the sources before an input were read, and reading the one there ends with this fault
-pub record RefusesFile {S : Type 0} (state : S → SourceState) (olds news : List S) (input : ℕ) (fault : FileFault) : Type 0 where
+pub record RefusesFile {S : Type 0} (state : S → SourceState) (olds news : List S) (input : ℕ)
+    (fault : FileFault) : Type 0 where
   pub files : List (List ℕ)
   pub as_many : length files ≡ input
   pub read : AreReadAs state olds news files

@@ -35,7 +35,7 @@ returns-in-Some-2-clause-says_why g c =
     let Named : List (Bor (List ℕ)) → Type 0 = λ names. Some (map (λ name. name.now) names) ≡ names_asked c.args.matches.now c.in-Some.task in
     elim c.perform_or_explain.ensures.says_why [
       | inl done ↦ inl done
-      | inr says ↦ inr (inr (record {
+      | inr why ↦ inr (inr (record {
         asked = record {
           task = c.in-Some.task;
           is_asked = c.in-Some.ensures.some;
@@ -43,12 +43,12 @@ returns-in-Some-2-clause-says_why g c =
           named = sym (subst Named (sym c.deref.ensures.value)
               (ap (λ found. option_map (λ names. map (λ name. name.now) names.items) found) (sym c.in-Some-2.is) ∙ c.in_ok-names.ensures));
         };
-        says = says;
+        why = why;
       }))
     ]
 
 pub returns-in-Some-2-clause-usage : goal.returns-in-Some-2-clause-usage
-returns-in-Some-2-clause-usage g c = λ e. absurd (not_usage _ _ _ _ _ _ _ _ c.perform_or_explain.ensures.says_why e)
+returns-in-Some-2-clause-usage g c = λ e. absurd (not_usage _ _ _ _ _ _ c.perform_or_explain.ensures.says_why e)
 
 pub returns-in-None-clause-usage : goal.returns-in-None-clause-usage
 returns-in-None-clause-usage g c = λ e.

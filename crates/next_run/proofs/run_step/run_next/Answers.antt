@@ -49,7 +49,7 @@ returns-clause-done g c =
     c.split_at_mut-tables.result.1.now c.split_at_mut-roots.ensures.value c.split_at_mut-tables.ensures.value) (value_of c.in-Ok.rule) c.in-Ok.ensures.read
     c.in-Ok-read_tables.held c.in-Ok-read_tables.ensures.read c.in-Ok-read_files.store c.in-Ok-read_files.ensures.read (sym c.rule_fault.ensures ∙ none)
     c.step.result (Appends (g.W.Sink.written c.args.sink.now) (g.W.Sink.written c.step.new.sink))
-    (IsSaid (g.E.Sink.written c.args.told.now) (g.E.Sink.written c.step.new.told) (g.E.Sink.has_failed c.step.new.told)) c.step.ensures.done
+    (IsSaid g.E.Sink.written g.E.Sink.has_failed c.args.told.now c.step.new.told) c.step.ensures.done
 
 pub returns-clause-refused : goal.returns-clause-refused
 returns-clause-refused g c =

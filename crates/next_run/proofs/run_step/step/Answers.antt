@@ -17,8 +17,8 @@ returns-clause-done g c =
     c.in-Ok.ensures c.in-Ok-of.from.facts c.in-Ok-of.ensures.facts c.in-Ok-of.from.held c.in-Ok-of-2.to.held c.in-Ok-next_tables.next
     c.in-Ok-of-3.after.held c.in-Ok-of.ensures.held c.in-Ok-of-2.ensures.held c.in-Ok-next_tables.ensures.tables c.in-Ok-of-3.ensures.held
     (Appends (g.W.Sink.written c.args.sink.now) (g.W.Sink.written c.write_next.new.sink))
-    (IsSaid (g.E.Sink.written c.args.told.now) (g.E.Sink.written c.write.new.sink) (g.E.Sink.has_failed c.write.new.sink))
+    (IsSaid g.E.Sink.written g.E.Sink.has_failed c.args.told.now c.write.new.sink)
     c.is_none.result found.channels.items found.lids.items c.in_ok-plan.ensures.judged c.in-Ok-next_tables.ensures.judged c.in-Ok-of-4.ensures
     (subst Printed c.lids.ensures c.in_ok-write_next.ensures.writes.ok)
-    (was_said c.write.result _ _ _ _ c.write.ensures.ok c.write.ensures.err)
+    (was_said g.E.Sink.written g.E.Sink.has_failed c.write.result _ _ _ c.write.ensures.ok c.write.ensures.err)
     c.is_none.ensures
