@@ -19,7 +19,7 @@ use Rattle.plan_file.specs.declared.item.Item.{Item}
 use Rattle.plan_file.specs.declared.item.Item.TheVariants.{Lid, Switch, Block}
 use Rattle.plan_file.specs.declared.last_lines.LastLines.{LastLines}
 use Rattle.plan_file.specs.Held.{HeldPlan, LidRange, lids_of, nothing_held}
-use Rattle.plan_file.specs.Printed.{range_from, owned_range, owned_lids, blocks_from, blocks_of, with_top, held_plan, IsLidInRange, IsBlock, IsTableInRange, IsPlanInRange, PrintedPlansAreRead}
+use Rattle.plan_file.specs.Printed.{range_from, owned_range, owned_lids, blocks_from, blocks_of, held_plan, IsLidInRange, IsBlock, IsTableInRange, IsPlanInRange, PrintedPlansAreRead}
 use Rattle.plan_file.specs.PrintedTables.{AreTops, PrintedTablesAreRead, Says, held_under, with_own_top}
 use Rattle.plan_file.specs.TablesText.{next_text}
 use Rattle.plan_file.specs.Reading.{start, last_lines_after, first_fault_from, items_from, held_with, held_by, first_fault, held_of}

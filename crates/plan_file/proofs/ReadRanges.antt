@@ -24,8 +24,8 @@ use Rattle.plan_file.specs.declared.line.TextLine.TheVariants as line
 use Rattle.plan_file.specs.Held.{HeldPlan, LidRange, nothing_held}
 use Rattle.plan_file.specs.Printed.{IsBlock}
 use Rattle.plan_file.specs.PrintedTables.{IsHeldInRange, TextsAreInRange}
-use Rattle.plan_file.specs.Reading.{start, is_behind, lid_behind, lid_after, lid_with, switch_after, switch_with, block_below, item_of, last_lines_after, then_or, items_from, held_with, held_by, held_of}
-use Rattle.plan_file.specs.TextLine.{both, top_line, switch_line, block_line, lid_line, line_in, line_of}
+use Rattle.plan_file.specs.Reading.{start, is_behind, lid_after, lid_with, switch_after, switch_with, block_below, item_of, last_lines_after, then_or, items_from, held_with, held_by, held_of}
+use Rattle.plan_file.specs.TextLine.{both, top_line, switch_line, lid_line, line_in, line_of}
 use Rattle.plan_file.specs.Words.{at_most, small_of, bare_guid_of, entries_of}
 
 -- a top, entries, and a line

@@ -9,7 +9,7 @@ use Rattle.std.proofs.lemmas.List.{drop_more}
 use Rattle.std.proofs.lemmas.List.Folds.{flat_map-map}
 use Rattle.record_file.proofs.Writing.{appends_then}
 use Rattle.lft_blocks.specs.Plan.{SwitchTable}
-use Rattle.lft_blocks.specs.PlanText.{block_line, blocks_text, switch_line, table_text}
+use Rattle.lft_blocks.specs.PlanText.{blocks_text, switch_line, table_text}
 use Rattle.plan_file.specs.declared.held.HeldBlock.{HeldBlock}
 use Rattle.plan_file.specs.declared.held.HeldSwitch.{HeldSwitch}
 use Rattle.plan_file.specs.Printed.{blocks_from, blocks_of}
