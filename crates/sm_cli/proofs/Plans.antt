@@ -9,7 +9,6 @@ use Rattle.lid_assign.specs.declared.fault.LidFault.TheVariants as lids
 use Rattle.sm_cli.specs.Faults.{fault_of_lids}
 use Rattle.sm_cli.specs.Run.{IsWritingFault}
 use Rattle.sm_cli.specs.declared.fault.Fault.{Fault}
-use Rattle.sm_cli.specs.declared.fault.Fault.TheVariants.{Open, File, Text, NoRoom, Write, Memory}
 
 none_lacks : (o : Option Room) → lid_fault o ≡ None → o ≡ None
 none_lacks None e = refl

@@ -1,5 +1,5 @@
 -- The files of a run: what is read of each, what they say together, and why one is refused.
-use Rattle.std.specs.Prelude.{◌≡◌, ◌↔◌, ◌+◌, ℕ, max, map, fold, Bool, false, List, [], Option, Some, Ok, Err, IsTrue, length, slice_get}
+use Rattle.std.specs.Prelude.{◌≡◌, ◌↔◌, ◌+◌, ℕ, max, map, fold, false, List, [], Some, Ok, Err, IsTrue, length, slice_get}
 use Rattle.std.specs.List.{flat_map}
 use Rattle.std.specs.Io.KnownBytes.{Consumes, IsAtEnd}
 use Rattle.byte_io.specs.Source.{SourceState}

@@ -1,5 +1,5 @@
 -- The inputs were read.
-use Rattle.std.proofs.Common.{rules, ◌≡◌, ◌∙◌, None, arith, sym}
+use Rattle.std.proofs.Common.{◌≡◌, ◌∙◌, None, arith, sym}
 use Rattle.std.specs.Io.KnownBytes.{Appends}
 use Rattle.lft_blocks.specs.Rules.{value_of}
 use Rattle.sm_cli.proofs.Answered.{answered, not_answered, roots_refused}
