@@ -58,3 +58,6 @@ returns c =
     all_lids cells held next c.loop-below.below c.loop-below.held_blocks.number c.loop-below.next_blocks.number c.loop-below.held_blocks.rows.items
     c.loop-below.next_blocks.rows.items c.args.cycle.now c.in_ok-after.after.items c.loop-below.lids.items c.loop-below.invariant c.in_ok-after.ensures
     (omega arith) c.requires.cycle
+
+pub returns-then-are_known : goal.returns-then-are_known
+returns-then-are_known c = ?
