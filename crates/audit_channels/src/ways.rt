@@ -116,8 +116,9 @@ fn add_ways(
         (AreGrouped (cells_of network.now.facts) (adapters (cells_of network.now.facts)) senders.new) }
 {
     let edges = network.edges(alloc, blocks, line.lid)?;
-    if let Some(groups) = some_of_all(alloc, network, blocks, line, told)? {
-        return tally.add(&edges, &groups.weights, groups.direct);
+    match some_of_all(alloc, network, blocks, line, told)? {
+        Some(groups) => return tally.add(&edges, &groups.weights, groups.direct),
+        None => {}
     }
     senders.leave(far);
     tally.add(&edges, &senders.weights, senders.direct)?;
