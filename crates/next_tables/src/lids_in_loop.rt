@@ -32,15 +32,15 @@ pub fn loop_lids(
     let mut held_blocks = held.blocks(alloc, 0)?;
     let mut next_blocks = next.blocks(alloc, 0)?;
     for below in 0..greater(held.greatest_top(), next.greatest_top()).number() {
+        if are_known(&lids) {
+            return Ok(lids);
+        }
         let lid = Lid::new(below + 1);
         held_blocks = held.blocks_for(alloc, held_blocks, lid)?;
         next_blocks = next.blocks_for(alloc, next_blocks, lid)?;
         let before = held.edges(alloc, &held_blocks, lid)?;
         let now = next.edges(alloc, &next_blocks, lid)?;
         note_lid(&mut lids, cycle, &after, &before, &now, lid);
-        if are_known(&lids) {
-            return Ok(lids);
-        }
     }
     Ok(lids)
 }
