@@ -1,15 +1,16 @@
--- The blocks of a number, gathered block by block.
-use Rattle.std.proofs.Common.{◌≡◌, ℕ, zero, suc, ◌+◌, ◌<◌, Bool, true, false, cond, List, [], ◌∷◌, ◌++◌, length, get_or, take, Option, Some, refl, sym, ap, ◌∙◌, arith, inl, inr, length-append}
+-- The blocks of a number, gathered block by block along their chain.
+use Rattle.std.proofs.Common.{◌≡◌, ℕ, zero, suc, ◌+◌, ◌-◌, ◌<◌, ◌≤◌, Bool, true, false, cond, List, [], ◌∷◌, ◌++◌, length, get_or, take, Option, Some, map, refl, sym, ap, subst, ◌∙◌, arith, inl, inr, length-append}
 use Rattle.std.specs.Prelude.{slice_get, slice_index_or, slice_set, reverse, replicate, ◌==◌, ◌&&◌}
 use Rattle.std.proofs.lemmas.Bool.{and_right, cases_eq, eq-eqb, ne_eqb}
 use Rattle.std.proofs.lemmas.Grind.{get_or-set_at}
-use Rattle.std.proofs.lemmas.List.{get_or-set_other, length-set, reverse-append, take_more}
+use Rattle.std.proofs.lemmas.List.{get_or-map, get_or-set_other, length-map, length-set, reverse-append, take_all, take_more}
 use Rattle.std.proofs.lemmas.Option.{slice_get-get_or}
 use Rattle.std.specs.List.{find}
 use Rattle.plan_file.specs.declared.held.HeldBlock.{HeldBlock}
 use Rattle.plan_file.specs.Held.{HeldPlan}
-use Rattle.audit.specs.NextHops.{AreBlank, with_block}
-use Rattle.audit.specs.Tables.{is_block_of, entry_in}
+use Rattle.audit.specs.Chains.{IsNext}
+use Rattle.audit.specs.NextHops.{AreBlank, AreBlocks, with_block}
+use Rattle.audit.specs.Tables.{is_block_of, entry_in, number_of}
 
 -- the last of some blocks that is of the number and of the switch at a s
 abbrev last_of : List HeldBlock → ℕ → ℕ → Option HeldBlock
@@ -110,3 +111,57 @@ block_more held number rows new k d h less same put = record { as_many = as_many
               ∙ sym (ap (λ x. entry_in x i) (last_is s
               ∙ ap (λ t. cond t (Some b) (last_of (take k held.blocks) s number)) (ne_eqb b.switch s (λ q. apart (sym q))))))
         ]
+
+-- along a chain ------------------------------------------------------------------------
+none : HeldBlock
+none = record { switch = 0; number = 0; entries = [] }
+
+-- blocks that are not of the number
+passed : (held : HeldPlan) (number : ℕ) (rows : List (List ℕ)) (k count : ℕ) → AreGathered held number rows k → k + count ≤ length held.blocks
+    → ((j : ℕ) → k ≤ j → j < k + count → slice_index_or (map number_of held.blocks) j 0 ≡ number → ⊥) → AreGathered held number rows (k + count)
+passed held number rows k zero h within other = let e : k ≡ k + 0 = omega arith in subst (AreGathered held number rows) e h
+passed held number rows k (suc count) h within other =
+    let less : k < length held.blocks = omega arith in
+    let e : (k + 1) + count ≡ k + suc count = omega arith in
+    let next = other_more held number rows k none h less (λ same. other k (omega arith) (omega arith) (get_or-map number_of held.blocks k none 0 less ∙ same)) in
+    subst (AreGathered held number rows) e (passed held number rows (k + 1) count next (omega arith) (λ j low high is. other j (omega arith) (omega arith) is))
+
+-- the rows have the last of the blocks up to the next one of the number
+pub record GatheredTo (held : HeldPlan) (number : ℕ) (rows : List (List ℕ)) (index : ℕ) : Type 0 where
+  pub gathered : AreGathered held number rows index
+  pub is : index < length held.blocks → slice_index_or (map number_of held.blocks) index 0 ≡ number
+
+to_next : (held : HeldPlan) (number : ℕ) (rows : List (List ℕ)) (k index : ℕ) → AreGathered held number rows k
+    → IsNext (map number_of held.blocks) number k index → GatheredTo held number rows index
+to_next held number rows k index h next =
+    let past = next.past in
+    let within = next.within in
+    let long = length-map held.blocks number_of in
+    let e : k + (index - k) ≡ index = omega arith in
+    record {
+      gathered = subst (AreGathered held number rows) e
+          (passed held number rows k (index - k) h (omega arith) (λ j low high is. next.none j low (omega arith) is));
+      is = λ less. next.is (omega arith);
+    }
+
+pub first_to : (held : HeldPlan) (number index : ℕ) (rows : List (List ℕ)) → AreBlank (length held.switches) rows
+    → IsNext (map number_of held.blocks) number 0 index → GatheredTo held number rows index
+first_to held number index rows blank next = to_next held number rows 0 index (none_gathered held number rows blank) next
+
+pub next_to : (held : HeldPlan) (number k index : ℕ) (rows new : List (List ℕ)) → GatheredTo held number rows k → k < length held.blocks
+    → new ≡ with_block rows (slice_get held.blocks k)
+    → IsNext (map number_of held.blocks) (slice_index_or (map number_of held.blocks) k 0) (suc k) index → GatheredTo held number new index
+next_to held number k index rows new h less put next =
+    let e : k + 1 ≡ suc k = omega arith in
+    let same = h.is less in
+    to_next held number new (suc k) index
+    (subst (AreGathered held number new) e
+    (block_more held number rows new k none h.gathered less (sym (get_or-map number_of held.blocks k none 0 less) ∙ same) put))
+    (subst (λ n. IsNext (map number_of held.blocks) n (suc k) index) same next)
+
+pub all_to : (held : HeldPlan) (number index : ℕ) (rows : List (List ℕ)) → GatheredTo held number rows index → length held.blocks ≤ index
+    → AreBlocks held number rows
+all_to held number index rows h past = record {
+  as_many = h.gathered.as_many;
+  entry = λ s i less. h.gathered.entry s i less ∙ ap (λ xs. entry_in (last_of xs s number) i) (take_all index held.blocks past);
+}

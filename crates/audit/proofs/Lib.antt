@@ -1,9 +1,11 @@
 pub mod Arrivals
 pub mod Brought
+pub mod Chained
 pub mod Ended
 pub mod FabricParts
 pub mod FabricsJudged
 pub mod Fars
+pub mod Further
 pub mod Gathered
 pub mod HeldPlans
 pub mod HeldTables

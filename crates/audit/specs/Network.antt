@@ -13,8 +13,10 @@ use Rattle.fact_store.specs.Coded.{facts_code}
 use Rattle.plan_file.specs.contracts.held.Held as held
 use Rattle.plan_file.specs.Held.{HeldPlan}
 use Rattle.audit.specs.Tables.{number_of, index_of, top_of}
+use Rattle.audit.specs.Chains.{AreChains}
 use Rattle.audit.specs.Owners.{AreOwners}
 use Rattle.audit.specs.declared.audited_switch.AuditedSwitch.{AuditedSwitch}
+use Rattle.audit.specs.declared.chains.Chains.{Chains}
 use Rattle.audit.specs.declared.owners.Owner.{Owner}
 use Rattle.audit.specs.declared.far_end.Far.{Far}
 use Rattle.audit.specs.declared.far_end.Far.TheVariants.{Nothing, Switch, Port}
@@ -97,12 +99,12 @@ seen_code = code_by (Facts
     record { facts = p.0; held = p.1 }) (λ _. refl)
 
 -- the usable switches by rising GUID, the end ports as sources, in their order, the switches to which their packets
--- come first, whether each has one, the numbers of the blocks, and who holds each LID
+-- come first, whether each has one, the chains of the blocks' numbers, and who holds each LID
 pub record IsNetwork (cells : Cells) (held : HeldPlan) (nodes : List AuditedSwitch) (sources : List Sender)
-    (firsts : List (Option ℕ)) (begin : Bool) (numbers : List ℕ) (owners : List Owner) : Type 0 where
+    (firsts : List (Option ℕ)) (begin : Bool) (chains : Chains) (owners : List Owner) : Type 0 where
   pub nodes_are : nodes ≡ map (node_of cells held) (switches cells)
   pub sources_are : sources ≡ map (sender_of cells) (end_ports cells)
   pub firsts_are : firsts ≡ map first_switch sources
   pub begin_is : begin ≡ all_begin (length nodes) firsts
-  pub numbers_are : numbers ≡ map number_of held.blocks
+  pub chains_are : AreChains (map number_of held.blocks) chains
   pub owners_are : AreOwners held.lids owners

@@ -1,5 +1,5 @@
 -- Walks of packets from switch to switch, by what each does with them.
-use Rattle.std.specs.Prelude.{◌≡◌, ℕ, zero, suc, Bool, true, false, List, Option, None, Some, length, slice_index_or}
+use Rattle.std.specs.Prelude.{◌≡◌, ◌⊎◌, ◌<◌, ℕ, zero, suc, Bool, true, false, List, Option, None, Some, length, slice_index_or}
 use Rattle.audit.specs.declared.end.End.{End}
 use Rattle.audit.specs.declared.next_hop.NextHop.{NextHop}
 use Rattle.audit.specs.declared.next_hop.NextHop.TheVariants.{To, Ends}
@@ -38,3 +38,15 @@ pub record HaveEnded (steps ends : List NextHop) : Type 0 where
 pub record AreAfter (steps jumps : List NextHop) (n : ℕ) : Type 0 where
   pub as_many : length jumps ≡ length steps
   pub onward_is : (s : NextHop) → onward jumps s ≡ after n steps s
+
+-- the walk from a switch has gone on from where it had come: to where the next one had come, or to where that has come
+-- if it went on before
+abbrev pub IsFurther : List NextHop → List NextHop → ℕ → Type 0
+IsFurther old new i =
+    (onward new (To i) ≡ onward old (onward old (To i)))
+    ⊎ ((j : ℕ) × (j < i) × (onward old (To i) ≡ To j) × (onward new (To i) ≡ onward new (To j)))
+
+-- those of all switches, one after the other
+pub record AreFurther (old new : List NextHop) : Type 0 where
+  pub as_many : length new ≡ length old
+  pub each : (i : ℕ) → i < length old → IsFurther old new i

@@ -1,27 +1,28 @@
 ghost use Rattle.std.specs.Prelude.{◌≡◌, IfOk, length, map, slice_get};
+ghost use Rattle.audit.specs.Chains.{AreChains};
 ghost use Rattle.audit.specs.NextHops.{AreBlank, AreBlocks, with_block, with_row};
 ghost use Rattle.audit.specs.Tables.{number_of};
 
+use crate::chains::{Chains, chains_of};
 use plan_file::{Held, HeldBlock};
 use std::alloc::{AllocError, Global};
 
-#[tactic(auto, using(crate::proofs::Gathered::none_gathered))]
 /// The blocks of a number, by the indices of their switches among those that are held; entries that are not held
-/// are 255. Takes a walk over the numbers of all blocks.
+/// are 255. Takes a step for each switch and each of these blocks.
 pub(crate) fn blocks(
     alloc: Global,
     held: &Held,
-    numbers: &[u16],
+    chains: &Chains,
     number: u16,
 ) -> Result<Vec<[u8; 64]>, AllocError>
-    requires { numbers.now ≡ map number_of held.now.blocks }
+    requires { AreChains (map number_of held.now.blocks) chains.now }
     ensures { IfOk result (λ rows. AreBlocks held.now number rows.items) }
 {
     let mut rows = no_blocks(alloc, held)?;
-    for (index, other) in numbers.iter().enumerate() {
-        if *other == number {
-            put_block(&mut rows, held.blocks(), index);
-        }
+    let mut index = chains.first(number);
+    while index < held.blocks().len() {
+        put_block(&mut rows, held.blocks(), index);
+        index = chains.next(index);
     }
     Ok(rows)
 }
@@ -45,8 +46,16 @@ fn put_row(rows: &mut Vec<[u8; 64]>, block: &HeldBlock)
     }
 }
 
+/// The chains of the numbers of the blocks that are held.
+pub(crate) fn block_chains(alloc: Global, held: &Held) -> Result<Chains, AllocError>
+    ensures { IfOk result (λ chains. AreChains (map number_of held.now.blocks) chains) }
+{
+    let numbers = numbers(alloc, held)?;
+    chains_of(alloc, &numbers)
+}
+
 /// The numbers of the blocks that are held.
-pub(crate) fn numbers(alloc: Global, held: &Held) -> Result<Vec<u16>, AllocError>
+fn numbers(alloc: Global, held: &Held) -> Result<Vec<u16>, AllocError>
     ensures { IfOk result (λ numbers. numbers.items ≡ map number_of held.now.blocks) }
 {
     held.blocks()

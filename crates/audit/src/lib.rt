@@ -4,6 +4,7 @@
 mod arrival;
 mod audited_switch;
 mod blocks;
+mod chains;
 mod end;
 mod ends;
 mod entry;

@@ -10,7 +10,8 @@ ghost use Rattle.audit.specs.Ends.{is_sole};
 ghost use Rattle.audit.specs.Tables.{is_owner, owners_of, top_of};
 
 use crate::audited_switch::{AuditedSwitch, greatest_top, nodes};
-use crate::blocks::{blocks, numbers};
+use crate::blocks::{block_chains, blocks};
+use crate::chains::Chains;
 use crate::ends::Ends;
 use crate::entry::entry_for;
 use crate::far_end::Far;
@@ -40,8 +41,8 @@ pub struct Network<'a> {
     firsts: Vec<Option<usize>>,
     /// Whether each has one.
     begin: bool,
-    /// The numbers of the blocks that are held.
-    numbers: Vec<u16>,
+    /// Where the next block of each number is among those that are held.
+    chains: Chains,
     /// Who holds each LID.
     owners: Vec<Owner>,
 }
@@ -57,7 +58,7 @@ impl<'a> Model for Network<'a> {
     ghost view = { λ a. record { facts = a.store.now; held = a.held.now } };
 
     ghost invariant = { λ a. IsNetwork (cells_of a.store.now) a.held.now a.nodes.items a.sources.items a.firsts.items
-        a.begin a.numbers.items a.owners.items };
+        a.begin a.chains a.owners.items };
 }
 
 /// The blocks of a number that switches hold.
@@ -82,7 +83,7 @@ impl<'a> Network<'a> {
         let sources = sources(alloc, &wires, &guids, &ports)?;
         let firsts = firsts(alloc, &sources)?;
         let begin = all_begin(nodes.len(), &firsts);
-        let numbers = numbers(alloc, held)?;
+        let chains = block_chains(alloc, held)?;
         let owners = owners(alloc, held)?;
         Ok(Network {
             store,
@@ -91,18 +92,18 @@ impl<'a> Network<'a> {
             sources,
             firsts,
             begin,
-            numbers,
+            chains,
             owners,
         })
     }
 
-    /// The blocks of a number: LIDs from 64 times the number on. Takes a walk over the numbers of all
-    /// blocks.
+    /// The blocks of a number: LIDs from 64 times the number on. Takes a step for each switch that is held and each
+    /// of these blocks.
     pub fn blocks(&self, alloc: Global, number: u16) -> Result<Blocks, AllocError>
         ensures { IfOk result (λ blocks. AreBlocks self.now.held blocks.number blocks.rows.items
             × (blocks.number ≡ number)) }
     {
-        let rows = blocks(alloc, self.held, &self.numbers, number)?;
+        let rows = blocks(alloc, self.held, &self.chains, number)?;
         Ok(Blocks { number, rows })
     }
 
@@ -135,7 +136,7 @@ impl<'a> Network<'a> {
     {
         let owners = owners_of(alloc, self.held, &self.owners, line.lid)?;
         let steps = steps(alloc, &self.nodes, &owners, &blocks.rows, line.lid)?;
-        let walks = ends(alloc, steps)?;
+        let walks = ends(steps);
         Ends::new(
             alloc,
             line.port,

@@ -1,36 +1,42 @@
-//! Where walks from switch to switch end: each round doubles how far they have come.
-ghost use Rattle.std.specs.Prelude.{◌≡◌, ◌≤◌, map, length, count_by, IfOk};
-ghost use Rattle.audit.specs.WalkEnds.{onward, is_to, end_of, IsEndOf, HaveEnded};
+//! Where walks from switch to switch end: in each round each goes on from where it has come.
+ghost use Rattle.std.specs.Prelude.{◌≡◌, count_by};
+ghost use Rattle.audit.specs.WalkEnds.{AreFurther, HaveEnded, end_of, is_to, onward};
 
 use crate::end::End;
 use crate::next_hop::NextHop;
-use std::alloc::{AllocError, Global};
 
-#[tactic(auto, using(crate::proofs::Ended::doubled_none, crate::proofs::Ended::doubled_more))]
 /// What the walks from the switches come to, by what each switch does: those that have not ended then go on
-/// for ever. A round takes a step for each switch, and there are as many rounds as the longest walk's length
+/// for ever. A round takes a step for each switch, and there are at most as many rounds as the longest walk's length
 /// has binary digits, and one more where some go round for ever.
-pub fn ends(alloc: Global, steps: Vec<NextHop>) -> Result<Vec<NextHop>, AllocError>
-    ensures { IfOk result (λ ends. HaveEnded steps.items ends.items) }
+pub fn ends(steps: Vec<NextHop>) -> Vec<NextHop>
+    ensures { HaveEnded steps.items result.items }
 {
     let mut jumps = steps;
-    let mut left = count_onward(&jumps);
+    let mut left = jumps.len();
     while left > 0 {
-        jumps = doubled(alloc, &jumps)?;
-        let now = count_onward(&jumps);
+        let now = go_further(&mut jumps);
         if now == left {
-            return Ok(jumps);
+            return jumps;
         }
         left = now;
     }
-    Ok(jumps)
+    jumps
 }
 
-/// How many walks have not ended.
-fn count_onward(jumps: &[NextHop]) -> usize
-    ensures { result ≡ count_by is_to jumps.now }
+/// Each walk goes on from where it has come, one after the other; answers how many have not ended then.
+fn go_further(jumps: &mut Vec<NextHop>) -> usize
+    ensures further { AreFurther jumps.old.items jumps.new.items }
+    ensures left { result ≡ count_by is_to jumps.new.items }
 {
-    jumps.iter().filter(|step| is_to(step)).count()
+    let mut left = 0;
+    for index in 0..jumps.len() {
+        let step = onward(jumps, jumps[index]);
+        jumps[index] = step;
+        if is_to(&step) {
+            left += 1;
+        }
+    }
+    left
 }
 
 /// Whether it comes to a switch.
@@ -38,13 +44,6 @@ pub fn is_to(step: &NextHop) -> bool
     ensures { result ≡ is_to step.now }
 {
     matches!(step, NextHop::To(_))
-}
-
-/// Each walk as far again.
-fn doubled(alloc: Global, jumps: &[NextHop]) -> Result<Vec<NextHop>, AllocError>
-    ensures { IfOk result (λ further. further.items ≡ map (onward jumps.now) jumps.now) }
-{
-    jumps.iter().map(|step| onward(jumps, *step)).collect(alloc)
 }
 
 /// The next step, by those of the switches.

@@ -18,15 +18,16 @@ use Rattle.plan_file.specs.Held.{HeldPlan}
 use Rattle.audit.specs.declared.end.End.{End}
 use Rattle.audit.specs.declared.far_end.Far.{Far}
 use Rattle.audit.specs.Network.{far_of, switch_over}
-use Rattle.audit.specs.NextHops.{AreBrought, is_at}
+use Rattle.audit.specs.NextHops.{AreBrought, end_for, is_at}
 use Rattle.audit.specs.Tables.{is_owner, is_same_end}
 use Rattle.audit.proofs.Arrivals.{all_there}
+use Rattle.audit.proofs.InTime.{found_at}
 use Rattle.audit.proofs.Judged.{same_ends, same_itself}
 use Rattle.audit_channels.specs.declared.sender_groups.Groups.{Groups}
 use Rattle.audit_channels.specs.Groups.{AreGrouped, IsGroupedWith, adapters, by_switch, packets_at, total}
 use Rattle.audit_channels.specs.WayTally.{weighed}
-use Rattle.audit_channels.specs.Ways.{is_adapter, is_target, reaches, reaches_if}
-use Rattle.audit_channels.proofs.Grouped.{arrives_there, delivered}
+use Rattle.audit_channels.specs.Ways.{AllComeTo, is_adapter, is_target, reaches, reaches_if}
+use Rattle.audit_channels.proofs.Grouped.{delivered}
 use Rattle.audit_channels.proofs.Once.{filters_agree, stands_once, sum_with}
 
 pub none_is : {X : Type 0} (o : Option X) → is_some o ≡ false → o ≡ None
@@ -102,15 +103,9 @@ module _ (facts : Facts) (held : HeldPlan) (line : HeldLid) (far : Far) (target 
   view = cells_of facts
 
   -- where all packets arrive
-  all_reach : (port : EndPort) (ends : List (Option End)) → AreBrought view held line.lid ends → port ≡ line.port
-      → position (λ end. not (is_at port end)) ends ≡ None → (e : EndPort) → Contains (end_ports view) e
+  all_reach : AllComeTo view held line → (e : EndPort) → Contains (end_ports view) e
       → reaches view held line e ≡ (is_adapter e && not (is_same_end line.port e))
-  all_reach port ends brought own none e h =
-      let n = h.0 in
-      let as_many = brought.as_many in
-      let there = all_there port ends none n (omega (arith, as_many, h.1)) in
-      arrives_there view held line port ends n e (is_at port (get_or ends n None)) brought own h.1 (sym h.2) refl
-      ∙ ap (reaches_if line e) there ∙ with_true (is_adapter e) (is_same_end line.port e)
+  all_reach come e h = ap (reaches_if line e) (come e h) ∙ with_true (is_adapter e) (is_same_end line.port e)
     where
       with_true : (a b : Bool) → (a && not b && true) ≡ (a && not b)
       with_true true true = refl
@@ -118,13 +113,12 @@ module _ (facts : Facts) (held : HeldPlan) (line : HeldLid) (far : Far) (target 
       with_true false b = refl
 
   -- all but the own one
-  pub without_own : (old new : Groups) (port : EndPort) (ends : List (Option End)) → AreBrought view held line.lid ends → port ≡ line.port
-      → position (λ end. not (is_at port end)) ends ≡ None → AreGrouped view (adapters view) old → IsGroupedWith new far old
+  pub without_own : (old new : Groups) → AllComeTo view held line → AreGrouped view (adapters view) old → IsGroupedWith new far old
       → AreGrouped view (delivered view held line) new
-  without_own old new port ends brought own none h w =
+  without_own old new come h w =
       let parts = and_parts (is_adapter line.port) (is_owner (end_ports view) line.port) target in
       let same = filters_agree (reaches view held line) (λ e. is_adapter e
-      && not (is_same_end line.port e)) (end_ports view) (all_reach port ends brought own none) in
+      && not (is_same_end line.port e)) (end_ports view) (all_reach come) in
       let once = listed_once facts line.port parts.1 in
       record {
         as_many = sym w.as_many ∙ h.as_many;
@@ -161,3 +155,13 @@ module _ (facts : Facts) (held : HeldPlan) (line : HeldLid) (far : Far) (target 
     as_many = back.as_many ∙ sym left.as_many ∙ h.as_many;
     sums = λ number. h.sums number ∙ left.sums number ∙ sym (back.sums number);
   }
+
+-- all packets arrive where none is seen to end elsewhere
+pub all_come_to : (cells : Cells) (held : HeldPlan) (line : HeldLid) (port : EndPort) (ends : List (Option End)) → AreBrought cells held line.lid ends
+    → port ≡ line.port → position (λ end. not (is_at port end)) ends ≡ None → AllComeTo cells held line
+all_come_to cells held line port ends brought own none e h =
+    let n = h.0 in
+    let as_many = brought.as_many in
+    let there = all_there port ends none n (omega (arith, as_many, h.1)) in
+    ap (is_at line.port) (sym (found_at cells held line.lid ends n e brought h.1 ∙ ap (end_for cells held line.lid) h.2))
+    ∙ ap (λ p. is_at p (get_or ends n None)) (sym own) ∙ there

@@ -1,6 +1,6 @@
 -- The ways of the packets that adapter ports send to each other, and how often these take each channel.
 -- InfiniBand Architecture Specification, Volume 1: switches, unicast forwarding by the linear forwarding table.
-use Rattle.std.specs.Prelude.{◌≡◌, ◌+◌, ◌*◌, ◌==◌, ◌&&◌, ℕ, zero, suc, Bool, true, false, not, List, [], ◌∷◌, Option, None, count_by, filter, length, map, slice_index_or, if◌then◌else◌}
+use Rattle.std.specs.Prelude.{◌≡◌, ◌+◌, ◌*◌, ◌==◌, ◌&&◌, ℕ, zero, suc, Bool, true, false, not, List, [], ◌∷◌, Option, None, Some, Contains, count_by, filter, length, map, slice_get, slice_index_or, if◌then◌else◌}
 use Rattle.std.specs.List.{flat_map, range_with_len, sum_by}
 use Rattle.std.specs.Option.{option_map_or}
 use Rattle.port_graph.specs.declared.edge.Edge.{Edge}
@@ -66,6 +66,16 @@ reaches_by line e end = reaches_if line e (is_at line.port end)
 -- a packet for the LID of a line, from an adapter port, is delivered at the line's port, which is another
 abbrev pub reaches : Cells → HeldPlan → HeldLid → EndPort → Bool
 reaches cells held line e = reaches_by line e (end_for cells held line.lid e)
+
+-- the packets for the LID of a line that end ports send are all delivered at its port
+abbrev pub AllComeTo : Cells → HeldPlan → HeldLid → Type 0
+AllComeTo cells held line =
+    (e : EndPort) → Contains (end_ports cells) e → is_at line.port (end_for cells held line.lid e) ≡ true
+
+-- so it is of those lines of which it is told, by their indices
+abbrev pub AreTold : Cells → HeldPlan → List Bool → Type 0
+AreTold cells held told = (index : ℕ) (line : HeldLid) → slice_get held.lids index ≡ Some line
+    → slice_index_or told index false ≡ true → AllComeTo cells held line
 
 -- the way of a packet for the LID of a line
 abbrev pub way_of : Cells → HeldPlan → HeldLid → EndPort → Way

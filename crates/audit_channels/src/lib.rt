@@ -26,4 +26,4 @@ pub use network_order::channel_order;
 pub use order::{ChannelOrder, order_channels};
 pub use sender_groups::is_adapter;
 pub use waits::Waits;
-pub use ways::{WayFigures, figures_of_ways};
+pub use ways::{WayFigures, figures_of_ways, figures_of_ways_told};

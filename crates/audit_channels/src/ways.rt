@@ -1,13 +1,15 @@
-ghost use Rattle.std.specs.Prelude.{◌≡◌, ◌/◌, ◌*◌, true, IfOk, OnOk, length, map, slice_index};
+ghost use Rattle.std.specs.Prelude.{◌≡◌, ◌/◌, ◌*◌, true, false, IfOk, MatchOption, OnOk, filter, length, map, slice_index, slice_index_or};
 ghost use Rattle.std.specs.List.{sum_by};
 ghost use Rattle.fact_store.specs.View.{cells_of};
+ghost use Rattle.subnet_view.specs.EndPorts.{end_ports};
 ghost use Rattle.subnet_view.specs.Reading.{switches};
 ghost use Rattle.audit.specs.Network.{far_of};
 ghost use Rattle.audit.specs.NextHops.{AreBlocks};
 ghost use Rattle.audit_channels.specs.Figures.{IsTotal};
 ghost use Rattle.audit_channels.specs.Groups.{AreGrouped, adapters};
 ghost use Rattle.audit_channels.specs.WayTally.{IsCounted, IsCountedMore};
-ghost use Rattle.audit_channels.specs.Ways.{IsToldOfWays, channels_of, is_target, is_to_switch, ways_of, ways_to};
+ghost use Rattle.audit_channels.specs.Ways.{AllComeTo, AreTold, IsToldOfWays, channels_of};
+ghost use Rattle.audit_channels.specs.Ways.{is_target, is_to_switch, reaches, ways_of, ways_to};
 
 use crate::figures::{Figures, Total};
 use crate::roster::{roster, target_among};
@@ -33,7 +35,20 @@ pub struct WayFigures {
 pub fn figures_of_ways(alloc: Global, network: &Network) -> Result<WayFigures, AllocError>
     ensures { IfOk result (IsToldOfWays (cells_of network.now.facts) network.now.held) }
 {
-    let tally = tally_of(alloc, network)?;
+    figures_of_ways_told(alloc, network, &[])
+}
+
+/// The same, where it is told of some lines that all packets for their LIDs are delivered at their ports: for these it
+/// does not take what `Network::ends` does.
+pub fn figures_of_ways_told(
+    alloc: Global,
+    network: &Network,
+    told: &[bool],
+) -> Result<WayFigures, AllocError>
+    requires { AreTold (cells_of network.now.facts) network.now.held told.now }
+    ensures { IfOk result (IsToldOfWays (cells_of network.now.facts) network.now.held) }
+{
+    let tally = tally_of(alloc, network, told)?;
     let hops = tally.hops.figures()?;
     let loads = loads_of(network, &tally.loads)?;
     let load = loads.figures()?;
@@ -41,7 +56,8 @@ pub fn figures_of_ways(alloc: Global, network: &Network) -> Result<WayFigures, A
 }
 
 /// Counts the ways of the packets.
-fn tally_of(alloc: Global, network: &Network) -> Result<WayTally, AllocError>
+fn tally_of(alloc: Global, network: &Network, told: &[bool]) -> Result<WayTally, AllocError>
+    requires { AreTold (cells_of network.now.facts) network.now.held told.now }
     ensures { IfOk result (IsCounted (256 * length (switches (cells_of network.now.facts)))
         (λ number. sum_by number (ways_of (cells_of network.now.facts) network.now.held))) }
 {
@@ -50,7 +66,7 @@ fn tally_of(alloc: Global, network: &Network) -> Result<WayTally, AllocError>
     let roster = roster(alloc, network)?;
     let mut senders = senders(alloc, network)?;
     let mut blocks = network.blocks(alloc, 0)?;
-    for line in network.lids() {
+    for (index, line) in network.lids().iter().enumerate() {
         blocks = network.blocks_for(alloc, blocks, line.lid)?;
         if let Some(far) = target_among(&roster, &line.port) {
             add_ways(
@@ -61,10 +77,18 @@ fn tally_of(alloc: Global, network: &Network) -> Result<WayTally, AllocError>
                 &blocks,
                 line,
                 &far,
+                is_told(told, index),
             )?;
         }
     }
     Ok(tally)
+}
+
+/// Whether it is told of the line at an index.
+fn is_told(told: &[bool], index: usize) -> bool
+    ensures { result ≡ slice_index_or told.now index false }
+{
+    told.get(index).copied().unwrap_or(false)
 }
 
 /// Counts those for the LID of a line, the wire in whose port leads there. Takes the packets from all adapter ports,
@@ -77,6 +101,7 @@ fn add_ways(
     blocks: &Blocks,
     line: &HeldLid,
     far: &Far,
+    told: bool,
 ) -> Result<(), AllocError>
     requires held { AreBlocks network.now.held blocks.now.number blocks.now.rows.items }
     requires number { blocks.now.number ≡ line.now.lid / 64 }
@@ -84,20 +109,46 @@ fn add_ways(
     requires senders { AreGrouped (cells_of network.now.facts) (adapters (cells_of network.now.facts)) senders.old }
     requires target { is_target (cells_of network.now.facts) line.now.port ≡ true }
     requires far { far.now ≡ far_of (cells_of network.now.facts) line.now.port.node line.now.port.port }
+    requires told { told ≡ true → AllComeTo (cells_of network.now.facts) network.now.held line.now }
     ensures ways { OnOk result (IsCountedMore (256 * length (switches (cells_of network.now.facts))) tally.old
         (λ number. sum_by number (ways_to (cells_of network.now.facts) network.now.held line.now)) tally.new) }
     ensures senders { OnOk result
         (AreGrouped (cells_of network.now.facts) (adapters (cells_of network.now.facts)) senders.new) }
 {
-    let ends = network.ends(alloc, blocks, line)?;
     let edges = network.edges(alloc, blocks, line.lid)?;
-    if ends.first_elsewhere().is_some() {
-        let groups = group_packets(alloc, network, line, &ends)?;
-        return tally.add(&edges, &groups.weights, groups.direct);
+    match some_of_all(alloc, network, blocks, line, told)? {
+        Some(groups) => return tally.add(&edges, &groups.weights, groups.direct),
+        None => {}
     }
     senders.leave(far);
     tally.add(&edges, &senders.weights, senders.direct)?;
     senders.join(far)
+}
+
+/// The packets for the LID of a line that are delivered, where not all are; None where all are, as may be told.
+fn some_of_all(
+    alloc: Global,
+    network: &Network,
+    blocks: &Blocks,
+    line: &HeldLid,
+    told: bool,
+) -> Result<Option<Groups>, AllocError>
+    requires held { AreBlocks network.now.held blocks.now.number blocks.now.rows.items }
+    requires number { blocks.now.number ≡ line.now.lid / 64 }
+    requires told { told ≡ true → AllComeTo (cells_of network.now.facts) network.now.held line.now }
+    ensures { IfOk result (λ groups. MatchOption groups
+        (AllComeTo (cells_of network.now.facts) network.now.held line.now)
+        (AreGrouped (cells_of network.now.facts) (filter
+        (reaches (cells_of network.now.facts) network.now.held line.now) (end_ports (cells_of network.now.facts))))) }
+{
+    if told {
+        return Ok(None);
+    }
+    let ends = network.ends(alloc, blocks, line)?;
+    match ends.first_elsewhere() {
+        None => Ok(None),
+        Some(_) => Ok(Some(group_packets(alloc, network, line, &ends)?)),
+    }
 }
 
 /// Counts the loads of the channels of a network.

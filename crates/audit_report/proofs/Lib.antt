@@ -10,4 +10,5 @@ pub mod PlansRise
 pub mod Sited
 pub mod Surveyed
 pub mod TallyText
+pub mod ToldLines
 pub mod Written

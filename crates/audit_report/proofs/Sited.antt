@@ -1,41 +1,38 @@
 -- The sites of end ports, and which of them is that of a port.
 use Rattle.std.proofs.Common.{◌≡◌, ◌<◌, ℕ, zero, suc, List, [], ◌∷◌, refl, sym, ap, subst, ◌∙◌, Bool, true, false, cond, ◌&&◌, ◌||◌, length, get_or, arith}
-use Rattle.std.specs.Prelude.{Contains, Option, None, Some, count_by, find, map}
+use Rattle.std.specs.Prelude.{Contains, Option, None, Some, count_by, find, map, slice_get}
 use Rattle.std.proofs.lemmas.Bool.{eq-eqb, eqb-true}
 use Rattle.std.proofs.lemmas.List.Sums.{sum_by-cons}
 use Rattle.std.proofs.lemmas.Option.{same_Some}
 use Rattle.smp_bytes.proofs.Members.{contains_here, contains_later, list_all_at}
+use Rattle.std.proofs.lemmas.List.Folds.{find_at}
+use Rattle.std.specs.List.{list_any, position_or_len}
+use Rattle.std.specs.Option.{option_map_or}
+use Rattle.subnet_view.proofs.Members.{contains_in, list_any_true}
+use Rattle.audit.proofs.PlanSteps.{contains_at}
 use Rattle.subnet_view.specs.declared.end_port.EndPort.{EndPort}
 use Rattle.subnet_view.specs.Reading.{Cells}
 use Rattle.audit.specs.Tables.{is_owner, is_same_end}
 use Rattle.audit.proofs.Judged.{same_ends}
 use Rattle.audit_report.specs.declared.site.Site.{Site}
 use Rattle.audit_channels.specs.Ways.{is_adapter}
-use Rattle.audit_report.specs.Sites.{are_adapters, are_joined, are_joined_adapters, are_one_component, first_root, is_one_root, leads_to, site_of}
+use Rattle.audit_report.specs.Sites.{IsSiteOf, is_of, are_adapters, are_joined, are_joined_adapters, are_one_component, first_root, is_one_root, leads_to, site_of}
 
-module _ (cells : Cells) (port : EndPort) where
-  abbrev at : Site → Bool
-  at site = is_same_end port site.port
-
+module _ (cells : Cells) (port : EndPort) (ports : List EndPort) (sites : List Site) (sites_are : sites ≡ map (site_of cells) ports) where
   -- the site that is found is that of the port, which is one of these
-  pub site_is : (ports : List EndPort) (site : Site) → find at (map (site_of cells) ports) ≡ Some site → (site ≡ site_of cells port)
-      × (is_owner ports port ≡ true)
-  site_is [] site e = absurd (cc)
-  site_is (x ∷ ports) site e =
-      elim (is_same_end port x) as (λ t. is_same_end port x ≡ t → cond t (Some (site_of cells x)) (find at (map (site_of cells) ports)) ≡ Some site
-      → (site ≡ site_of cells port) × ((t || is_owner ports port) ≡ true)) [
-        | true ↦ λ q k. (sym (same_Some (site_of cells x) site k) ∙ ap (site_of cells) (same_ends port x q), refl)
-        | false ↦ λ q k. site_is ports site k
-      ] refl e
+  pub site_is : (site : Site) → IsSiteOf sites port (Some site) → (site ≡ site_of cells port) × (is_owner ports port ≡ true)
+  site_is site h =
+      let there = contains-from_map (site_of cells) ports site (contains_in site sites_are h.0) in
+      let same : there.0 ≡ port = same_ends port there.0 (ap (is_of port) there.2 ∙ h.1) in
+      (sym there.2 ∙ ap (site_of cells) same, list_any_true (is_same_end port) ports there.0 there.1 (ap (is_of port) there.2 ∙ h.1))
 
   -- where none is found, it is none of these
-  pub no_site : (ports : List EndPort) → find at (map (site_of cells) ports) ≡ None → is_owner ports port ≡ false
-  no_site [] e = refl
-  no_site (x ∷ ports) e =
-      elim (is_same_end port x) as (λ t. cond t (Some (site_of cells x)) (find at (map (site_of cells) ports)) ≡ None → (t || is_owner ports port) ≡ false) [
-        | true ↦ λ k. absurd (cc)
-        | false ↦ λ k. no_site ports k
-      ] e
+  pub no_site : IsSiteOf sites port None → is_owner ports port ≡ false
+  no_site e = sym (owned ports) ∙ ap (list_any (is_of port)) (sym sites_are) ∙ e
+    where
+      owned : (ps : List EndPort) → list_any (is_of port) (map (site_of cells) ps) ≡ is_owner ps port
+      owned [] = refl
+      owned (x ∷ ps) = ap (λ t. is_same_end port x || t) (owned ps)
 
 -- the site at an index is that of the end port there
 pub site_there : (cells : Cells) (ports : List EndPort) (index : ℕ) (site : Site) (d : EndPort) → index < length ports
@@ -45,17 +42,6 @@ site_there cells (x ∷ ports) zero site d h e = e
 site_there cells (x ∷ ports) (suc index) site d h e = site_there cells ports index site d (omega arith) e
 
 -- where all lie in one component -----------------------------------------------------------------
-
-found_listed : {X : Type 0} (p : X → Bool) (xs : List X) (x : X) → find p xs ≡ Some x → Contains xs x
-found_listed p [] x e = absurd (cc)
-found_listed p (y ∷ xs) x e =
-    elim (p y) as (λ t. cond t (Some y) (find p xs) ≡ Some x → Contains (y ∷ xs) x) [
-      | true ↦ λ k. subst (λ z. Contains (y ∷ xs) z) (same_Some y x k) (contains_here y xs)
-      | false ↦ λ k. contains_later y x xs (found_listed p xs x k)
-    ] e
-
-pub site_listed : (port : EndPort) (sites : List Site) (site : Site) → find (λ site. is_same_end port site.port) sites ≡ Some site → Contains sites site
-site_listed port sites site e = found_listed (λ (s : Site). is_same_end port s.port) sites site e
 
 one_root : (a b r : Option ℕ) → is_one_root a r ≡ true → is_one_root b r ≡ true → is_one_root a b ≡ true
 one_root None b r h k = absurd (cc)
@@ -124,3 +110,28 @@ adapters_joined sites owner whole listed same =
     (λ site c. (
     sym (and_true (is_adapter site.port) (is_adapter owner.port) same)
     ∙ sym (ap (λ t. t && are_adapters site.port owner.port) (each_joined sites owner whole listed site c))))
+
+-- the site at an index, or the first -------------------------------------------------------------
+pub site_at : (sites : List Site) (port : EndPort) (index : ℕ) → option_map_or (is_of port) (slice_get sites index) false ≡ true
+    → IsSiteOf sites port (slice_get sites index)
+site_at sites port index h = by (slice_get sites index) refl h
+  where
+    by : (o : Option Site) → slice_get sites index ≡ o → option_map_or (is_of port) o false ≡ true → IsSiteOf sites port o
+    by None e k = absurd (cc)
+    by (Some site) e k = (contains_at sites index site e, k)
+
+pub first_site : (sites : List Site) (port : EndPort) (index : ℕ) → index ≡ position_or_len (is_of port) sites
+    → IsSiteOf sites port (slice_get sites index)
+first_site sites port index e = subst (λ (o : Option Site). IsSiteOf sites port o) (find_at (is_of port) sites ∙ ap (slice_get sites) (sym e)) (found sites)
+  where
+    found : (xs : List Site) → IsSiteOf xs port (find (is_of port) xs)
+    found [] = refl
+    found (x ∷ xs) =
+        elim (is_of port x) as (λ t. is_of port x ≡ t → IsSiteOf (x ∷ xs) port (cond t (Some x) (find (is_of port) xs))) [
+          | true ↦ λ q. (contains_here x xs, q)
+          | false ↦ λ q. later x xs q (find (is_of port) xs) (found xs)
+        ] refl
+
+    later : (x : Site) (xs : List Site) → is_of port x ≡ false → (o : Option Site) → IsSiteOf xs port o → IsSiteOf (x ∷ xs) port o
+    later x xs q None h = ap (λ t. t || list_any (is_of port) xs) q ∙ h
+    later x xs q (Some site) h = (contains_later x site xs h.0, h.1)

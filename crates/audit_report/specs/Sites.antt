@@ -1,6 +1,6 @@
 -- Which end ports lie in one component: those at switches of one, and two adapter ports with a wire between them.
-use Rattle.std.specs.Prelude.{◌≡◌, ℕ, Bool, false, ◌==◌, ◌&&◌, ◌||◌, List, [], ◌∷◌, Option, None, Some, count_by, option_map, option_and_then}
-use Rattle.std.specs.List.{list_all}
+use Rattle.std.specs.Prelude.{◌≡◌, ℕ, Bool, true, false, ◌==◌, ◌&&◌, ◌||◌, List, [], ◌∷◌, Option, None, Some, Contains, count_by, option_map, option_and_then}
+use Rattle.std.specs.List.{list_all, list_any}
 use Rattle.std.specs.Option.{option_map_or}
 use Rattle.subnet_view.specs.declared.end_port.EndPort.{EndPort}
 use Rattle.subnet_view.specs.Reading.{Cells}
@@ -23,6 +23,15 @@ root_at cells e = option_and_then (root_of (graph_of cells)) (switch_of cells e)
 
 abbrev pub site_of : Cells → EndPort → Site
 site_of cells e = record { port = e; root = root_at cells e; across = across cells e.node e.port }
+
+-- a site is that of a port
+abbrev pub is_of : EndPort → Site → Bool
+is_of port site = is_same_end port site.port
+
+-- the site of a port among these; None where none is
+abbrev pub IsSiteOf : List Site → EndPort → Option Site → Type 0
+IsSiteOf sites port None = list_any (is_of port) sites ≡ false
+IsSiteOf sites port (Some site) = Contains sites site × (is_of port site ≡ true)
 
 -- two components with roots are one where their roots are
 abbrev pub is_one_root : Option ℕ → Option ℕ → Bool

@@ -9,7 +9,7 @@ use crate::site::sites;
 use crate::survey::survey;
 use crate::unmatched::Unmatched;
 use audit::Network;
-use audit_channels::{ChannelOrder, WayFigures, channel_order, figures_of_ways};
+use audit_channels::{ChannelOrder, WayFigures, channel_order, figures_of_ways_told};
 use fact_store::{Refused, Store};
 use plan_file::Held;
 use std::alloc::{AllocError, Global};
@@ -54,14 +54,14 @@ impl<'a> Audit<'a> {
     {
         let network = Network::of(alloc, store, held)?;
         let sites = sites(alloc, store)?;
-        let tally = survey(alloc, &network, &sites)?;
+        let survey = survey(alloc, &network, &sites)?;
         let unmatched = Unmatched::of(alloc, store, held)?;
         let disputed = disputed(store);
-        let ways = figures_of_ways(alloc, &network)?;
+        let ways = figures_of_ways_told(alloc, &network, &survey.told)?;
         let cycle = cycle_of(alloc, &network)?;
         Ok(Audit {
             network,
-            tally,
+            tally: survey.tally,
             unmatched,
             disputed,
             ways,

@@ -1,12 +1,14 @@
 //! Where end ports lie: which of them are in one component.
-ghost use Rattle.std.specs.Prelude.{◌≡◌, Contains, IfOk, count_by, find, map};
+ghost use Rattle.std.specs.Prelude.{◌≡◌, false, Contains, IfOk, count_by, map, slice_get};
+ghost use Rattle.std.specs.List.{position_or_len};
+ghost use Rattle.std.specs.Option.{option_map_or};
 ghost use Rattle.fact_store.specs.View.{cells_of};
 ghost use Rattle.subnet_view.specs.EndPorts.{end_ports};
 ghost use Rattle.subnet_view.specs.Graph.{graph_of, guids_of};
 ghost use Rattle.subnet_view.specs.Components.{root_of};
-ghost use Rattle.audit.specs.Tables.{is_same_end};
 ghost use Rattle.audit_channels.specs.Ways.{is_adapter};
-ghost use Rattle.audit_report.specs.Sites.{IsCensus, are_adapters, are_joined, are_joined_adapters};
+ghost use Rattle.audit_report.specs.Sites.{IsCensus, IsSiteOf, is_of};
+ghost use Rattle.audit_report.specs.Sites.{are_adapters, are_joined, are_joined_adapters};
 ghost use Rattle.audit_report.specs.Sites.{are_one_component, first_root, is_one_root, leads_to, root_at, site_of, switch_of};
 
 use audit::is_same_end;
@@ -219,12 +221,37 @@ fn switch_of(wires: &Wires, port: &EndPort) -> Option<Guid>
     Some(switch)
 }
 
-/// The site of a port, where it is one of these.
-pub(crate) fn site_at(sites: &[Site], port: &EndPort) -> Option<Site>
-    ensures { result ≡ find (λ site. is_same_end port.now site.port) sites.now }
+/// The index of the site of a port, and how many sites there are where none is. Takes a step or two where it is at a
+/// place or next to it, and else a walk.
+pub(crate) fn place_of(sites: &[Site], place: usize, port: &EndPort) -> usize
+    ensures { IsSiteOf sites.now port.now (slice_get sites.now result) }
+{
+    if is_site_at(sites, place, port) {
+        return place;
+    }
+    let next = place.saturating_add(1);
+    if is_site_at(sites, next, port) {
+        return next;
+    }
+    first_at(sites, port)
+}
+
+/// Whether the site at an index is that of a port.
+fn is_site_at(sites: &[Site], index: usize, port: &EndPort) -> bool
+    ensures { result ≡ option_map_or (is_of port.now) (slice_get sites.now index) false }
+{
+    match sites.get(index) {
+        Some(site) => is_same_end(port, &site.port),
+        None => false,
+    }
+}
+
+/// The index of the first site of a port, and how many sites there are where none is.
+fn first_at(sites: &[Site], port: &EndPort) -> usize
+    ensures { result ≡ position_or_len (is_of port.now) sites.now }
 {
     sites
         .iter()
-        .copied()
-        .find(|site| is_same_end(port, &site.port))
+        .position(|site| is_same_end(port, &site.port))
+        .unwrap_or(sites.len())
 }

@@ -1,7 +1,7 @@
 -- For which LIDs packets wait in a credit loop of a step, LID by LID up to the greatest top of both tables.
 use Rattle.std.proofs.Common.{length-append, ◌≡◌, ◌<◌, ◌≤◌, ◌+◌, ◌*◌, ◌/◌, ℕ, zero, suc, true, false, List, [], ◌∷◌, ◌++◌, length, replicate, refl, sym, ap, ◌∙◌, subst, arith, max, inl, inr, ◌⊎◌, cond}
-use Rattle.std.specs.Prelude.{Option, None, Some, slice_index_or, slice_set, map, ◌==◌}
-use Rattle.std.proofs.lemmas.Bool.{cases_eq, cases_lt}
+use Rattle.std.specs.Prelude.{Option, None, Some, not, slice_index_or, slice_set, map, ◌==◌}
+use Rattle.std.proofs.lemmas.Bool.{and_parts, cases_eq, cases_lt, eq-eqb}
 use Rattle.std.proofs.lemmas.Grind.{get_or-set_at}
 use Rattle.std.proofs.lemmas.List.{get_or-set_other, get_or_past, length-set}
 use Rattle.std.proofs.lemmas.List.FromFn.{length-map-range_with_len}
@@ -16,7 +16,7 @@ use Rattle.audit.specs.NextHops.{AreBlocks}
 use Rattle.audit.specs.Tables.{entry_for}
 use Rattle.audit_channels.specs.Columns.{number_of, TakesAcross}
 use Rattle.audit_channels.proofs.Columns.{same_edge}
-use Rattle.next_tables.specs.LoopLids.{AreLoopLids, AreNoted, IsLeastLid, IsNoted, TakesFrom, TakesHere, turned}
+use Rattle.next_tables.specs.LoopLids.{AreLoopLids, AreNoted, IsLeastLid, IsNoted, TakesFrom, TakesHere, are_known, turned}
 use Rattle.next_tables.specs.Mixtures.{TakesBy, TakesInStep, WaitsInStep}
 use Rattle.next_tables.specs.StepOrder.{WaitInCycle, WaitOn, WaitsFor}
 use Rattle.next_tables.proofs.InStep.{above_both}
@@ -254,3 +254,27 @@ module _ (cells : Cells) (held next : HeldPlan) where
         found count (slice_index_or cycle i 0) (slice_index_or (turned cycle) i 0) (slice_index_or lids i 0) past (each_waits cycle waiting i less)
         (subst (λ (others : List ℕ). IsLeastUpTo count (slice_index_or cycle i 0) (slice_index_or others i 0) (slice_index_or lids i 0)) is (so.each i less));
   }
+
+  -- where each is known, they are the least
+  pub known_lids : (count held_number next_number : ℕ) (held_rows next_rows : List (List ℕ)) (cycle after lids : List ℕ)
+      → LidsUpTo count held_number next_number held_rows next_rows cycle after lids → after ≡ turned cycle → are_known lids ≡ true
+      → AreLoopLids cells held next cycle lids
+  known_lids count held_number next_number held_rows next_rows cycle after lids so is known = record {
+    as_many = so.as_many;
+    each = λ i less.
+        least_known count (slice_index_or cycle i 0) (slice_index_or (turned cycle) i 0) (slice_index_or lids i 0)
+        (some_lid lids i (let many = so.as_many in omega arith) known)
+        (subst (λ (others : List ℕ). IsLeastUpTo count (slice_index_or cycle i 0) (slice_index_or others i 0) (slice_index_or lids i 0)) is (so.each i less));
+  }
+    where
+      some : (x : ℕ) → not (x == 0) ≡ true → x ≡ 0 → ⊥
+      some x h e = let none : not (x == 0) ≡ false = ap not (eq-eqb x 0 e) in cc
+
+      some_lid : (xs : List ℕ) (i : ℕ) → i < length xs → are_known xs ≡ true → slice_index_or xs i 0 ≡ 0 → ⊥
+      some_lid [] i less h e = absurd (omega arith)
+      some_lid (x ∷ xs) zero less h e = some x (and_parts (not (x == 0)) (are_known xs) h).0 e
+      some_lid (x ∷ xs) (suc i) less h e = some_lid xs i (omega arith) (and_parts (not (x == 0)) (are_known xs) h).1 e
+
+      least_known : (count a b lid : ℕ) → (lid ≡ 0 → ⊥) → IsLeastUpTo count a b lid → IsLeastLid cells held next a b lid
+      least_known count a b lid is (inl none) = absurd (is none.0)
+      least_known count a b lid is (inr least) = least

@@ -1,5 +1,6 @@
 -- For which LIDs packets wait in a credit loop of a step.
-use Rattle.std.specs.Prelude.{◌≡◌, ◌⊎◌, ◌<◌, ◌≤◌, ◌/◌, ℕ, List, [], ◌∷◌, ◌++◌, Option, length, slice_index_or}
+use Rattle.std.specs.Prelude.{◌≡◌, ◌==◌, ◌⊎◌, ◌<◌, ◌≤◌, ◌/◌, ℕ, Bool, List, [], ◌∷◌, ◌++◌, Option, length, not, slice_index_or}
+use Rattle.std.specs.List.{list_all}
 use Rattle.port_graph.specs.declared.edge.Edge.{Edge}
 use Rattle.subnet_view.specs.Reading.{Cells}
 use Rattle.plan_file.specs.Held.{HeldPlan}
@@ -23,6 +24,10 @@ pub record AreLoopLids (cells : Cells) (held next : HeldPlan) (cycle lids : List
   pub each : (i : ℕ) → i < length cycle
       → IsLeastLid cells held next (slice_index_or cycle i 0) (slice_index_or (turned cycle) i 0)
       (slice_index_or lids i 0)
+
+-- each of these LIDs is known: 0 is none
+abbrev pub are_known : List ℕ → Bool
+are_known lids = list_all (λ lid. not (lid == 0)) lids
 
 -- packets for one LID ----------------------------------------------------------------------------
 

@@ -2,7 +2,7 @@
 ghost use Rattle.std.specs.Prelude.{◌≡◌, ◌↔◌, IfOk, IsTrue, length, replicate};
 ghost use Rattle.fact_store.specs.View.{cells_of};
 ghost use Rattle.audit_channels.specs.Columns.{number_of};
-ghost use Rattle.next_tables.specs.LoopLids.{AreLoopLids, AreNoted, IsNoted, TakesFrom, TakesHere, turned};
+ghost use Rattle.next_tables.specs.LoopLids.{AreLoopLids, AreNoted, IsNoted, TakesFrom, TakesHere, are_known, turned};
 ghost use Rattle.next_tables.specs.StepOrder.{WaitInCycle};
 
 use crate::step::greater;
@@ -14,8 +14,8 @@ use std::alloc::{AllocError, Global};
 
 /// For each channel of a credit loop in a step the least LID for which packets that hold it wait for the channel after
 /// it, and from the last one on for the first, by an entry of either table at each of the two switches. Takes for each
-/// LID up to the greatest top of both tables a step for each switch, by either table, and four for each channel without
-/// a LID yet.
+/// LID, until each channel has one, a step for each switch, by either table, and four for each channel without a LID
+/// yet.
 pub fn loop_lids(
     alloc: Global,
     held: &Network,
@@ -32,6 +32,9 @@ pub fn loop_lids(
     let mut held_blocks = held.blocks(alloc, 0)?;
     let mut next_blocks = next.blocks(alloc, 0)?;
     for below in 0..greater(held.greatest_top(), next.greatest_top()).number() {
+        if are_known(&lids) {
+            return Ok(lids);
+        }
         let lid = Lid::new(below + 1);
         held_blocks = held.blocks_for(alloc, held_blocks, lid)?;
         next_blocks = next.blocks_for(alloc, next_blocks, lid)?;
@@ -59,6 +62,13 @@ fn none_known(alloc: Global, count: usize) -> Result<Vec<Lid>, AllocError>
     ensures { IfOk result (λ lids. lids.items ≡ replicate count 0) }
 {
     vec![in alloc; Lid::new(0); count]
+}
+
+/// Whether none of these is none yet.
+fn are_known(lids: &[Lid]) -> bool
+    ensures { result ≡ are_known lids.now }
+{
+    lids.iter().all(|lid| lid.number() != 0)
 }
 
 /// Notes a LID for each channel of a cycle that has none yet, where its packets hold the channel and wait for the one

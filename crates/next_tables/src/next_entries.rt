@@ -1,5 +1,6 @@
 //! The next entries of the switches for a LID that the same end port holds in the tables held and in the plan.
-ghost use Rattle.std.specs.Prelude.{◌≡◌, IfOk};
+ghost use Rattle.std.specs.Prelude.{◌≡◌, ◌↔◌, IfOk, IsTrue};
+ghost use Rattle.audit.specs.WalkEnds.{HaveEnded};
 ghost use Rattle.next_tables.specs.SwitchSteps.{agreed_by, agreed_of, arrives_by, chosen_by, hops_of, mending_by, mending_of};
 ghost use Rattle.next_tables.specs.SwitchSteps.{is_whole, next_by, next_of, patch_by, patch_entry_by};
 
@@ -9,8 +10,8 @@ use std::alloc::{AllocError, Global};
 use subnet_view::EndPort;
 
 /// The next entries of the switches, by what each does by the tables held and by the plan. Takes for each switch some
-/// steps for each of two walks, by the number of digits of the longest way's length, and of a third where the plan does
-/// not lead on from each switch, or the tables held deliver.
+/// steps for a walk, by the number of digits of the longest way's length, of a second where the tables held and the plan
+/// differ, and of a third where the plan does not lead on from each switch, or the tables held deliver.
 pub(crate) fn next_entries(
     alloc: Global,
     port: &EndPort,
@@ -20,15 +21,57 @@ pub(crate) fn next_entries(
     ensures { IfOk result (λ entries. entries.items ≡ next_of port.now held.now plan.now) }
 {
     let agreed = agreed(alloc, held, plan)?;
-    let hops = hops(alloc, held)?;
-    let settled = ends(alloc, agreed)?;
-    let delivered = ends(alloc, hops)?;
-    if is_whole(port, &settled, &delivered, held, plan) {
-        return chosen(alloc, port, &settled, &delivered, &[], held, plan);
+    if are_hops_of(&agreed, held) {
+        let settled = ends(agreed);
+        return entries_by(alloc, port, &settled, &settled, held, plan);
     }
-    let mending = mending(alloc, port, &delivered, held, plan)?;
-    let mended = ends(alloc, mending)?;
-    chosen(alloc, port, &settled, &delivered, &mended, held, plan)
+    let settled = ends(agreed);
+    let hops = hops(alloc, held)?;
+    let delivered = ends(hops);
+    entries_by(alloc, port, &settled, &delivered, held, plan)
+}
+
+/// The next entries, by where the walks end that keep to what is in both, and those by the tables held.
+fn entries_by(
+    alloc: Global,
+    port: &EndPort,
+    settled: &[NextHop],
+    delivered: &[NextHop],
+    held: &[SwitchStep],
+    plan: &[SwitchStep],
+) -> Result<Vec<u8>, AllocError>
+    requires settled { HaveEnded (agreed_of held.now plan.now) settled.now }
+    requires delivered { HaveEnded (hops_of held.now) delivered.now }
+    ensures { IfOk result (λ entries. entries.items ≡ next_of port.now held.now plan.now) }
+{
+    if is_whole(port, settled, delivered, held, plan) {
+        return chosen(alloc, port, settled, delivered, &[], held, plan);
+    }
+    let mending = mending(alloc, port, delivered, held, plan)?;
+    let mended = ends(mending);
+    chosen(alloc, port, settled, delivered, &mended, held, plan)
+}
+
+/// Whether these are what each switch does.
+fn are_hops_of(hops: &[NextHop], steps: &[SwitchStep]) -> bool
+    ensures { IsTrue result ↔ (hops.now ≡ hops_of steps.now) }
+{
+    if hops.len() != steps.len() {
+        return false;
+    }
+    for (index, hop) in hops.iter().enumerate() {
+        if !is_same_hop(hop, &steps[index].hop) {
+            return false;
+        }
+    }
+    true
+}
+
+/// Whether two are one.
+fn is_same_hop(hop: &NextHop, other: &NextHop) -> bool
+    ensures { IsTrue result ↔ (hop.now ≡ other.now) }
+{
+    *hop == *other
 }
 
 /// What each switch does by the entry that is in both.

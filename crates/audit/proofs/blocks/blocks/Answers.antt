@@ -1,30 +1,42 @@
--- A block more, by its number.
-use Rattle.std.proofs.Common.{◌≡◌, ◌<◌, ◌+◌, ◌∙◌, [], length, get_or, sym, ap, subst, arith}
-use Rattle.std.specs.Prelude.{slice_get}
-use Rattle.std.proofs.lemmas.List.{get_or-map, length-map}
-use Rattle.plan_file.specs.declared.held.HeldBlock.{HeldBlock}
+-- A block more, and all of them.
+use Rattle.std.proofs.Common.{◌≡◌, ◌<◌, ◌≤◌, ◌∙◌, ℕ, suc, length, map, sym, ap, subst, arith}
+use Rattle.std.specs.Prelude.{slice_get, slice_index_or}
+use Rattle.std.proofs.lemmas.List.{length-map}
+use Rattle.audit.specs.Chains.{IsNext}
 use Rattle.audit.specs.NextHops.{with_block}
 use Rattle.audit.specs.Tables.{number_of}
-use Rattle.audit.proofs.Gathered.{AreGathered, block_more, other_more}
+use Rattle.audit.proofs.Gathered.{all_to, first_to, next_to}
 use Rattle.audit.proofs.blocks.blocks.Goals as goal
-use Rattle.audit.proofs.blocks.blocks.Goals.{then-other-number, else-other-number}
 
-none : HeldBlock
-none = record { switch = 0; number = 0; entries = [] }
+pub loop-index-init : goal.loop-index-init
+loop-index-init c =
+    let numbers = map number_of c.args.held.now.blocks in
+    first_to c.args.held.now c.args.number c.first-index.result c.in_ok-rows.rows.items c.in_ok-rows.ensures
+    (subst (λ (i : ℕ). IsNext numbers c.args.number 0 i) (sym c.first-index.ensures) (c.requires.firsts c.args.number (omega arith)))
+
+pub loop-index-smaller : goal.loop-index-smaller
+loop-index-smaller c =
+    let held = c.args.held.now in
+    let index = c.loop-index.index in
+    let less : index < length held.blocks = omega (arith, c.loop-index-test.true, ap length c.blocks-in-loop-index.ensures) in
+    let past = (c.requires.nexts index (omega (arith, length-map held.blocks number_of))).past in
+    let is = c.next-index.ensures in
+    let further : suc index ≤ c.next-index.result = omega arith in
+    omega arith
 
 pub loop-index-preserved : goal.loop-index-preserved
 loop-index-preserved c =
     let held = c.args.held.now in
-    let k = c.loop-index.index in
-    let rows = c.loop-index.rows.items in
-    let less : k < length held.blocks = omega (arith, c.loop-index-test.true, ap length c.requires, length-map held.blocks number_of) in
-    let number_is : get_or c.args.numbers.now k 0 ≡ (get_or held.blocks k none).number =
-    ap (λ xs. get_or xs k 0) c.requires ∙ get_or-map number_of held.blocks k none 0 less in
-    elim c.if-other-number.branch [
-      | then-other-number w ↦
-          block_more held c.args.number rows c.if-other-number.rows.items k none c.loop-index.invariant less (sym number_is ∙ w.if-other-number.true)
-          (ap (λ v. v.items) w.rows-is ∙ w.put_block.ensures ∙ ap (λ xs. with_block rows (slice_get xs k)) w.blocks-then-other-number.ensures)
-      | else-other-number w ↦
-          subst (λ v. AreGathered held c.args.number v.items (k + 1)) (sym w.rows-is)
-          (other_more held c.args.number rows k none c.loop-index.invariant less (λ same. w.if-other-number.false (number_is ∙ same)))
-    ]
+    let numbers = map number_of held.blocks in
+    let index = c.loop-index.index in
+    let less : index < length held.blocks = omega (arith, c.loop-index-test.true, ap length c.blocks-in-loop-index.ensures) in
+    next_to held c.args.number index c.next-index.result c.loop-index.rows.items c.put_block.new.rows.items c.loop-index.invariant less
+    (c.put_block.ensures ∙ ap (λ xs. with_block c.loop-index.rows.items (slice_get xs index)) c.blocks-in-loop-index-2.ensures)
+    (subst (λ (i : ℕ). IsNext numbers (slice_index_or numbers index 0) (suc index) i) (sym c.next-index.ensures)
+    (c.requires.nexts index (omega (arith, length-map held.blocks number_of))))
+
+pub returns : goal.returns
+returns c =
+    let past = c.loop-index-test.false in
+    all_to c.args.held.now c.args.number c.loop-index.index c.loop-index.rows.items c.loop-index.invariant
+    (omega (arith, ap length c.blocks-in-loop-index.ensures))

@@ -1,6 +1,10 @@
-use Rattle.audit.proofs.Gathered.{AreGathered}
+-- The blocks so far.
+use Rattle.audit.proofs.Gathered.{GatheredTo}
+use Rattle.std.proofs.Common.{◌-◌, length}
 use Rattle.audit.proofs.blocks.blocks.Given as goal
 
--- the blocks so far
 abbrev pub invariant-loop-index : goal.invariant-loop-index
-invariant-loop-index l = AreGathered l.held l.number l.rows.items l.index
+invariant-loop-index l = GatheredTo l.held l.number l.rows.items l.index
+
+abbrev pub decreases-loop-index : goal.decreases-loop-index
+decreases-loop-index l = length l.held.blocks - l.index

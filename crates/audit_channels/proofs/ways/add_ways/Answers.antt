@@ -1,19 +1,26 @@
 -- The packets are grouped by the network's edges.
 use Rattle.std.proofs.Common.{◌∙◌, sym, subst}
+use Rattle.std.specs.Prelude.{MatchOption, Option}
 use Rattle.std.proofs.lemmas.Result.{on_ok_weaker}
 use Rattle.fact_store.specs.View.{cells_of}
-use Rattle.audit_channels.specs.Groups.{IsWithin, adapters}
-use Rattle.audit_channels.proofs.Grouped.{counted_ways, is_within}
-use Rattle.audit_channels.proofs.Senders.{none_is, own_there, without_own}
+use Rattle.audit_channels.specs.declared.sender_groups.Groups.{Groups}
+use Rattle.audit_channels.specs.Groups.{AreGrouped, IsWithin, adapters}
+use Rattle.audit_channels.specs.Ways.{AllComeTo}
+use Rattle.audit_channels.proofs.Grouped.{counted_ways, delivered, is_within}
+use Rattle.audit_channels.proofs.Senders.{own_there, without_own}
 use Rattle.audit_channels.proofs.ways.add_ways.Goals as goal
 
-pub returns-then-is_some-clause-ways : goal.returns-then-is_some-clause-ways
-returns-then-is_some-clause-ways c =
+pub returns-in-Some-clause-ways : goal.returns-in-Some-clause-ways
+returns-in-Some-clause-ways c =
     let cells = cells_of c.args.network.now.facts in
+    let held = c.args.network.now.held in
+    let line = c.args.line.now in
+    let Found = λ (o : Option Groups). MatchOption o (AllComeTo cells held line) (AreGrouped cells (delivered cells held line)) in
+    let some = subst Found c.in-Some.is c.in_ok-groups.ensures in
     on_ok_weaker c.add.result
-    (counted_ways cells c.args.network.now.held c.args.line.now c.deref.result.now c.deref-then-is_some.result.now c.in_ok-groups.groups c.args.tally.now
+    (counted_ways cells c.args.network.now.held c.args.line.now c.deref.result.now c.deref-in-Some.result.now c.in-Some.groups c.args.tally.now
     c.add.new.self
-    (c.deref.ensures.value ∙ c.in_ok-edges.ensures) c.deref-then-is_some.ensures.value c.in_ok-groups.ensures)
+    (c.deref.ensures.value ∙ c.in_ok-edges.ensures) c.deref-in-Some.ensures.value some)
     c.add.ensures
 
 pub leave-requires : goal.leave-requires
@@ -33,12 +40,12 @@ returns-clause-ways c =
     let facts = c.args.network.now.facts in
     let held = c.args.network.now.held in
     let line = c.args.line.now in
-    let ends = c.in_ok-ends.ends in
     let less = c.leave.new.self in
-    let none = sym c.first_elsewhere.ensures ∙ none_is c.first_elsewhere.result (sym c.is_some.ensures ∙ c.if-is_some.false) in
+    let Found = λ (o : Option Groups). MatchOption o (AllComeTo (cells_of facts) held line)
+    (AreGrouped (cells_of facts) (delivered (cells_of facts) held line)) in
+    let all = subst Found c.in-None.is c.in_ok-groups.ensures in
     let grouped =
-    without_own facts held line c.args.far.now c.requires.target c.requires.far c.args.senders.now less ends.port ends.ends c.in_ok-ends.ensures.0
-    c.in_ok-ends.ensures.1 none c.requires.senders c.leave.ensures in
+    without_own facts held line c.args.far.now c.requires.target c.requires.far c.args.senders.now less all c.requires.senders c.leave.ensures in
     on_ok_weaker c.join.result
     (λ back.
     counted_ways (cells_of facts) held line c.deref-2.result.now c.deref-3.result.now less c.args.tally.now c.add-2.new.self

@@ -1,5 +1,6 @@
 -- A LID more.
-use Rattle.std.proofs.Common.{◌+◌, List, sym, subst}
+use Rattle.std.proofs.Common.{◌+◌, ◌∙◌, List, ap, get_or, length, sym, subst}
+use Rattle.std.proofs.lemmas.Option.{slice_get_read}
 use Rattle.fact_store.specs.View.{cells_of}
 use Rattle.audit.specs.declared.senders.Sender.{Sender}
 use Rattle.audit_channels.specs.declared.sender_groups.Groups.{Groups}
@@ -22,32 +23,42 @@ add_ways-requires-clause-far c =
     let roster = subst (λ (ss : List Sender). IsRoster cells ss) (sym c.deref.ensures.value) c.in_ok-roster.ensures in
     (a_target cells c.deref.result.now c.line-item.result.port roster c.in-Some.far c.in-Some.ensures).1
 
-pub loop-line-preserved : goal.loop-line-preserved
-loop-line-preserved c =
+pub loop-index-preserved : goal.loop-index-preserved
+loop-index-preserved c =
     let cells = cells_of c.args.network.now.facts in
     let held = c.args.network.now.held in
     let lines = c.lids-line-items.result.now in
     let line = c.line-item.result in
-    let n = c.loop-line.line-index in
+    let n = c.loop-index.index in
     let rows = c.in_ok-blocks-2.blocks.rows.items in
     let number = c.in_ok-blocks-2.blocks.number in
-    let before = c.loop-line.invariant.0 in
+    let before = c.loop-index.invariant.0 in
     let roster = subst (λ (ss : List Sender). IsRoster cells ss) (sym c.deref.ensures.value) c.in_ok-roster.ensures in
     let Surveyed = λ (t : WayTally). AreSurveyed cells held lines number rows (n + 1) t in
     let Grouped = λ (g : Groups). AreGrouped cells (adapters cells) g in
     elim c.match-target_among.branch [
       | in-Some+in_ok-add_ways w ↦ (
         subst Surveyed (sym w.tally-is)
-            (line_surveyed cells held lines c.loop-line.blocks.number number c.loop-line.blocks.rows.items rows n line c.loop-line.tally w.add_ways.new.tally
-            before c.in_ok-blocks-2.ensures.0 c.loop-line-test.true c.line-item.is
+            (line_surveyed cells held lines c.loop-index.blocks.number number c.loop-index.blocks.rows.items rows n line c.loop-index.tally w.add_ways.new.tally
+            before c.in_ok-blocks-2.ensures.0 c.loop-index-test.true c.line-item.is
             (a_target cells c.deref.result.now line.port roster w.in-Some.far w.in-Some.ensures).0 w.in_ok-add_ways.ensures.ways),
         subst Grouped (sym w.senders-is) w.in_ok-add_ways.ensures.senders,
       )
       | in_default w ↦ (
         subst Surveyed (sym w.tally-is)
-            (line_passed cells held lines c.loop-line.blocks.number number c.loop-line.blocks.rows.items rows n line c.loop-line.tally
-            before c.in_ok-blocks-2.ensures.0 c.loop-line-test.true c.line-item.is
+            (line_passed cells held lines c.loop-index.blocks.number number c.loop-index.blocks.rows.items rows n line c.loop-index.tally
+            before c.in_ok-blocks-2.ensures.0 c.loop-index-test.true c.line-item.is
             (no_target cells c.deref.result.now line.port roster c.target_among.result c.target_among.ensures w.in_default.not-Some)),
-        subst Grouped (sym w.senders-is) c.loop-line.invariant.1,
+        subst Grouped (sym w.senders-is) c.loop-index.invariant.1,
       )
     ]
+
+pub add_ways-requires-clause-told : goal.add_ways-requires-clause-told
+add_ways-requires-clause-told c = λ told.
+    let lines = c.lids-line-items.result.now in
+    let index = c.loop-index.index in
+    let line = c.line-item.result in
+    c.requires index line
+    (slice_get_read c.args.network.now.held.lids (length lines) index line (ap length c.lids-line-items.ensures) c.loop-index-test.true
+    (c.line-item.is ∙ ap (λ xs. get_or xs index line) c.lids-line-items.ensures))
+    (sym c.is_told.ensures ∙ told)

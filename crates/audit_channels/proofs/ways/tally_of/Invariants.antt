@@ -4,7 +4,7 @@ use Rattle.audit_channels.specs.Groups.{AreGrouped, adapters}
 use Rattle.audit_channels.proofs.Surveyed.{AreSurveyed}
 use Rattle.audit_channels.proofs.ways.tally_of.Given as goal
 
-abbrev pub invariant-loop-line : goal.invariant-loop-line
-invariant-loop-line l =
-    AreSurveyed (cells_of l.network.facts) l.network.held l.line-items l.blocks.number l.blocks.rows.items l.line-index l.tally
+abbrev pub invariant-loop-index : goal.invariant-loop-index
+invariant-loop-index l =
+    AreSurveyed (cells_of l.network.facts) l.network.held l.line-items l.blocks.number l.blocks.rows.items l.index l.tally
     × AreGrouped (cells_of l.network.facts) (adapters (cells_of l.network.facts)) l.senders

@@ -21,9 +21,9 @@ new-requires-clause-begin c =
     let line = c.args.line.now in
     let step : AuditedSwitch → NextHop = next_hop_of c.deref-3.result.now c.deref-4.result.now line.lid in
     let long : length steps ≡ length nodes = ap length c.in_ok-steps.ensures ∙ length-map c.deref-2.result.now step ∙ ap length c.deref-2.ensures.value in
-    let count : length nodes ≡ length c.in_ok-walks.walks.items = sym (c.in_ok-walks.ensures.as_many ∙ long) in
+    let count : length nodes ≡ length c.ends-walks.result.items = sym (c.ends-walks.ensures.as_many ∙ long) in
     c.self.invariant.begin_is ∙ ap (λ n. all_begin n c.self.inside.firsts.items) count
-    ∙ ap (all_begin (length c.in_ok-walks.walks.items)) (sym c.deref-6.ensures.value)
+    ∙ ap (all_begin (length c.ends-walks.result.items)) (sym c.deref-6.ensures.value)
 
 pub returns : goal.returns
 returns c =
@@ -36,7 +36,7 @@ returns c =
     let Gathered : Seen → Type 0 = λ s. AreBlocks s.held number rows in
     let blocks = subst Gathered (sym c.self.view_is) c.requires.held in
     let owners = c.in_ok-owners.owners.items in
-    let walks = c.in_ok-walks.walks.items in
+    let walks = c.ends-walks.result.items in
     let steps = c.in_ok-steps.ensures ∙ (λ i. map (next_hop_of (c.deref-3.ensures.value i) (c.deref-4.ensures.value i) line.lid) (c.deref-2.ensures.value i)) in
     subst Found c.self.view_is
     (if_ok
@@ -46,8 +46,8 @@ returns c =
     c.new.ensures
     (λ ended e. (
       brought_is cells inside.held line.lid number rows blocks c.requires.number c.self.inside.nodes.items c.self.inside.sources.items owners
-          c.in_ok-steps.steps.items walks ended.ends c.self.inside.firsts.items c.self.inside.begin c.self.inside.numbers.items c.self.inside.owners.items
-          c.self.invariant c.in_ok-owners.ensures steps c.in_ok-walks.ensures
+          c.in_ok-steps.steps.items walks ended.ends c.self.inside.firsts.items c.self.inside.begin c.self.inside.chains c.self.inside.owners.items
+          c.self.invariant c.in_ok-owners.ensures steps c.ends-walks.ensures
           (e.1 ∙ ap (map (end_from owners walks)) c.deref-5.ensures.value),
       e.0,
     )))

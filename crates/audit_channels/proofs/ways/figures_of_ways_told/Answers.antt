@@ -4,7 +4,7 @@ use Rattle.fact_store.specs.View.{cells_of}
 use Rattle.audit_channels.specs.Figures.{IsTotal}
 use Rattle.audit_channels.specs.Ways.{channels_of}
 use Rattle.audit_channels.proofs.Loads.{told}
-use Rattle.audit_channels.proofs.ways.figures_of_ways.Goals as goal
+use Rattle.audit_channels.proofs.ways.figures_of_ways_told.Goals as goal
 
 pub returns : goal.returns
 returns c =
