@@ -26,3 +26,4 @@ pub mod Sides
 pub mod EveryPair
 pub mod TargetBits
 pub mod SetRounds
+pub mod PortLists

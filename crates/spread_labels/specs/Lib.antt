@@ -16,3 +16,4 @@ pub mod Sides
 pub mod EveryPair
 pub mod TargetSets
 pub mod MarkSets
+pub mod PortLists

@@ -1,11 +1,11 @@
 //! The edges that gave vertices their marks, towards many targets side by side.
-ghost use Rattle.std.specs.Prelude.{◌≡◌, ◌<◌, ◌≤◌, [], length, map, All, IfOk, OnOk, slice_index_or};
+ghost use Rattle.std.specs.Prelude.{◌≡◌, ◌<◌, ◌≤◌, [], length, map, All, IfOk, slice_index_or};
 ghost use Rattle.port_graph.specs.Heads.{LeadToVertices};
-ghost use Rattle.spread_labels.specs.MarkSets.{AreCandidateSets, no_sets, picked};
+ghost use Rattle.spread_labels.specs.MarkSets.{AreCandidateSets, no_sets};
 
 use crate::mark_sets::{after_round, are_same, at_first};
 use crate::target_set::TargetSet;
-use port_graph::{Adjacency, Edge};
+use port_graph::Adjacency;
 use std::alloc::{AllocError, Global};
 use std::marker::Model;
 
@@ -83,24 +83,4 @@ fn no_rows(alloc: Global, edges: &Adjacency) -> Result<Vec<Vec<TargetSet>>, Allo
         rows.push(vec![in alloc; TargetSet::none(); edges.at(vertex).len()]?)?;
     }
     Ok(rows)
-}
-
-/// Finds, of the edges of a vertex, those whose set has a target, in their order: they replace what was found before.
-pub fn candidates_towards(
-    found: &mut Vec<Edge>,
-    edges: &[Edge],
-    sets: &[TargetSet],
-    target: usize,
-) -> Result<(), AllocError>
-    requires target { target < 64 }
-    requires all { length sets.now ≡ length edges.now }
-    ensures { OnOk result (found.new.items ≡ picked target sets.now edges.now) }
-{
-    found.clear();
-    for (i, edge) in edges.iter().enumerate() {
-        if sets[i].has(target) {
-            found.push(*edge)?;
-        }
-    }
-    Ok(())
 }

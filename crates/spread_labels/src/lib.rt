@@ -2,6 +2,7 @@
 #![tactic(auto)]
 
 mod candidate_edges;
+mod candidate_lists;
 mod candidate_sets;
 mod distance_class;
 mod growth;
@@ -17,7 +18,8 @@ mod vertex_keys;
 mod vertex_positions;
 
 pub use candidate_edges::{candidates, chosen};
-pub use candidate_sets::{CandidateSets, candidates_towards};
+pub use candidate_lists::CandidateLists;
+pub use candidate_sets::CandidateSets;
 pub use distance_class::{Grades, grade};
 pub use growth::grown_order;
 pub use label::{Label, Mark};

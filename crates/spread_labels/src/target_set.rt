@@ -1,5 +1,5 @@
 //! Sets of targets.
-ghost use Rattle.std.specs.Prelude.{◌≡◌, ◌<◌, ◌&&◌, ◌||◌, ◌==◌, true, false, not};
+ghost use Rattle.std.specs.Prelude.{◌≡◌, ◌<◌, ◌&&◌, ◌||◌, ◌==◌, true, false, not, MatchOption};
 ghost use Rattle.spread_labels.specs.TargetSets.{EachTarget, has, no_targets};
 
 /// As many targets stand side by side.
@@ -13,7 +13,7 @@ pub struct TargetSet {
 
 impl TargetSet {
     /// No target.
-    pub(crate) fn none() -> Self
+    pub fn none() -> Self
         ensures none { EachTarget (λ k. has result k ≡ false) }
         ensures is { result ≡ no_targets }
     {
@@ -31,7 +31,7 @@ impl TargetSet {
     }
 
     /// The targets of both.
-    pub(crate) fn or(self, other: TargetSet) -> Self
+    pub fn or(self, other: TargetSet) -> Self
         ensures { EachTarget (λ k. has result k ≡ (has self k || has other k)) }
     {
         TargetSet {
@@ -72,10 +72,34 @@ impl TargetSet {
     }
 
     /// Whether a target is among them.
-    pub(crate) fn has(self, target: usize) -> bool
+    pub fn has(self, target: usize) -> bool
         requires { target < 64 }
         ensures { result ≡ has self target }
     {
         (self.bits >> target) & 1 == 1
+    }
+
+    /// The least target among them.
+    pub(crate) fn first(self) -> Option<usize>
+        ensures { MatchOption result (EachTarget (λ k. has self k ≡ false))
+            (λ target. (target < 64) × (has self target ≡ true)) }
+    {
+        if self.bits == 0 {
+            None
+        } else {
+            Some(self.bits.trailing_zeros() as usize)
+        }
+    }
+
+    /// Without one of them.
+    pub(crate) fn but(self, target: usize) -> Self
+        requires target { target < 64 }
+        requires among { has self target ≡ true }
+        ensures others { EachTarget (λ k. has result k ≡ (has self k && not (k == target))) }
+        ensures less { result.bits < self.bits }
+    {
+        TargetSet {
+            bits: self.bits & !(1 << target),
+        }
     }
 }
