@@ -43,18 +43,18 @@ ports_between rule lids t s = map (λ lid. rule.next lid s t) lids
 abbrev pub ports_towards : Grading → List ℕ → ℕ → List (List (Option ℕ))
 ports_towards by lids target = map (ports_between (spread_at by) lids (switch_at by.graph target)) (guids_of by.graph)
 
--- the candidates of all vertices towards so many switches, from the one at an index on: of each edge those towards
--- which it is one
+-- the candidates of all vertices towards the switches at the indices from one up to another: of each edge those of them
+-- towards which it is one
 pub record TowardsValue : Type 0 where
   pub first : ℕ
-  pub count : ℕ
+  pub end : ℕ
   pub sets : List (List TargetSet)
 
 pub record AreTowards (by : Grading) (towards : TowardsValue) : Type 0 where
-  pub few : towards.count ≤ 64
-  pub within : towards.first + towards.count ≤ length by.graph
+  pub few : towards.end ≤ towards.first + 64
+  pub within : towards.end ≤ length by.graph
   pub are_rows : AreRowsOf (by_positions by.graph by.keys) towards.sets
-  pub each : (k p : ℕ) → k < towards.count → p < length (by_positions by.graph by.keys)
+  pub each : (k p : ℕ) → towards.first + k < towards.end → p < length (by_positions by.graph by.keys)
       → picked k (sets_at towards.sets p) (edges_at (by_positions by.graph by.keys) p)
       ≡ candidates (by_positions by.graph by.keys) (position_of (order_by_keys by.graph by.keys) (towards.first + k)) p
 
@@ -77,5 +77,5 @@ port_by exits k lid =
 
 -- by these ports packets for LIDs leave the switch at an index towards each of those
 abbrev pub AreExits : Grading → TowardsValue → ℕ → ExitsValue → Type 0
-AreExits by towards own exits = (k : ℕ) → k < towards.count → (lids : List ℕ) → map (port_by exits k) lids
+AreExits by towards own exits = (k : ℕ) → towards.first + k < towards.end → (lids : List ℕ) → map (port_by exits k) lids
     ≡ ports_between (spread_at by) lids (switch_at by.graph (towards.first + k)) (switch_at by.graph own)

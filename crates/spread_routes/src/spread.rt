@@ -1,4 +1,4 @@
-ghost use Rattle.std.specs.Prelude.{◌≡◌, ◌<◌, ◌≤◌, ◌+◌, IfOk, OnOk, length};
+ghost use Rattle.std.specs.Prelude.{◌≡◌, ◌<◌, ◌+◌, IfOk, OnOk, length, min};
 ghost use Rattle.spread_routes.specs.Spread.{grading_of};
 ghost use Rattle.spread_routes.specs.Tables.{AreExits, AreTowards};
 
@@ -8,7 +8,7 @@ use crate::lid_digit::{LidDigit, higher_targets, lid_digits};
 use port_graph::Adjacency;
 use smp_bytes::Guid;
 use spread_labels::{
-    CandidateSets, Grades, VertexKey, by_positions, grade, grown_order, keys, positions,
+    CandidateSets, Grades, TARGETS, VertexKey, by_positions, grade, grown_order, keys, positions,
 };
 use std::alloc::{AllocError, Global};
 use std::marker::Model;
@@ -19,8 +19,8 @@ use subnet_view::SwitchGraph;
 pub struct Towards {
     /// The index of the first of these.
     first: usize,
-    /// How many these are.
-    count: usize,
+    /// That behind the last.
+    end: usize,
     sets: CandidateSets,
 }
 
@@ -29,7 +29,23 @@ impl Model for Towards {
 
     ghost Value = { TowardsValue };
 
-    ghost view = { λ a. record { first = a.first; count = a.count; sets = a.sets } };
+    ghost view = { λ a. record { first = a.first; end = a.end; sets = a.sets } };
+}
+
+impl Towards {
+    /// The index of the first.
+    pub fn first(&self) -> usize
+        ensures { result ≡ self.now.first }
+    {
+        self.first
+    }
+
+    /// The index behind the last.
+    pub fn end(&self) -> usize
+        ensures { result ≡ self.now.end }
+    {
+        self.end
+    }
 }
 
 /// Routes of a graph that spread over its wires.
@@ -114,23 +130,17 @@ impl<'g> Spread<'g> {
         })
     }
 
-    /// The candidates of all switches towards so many of them, from the one at an index on, by rising GUID. Takes a
-    /// step or two for each edge in each of as many rounds as the greatest cost, and one, for all of these together.
-    pub fn towards(
-        &self,
-        alloc: Global,
-        first: usize,
-        count: usize,
-    ) -> Result<Towards, AllocError>
-        requires few { count ≤ 64 }
-        requires within { first + count ≤ length self.now.graph }
+    /// The candidates of all switches towards the 64 from an index on, or as many as there are. Takes a step or two for
+    /// each edge in each of as many rounds as the greatest cost, and one, for all of these together.
+    pub fn towards(&self, alloc: Global, first: usize) -> Result<Towards, AllocError>
+        requires { first < length self.now.graph }
         ensures are { IfOk result (λ towards. AreTowards self.now towards) }
         ensures first { IfOk result (λ towards. towards.first ≡ first) }
-        ensures count { IfOk result (λ towards. towards.count ≡ count) }
+        ensures end { IfOk result (λ towards. towards.end ≡ min (first + 64) (length self.now.graph)) }
     {
-        let targets = &self.positions[first..first + count];
-        let sets = CandidateSets::towards(alloc, &self.edges, targets)?;
-        Ok(Towards { first, count, sets })
+        let end = first + TARGETS.min(self.positions.len() - first);
+        let sets = CandidateSets::towards(alloc, &self.edges, &self.positions[first..end])?;
+        Ok(Towards { first, end, sets })
     }
 
     /// Finds how packets leave the switch at an index towards each of some: that replaces what was found before. Takes

@@ -1,4 +1,4 @@
-use Rattle.std.proofs.Common.{◌≡◌, ◌-◌, replicate}
+use Rattle.std.proofs.Common.{◌≡◌, replicate}
 use Rattle.lft_blocks.proofs.spread_table.no_ways.Given as goal
 
 -- the rows so far

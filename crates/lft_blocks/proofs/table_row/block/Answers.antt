@@ -1,4 +1,4 @@
-use Rattle.std.proofs.Common.{ℕ, ◌+◌, ◌*◌, ◌<◌, arith, get_or}
+use Rattle.std.proofs.Common.{◌+◌, ◌*◌, arith, get_or}
 use Rattle.std.proofs.lemmas.List.FromFn.{fill_by_all}
 use Rattle.lft_blocks.proofs.table_row.block.Goals as goal
 
