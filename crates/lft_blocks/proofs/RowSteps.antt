@@ -18,7 +18,7 @@ use Rattle.lft_blocks.specs.declared.attachment.Attachment.{Attachment}
 use Rattle.lft_blocks.specs.Entries.{Next, port_to, entry, blocks}
 use Rattle.lft_blocks.specs.Attachments.{meant, AreWithin, AreIndexed}
 use Rattle.lft_blocks.specs.Plan.{SwitchTable, tables_of}
-use Rattle.lft_blocks.specs.TableRows.{AreLidsAt, AreRows, AreWritten, IsRow, block_of_row, blocks_of_row, entry_before, entry_by, attachment_port, is_attachment_at, lids_at, lids_before, attachment_by_index, table_of_row, written}
+use Rattle.lft_blocks.specs.TableRows.{AreLidsAt, AreRows, IsRow, block_of_row, blocks_of_row, entry_before, entry_by, attachment_port, is_attachment_at, lids_at, lids_before, attachment_by_index, table_of_row, written}
 use Rattle.lft_blocks.proofs.AttachmentTables.{same_test}
 
 -- what is written of LIDs whose ports are those of a function ----------------------------------
@@ -123,20 +123,6 @@ module _ (next : Next) (guids : List ℕ) (attachments : List (Option Attachment
     all = as_long attachments (own == t) f (lids_at attachments t) row ∙ is.all;
     entries = λ lid h. entry_more row is lid h (slice_index_or attachments lid None) refl;
   }
-
-pub rows_more : (next : Next) (guids : List ℕ) (attachments : List (Option Attachment)) (t : ℕ) (ports : List (List (Option ℕ))) (old new : List (List ℕ))
-    → ports ≡ map (λ s. map (λ lid. next lid s (slice_index guids t)) (lids_at attachments t)) guids
-    → AreWritten attachments t (lids_at attachments t) ports old new → AreRows next guids attachments t old → AreRows next guids attachments (t + 1) new
-rows_more next guids attachments t ports old new are to rows = record {
-  all = to.0 ∙ rows.all;
-  each = λ own h.
-      let row = slice_index_or old own [] in
-      let port : slice_index_or ports own [] ≡ map (λ lid. next lid (slice_index guids own) (slice_index guids t)) (lids_at attachments t) =
-      ap (λ xs. get_or xs own []) are ∙ get_or-map (λ s. map (λ lid. next lid s (slice_index guids t)) (lids_at attachments t)) guids own 0 [] h in
-      subst (IsRow next guids attachments (t + 1) own) (sym (to.1 own (omega (arith, rows.all))
-      ∙ ap (written attachments (own == t) row (lids_at attachments t)) port))
-      (row_more next guids attachments t own row (rows.each own h));
-}
 
 -- at first there is no way ---------------------------------------------------------------------
 
@@ -267,9 +253,33 @@ pub rows_long : (next : Next) (guids : List ℕ) (attachments : List (Option Att
 rows_long next guids attachments t rows are k d h =
     subst (λ (row : List ℕ). length row ≡ length attachments) (get_or_default rows k [] d h) (are.each k (omega (arith, are.all))).all
 
--- lists that are made of numbers, each as long
-pub each_long : {V X : Type 0} (f : V → List X) (g : ℕ → List X) (vs : List V) (ys : List ℕ) (n : ℕ) → map f vs ≡ map g ys → ((y : ℕ) → length (g y) ≡ n)
-    → All (λ v. length (f v) ≡ n) vs
-each_long f g vs ys n same long k d h =
-    let within : k < length ys = omega (arith, length-map vs f, length-map ys g, ap length same) in
-    ap length (sym (get_or-map f vs k d [] h) ∙ ap (λ xs. get_or xs k []) same ∙ get_or-map g ys k 0 [] within) ∙ long (get_or ys k 0)
+-- a row for the first so many switches up to one target, and the others up to another
+pub record AreRowsUpTo (next : Next) (guids : List ℕ) (attachments : List (Option Attachment)) (first end own : ℕ) (rows : List (List ℕ)) : Type 0 where
+  pub all : length rows ≡ length guids
+  pub done : (s : ℕ) → s < own → IsRow next guids attachments end s (slice_index_or rows s [])
+  pub left : (s : ℕ) → own ≤ s → s < length guids → IsRow next guids attachments first s (slice_index_or rows s [])
+
+module _ (next : Next) (guids : List ℕ) (attachments : List (Option Attachment)) (first end : ℕ) where
+  pub rows_at_first : (rows : List (List ℕ)) → AreRows next guids attachments first rows → AreRowsUpTo next guids attachments first end 0 rows
+  rows_at_first rows are = record { all = are.all; done = λ s h. absurd (omega (arith, h)); left = λ s h l. are.each s l }
+
+  -- one row more
+  pub up_to_more : (own : ℕ) (rows : List (List ℕ)) (row : List ℕ) → own < length rows → AreRowsUpTo next guids attachments first end own rows
+      → IsRow next guids attachments end own row → AreRowsUpTo next guids attachments first end (own + 1) (slice_set rows own row)
+  up_to_more own rows row h so is = record {
+    all = length-set rows own row ∙ so.all;
+    done = λ s l. elim (cases_eq s own) [
+      | inl same ↦ subst (λ (x : ℕ). IsRow next guids attachments end x (slice_index_or (slice_set rows own row) x [])) (sym same)
+          (subst (IsRow next guids attachments end own) (sym (get_or-set_same rows own row [] h)) is)
+      | inr other ↦
+          let below : s < own = grind arith in
+          subst (IsRow next guids attachments end s) (sym (get_or-set_other rows own s row [] other)) (so.done s below)
+    ];
+    left = λ s l m.
+        let other : s ≢ own = λ e. absurd (omega (arith, l, e)) in
+        subst (IsRow next guids attachments first s) (sym (get_or-set_other rows own s row [] other)) (so.left s (omega (arith, l)) m);
+  }
+
+  pub rows_at_last : (own : ℕ) (rows : List (List ℕ)) → length guids ≤ own → AreRowsUpTo next guids attachments first end own rows
+      → AreRows next guids attachments end rows
+  rows_at_last own rows all so = record { all = so.all; each = λ s h. so.done s (omega (arith, h, all)) }

@@ -49,13 +49,6 @@ written attachments is_own row (lid ∷ lids) [] = row
 written attachments is_own row (lid ∷ lids) (port ∷ ports) =
     written attachments is_own (slice_set row lid (entry_by attachments is_own lid port)) lids ports
 
--- the rows of all switches, towards the one at an index
-abbrev pub AreWritten : List (Option Attachment) → ℕ → List ℕ → List (List (Option ℕ)) → List (List ℕ) → List (List ℕ)
-    → Type 0
-AreWritten attachments target lids ports old new = (length new ≡ length old)
-    × ((own : ℕ) → own < length old → slice_index_or new own []
-    ≡ written attachments (own == target) (slice_index_or old own []) lids (slice_index_or ports own []))
-
 -- the entry for a LID of the switch at an index, where its attachment's switch has an index less than t, and else 255
 abbrev pub entry_before : Next → List ℕ → ℕ → ℕ → ℕ → Option Attachment → ℕ
 entry_before next guids t own lid None = 255

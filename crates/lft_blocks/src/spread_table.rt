@@ -1,19 +1,20 @@
 //! Tables by the rule that spreads.
-ghost use Rattle.std.specs.Prelude.{◌≡◌, ◌<◌, ◌≤◌, ◌*◌, [], All, IfOk, length, map, replicate};
+ghost use Rattle.std.specs.Prelude.{◌≡◌, ◌<◌, ◌≤◌, ◌*◌, All, IfOk, OnOk, length, map, replicate};
 ghost use Rattle.std.specs.List.{range_with_len};
 ghost use Rattle.fact_store.specs.View.{cells_of};
 ghost use Rattle.subnet_view.specs.Graph.{graph_of, guids_of};
 ghost use Rattle.spread_routes.specs.LeafSwitches.{leaf_switches_of};
 ghost use Rattle.spread_routes.specs.Spread.{spread_at, spread_by};
+ghost use Rattle.spread_routes.specs.Tables.{AreTowards};
 ghost use Rattle.lft_blocks.specs.Attachments.{AreWithin};
 ghost use Rattle.lft_blocks.specs.Plan.{tables_of};
-ghost use Rattle.lft_blocks.specs.TableRows.{AreRows, attachment_by_index, table_of_row};
+ghost use Rattle.lft_blocks.specs.TableRows.{AreLidsAt, AreRows, IsRow, attachment_by_index, table_of_row};
 
 use crate::attachment::Attachment;
 use crate::table::Table;
-use crate::table_row::{TableRow, lids_by_switch, write_rows};
-use smp_bytes::{Guid, PortNum};
-use spread_routes::{Spread, leaf_switches};
+use crate::table_row::{TableRow, lids_by_switch};
+use smp_bytes::{Guid, Lid, PortNum};
+use spread_routes::{Exits, Spread, Towards, leaf_switches};
 use std::alloc::{AllocError, Global};
 use std::mem;
 use subnet_view::{SwitchGraph, Wires};
@@ -57,13 +58,72 @@ fn rows(
         (guids_of spread.now.graph) attachments.now switches rows.items) }
 {
     let mut rows = no_ways(alloc, switches, attachments.len())?;
-    let mut ports = no_ports(alloc, switches)?;
     let lids = lids_by_switch(alloc, attachments, switches)?;
-    for target in 0..switches {
-        spread.ports_to(alloc, target, &lids[target], &mut ports)?;
-        write_rows(&mut rows, attachments, &lids[target], &ports, target);
+    let mut first = 0;
+    'block: while first < switches {
+        let towards = spread.towards(alloc, first)?;
+        write_rows(alloc, &mut rows, spread, &towards, attachments, &lids)?;
+        first = towards.end();
     }
     Ok(rows)
+}
+
+/// Writes the entries of all switches for the LIDs whose attachments lie at some of them.
+fn write_rows(
+    alloc: Global,
+    rows: &mut [TableRow],
+    spread: &Spread,
+    towards: &Towards,
+    attachments: &[Option<Attachment>],
+    lids: &[Vec<Lid>],
+) -> Result<(), AllocError>
+    requires towards { AreTowards spread.now towards.now }
+    requires order { towards.now.first ≤ towards.now.end }
+    requires rows { AreRows (spread_at spread.now).next (guids_of spread.now.graph) attachments.now
+        towards.now.first rows.old }
+    requires lids { AreLidsAt attachments.now (length attachments.now) (length spread.now.graph)
+        (map (λ lids. lids.items) lids.now) }
+    ensures { OnOk result (AreRows (spread_at spread.now).next (guids_of spread.now.graph) attachments.now
+        towards.now.end rows.new) }
+{
+    let mut exits = Exits::new(alloc)?;
+    let mut ports = Vec::new(alloc);
+    for (own, row) in rows.iter_mut().enumerate() {
+        write_row(
+            row, own, spread, towards, attachments, lids, &mut exits, &mut ports,
+        )?;
+    }
+    Ok(())
+}
+
+/// Writes those of the switch at an index. What was found for another is replaced.
+fn write_row(
+    row: &mut TableRow,
+    own: usize,
+    spread: &Spread,
+    towards: &Towards,
+    attachments: &[Option<Attachment>],
+    lids: &[Vec<Lid>],
+    exits: &mut Exits,
+    ports: &mut Vec<Option<PortNum>>,
+) -> Result<(), AllocError>
+    requires own { own < length spread.now.graph }
+    requires towards { AreTowards spread.now towards.now }
+    requires row { IsRow (spread_at spread.now).next (guids_of spread.now.graph) attachments.now
+        towards.now.first own row.old }
+    requires order { towards.now.first ≤ towards.now.end }
+    requires lids { AreLidsAt attachments.now (length attachments.now) (length spread.now.graph)
+        (map (λ lids. lids.items) lids.now) }
+    ensures { OnOk result (IsRow (spread_at spread.now).next (guids_of spread.now.graph) attachments.now
+        towards.now.end own row.new) }
+{
+    spread.exits_from(own, towards, exits)?;
+    let first = towards.first();
+    for target in first..towards.end() {
+        exits.ports(target - first, &lids[target], ports)?;
+        row.write(attachments, &lids[target], ports, own == target);
+    }
+    Ok(())
 }
 
 /// So many rows of so many entries, and no way anywhere.
@@ -73,17 +133,6 @@ fn no_ways(alloc: Global, switches: usize, len: usize) -> Result<Vec<TableRow>, 
     let mut rows = Vec::with_capacity(alloc, switches)?;
     for _ in 0..switches {
         rows.push(TableRow::new(alloc, len)?)?;
-    }
-    Ok(rows)
-}
-
-/// So many rows of no ports.
-fn no_ports(alloc: Global, switches: usize) -> Result<Vec<Vec<Option<PortNum>>>, AllocError>
-    ensures { IfOk result (λ rows. map (λ row. row.items) rows.items ≡ replicate switches []) }
-{
-    let mut rows = Vec::with_capacity(alloc, switches)?;
-    for _ in 0..switches {
-        rows.push(Vec::new(alloc))?;
     }
     Ok(rows)
 }

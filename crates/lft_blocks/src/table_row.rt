@@ -1,7 +1,7 @@
 //! The entries of switches, LID by LID, written from target to target.
 ghost use Rattle.std.specs.Prelude.{◌≡◌, ◌<◌, ◌≤◌, ◌+◌, ◌*◌, [], All, IfOk, length, map, replicate};
 ghost use Rattle.lft_blocks.specs.Attachments.{AreWithin};
-ghost use Rattle.lft_blocks.specs.TableRows.{AreLidsAt, AreWritten, block_of_row, blocks_of_row, entry_by, attachment_port, written};
+ghost use Rattle.lft_blocks.specs.TableRows.{AreLidsAt, block_of_row, blocks_of_row, entry_by, attachment_port, written};
 
 use crate::attachment::Attachment;
 use crate::block::NO_WAY;
@@ -43,7 +43,7 @@ impl TableRow {
 
     /// Writes the entries for these LIDs, whose attachments lie at one switch: the attachments' ports where it is this
     /// one, and else the ports by which the packets leave for it.
-    fn write(
+    pub(crate) fn write(
         &mut self,
         attachments: &[Option<Attachment>],
         lids: &[Lid],
@@ -151,23 +151,4 @@ fn no_lids(alloc: Global, switches: usize) -> Result<Vec<Vec<Lid>>, AllocError>
         lists.push(Vec::new(alloc))?;
     }
     Ok(lists)
-}
-
-/// Writes the entries of all switches for these LIDs, whose attachments lie at the switch at an index.
-pub(crate) fn write_rows(
-    rows: &mut [TableRow],
-    attachments: &[Option<Attachment>],
-    lids: &[Lid],
-    ports: &[Vec<Option<PortNum>>],
-    target: usize,
-)
-    requires lids { All (λ lid. lid < length attachments.now) lids.now }
-    requires rows { All (λ row. length row ≡ length attachments.now) rows.old }
-    requires all { length ports.now ≡ length rows.old }
-    requires ports { All (λ row. length row.items ≡ length lids.now) ports.now }
-    ensures { AreWritten attachments.now target lids.now (map (λ row. row.items) ports.now) rows.old rows.new }
-{
-    for (own, row) in rows.iter_mut().enumerate() {
-        row.write(attachments, lids, &ports[own], own == target);
-    }
 }

@@ -24,3 +24,6 @@ pub mod Sample
 pub mod Earliest
 pub mod Sides
 pub mod EveryPair
+pub mod TargetBits
+pub mod SetRounds
+pub mod PortLists

@@ -14,3 +14,6 @@ pub mod Levels
 pub mod Positions
 pub mod Sides
 pub mod EveryPair
+pub mod TargetSets
+pub mod MarkSets
+pub mod PortLists

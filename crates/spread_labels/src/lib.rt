@@ -2,6 +2,8 @@
 #![tactic(auto)]
 
 mod candidate_edges;
+mod candidate_lists;
+mod candidate_sets;
 mod distance_class;
 mod growth;
 mod label;
@@ -9,17 +11,22 @@ mod label_lists;
 mod labels;
 pub mod laws;
 mod level;
+mod mark_sets;
+mod target_set;
 mod vertex_key;
 mod vertex_keys;
 mod vertex_positions;
 
 pub use candidate_edges::{candidates, chosen};
+pub use candidate_lists::CandidateLists;
+pub use candidate_sets::CandidateSets;
 pub use distance_class::{Grades, grade};
 pub use growth::grown_order;
 pub use label::{Label, Mark};
 pub use label_lists::MarkLists;
 pub use labels::marks;
 pub use level::digit_weights;
+pub use target_set::{TARGETS, TargetSet};
 pub use vertex_key::VertexKey;
 pub use vertex_keys::keys;
 pub use vertex_positions::{by_positions, positions};

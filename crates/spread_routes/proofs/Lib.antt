@@ -4,3 +4,4 @@ pub mod Routed
 pub mod Positions
 pub mod Ports
 pub mod Whole
+pub mod Leaving

@@ -1,7 +1,12 @@
 -- What is held of the rule, and the ports that it gives.
-use Rattle.std.specs.Prelude.{◌≡◌, ◌<◌, ℕ, List, map, length, Option, option_map, slice_index, slice_index_or}
+use Rattle.std.specs.Prelude.{◌≡◌, ◌<◌, ◌≤◌, ◌+◌, ◌%◌, ℕ, List, [], ◌∷◌, map, length, Option, None, option_map, slice_get, slice_index, slice_index_or}
 use Rattle.port_graph.specs.declared.edge.Edge.{Edge}
+use Rattle.port_graph.specs.Heads.{edges_at}
+use Rattle.spread_labels.specs.declared.target_set.TargetSet.{TargetSet}
 use Rattle.spread_labels.specs.Candidates.{chosen}
+use Rattle.spread_labels.specs.Labels.{candidates}
+use Rattle.spread_labels.specs.MarkSets.{AreRowsOf, picked, sets_at}
+use Rattle.spread_labels.specs.TargetSets.{has}
 use Rattle.spread_labels.specs.Orders.{position_of}
 use Rattle.subnet_view.specs.Graph.{guids_of}
 use Rattle.subnet_view.specs.GraphLaws.{IsGraph}
@@ -9,7 +14,7 @@ use Rattle.subnet_view.specs.Routing.{Routing}
 use Rattle.subnet_view.specs.SwitchGraph.{switch_at}
 use Rattle.spread_routes.specs.declared.lid_digit.LidDigit.{LidDigit}
 use Rattle.spread_routes.specs.Rule.{by_positions, order_by_keys}
-use Rattle.spread_routes.specs.Spread.{Grading, number_there, lid_digit_there, spread_at}
+use Rattle.spread_routes.specs.Spread.{Grading, number_by, number_there, lid_digit_there, spread_at}
 
 -- the LID digit of no switch
 abbrev pub no_lid_digit : LidDigit
@@ -37,3 +42,40 @@ ports_between rule lids t s = map (λ lid. rule.next lid s t) lids
 -- of each switch, by rising GUID, to the one at an index
 abbrev pub ports_towards : Grading → List ℕ → ℕ → List (List (Option ℕ))
 ports_towards by lids target = map (ports_between (spread_at by) lids (switch_at by.graph target)) (guids_of by.graph)
+
+-- the candidates of all vertices towards the switches at the indices from one up to another: of each edge those of them
+-- towards which it is one
+pub record TowardsValue : Type 0 where
+  pub first : ℕ
+  pub end : ℕ
+  pub sets : List (List TargetSet)
+
+pub record AreTowards (by : Grading) (towards : TowardsValue) : Type 0 where
+  pub few : towards.end ≤ towards.first + 64
+  pub within : towards.end ≤ length by.graph
+  pub are_rows : AreRowsOf (by_positions by.graph by.keys) towards.sets
+  pub each : (k p : ℕ) → towards.first + k < towards.end → p < length (by_positions by.graph by.keys)
+      → picked k (sets_at towards.sets p) (edges_at (by_positions by.graph by.keys) p)
+      ≡ candidates (by_positions by.graph by.keys) (position_of (order_by_keys by.graph by.keys) (towards.first + k)) p
+
+-- how packets leave a switch: the ports of its candidates towards each target, the targets towards which one of them
+-- leads to a higher switch, and what the switch goes by
+pub record ExitsValue : Type 0 where
+  pub ports : List (List ℕ)
+  pub higher : TargetSet
+  pub lid_digit : LidDigit
+
+-- of these ports the one with a number, counted round
+abbrev pub port_chosen : List ℕ → ℕ → Option ℕ
+port_chosen [] choice = None
+port_chosen (port ∷ ports) choice = slice_get (port ∷ ports) (choice % length (port ∷ ports))
+
+-- the port that a LID takes towards a target
+abbrev pub port_by : ExitsValue → ℕ → ℕ → Option ℕ
+port_by exits k lid =
+    port_chosen (slice_index_or exits.ports k []) (number_by exits.lid_digit (has exits.higher k) lid)
+
+-- by these ports packets for LIDs leave the switch at an index towards each of those
+abbrev pub AreExits : Grading → TowardsValue → ℕ → ExitsValue → Type 0
+AreExits by towards own exits = (k : ℕ) → towards.first + k < towards.end → (lids : List ℕ) → map (port_by exits k) lids
+    ≡ ports_between (spread_at by) lids (switch_at by.graph (towards.first + k)) (switch_at by.graph own)

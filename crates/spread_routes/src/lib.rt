@@ -1,11 +1,13 @@
 //! A rule of routing that spreads routes over the wires.
 #![tactic(auto)]
 
+mod exits;
 mod index;
 pub mod laws;
 mod leaves;
 mod lid_digit;
 mod spread;
 
+pub use exits::Exits;
 pub use leaves::leaf_switches;
-pub use spread::Spread;
+pub use spread::{Spread, Towards};

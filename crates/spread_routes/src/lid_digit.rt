@@ -2,13 +2,15 @@
 ghost use Rattle.std.specs.Prelude.{◌≡◌, ◌<◌, All, IfOk, length, map, nat_lt, slice_index_or};
 ghost use Rattle.std.specs.List.{list_any};
 ghost use Rattle.port_graph.specs.Heads.{LeadToVertices};
+ghost use Rattle.spread_labels.specs.TargetSets.{EachTarget, has};
+ghost use Rattle.spread_labels.specs.MarkSets.{picked};
 ghost use Rattle.spread_routes.specs.Rule.{by_index};
 ghost use Rattle.spread_routes.specs.Spread.{number_by, lid_digit_at};
 ghost use Rattle.spread_routes.specs.Tables.{no_lid_digit};
 
 use port_graph::{Adjacency, Edge};
 use smp_bytes::Lid;
-use spread_labels::digit_weights;
+use spread_labels::{TargetSet, digit_weights};
 use std::alloc::{AllocError, Global};
 use subnet_view::SwitchGraph;
 
@@ -67,15 +69,26 @@ pub(crate) fn lid_digits(
     Ok(lid_digits)
 }
 
-/// Whether one of some edges leads to a switch higher than this one.
-pub(crate) fn is_higher(lid_digits: &[LidDigit], lid_digit: &LidDigit, edges: &[Edge]) -> bool
-    requires { All (λ edge. edge.to < length lid_digits.now) edges.now }
-    ensures { result ≡ list_any (λ edge. nat_lt lid_digit.now.level
-        (slice_index_or lid_digits.now edge.to no_lid_digit).level) edges.now }
+/// The targets towards which one of the edges whose set has them leads to a switch higher than this one.
+pub(crate) fn higher_targets(
+    lid_digits: &[LidDigit],
+    lid_digit: &LidDigit,
+    edges: &[Edge],
+    sets: &[TargetSet],
+) -> TargetSet
+    requires lead { All (λ edge. edge.to < length lid_digits.now) edges.now }
+    requires all { length sets.now ≡ length edges.now }
+    ensures { EachTarget (λ k. has result k
+        ≡ list_any (λ edge. nat_lt lid_digit.now.level (slice_index_or lid_digits.now edge.to no_lid_digit).level)
+        (picked k sets.now edges.now)) }
 {
-    edges
-        .iter()
-        .any(|edge| lid_digit.level < level_at(lid_digits, edge.to))
+    let mut higher = TargetSet::none();
+    for (i, edge) in edges.iter().enumerate() {
+        if lid_digit.level < level_at(lid_digits, edge.to) {
+            higher = higher.or(sets[i]);
+        }
+    }
+    higher
 }
 
 /// The level at a position.

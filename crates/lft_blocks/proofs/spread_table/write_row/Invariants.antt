@@ -1,0 +1,9 @@
+use Rattle.subnet_view.specs.Graph.{guids_of}
+use Rattle.spread_routes.specs.Spread.{spread_at}
+use Rattle.spread_routes.specs.Tables.{AreExits}
+use Rattle.lft_blocks.specs.TableRows.{IsRow}
+use Rattle.lft_blocks.proofs.spread_table.write_row.Given as goal
+
+-- the entries for the LIDs at the targets so far
+abbrev pub invariant-loop-target : goal.invariant-loop-target
+invariant-loop-target l = IsRow (spread_at l.spread).next (guids_of l.spread.graph) l.attachments l.target l.own l.row

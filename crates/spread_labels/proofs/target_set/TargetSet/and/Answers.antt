@@ -1,0 +1,7 @@
+use Rattle.spread_labels.specs.TargetSets.{has}
+use Rattle.spread_labels.proofs.TargetBits.{and_bit}
+use Rattle.spread_labels.proofs.target_set.TargetSet.and.Goals as goal
+
+pub returns : goal.returns
+unfolding has
+returns c = λ k h. and_bit c.args.self.bits c.args.other.bits k

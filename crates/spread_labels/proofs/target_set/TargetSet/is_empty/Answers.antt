@@ -1,0 +1,8 @@
+use Rattle.std.proofs.lemmas.Bool.{eqb-true}
+use Rattle.spread_labels.specs.TargetSets.{has}
+use Rattle.spread_labels.proofs.TargetBits.{no_bit}
+use Rattle.spread_labels.proofs.target_set.TargetSet.is_empty.Goals as goal
+
+pub returns : goal.returns
+unfolding has
+returns c = λ e k h. no_bit c.args.self.bits k (eqb-true c.args.self.bits 0 e)

@@ -1,0 +1,8 @@
+-- Ports of candidates, target by target.
+use Rattle.std.specs.Prelude.{ℕ, List, [], ◌∷◌, ◌++◌, if◌then◌else◌}
+use Rattle.spread_labels.specs.declared.target_set.TargetSet.{TargetSet}
+use Rattle.spread_labels.specs.TargetSets.{has}
+
+-- a list with a port more where a target is in a set
+abbrev pub added : TargetSet → ℕ → ℕ → List ℕ → List ℕ
+added targets port k list = if has targets k then list ++ port ∷ [] else list

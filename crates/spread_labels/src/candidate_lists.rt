@@ -1,0 +1,112 @@
+//! The ports of candidates, target by target.
+ghost use Rattle.std.specs.Prelude.{◌≡◌, ◌<◌, ◌++◌, [], length, map, IfOk, OnOk, slice_index_or};
+ghost use Rattle.spread_labels.specs.TargetSets.{EachTarget};
+ghost use Rattle.spread_labels.specs.MarkSets.{picked};
+ghost use Rattle.spread_labels.specs.PortLists.{added};
+
+use crate::target_set::{TARGETS, TargetSet};
+use port_graph::Edge;
+use smp_bytes::PortNum;
+use std::alloc::{AllocError, Global};
+use std::marker::Model;
+
+/// For each of the targets that stand side by side the ports of the candidates of a vertex.
+#[derive(Drop)]
+pub struct CandidateLists {
+    lists: Vec<Vec<PortNum>>,
+}
+
+impl Model for CandidateLists {
+    ghost use Rattle.std.specs.Prelude.{◌≡◌, List, ℕ, length, map};
+
+    ghost Value = { List (List ℕ) };
+
+    ghost view = { λ a. map (λ list. list.items) a.lists.items };
+
+    ghost invariant = { λ a. length a.lists.items ≡ 64 };
+}
+
+impl CandidateLists {
+    /// No port.
+    pub fn new(alloc: Global) -> Result<Self, AllocError> {
+        let mut lists = Vec::with_capacity(alloc, TARGETS)?;
+        for _ in 0..TARGETS {
+            lists.push(Vec::new(alloc))?;
+        }
+        Ok(CandidateLists { lists })
+    }
+
+    /// Finds, of the edges of a vertex, the ports of those whose set has a target, in their order: they replace what
+    /// was found before. Takes a step for each edge, and one for each port that is found.
+    pub fn find(&mut self, edges: &[Edge], sets: &[TargetSet]) -> Result<(), AllocError>
+        requires { length sets.now ≡ length edges.now }
+        ensures { OnOk result (EachTarget (λ k. slice_index_or self.new k []
+            ≡ map (λ edge. edge.port) (picked k sets.now edges.now))) }
+    {
+        find_all(&mut self.lists, edges, sets)
+    }
+
+    /// The ports towards a target.
+    pub fn at(&self, target: usize) -> &[PortNum]
+        requires { target < 64 }
+        ensures { result.now ≡ slice_index_or self.now target [] }
+    {
+        &self.lists[target]
+    }
+}
+
+/// Finds the ports of the edges whose set has each target.
+fn find_all(
+    lists: &mut [Vec<PortNum>],
+    edges: &[Edge],
+    sets: &[TargetSet],
+) -> Result<(), AllocError>
+    requires lists { length lists.old ≡ 64 }
+    requires all { length sets.now ≡ length edges.now }
+    ensures { OnOk result (EachTarget (λ k. slice_index_or (map (λ list. list.items) lists.new) k []
+        ≡ map (λ edge. edge.port) (picked k sets.now edges.now))) }
+{
+    clear(lists);
+    add_all(lists, edges, sets)
+}
+
+/// Lets all ports go.
+fn clear(lists: &mut [Vec<PortNum>])
+    ensures { EachTarget (λ k. slice_index_or (map (λ list. list.items) lists.new) k [] ≡ []) }
+{
+    for list in lists.iter_mut() {
+        list.clear();
+    }
+}
+
+/// Adds to the list of each target the ports of the edges whose set has it.
+fn add_all(
+    lists: &mut [Vec<PortNum>],
+    edges: &[Edge],
+    sets: &[TargetSet],
+) -> Result<(), AllocError>
+    requires lists { length lists.old ≡ 64 }
+    requires all { length sets.now ≡ length edges.now }
+    ensures { OnOk result (EachTarget (λ k. slice_index_or (map (λ list. list.items) lists.new) k []
+        ≡ slice_index_or (map (λ list. list.items) lists.old) k []
+        ++ map (λ edge. edge.port) (picked k sets.now edges.now))) }
+{
+    for (i, edge) in edges.iter().enumerate() {
+        add(lists, edge.port, sets[i])?;
+    }
+    Ok(())
+}
+
+/// Adds a port to the lists of these targets.
+fn add(lists: &mut [Vec<PortNum>], port: PortNum, targets: TargetSet) -> Result<(), AllocError>
+    requires { length lists.old ≡ 64 }
+    ensures { OnOk result (EachTarget (λ k. slice_index_or (map (λ list. list.items) lists.new) k []
+        ≡ added targets port k (slice_index_or (map (λ list. list.items) lists.old) k []))) }
+{
+    let mut left = targets;
+    'target: while let Some(target) = left.first() {
+        lists[target].push(port)?;
+        left = left.but(target);
+    }
+    Ok(())
+}

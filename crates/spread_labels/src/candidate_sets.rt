@@ -1,0 +1,86 @@
+//! The edges that gave vertices their marks, towards many targets side by side.
+ghost use Rattle.std.specs.Prelude.{◌≡◌, ◌<◌, ◌≤◌, [], length, map, All, IfOk, slice_index_or};
+ghost use Rattle.port_graph.specs.Heads.{LeadToVertices};
+ghost use Rattle.spread_labels.specs.MarkSets.{AreCandidateSets, no_sets};
+
+use crate::mark_sets::{after_round, are_same, at_first};
+use crate::target_set::TargetSet;
+use port_graph::Adjacency;
+use std::alloc::{AllocError, Global};
+use std::marker::Model;
+
+/// At each edge of each vertex the targets towards which it gave the vertex its mark.
+#[derive(Drop)]
+pub struct CandidateSets {
+    rows: Vec<Vec<TargetSet>>,
+}
+
+impl Model for CandidateSets {
+    ghost use Rattle.std.specs.Prelude.{List, map};
+    ghost use Rattle.spread_labels.specs.declared.target_set.TargetSet.{TargetSet as Targets};
+
+    ghost Value = { List (List Targets) };
+
+    ghost view = { λ a. map (λ row. row.items) a.rows.items };
+}
+
+impl CandidateSets {
+    /// Of all edges, towards these targets, of which there are at most 64. Takes a step or two for each edge in each of
+    /// as many rounds as the greatest cost, and one, for all targets together.
+    pub fn towards(
+        alloc: Global,
+        edges: &Adjacency,
+        targets: &[usize],
+    ) -> Result<Self, AllocError>
+        requires lead { LeadToVertices edges.now }
+        requires few { length targets.now ≤ 64 }
+        requires vertices { All (λ target. target < length edges.now) targets.now }
+        ensures { IfOk result (λ sets. AreCandidateSets edges.now targets.now sets) }
+    {
+        let rows = rows_towards(alloc, edges, targets)?;
+        Ok(CandidateSets { rows })
+    }
+
+    /// At each edge of a vertex, in their order.
+    pub fn at(&self, vertex: usize) -> &[TargetSet]
+        requires { vertex < length self.now }
+        ensures { result.now ≡ slice_index_or self.now vertex [] }
+    {
+        &self.rows[vertex]
+    }
+}
+
+/// The same, row by row.
+fn rows_towards(
+    alloc: Global,
+    edges: &Adjacency,
+    targets: &[usize],
+) -> Result<Vec<Vec<TargetSet>>, AllocError>
+    requires lead { LeadToVertices edges.now }
+    requires few { length targets.now ≤ 64 }
+    requires vertices { All (λ target. target < length edges.now) targets.now }
+    ensures { IfOk result (λ rows. AreCandidateSets edges.now targets.now (map (λ row. row.items) rows.items)) }
+{
+    let mut marks = at_first(alloc, edges.len(), targets)?;
+    let mut rows = no_rows(alloc, edges)?;
+    for round in 0..edges.len() {
+        let next = after_round(alloc, edges, &marks, &mut rows)?;
+        let is_last = are_same(&marks, &next);
+        marks = next;
+        if is_last {
+            break;
+        }
+    }
+    Ok(rows)
+}
+
+/// No target at each edge of each vertex.
+fn no_rows(alloc: Global, edges: &Adjacency) -> Result<Vec<Vec<TargetSet>>, AllocError>
+    ensures { IfOk result (λ rows. map (λ row. row.items) rows.items ≡ map no_sets edges.now) }
+{
+    let mut rows = Vec::with_capacity(alloc, edges.len())?;
+    for vertex in 0..edges.len() {
+        rows.push(vec![in alloc; TargetSet::none(); edges.at(vertex).len()]?)?;
+    }
+    Ok(rows)
+}
