@@ -3,6 +3,7 @@ pub mod Built
 pub mod Carried
 pub mod Carries
 pub mod Courses
+pub mod Envelopes
 pub mod Invariants
 pub mod Kept
 pub mod PeerLists

@@ -1,6 +1,6 @@
 -- One delivery: what becomes of a packet where it waits.
 -- InfiniBand Architecture Specification, Volume 1: subnet management, directed routes; switches, unicast forwarding.
-use Rattle.std.specs.Prelude.{◌≡◌, ℕ, ◌+◌, ◌^◌, Bool, ◌&&◌, ◌||◌, not, List, [], ◌∷◌, ◌++◌, slice_get, slice_set, ◌==◌, if◌then◌else◌, Option, Some, None, is_some, is_none, Result, Ok, Err, IsOk}
+use Rattle.std.specs.Prelude.{◌≡◌, ℕ, ◌+◌, ◌^◌, Bool, ◌&&◌, ◌||◌, not, List, [], ◌∷◌, ◌++◌, slice_get, slice_set, ◌==◌, if◌then◌else◌, Option, Some, None, is_some, is_none, option_map, Result, Ok, Err, IsOk}
 use Rattle.std.specs.Option.{option_map_or}
 use Rattle.fabric_model.specs.declared.cable.NodePort.{NodePort}
 use Rattle.fabric_model.specs.declared.course.Course.{Course}
@@ -22,12 +22,14 @@ use Rattle.fabric_sim.specs.declared.packet.Packet.{Packet}
 use Rattle.fabric_sim.specs.declared.flight.Whereabouts.{Whereabouts}
 use Rattle.fabric_sim.specs.declared.flight.Whereabouts.TheVariants.{Arrived}
 use Rattle.fabric_sim.specs.declared.flight.Flight.{Flight}
+use Rattle.fabric_sim.specs.declared.envelope.Envelope.{Envelope}
+use Rattle.fabric_sim.specs.declared.action.Action.{Action}
+use Rattle.fabric_sim.specs.declared.action.Action.TheVariants as action_is
 use Rattle.fabric_sim.specs.declared.delivered.Reason.{Reason}
 use Rattle.fabric_sim.specs.declared.delivered.Reason.TheVariants.{Course as OffCourse, Transit, OutPort, Down, Unreadable, NoRoute}
 use Rattle.fabric_sim.specs.declared.delivered.Delivered.{Delivered}
 use Rattle.fabric_sim.specs.declared.delivered.Delivered.TheVariants as delivered_is
-use Rattle.fabric_sim.specs.declared.outcome.Outcome.{Outcome}
-use Rattle.fabric_sim.specs.declared.outcome.Outcome.TheVariants.{Moves, Asks, HandsUp, Drops}
+use Rattle.fabric_sim.specs.Outcome.{Outcome, Moves, Asks, HandsUp, Drops}
 use Rattle.fabric_sim.specs.declared.fault.FabricFault.{FabricFault}
 use Rattle.fabric_sim.specs.declared.fault.FabricFault.TheVariants.{Memory, NoSuchPacket, SerialsSpent}
 use Rattle.fabric_sim.specs.Simulation.{Simulation, agent_at, port_count, is_seat_at, across, fabric_of, port_of, is_at_seat, is_by_wire, answer_whereabouts, flight_with, without_flight, with_moved, CanWait}
@@ -101,6 +103,41 @@ outcome_of s whereabouts packet =
     else if not (is_at_seat whereabouts) && is_none (across s.peers (port_of whereabouts)) then Drops Down
     else if is_directed packet.bytes then directed_outcome s (port_of whereabouts) packet
     else lid_routed_outcome s whereabouts packet
+
+-- the same where it lies -------------------------------------------------------------------
+
+-- what is known of a packet in flight beside its bytes
+abbrev pub envelope_of : Flight → Envelope
+envelope_of flight =
+    record {
+      serial = flight.serial;
+      whereabouts = flight.whereabouts;
+      slid = flight.packet.slid;
+      dlid = flight.packet.dlid;
+    }
+
+-- the packet that has these bytes
+abbrev pub packet_in : Envelope → List ℕ → Packet
+packet_in envelope bytes = record { bytes = bytes; slid = envelope.slid; dlid = envelope.dlid }
+
+abbrev pub flight_in : Envelope → List ℕ → Flight
+flight_in envelope bytes =
+    record {
+      serial = envelope.serial;
+      whereabouts = envelope.whereabouts;
+      packet = packet_in envelope bytes;
+    }
+
+-- it is that of the i-th in flight
+abbrev pub IsEnvelopeAt : List Flight → ℕ → Envelope → Type 0
+IsEnvelopeAt flights i envelope = option_map envelope_of (slice_get flights i) ≡ Some envelope
+
+-- what becomes of a packet with which this is done
+abbrev pub outcome_by : Packet → Action → Outcome
+outcome_by packet (action_is.Moves whereabouts) = Moves whereabouts packet
+outcome_by packet (action_is.Asks slid dlid) = Asks packet.bytes slid dlid
+outcome_by packet action_is.HandsUp = HandsUp packet
+outcome_by packet (action_is.Drops reason) = Drops reason
 
 -- what moves can wait where it comes to
 abbrev pub CanFare : Simulation → Outcome → Type 0

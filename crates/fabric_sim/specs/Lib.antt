@@ -1,4 +1,5 @@
 pub mod Simulation
+pub mod Outcome
 pub mod Delivery
 pub mod Changes
 pub mod Build

@@ -1,15 +1,17 @@
-ghost use Rattle.std.specs.Prelude.{◌≡◌, ◌<◌, length, slice_get, Some, None, true, false};
+ghost use Rattle.std.specs.Prelude.{◌≡◌, ◌<◌, length, Some, None, true};
 ghost use Rattle.smp_bytes.specs.Packet.{is_directed, fault_of};
-ghost use Rattle.fabric_model.specs.Forwarding.{course};
-ghost use Rattle.fabric_sim.specs.declared.outcome.Outcome.TheVariants.{Asks};
-ghost use Rattle.fabric_sim.specs.Simulation.{port_of, is_cable_port, fabric_of};
-ghost use Rattle.fabric_sim.specs.Delivery.{carrying, here_at, is_for_manager, leaving, at_agent, by_verdict, by_course, arrived, directed_outcome, lid_routed_outcome, outcome_of, CanFare, after_outcome, after_deliver};
+ghost use Rattle.fabric_sim.specs.Outcome.{Outcome, Asks};
+ghost use Rattle.fabric_sim.specs.declared.packet.Packet.{Packet};
+ghost use Rattle.fabric_sim.specs.declared.delivered.Delivered.TheVariants.{Discarded};
+ghost use Rattle.fabric_sim.specs.Simulation.{port_of, is_cable_port, IsFlightAt};
+ghost use Rattle.fabric_sim.specs.Delivery.{here_at, is_for_manager, leaving, at_agent, arrived, directed_outcome, lid_routed_outcome, outcome_of, CanFare, packet_in, flight_in, IsEnvelopeAt, outcome_by, after_outcome, after_deliver, without};
 
+use crate::action::Action;
 use crate::delivered::{Delivered, Reason};
+use crate::envelope::Envelope;
 use crate::fabric::Fabric;
 use crate::fault::FabricFault;
 use crate::flight::{Flight, Whereabouts};
-use crate::outcome::Outcome;
 use crate::packet::Packet;
 use dr_forward::{Here, Verdict, step};
 use fabric_model::{Course, NodePort};
@@ -31,63 +33,84 @@ impl Fabric {
         let Some(i) = self.find(serial) else {
             return Err(FabricFault::NoSuchPacket);
         };
-        let flight = self.flights[i];
-        let outcome = self.outcome(flight.whereabouts, &flight.packet);
-        self.apply(i, &flight, outcome)
+        let flight = &self.flights[i];
+        let envelope = flight.envelope();
+        match Smp::parse(&flight.packet.bytes) {
+            Ok(mut smp) => {
+                let action = self.action(&envelope, &mut smp);
+                self.act(i, &envelope, &smp, action)
+            }
+            Err(_) => Ok(self.discard(i, serial, Reason::Unreadable)),
+        }
     }
 
-    /// Moves, answers, hands up or discards the packet of an index among those in flight.
-    fn apply(
+    /// Moves, answers, hands up or discards the packet of an index among those in flight, which has these bytes after
+    /// its step.
+    fn act(
         &mut self,
         i: usize,
-        flight: &Flight,
-        outcome: Outcome,
+        envelope: &Envelope,
+        smp: &Smp,
+        action: Action,
     ) -> Result<Delivered, FabricFault>
-        requires at { slice_get self.old.flights i ≡ Some flight.now }
-        requires can { CanFare self.old outcome }
-        ensures fabric { self.new ≡ (after_outcome self.old flight.now outcome).fabric }
-        ensures result { result ≡ (after_outcome self.old flight.now outcome).result }
+        requires at { IsEnvelopeAt self.old.flights i envelope.now }
+        requires can { CanFare self.old (outcome_by (packet_in envelope.now smp.now) action) }
+        ensures fabric { self.new ≡ (after_outcome self.old (flight_in envelope.now smp.now)
+            (outcome_by (packet_in envelope.now smp.now) action)).fabric }
+        ensures result { result ≡ (after_outcome self.old (flight_in envelope.now smp.now)
+            (outcome_by (packet_in envelope.now smp.now) action)).result }
     {
-        match outcome {
-            Outcome::Moves(whereabouts, packet) => {
-                self.move_to(i, flight.serial, whereabouts, packet);
-                Ok(Delivered::Moved(flight.serial))
+        let serial = envelope.serial;
+        match action {
+            Action::Moves(whereabouts) => {
+                self.move_to(i, serial, whereabouts, envelope.packet(smp));
+                Ok(Delivered::Moved(serial))
             }
-            Outcome::Asks(smp, slid, dlid) => self.ask(i, flight, &smp, slid, dlid),
-            Outcome::HandsUp(packet) => {
-                self.remove(i, flight.serial);
-                Ok(Delivered::ToManager(flight.whereabouts.port(), packet))
+            Action::Asks(slid, dlid) => self.ask(i, envelope, smp, slid, dlid),
+            Action::HandsUp => {
+                self.remove(i, serial);
+                let packet = envelope.packet(smp);
+                Ok(Delivered::ToManager(envelope.whereabouts.port(), packet))
             }
-            Outcome::Drops(reason) => {
-                self.remove(i, flight.serial);
-                Ok(Delivered::Discarded(reason))
-            }
+            Action::Drops(reason) => Ok(self.discard(i, serial, reason)),
         }
+    }
+
+    /// Discards the packet of an index among those in flight.
+    fn discard(&mut self, i: usize, serial: u64, reason: Reason) -> Delivered
+        requires { IsFlightAt self.old.flights i serial }
+        ensures fabric { self.new ≡ without self.old serial }
+        ensures result { result ≡ Discarded reason }
+    {
+        self.remove(i, serial);
+        Delivered::Discarded(reason)
     }
 
     /// Lets the agent answer a request that waits there. The answer waits in its stead.
     fn ask(
         &mut self,
         i: usize,
-        flight: &Flight,
+        envelope: &Envelope,
         request: &Smp,
         slid: Lid,
         dlid: Lid,
     ) -> Result<Delivered, FabricFault>
-        requires at { slice_get self.old.flights i ≡ Some flight.now }
-        ensures fabric { self.new ≡ (after_outcome self.old flight.now (Asks request.now slid dlid)).fabric }
-        ensures result { result ≡ (after_outcome self.old flight.now (Asks request.now slid dlid)).result }
+        requires at { IsEnvelopeAt self.old.flights i envelope.now }
+        ensures fabric { self.new ≡ (after_outcome self.old (flight_in envelope.now request.now)
+            (Asks request.now slid dlid)).fabric }
+        ensures result { result ≡ (after_outcome self.old (flight_in envelope.now request.now)
+            (Asks request.now slid dlid)).result }
     {
         let Some(serial) = self.next else {
             return Err(FabricFault::SerialsSpent);
         };
-        let at = flight.whereabouts.port();
+        let at = envelope.whereabouts.port();
         let agent = &mut self.agents[at.node.number()];
         let answer = agent.answer(request, at.port);
         self.flights.remove(i);
         self.flights.push_back_reserved(Flight {
             serial,
-            whereabouts: flight.whereabouts.answer_whereabouts(),
+            whereabouts: envelope.whereabouts.answer_whereabouts(),
             packet: Packet {
                 bytes: *answer.bytes(),
                 slid,
@@ -98,51 +121,39 @@ impl Fabric {
         Ok(Delivered::Answered(serial))
     }
 
-    /// What becomes of a packet where it waits.
+    /// What is to be done with a packet where it waits. One on a directed route takes its step.
     #[tactic(auto, using(crate::proofs::AgentLists::within_agents), unfolding(crate::specs::Delivery::outcome_of))]
-    fn outcome(&self, whereabouts: Whereabouts, packet: &Packet) -> Outcome
-        requires { is_cable_port self.now (port_of whereabouts) ≡ true }
-        ensures outcome { result ≡ outcome_of self.now whereabouts packet.now }
-        ensures can { CanFare self.now result }
+    fn action(&self, envelope: &Envelope, smp: &mut Smp) -> Action
+        requires parses { fault_of smp.old ≡ None }
+        requires port { is_cable_port self.now (port_of envelope.now.whereabouts) ≡ true }
+        ensures { outcome_by (packet_in envelope.now smp.new) result
+            ≡ outcome_of self.now envelope.now.whereabouts (packet_in envelope.now smp.old) }
     {
-        let Ok(smp) = Smp::parse(&packet.bytes) else {
-            return Outcome::Drops(Reason::Unreadable);
-        };
-        let at = whereabouts.port();
-        if !whereabouts.is_seat() && self.across(&at).is_none() {
-            return Outcome::Drops(Reason::Down);
+        let at = envelope.whereabouts.port();
+        if !envelope.whereabouts.is_seat() && self.across(&at).is_none() {
+            return Action::Drops(Reason::Down);
         }
         match smp.class() {
-            SmpClass::DirectedRoute => self.directed_outcome(&at, smp, packet),
-            SmpClass::LidRouted => self.lid_routed_outcome(whereabouts, &smp, packet),
+            SmpClass::DirectedRoute => self.directed_action(&at, envelope, smp),
+            SmpClass::LidRouted => self.lid_routed_action(&at, envelope, smp),
         }
     }
 
     /// A step of a packet on a directed route.
-    fn directed_outcome(&self, at: &NodePort, mut smp: Smp, packet: &Packet) -> Outcome
-        requires bytes { smp ≡ packet.now.bytes }
-        requires directed { is_directed smp ≡ true }
-        requires port { is_cable_port self.now at.now ≡ true }
-        ensures outcome { result ≡ directed_outcome self.now at.now packet.now }
-        ensures can { CanFare self.now result }
+    fn directed_action(&self, at: &NodePort, envelope: &Envelope, smp: &mut Smp) -> Action
+        requires directed { is_directed smp.old ≡ true }
+        requires port { at.now.node < length self.now.agents }
+        ensures { outcome_by (packet_in envelope.now smp.new) result
+            ≡ directed_outcome self.now at.now (packet_in envelope.now smp.old) }
     {
-        let verdict = step(&mut smp, &self.here(at));
-        let packet = Packet {
-            bytes: *smp.bytes(),
-            slid: packet.slid,
-            dlid: packet.dlid,
-        };
-        match verdict {
-            Verdict::Out(port) => self.leaving(
-                &NodePort {
-                    node: at.node,
-                    port,
-                },
-                &packet,
-            ),
-            Verdict::ToAgent => self.at_agent(at, smp, &packet),
-            Verdict::ToManager => Outcome::HandsUp(packet),
-            Verdict::Discard(reason) => Outcome::Drops(Reason::from(reason)),
+        match step(smp, &self.here(at)) {
+            Verdict::Out(port) => self.leaving(&NodePort {
+                node: at.node,
+                port,
+            }),
+            Verdict::ToAgent => self.at_agent(at, envelope, smp),
+            Verdict::ToManager => Action::HandsUp,
+            Verdict::Discard(reason) => Action::Drops(Reason::from(reason)),
         }
     }
 
@@ -160,56 +171,52 @@ impl Fabric {
     }
 
     /// A packet that has come to the end of its path.
-    fn at_agent(&self, at: &NodePort, smp: Smp, packet: &Packet) -> Outcome
-        requires { smp ≡ packet.now.bytes }
-        ensures outcome { result ≡ at_agent self.now at.now packet.now }
-        ensures can { CanFare self.now result }
+    fn at_agent(&self, at: &NodePort, envelope: &Envelope, smp: &Smp) -> Action
+        ensures { outcome_by (packet_in envelope.now smp.now) result
+            ≡ at_agent self.now at.now (packet_in envelope.now smp.now) }
     {
         if smp.is_response() {
-            Outcome::Drops(Reason::Course)
-        } else if self.is_for_manager(at, &smp) {
-            Outcome::HandsUp(*packet)
+            Action::Drops(Reason::Course)
+        } else if self.is_for_manager(at, smp) {
+            Action::HandsUp
         } else {
-            Outcome::Asks(smp, packet.slid, packet.dlid)
+            Action::Asks(envelope.slid, envelope.dlid)
         }
     }
 
     /// What the node does with a packet that is forwarded by its DLID.
-    fn lid_routed_outcome(&self, whereabouts: Whereabouts, smp: &Smp, packet: &Packet) -> Outcome
-        requires bytes { smp.now ≡ packet.now.bytes }
-        requires port { (port_of whereabouts).node < length self.now.agents }
-        ensures outcome { result ≡ lid_routed_outcome self.now whereabouts packet.now }
-        ensures can { CanFare self.now result }
+    fn lid_routed_action(&self, at: &NodePort, envelope: &Envelope, smp: &Smp) -> Action
+        requires at { at.now ≡ port_of envelope.now.whereabouts }
+        requires port { at.now.node < length self.now.agents }
+        ensures { outcome_by (packet_in envelope.now smp.now) result
+            ≡ lid_routed_outcome self.now envelope.now.whereabouts (packet_in envelope.now smp.now) }
     {
-        let at = whereabouts.port();
-        match self.course(packet.dlid, &at, whereabouts.is_by_wire()) {
-            Course::Delivers(_) => self.arrival(&at, smp, packet),
-            Course::LeavesBy(out) => self.leaving(&out, packet),
-            Course::Drops => Outcome::Drops(Reason::NoRoute),
+        match self.course(envelope.dlid, at, envelope.whereabouts.is_by_wire()) {
+            Course::Delivers(_) => self.arrival(at, envelope, smp),
+            Course::LeavesBy(out) => self.leaving(&out),
+            Course::Drops => Action::Drops(Reason::NoRoute),
         }
     }
 
     /// A packet that has come to the port of its DLID.
-    fn arrival(&self, at: &NodePort, smp: &Smp, packet: &Packet) -> Outcome
-        requires { smp.now ≡ packet.now.bytes }
-        ensures outcome { result ≡ arrived self.now at.now packet.now }
-        ensures can { CanFare self.now result }
+    fn arrival(&self, at: &NodePort, envelope: &Envelope, smp: &Smp) -> Action
+        ensures { outcome_by (packet_in envelope.now smp.now) result
+            ≡ arrived self.now at.now (packet_in envelope.now smp.now) }
     {
         if smp.is_response() || self.is_for_manager(at, smp) {
-            Outcome::HandsUp(*packet)
+            Action::HandsUp
         } else {
-            Outcome::Asks(*smp, packet.dlid, packet.slid)
+            Action::Asks(envelope.dlid, envelope.slid)
         }
     }
 
     /// Out by a port, to the other end of its cable.
-    fn leaving(&self, out: &NodePort, packet: &Packet) -> Outcome
-        ensures outcome { result ≡ leaving self.now out.now packet.now }
-        ensures can { CanFare self.now result }
+    fn leaving(&self, out: &NodePort) -> Action
+        ensures { (packet : Packet) → outcome_by packet result ≡ leaving self.now out.now packet }
     {
         match self.across(out) {
-            Some(into) => Outcome::Moves(Whereabouts::Arrived(into), *packet),
-            None => Outcome::Drops(Reason::Down),
+            Some(into) => Action::Moves(Whereabouts::Arrived(into)),
+            None => Action::Drops(Reason::Down),
         }
     }
 

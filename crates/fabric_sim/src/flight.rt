@@ -1,6 +1,7 @@
 ghost use Rattle.std.specs.Prelude.{◌≡◌};
 ghost use Rattle.fabric_sim.specs.Simulation.{port_of, is_at_seat, is_by_wire, answer_whereabouts};
 
+use crate::envelope::Envelope;
 use crate::packet::Packet;
 use fabric_model::NodePort;
 
@@ -59,4 +60,20 @@ pub struct Flight {
     pub whereabouts: Whereabouts,
     /// The packet.
     pub packet: Packet,
+}
+
+impl Flight {
+    ghost use Rattle.fabric_sim.specs.Delivery.{envelope_of};
+
+    /// What is known of it beside its bytes.
+    pub(crate) fn envelope(&self) -> Envelope
+        ensures { result ≡ envelope_of self.now }
+    {
+        Envelope {
+            serial: self.serial,
+            whereabouts: self.whereabouts,
+            slid: self.packet.slid,
+            dlid: self.packet.dlid,
+        }
+    }
 }

@@ -1,18 +1,19 @@
 //! A simulated fabric: nodes, the cables between them, and the packets on their way.
 #![tactic(auto)]
 
+mod action;
 mod build;
 mod cables;
 mod course;
 mod deliver;
 mod delivered;
+mod envelope;
 mod fabric;
 mod fault;
 mod flight;
 mod flights;
 mod inject;
 pub mod laws;
-mod outcome;
 mod packet;
 mod peers;
 mod ping;
