@@ -38,7 +38,7 @@ use Rattle.audit.proofs.Judged.{same_itself}
 use Rattle.audit.proofs.Told.{IsClosed, joined_closed, packets_end_as_told_in_parts}
 use Rattle.audit.specs.Tables.{is_same_end}
 use Rattle.audit_report.specs.Laws.{PassingAuditsDeliver}
-use Rattle.audit_report.specs.Sites.{in_one_component, is_one_root, leads_to, root_at}
+use Rattle.audit_counts.specs.Sites.{in_one_component, is_one_root, leads_to, root_at}
 
 -- what is delivered stays within what is joined -----------------------------------------------
 

@@ -22,12 +22,12 @@ use Rattle.audit_channels.specs.Waiting.{NoneShorter}
 use Rattle.audit_channels.proofs.Orders.{never_both}
 use Rattle.audit_channels.specs.declared.ways.WayFigures.{WayFigures}
 use Rattle.audit.specs.NextHops.{IsBrought}
-use Rattle.audit_report.specs.declared.sent_packet.SentPacket.{SentPacket}
-use Rattle.audit_report.specs.declared.packet_tally.PacketTally.{PacketTally}
-use Rattle.audit_report.specs.declared.unmatched.Unmatched.{Unmatched}
-use Rattle.audit_report.specs.Packets.{arrives, packet_of, packets_for, packets_of, sent_to}
+use Rattle.audit_counts.specs.declared.sent_packet.SentPacket.{SentPacket}
+use Rattle.audit_counts.specs.declared.packet_tally.PacketTally.{PacketTally}
+use Rattle.audit_counts.specs.declared.unmatched.Unmatched.{Unmatched}
+use Rattle.audit_counts.specs.Packets.{arrives, packet_of, packets_for, packets_of, sent_to}
 use Rattle.audit_report.specs.Passing.{EachArrives, CanRise, IsSound, IsCycle, IsFound}
-use Rattle.audit_report.specs.Sites.{in_one_component}
+use Rattle.audit_counts.specs.Sites.{in_one_component}
 
 -- counting all ------------------------------------------------------------------------
 

@@ -1,14 +1,8 @@
 pub mod Audits
-pub mod Counted
 pub mod Delivers
-pub mod Disputes
-pub mod Firsts
 pub mod Judged
 pub mod Missing
 pub mod PlansArrive
 pub mod PlansRise
-pub mod Sited
-pub mod Surveyed
 pub mod TallyText
-pub mod ToldLines
 pub mod Written

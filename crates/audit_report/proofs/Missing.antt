@@ -24,10 +24,10 @@ use Rattle.plan_file.proofs.OwnedLids.{owner_at, owner_listed}
 use Rattle.audit.specs.Tables.{is_same_end}
 use Rattle.audit.proofs.HeldPlans.{made}
 use Rattle.audit.proofs.Judged.{same_ends, same_itself}
-use Rattle.audit_report.specs.declared.unmatched.Unmatched.{Unmatched}
+use Rattle.audit_counts.specs.declared.unmatched.Unmatched.{Unmatched}
 use Rattle.audit_report.specs.Passing.{EachHasTables, EachHoldsLid, HoldsLid, HoldsTables, IsWholeFor}
-use Rattle.audit_report.specs.FirstFew.{Listed}
-use Rattle.audit_report.specs.Unmatched.{IsUnmatched, has_lid, is_held, lidless, tableless}
+use Rattle.audit_counts.specs.FirstFew.{Listed}
+use Rattle.audit_counts.specs.Unmatched.{IsUnmatched, has_lid, is_held, lidless, tableless}
 
 -- all of a list pass exactly where none is counted that does not
 module _ {X : Type 0} (p : X → Bool) where

@@ -23,7 +23,7 @@ use Rattle.audit.proofs.HeldPlans.{made}
 use Rattle.audit.proofs.Judged.{same_ends}
 use Rattle.audit.proofs.PlanPackets.{HasRoot, Meets, itself, of_root, by_wire, brought}
 use Rattle.audit_report.specs.Passing.{EachArrives}
-use Rattle.audit_report.specs.Sites.{in_one_component, root_at, is_one_root, leads_to}
+use Rattle.audit_counts.specs.Sites.{in_one_component, root_at, is_one_root, leads_to}
 
 roots : (a b : Option ℕ) → is_one_root a b ≡ true → (r : ℕ) × (a ≡ Some r) × (b ≡ Some r)
 roots None b h = absurd (cc)

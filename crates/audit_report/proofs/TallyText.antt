@@ -4,11 +4,11 @@ use Rattle.std.specs.Prelude.{ℕ, codes, count_by, filter, not}
 use Rattle.std.proofs.lemmas.List.Sums.{sum_by-cons}
 use Rattle.subnet_view.specs.Reading.{Cells}
 use Rattle.plan_file.specs.Held.{HeldPlan}
-use Rattle.audit_report.specs.declared.sent_packet.SentPacket.{SentPacket}
-use Rattle.audit_report.specs.declared.packet_tally.PacketTally.{PacketTally}
+use Rattle.audit_counts.specs.declared.sent_packet.SentPacket.{SentPacket}
+use Rattle.audit_counts.specs.declared.packet_tally.PacketTally.{PacketTally}
 use Rattle.audit_report.specs.AuditText.{counts_line, missed_line, missed_text, packets_told, pairs_told, pairs_text, tally_text}
-use Rattle.audit_report.specs.Packets.{arrives, is_between}
-use Rattle.audit_report.specs.PacketTally.{IsTally}
+use Rattle.audit_counts.specs.Packets.{arrives, is_between}
+use Rattle.audit_counts.specs.PacketTally.{IsTally}
 
 module _ {X : Type 0} (p : X → Bool) where
   -- those that pass, and the others

@@ -16,17 +16,17 @@ use Rattle.audit.specs.NextHops.{entry_by}
 use Rattle.audit_channels.specs.declared.figures.Figures.{Figures}
 use Rattle.audit_channels.specs.Figures.{figures_of}
 use Rattle.audit_channels.specs.Ways.{hops_of, loads_of}
-use Rattle.audit_report.specs.declared.sent_packet.SentPacket.{SentPacket}
-use Rattle.audit_report.specs.declared.causes.Causes.{Causes}
-use Rattle.audit_report.specs.declared.pairs.Pairs.{Pairs}
-use Rattle.audit_report.specs.declared.packet_tally.PacketTally.{PacketTally}
-use Rattle.audit_report.specs.declared.unmatched.Unmatched.{Unmatched}
-use Rattle.audit_report.specs.Causes.{causes_of}
-use Rattle.audit_report.specs.Disputed.{disputed}
-use Rattle.audit_report.specs.Packets.{arrives, goes_round, is_between, is_lost, is_misdelivered, packets_of}
+use Rattle.audit_counts.specs.declared.sent_packet.SentPacket.{SentPacket}
+use Rattle.audit_counts.specs.declared.causes.Causes.{Causes}
+use Rattle.audit_counts.specs.declared.pairs.Pairs.{Pairs}
+use Rattle.audit_counts.specs.declared.packet_tally.PacketTally.{PacketTally}
+use Rattle.audit_counts.specs.declared.unmatched.Unmatched.{Unmatched}
+use Rattle.audit_counts.specs.Causes.{causes_of}
+use Rattle.audit_counts.specs.Disputed.{disputed}
+use Rattle.audit_counts.specs.Packets.{arrives, goes_round, is_between, is_lost, is_misdelivered, packets_of}
 use Rattle.audit_report.specs.Passing.{Audited}
-use Rattle.audit_report.specs.FirstFew.{Listed, listed_of, more_of}
-use Rattle.audit_report.specs.Unmatched.{lidless, tableless, twice, unknown, unowned}
+use Rattle.audit_counts.specs.FirstFew.{Listed, listed_of, more_of}
+use Rattle.audit_counts.specs.Unmatched.{lidless, tableless, twice, unknown, unowned}
 
 -- of some packets, which words tell, how many there are, and how many arrive
 abbrev pub counts_line : List ℕ → ℕ → ℕ → List ℕ

@@ -1,12 +1,4 @@
 pub mod AuditText
-pub mod Causes
-pub mod Disputed
-pub mod FirstFew
 pub mod Laws
-pub mod PacketTally
-pub mod Packets
-pub mod Pairs
 pub mod Passing
 pub mod RunAudit
-pub mod Sites
-pub mod Unmatched

@@ -18,13 +18,13 @@ use Rattle.audit.specs.NextHops.{IsBrought}
 use Rattle.audit_channels.specs.Waiting.{RiseOnWays, WaitInCycle}
 use Rattle.audit_channels.specs.declared.ways.WayFigures.{WayFigures}
 use Rattle.audit_channels.specs.Ways.{IsToldOfWays}
-use Rattle.audit_report.specs.declared.packet_tally.PacketTally.{PacketTally}
-use Rattle.audit_report.specs.declared.unmatched.Unmatched.{Unmatched}
-use Rattle.audit_report.specs.Disputed.{disputed}
-use Rattle.audit_report.specs.Packets.{packets_of}
-use Rattle.audit_report.specs.Sites.{in_one_component}
-use Rattle.audit_report.specs.PacketTally.{IsTally}
-use Rattle.audit_report.specs.Unmatched.{IsUnmatched}
+use Rattle.audit_counts.specs.declared.packet_tally.PacketTally.{PacketTally}
+use Rattle.audit_counts.specs.declared.unmatched.Unmatched.{Unmatched}
+use Rattle.audit_counts.specs.Disputed.{disputed}
+use Rattle.audit_counts.specs.Packets.{packets_of}
+use Rattle.audit_counts.specs.Sites.{in_one_component}
+use Rattle.audit_counts.specs.PacketTally.{IsTally}
+use Rattle.audit_counts.specs.Unmatched.{IsUnmatched}
 
 -- an end port of the facts holds the LID, and each packet for it that an end port of its component sends is delivered
 -- there

@@ -12,15 +12,10 @@ ghost use Rattle.audit_report.specs.AuditText.{figures_line, figures_text, hundr
 ghost use Rattle.audit_report.specs.AuditText.{end_text, entry_text, lid_line, packet_line, packets_text, port_line, kind_text};
 ghost use Rattle.audit_report.specs.AuditText.{lost_text, missed_text, sent_text, switch_line, taken_text, unmatched_text};
 
-use crate::causes::Causes;
-use crate::first_few::FirstFew;
-use crate::packet_tally::PacketTally;
-use crate::pairs::Pairs;
 use crate::report::Audit;
-use crate::sent_packet::SentPacket;
-use crate::unmatched::Unmatched;
 use audit::{Cause, End, Network};
 use audit_channels::{Figures, WayFigures};
+use audit_counts::{Causes, FirstFew, PacketTally, Pairs, SentPacket, Unmatched};
 use byte_io::{Sink, WriteFault, write_guid, write_number, write_port};
 use plan_file::HeldLid;
 use smp_bytes::{Guid, Lid, PortNum};

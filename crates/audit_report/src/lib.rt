@@ -4,17 +4,8 @@
 
 mod audit_run;
 mod audit_text;
-mod causes;
-mod disputed;
-mod first_few;
 pub mod laws;
-mod packet_tally;
-mod pairs;
 mod report;
-mod sent_packet;
-mod site;
-mod survey;
-mod unmatched;
 
 pub use audit_run::run_audit;
 pub use audit_text::{write_audit, write_cycle};

@@ -3,13 +3,9 @@ ghost use Rattle.fact_store.specs.View.{cells_of};
 ghost use Rattle.audit_channels.specs.Waiting.{NoneShorter};
 ghost use Rattle.audit_report.specs.Passing.{EachHasTables, EachHoldsLid, IsCycle, IsSound, IsWholeFor, Passes};
 
-use crate::disputed::disputed;
-use crate::packet_tally::PacketTally;
-use crate::site::sites;
-use crate::survey::survey;
-use crate::unmatched::Unmatched;
 use audit::Network;
 use audit_channels::{ChannelOrder, WayFigures, channel_order, figures_of_ways_told};
+use audit_counts::{PacketTally, Unmatched, disputed, sites, survey};
 use fact_store::{Refused, Store};
 use plan_file::Held;
 use std::alloc::{AllocError, Global};

@@ -6,7 +6,7 @@ use Rattle.std.proofs.lemmas.Result.{on_ok_weaker}
 use Rattle.fact_store.specs.View.{cells_of}
 use Rattle.record_file.proofs.Writing.{appends_then}
 use Rattle.audit_report.specs.AuditText.{audit_text, cycle_line, disputed_line, lid_line, kind_text, port_line, switch_line, tally_text, text_of, unmatched_text, unmatched_told, ways_text}
-use Rattle.audit_report.specs.Packets.{packets_of}
+use Rattle.audit_counts.specs.Packets.{packets_of}
 use Rattle.audit_report.proofs.TallyText.{tally_told}
 use Rattle.audit_report.proofs.audit_text.write_audit.Goals as goal
 

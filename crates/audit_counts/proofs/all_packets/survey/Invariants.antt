@@ -1,0 +1,11 @@
+use Rattle.fact_store.specs.View.{cells_of}
+use Rattle.audit_counts.proofs.Surveyed.{AreSurveyed}
+use Rattle.audit_counts.proofs.ToldLines.{ToldSoFar}
+use Rattle.audit_counts.proofs.all_packets.survey.Given as goal
+
+-- the packets for the lines so far, and of which lines it is told that all arrive
+abbrev pub invariant-loop-line : goal.invariant-loop-line
+invariant-loop-line l = record {
+  surveyed : AreSurveyed (cells_of l.network.facts) l.network.held l.line-items l.blocks.number l.blocks.rows.items l.line-index l.tally;
+  told : ToldSoFar (cells_of l.network.facts) l.network.held l.line-items l.line-index l.told.items;
+}

@@ -1,0 +1,65 @@
+-- The packets that end ports send to the LIDs of their component, and what becomes of them.
+use Rattle.std.specs.Prelude.{Bool, true, false, ◌&&◌, not, List, [], Option, None, Some, filter, map, if◌then◌else◌}
+use Rattle.std.specs.List.{flat_map}
+use Rattle.subnet_view.specs.declared.end_port.EndPort.{EndPort}
+use Rattle.subnet_view.specs.EndPorts.{end_ports}
+use Rattle.subnet_view.specs.Reading.{Cells}
+use Rattle.plan_file.specs.declared.held.HeldLid.{HeldLid}
+use Rattle.plan_file.specs.Held.{HeldPlan}
+use Rattle.audit.specs.declared.end.End.{End}
+use Rattle.audit.specs.declared.end.End.TheVariants.{Taken, Lost}
+use Rattle.audit.specs.NextHops.{end_for, is_at}
+use Rattle.audit.specs.Tables.{is_owner}
+use Rattle.audit_counts.specs.declared.sent_packet.SentPacket.{SentPacket}
+use Rattle.audit_counts.specs.Sites.{are_adapters, in_one_component}
+
+-- a packet for the LID of a line
+abbrev pub packet_of : Cells → HeldPlan → HeldLid → EndPort → SentPacket
+packet_of cells held line e = record { line = line; source = e; end = end_for cells held line.lid e }
+
+-- one from each end port of the component in which the LID's end port lies
+abbrev pub sent_to : Cells → HeldPlan → HeldLid → List SentPacket
+sent_to cells held line =
+    map (packet_of cells held line) (filter (λ e. in_one_component cells e line.port) (end_ports cells))
+
+-- where that is an end port of the facts
+abbrev pub packets_for : Cells → HeldPlan → HeldLid → List SentPacket
+packets_for cells held line = if is_owner (end_ports cells) line.port then sent_to cells held line else []
+
+-- for each LID that is held
+abbrev pub packets_of : Cells → HeldPlan → List SentPacket
+packets_of cells held = flat_map (packets_for cells held) held.lids
+
+-- it is delivered at the end port that holds its LID
+abbrev pub arrives : SentPacket → Bool
+arrives packet = is_at packet.line.port packet.end
+
+-- it ends at a node that does not take it
+abbrev pub is_lost_end : Option End → Bool
+is_lost_end None = false
+is_lost_end (Some (Taken e)) = false
+is_lost_end (Some (Lost g cause)) = true
+
+abbrev pub is_lost : SentPacket → Bool
+is_lost packet = is_lost_end packet.end
+
+-- a port takes it that does not hold its LID on this line
+abbrev pub is_taken_end : Option End → Bool
+is_taken_end None = false
+is_taken_end (Some (Taken e)) = true
+is_taken_end (Some (Lost g cause)) = false
+
+abbrev pub is_misdelivered : SentPacket → Bool
+is_misdelivered packet = is_taken_end packet.end && not (arrives packet)
+
+-- it goes round for ever
+abbrev pub is_no_end : Option End → Bool
+is_no_end None = true
+is_no_end (Some e) = false
+
+abbrev pub goes_round : SentPacket → Bool
+goes_round packet = is_no_end packet.end
+
+-- an adapter port sends it to the LID of an adapter port
+abbrev pub is_between : SentPacket → Bool
+is_between packet = are_adapters packet.source packet.line.port

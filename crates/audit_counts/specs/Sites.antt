@@ -1,0 +1,74 @@
+-- Which end ports lie in one component: those at switches of one, and two adapter ports with a wire between them.
+use Rattle.std.specs.Prelude.{◌≡◌, ℕ, Bool, true, false, ◌==◌, ◌&&◌, ◌||◌, List, [], ◌∷◌, Option, None, Some, Contains, count_by, option_map, option_and_then}
+use Rattle.std.specs.List.{list_all, list_any}
+use Rattle.std.specs.Option.{option_map_or}
+use Rattle.subnet_view.specs.declared.end_port.EndPort.{EndPort}
+use Rattle.subnet_view.specs.Reading.{Cells}
+use Rattle.subnet_view.specs.Wires.{across, is_at}
+use Rattle.subnet_view.specs.Graph.{graph_of}
+use Rattle.subnet_view.specs.Components.{root_of}
+use Rattle.lft_blocks.specs.Entries.{attachment_of}
+use Rattle.audit.specs.Tables.{is_same_end}
+use Rattle.audit_channels.specs.Ways.{is_adapter}
+use Rattle.audit_counts.specs.declared.site.Census.{Census}
+use Rattle.audit_counts.specs.declared.site.Site.{Site}
+
+-- the usable switch at which an end port lies: its own, or the one to which its wire leads
+abbrev pub switch_of : Cells → EndPort → Option ℕ
+switch_of cells e = option_map (λ h. h.0) (attachment_of cells e)
+
+-- the root of that switch's component
+abbrev pub root_at : Cells → EndPort → Option ℕ
+root_at cells e = option_and_then (root_of (graph_of cells)) (switch_of cells e)
+
+abbrev pub site_of : Cells → EndPort → Site
+site_of cells e = record { port = e; root = root_at cells e; across = across cells e.node e.port }
+
+-- a site is that of a port
+abbrev pub is_of : EndPort → Site → Bool
+is_of port site = is_same_end port site.port
+
+-- the site of a port among these; None where none is
+abbrev pub IsSiteOf : List Site → EndPort → Option Site → Type 0
+IsSiteOf sites port None = list_any (is_of port) sites ≡ false
+IsSiteOf sites port (Some site) = Contains sites site × (is_of port site ≡ true)
+
+-- two components with roots are one where their roots are
+abbrev pub is_one_root : Option ℕ → Option ℕ → Bool
+is_one_root None s = false
+is_one_root (Some r) None = false
+is_one_root (Some r) (Some s) = r == s
+
+-- a wire leads to the port
+abbrev pub leads_to : Option (ℕ × ℕ) → EndPort → Bool
+leads_to far e = option_map_or (is_at e.node e.port) far false
+
+-- one port, at switches of one component, or with a wire between them
+abbrev pub are_joined : Site → Site → Bool
+are_joined a b = is_same_end a.port b.port || is_one_root a.root b.root || leads_to a.across b.port
+
+-- two end ports lie in one component
+abbrev pub in_one_component : Cells → EndPort → EndPort → Bool
+in_one_component cells e x = are_joined (site_of cells e) (site_of cells x)
+
+-- the root of the first end port's component
+abbrev pub first_root : List Site → Option ℕ
+first_root [] = None
+first_root (site ∷ sites) = site.root
+
+-- all lie in the component of that root
+abbrev pub are_one_component : List Site → Bool
+are_one_component sites = list_all (λ site. is_one_root site.root (first_root sites)) sites
+
+-- both are end ports of adapters
+abbrev pub are_adapters : EndPort → EndPort → Bool
+are_adapters e x = is_adapter e && is_adapter x
+
+-- and lie in one component
+abbrev pub are_joined_adapters : Site → Site → Bool
+are_joined_adapters a b = are_joined a b && are_adapters a.port b.port
+
+-- whether all lie in one component, and how many are end ports of adapters
+pub record IsCensus (sites : List Site) (census : Census) : Type 0 where
+  pub whole : census.whole ≡ are_one_component sites
+  pub adapters : census.adapters ≡ count_by (λ site. is_adapter site.port) sites

@@ -1,0 +1,59 @@
+-- Where the tables that are held and the facts of the subnet differ.
+use Rattle.std.specs.Prelude.{◌≡◌, ℕ, Bool, not, ◌==◌, List, count_by, map, nat_lt}
+use Rattle.std.specs.List.{list_any}
+use Rattle.subnet_view.specs.declared.end_port.EndPort.{EndPort}
+use Rattle.subnet_view.specs.EndPorts.{end_ports}
+use Rattle.subnet_view.specs.Reading.{Cells, is_usable, switches}
+use Rattle.plan_file.specs.declared.held.HeldLid.{HeldLid}
+use Rattle.plan_file.specs.Held.{HeldPlan}
+use Rattle.audit.specs.Tables.{is_owner, is_same_end}
+use Rattle.audit_counts.specs.declared.unmatched.Unmatched.{Unmatched}
+use Rattle.audit_counts.specs.FirstFew.{Listed, listed_of}
+
+-- LIDs with ports that are no end ports of the facts
+abbrev pub unowned : Cells → HeldPlan → Listed HeldLid
+unowned cells held = listed_of (λ line. not (is_owner (end_ports cells) line.port)) held.lids
+
+-- more than one port holds the LID
+abbrev pub is_twice : HeldPlan → HeldLid → Bool
+is_twice held line = nat_lt 1 (count_by (λ (other : HeldLid). other.lid == line.lid) held.lids)
+
+-- such LIDs, with each of these ports
+abbrev pub twice : HeldPlan → Listed HeldLid
+twice held = listed_of (is_twice held) held.lids
+
+-- switches with tables that are no usable switches of the facts
+abbrev pub unknown : Cells → HeldPlan → Listed ℕ
+unknown cells held = listed_of (λ g. not (is_usable cells g)) (map (λ s. s.guid) held.switches)
+
+-- the switch has tables
+abbrev pub is_held : HeldPlan → ℕ → Bool
+is_held held g = list_any (λ s. s.guid == g) held.switches
+
+-- those of some switches that have none
+abbrev pub tableless_among : List ℕ → HeldPlan → Listed ℕ
+tableless_among guids held = listed_of (λ g. not (is_held held g)) guids
+
+-- usable switches without tables
+abbrev pub tableless : Cells → HeldPlan → Listed ℕ
+tableless cells held = tableless_among (switches cells) held
+
+-- a line gives the end port a LID
+abbrev pub has_lid : HeldPlan → EndPort → Bool
+has_lid held e = list_any (λ line. is_same_end e line.port) held.lids
+
+-- those of some end ports that hold none
+abbrev pub lidless_among : List EndPort → HeldPlan → Listed EndPort
+lidless_among ports held = listed_of (λ e. not (has_lid held e)) ports
+
+-- end ports of the facts without a LID
+abbrev pub lidless : Cells → HeldPlan → Listed EndPort
+lidless cells held = lidless_among (end_ports cells) held
+
+-- those of each kind
+pub record IsUnmatched (cells : Cells) (held : HeldPlan) (found : Unmatched) : Type 0 where
+  pub unowned_are : found.unowned ≡ unowned cells held
+  pub twice_are : found.twice ≡ twice held
+  pub unknown_are : found.unknown ≡ unknown cells held
+  pub tableless_are : found.tableless ≡ tableless cells held
+  pub lidless_are : found.lidless ≡ lidless cells held

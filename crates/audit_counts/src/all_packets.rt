@@ -1,0 +1,96 @@
+//! The packets for all LIDs that are held.
+ghost use Rattle.std.specs.Prelude.{◌≡◌, ◌/◌, ◌++◌, true, Contains, IfOk, List, OnOk, map};
+ghost use Rattle.fact_store.specs.View.{cells_of};
+ghost use Rattle.subnet_view.specs.EndPorts.{end_ports};
+ghost use Rattle.audit.specs.NextHops.{AreBlocks};
+ghost use Rattle.audit_channels.specs.Ways.{AllComeTo, AreTold};
+ghost use Rattle.audit_counts.specs.declared.sent_packet.SentPacket.{SentPacket as Sent};
+ghost use Rattle.audit_counts.specs.Packets.{packets_of, sent_to};
+ghost use Rattle.audit_counts.specs.Sites.{IsCensus, site_of};
+ghost use Rattle.audit_counts.specs.PacketTally.{IsTally};
+
+use crate::packet_tally::PacketTally;
+use crate::sent_packet::SentPacket;
+use crate::site::{Census, Site, census_of, index_of, joined_adapters, joined_count};
+use audit::{Blocks, Network};
+use plan_file::HeldLid;
+use std::alloc::{AllocError, Global};
+
+/// What is counted of packets, and of which lines all of them are delivered.
+#[derive(Drop)]
+pub struct Survey {
+    pub tally: PacketTally,
+    /// By the lines' indices: whether it is told of one that all packets for its LID are delivered at its port.
+    pub told: Vec<bool>,
+}
+
+/// Counts the packets that end ports send to the LIDs of their components. Takes what `Network::ends` does for each
+/// LID, a walk over all blocks for each 64, and a step for each two end ports.
+pub fn survey(alloc: Global, network: &Network, sites: &[Site]) -> Result<Survey, AllocError>
+    requires { sites.now ≡ map (site_of (cells_of network.now.facts)) (end_ports (cells_of network.now.facts)) }
+    ensures tally { IfOk result (λ survey.
+        IsTally (packets_of (cells_of network.now.facts) network.now.held) survey.tally) }
+    ensures told { IfOk result (λ survey.
+        AreTold (cells_of network.now.facts) network.now.held survey.told.items) }
+{
+    let mut tally = PacketTally::new(alloc);
+    let mut told = Vec::new(alloc);
+    let mut index = 0;
+    let census = census_of(sites);
+    let mut blocks = network.blocks(alloc, 0)?;
+    for line in network.lids() {
+        blocks = network.blocks_for(alloc, blocks, line.lid)?;
+        index = index_of(sites, index, &line.port);
+        let all = match sites.get(index) {
+            Some(owner) => add_packets(
+                alloc, &mut tally, network, &blocks, sites, census, line, owner,
+            )?,
+            None => false,
+        };
+        told.push(all)?;
+    }
+    Ok(Survey { tally, told })
+}
+
+/// Counts those for the LID of a line; answers whether all are seen to be delivered at its port.
+fn add_packets(
+    alloc: Global,
+    tally: &mut PacketTally,
+    network: &Network,
+    blocks: &Blocks,
+    sites: &[Site],
+    census: Census,
+    line: &HeldLid,
+    owner: &Site,
+) -> Result<bool, AllocError>
+    requires held { AreBlocks network.now.held blocks.now.number blocks.now.rows.items }
+    requires number { blocks.now.number ≡ line.now.lid / 64 }
+    requires sites { sites.now ≡ map (site_of (cells_of network.now.facts)) (end_ports (cells_of network.now.facts)) }
+    requires census { IsCensus sites.now census }
+    requires listed { Contains sites.now owner.now }
+    requires owner { owner.now ≡ site_of (cells_of network.now.facts) line.now.port }
+    ensures counted { OnOk result ((packets : List Sent) → IsTally packets tally.old
+        → IsTally (packets ++ sent_to (cells_of network.now.facts) network.now.held line.now) tally.new) }
+    ensures told { IfOk result (λ all. all ≡ true → AllComeTo (cells_of network.now.facts) network.now.held line.now) }
+{
+    let ends = network.ends(alloc, blocks, line)?;
+    match ends.first_elsewhere() {
+        None => {
+            let count = joined_count(sites, owner, census) as u64;
+            let between = joined_adapters(sites, owner, census) as u64;
+            tally.add_arrived(count, between)?;
+            return Ok(true);
+        }
+        Some(_) => {}
+    }
+    for (index, site) in sites.iter().enumerate() {
+        if site.is_joined_to(owner) {
+            tally.add(SentPacket {
+                line: *line,
+                source: site.port,
+                end: ends.at(index),
+            })?;
+        }
+    }
+    Ok(false)
+}

@@ -1,0 +1,52 @@
+ghost use Rattle.std.specs.Prelude.{◌≡◌, ◌+◌, [], OnOk};
+
+use audit::Cause;
+use std::alloc::AllocError;
+
+/// How many packets are lost for each cause.
+#[derive(Clone, Copy, Debug, PartialEq, Eq)]
+pub struct Causes {
+    pub above_top: u64,
+    pub no_entry: u64,
+    pub no_port: u64,
+    pub no_link: u64,
+    pub foreign: u64,
+}
+
+impl Causes {
+    ghost use Rattle.audit_counts.specs.Causes.{AreCausesWith, causes_of};
+
+    /// None is lost.
+    pub fn new() -> Self
+        ensures { result ≡ causes_of [] }
+    {
+        Causes {
+            above_top: 0,
+            no_entry: 0,
+            no_port: 0,
+            no_link: 0,
+            foreign: 0,
+        }
+    }
+
+    /// One more is lost for a cause.
+    pub fn add(&mut self, cause: Cause) -> Result<(), AllocError>
+        ensures { OnOk result (AreCausesWith self.old cause self.new) }
+    {
+        match cause {
+            Cause::AboveTop => add_one(&mut self.above_top),
+            Cause::NoEntry => add_one(&mut self.no_entry),
+            Cause::NoPort => add_one(&mut self.no_port),
+            Cause::NoLink => add_one(&mut self.no_link),
+            Cause::Foreign => add_one(&mut self.foreign),
+        }
+    }
+}
+
+/// One more.
+fn add_one(count: &mut u64) -> Result<(), AllocError>
+    ensures { OnOk result (count.new ≡ count.old + 1) }
+{
+    *count = count.checked_add(1).ok_or(AllocError)?;
+    Ok(())
+}

@@ -1,0 +1,75 @@
+//! The first few of a kind, which are told, and how many there are.
+ghost use Rattle.std.specs.Prelude.{◌≡◌, [], OnOk};
+ghost use Rattle.audit_counts.specs.FirstFew.{listed, more_of, first_few};
+
+use std::alloc::{AllocError, Global};
+use std::marker::Model;
+
+/// No more of a kind are told.
+const MOST_TOLD: usize = 20;
+
+/// How many there are of a kind, and the first of them, which are told.
+#[derive(Drop)]
+pub struct FirstFew<T> {
+    first: Vec<T>,
+    count: u64,
+}
+
+impl<T> Model for FirstFew<T> {
+    ghost use Rattle.audit_counts.specs.FirstFew.{Listed};
+
+    ghost Value = { Listed T };
+
+    ghost view = { λ a. record { first = a.first.items; count = a.count } };
+}
+
+impl<T: Drop> FirstFew<T> {
+    /// None of them.
+    pub fn new(alloc: Global) -> Self
+        ensures { result ≡ record { first = []; count = 0 } }
+    {
+        FirstFew {
+            first: Vec::new(alloc),
+            count: 0,
+        }
+    }
+
+    /// One more.
+    pub fn add(&mut self, item: T) -> Result<(), AllocError>
+        ensures { OnOk result (self.new ≡ listed self.old item) }
+    {
+        self.count = self.count.checked_add(1).ok_or(AllocError)?;
+        note(&mut self.first, item)
+    }
+
+    /// The first of them.
+    pub fn first(&self) -> &[T]
+        ensures { result.now ≡ self.now.first }
+    {
+        &self.first
+    }
+
+    /// How many there are.
+    pub fn count(&self) -> u64
+        ensures { result ≡ self.now.count }
+    {
+        self.count
+    }
+
+    /// How many there are beyond those that are told.
+    pub fn more(&self) -> u64
+        ensures { result ≡ more_of self.now }
+    {
+        self.count.saturating_sub(self.first.len() as u64)
+    }
+}
+
+/// Puts one behind those that are told, as long as these are few.
+pub fn note<T: Drop>(told: &mut Vec<T>, item: T) -> Result<(), AllocError>
+    ensures { OnOk result (told.new.items ≡ first_few told.old.items item) }
+{
+    if told.len() < MOST_TOLD {
+        told.push(item)?;
+    }
+    Ok(())
+}

@@ -1,0 +1,83 @@
+//! How many packets arrive, why others do not, and the first that do not.
+ghost use Rattle.std.specs.Prelude.{◌≡◌, [], false, OnOk};
+
+use crate::causes::Causes;
+use crate::first_few::FirstFew;
+use crate::pairs::Pairs;
+use crate::sent_packet::SentPacket;
+use audit::End;
+use std::alloc::{AllocError, Global};
+
+/// How many packets there are and how many arrive, and of the others how many there are of each kind, with the first.
+#[derive(Drop)]
+pub struct PacketTally {
+    pub all: Pairs,
+    /// Those that adapter ports send to the LIDs of adapter ports.
+    pub between: Pairs,
+    pub causes: Causes,
+    pub lost: FirstFew<SentPacket>,
+    pub misdelivered: FirstFew<SentPacket>,
+    pub round: FirstFew<SentPacket>,
+}
+
+impl PacketTally {
+    ghost use Rattle.audit_counts.specs.Packets.{arrives};
+    ghost use Rattle.audit_counts.specs.PacketTally.{IsCountedWith, IsMissed, IsTally, IsWith, IsWithArrived};
+
+    /// No packet.
+    pub fn new(alloc: Global) -> Self
+        ensures { IsTally [] result }
+    {
+        PacketTally {
+            all: Pairs::new(),
+            between: Pairs::new(),
+            causes: Causes::new(),
+            lost: FirstFew::new(alloc),
+            misdelivered: FirstFew::new(alloc),
+            round: FirstFew::new(alloc),
+        }
+    }
+
+    /// A packet more.
+    pub fn add(&mut self, packet: SentPacket) -> Result<(), AllocError>
+        ensures { OnOk result (IsWith self.old packet self.new) }
+    {
+        self.count(&packet)?;
+        if packet.arrives() {
+            return Ok(());
+        }
+        self.miss(packet)
+    }
+
+    /// So many packets more, of which so many are between adapter ports, which arrive.
+    pub fn add_arrived(&mut self, count: u64, between: u64) -> Result<(), AllocError>
+        ensures { OnOk result (IsWithArrived self.old count between self.new) }
+    {
+        self.all.add_arrived(count)?;
+        self.between.add_arrived(between)
+    }
+
+    /// Counts a packet by whether it arrives.
+    fn count(&mut self, packet: &SentPacket) -> Result<(), AllocError>
+        ensures { OnOk result (IsCountedWith self.old packet.now self.new) }
+    {
+        let arrives = packet.arrives();
+        self.all.add(true, arrives)?;
+        self.between.add(packet.is_between(), arrives)
+    }
+
+    /// Tells a packet that does not arrive.
+    fn miss(&mut self, packet: SentPacket) -> Result<(), AllocError>
+        requires { arrives packet ≡ false }
+        ensures { OnOk result (IsMissed self.old packet self.new) }
+    {
+        match packet.end {
+            Some(End::Lost(_, cause)) => {
+                self.causes.add(cause)?;
+                self.lost.add(packet)
+            }
+            Some(End::Taken(_)) => self.misdelivered.add(packet),
+            None => self.round.add(packet),
+        }
+    }
+}

@@ -1,0 +1,38 @@
+ghost use Rattle.std.specs.Prelude.{◌≡◌};
+
+use crate::site::are_adapters;
+use audit::{End, is_same_end};
+use plan_file::HeldLid;
+use subnet_view::EndPort;
+
+/// A packet for a LID that an end port holds.
+#[derive(Clone, Copy, Debug, PartialEq, Eq)]
+pub struct SentPacket {
+    /// The LID, and the end port that holds it.
+    pub line: HeldLid,
+    /// The end port that sends it.
+    pub source: EndPort,
+    /// Where it ends; None is that it goes round for ever.
+    pub end: Option<End>,
+}
+
+impl SentPacket {
+    ghost use Rattle.audit_counts.specs.Packets.{arrives, is_between};
+
+    /// Whether it is delivered at the end port that holds its LID.
+    pub fn arrives(&self) -> bool
+        ensures { result ≡ arrives self.now }
+    {
+        match self.end {
+            Some(End::Taken(port)) => is_same_end(&self.line.port, &port),
+            _ => false,
+        }
+    }
+
+    /// Whether an adapter port sends it to the LID of an adapter port.
+    pub fn is_between(&self) -> bool
+        ensures { result ≡ is_between self.now }
+    {
+        are_adapters(&self.source, &self.line.port)
+    }
+}

@@ -1,0 +1,257 @@
+//! Where end ports lie: which of them are in one component.
+ghost use Rattle.std.specs.Prelude.{◌≡◌, false, Contains, IfOk, count_by, map, slice_get};
+ghost use Rattle.std.specs.List.{position_or_len};
+ghost use Rattle.std.specs.Option.{option_map_or};
+ghost use Rattle.fact_store.specs.View.{cells_of};
+ghost use Rattle.subnet_view.specs.EndPorts.{end_ports};
+ghost use Rattle.subnet_view.specs.Graph.{graph_of, guids_of};
+ghost use Rattle.subnet_view.specs.Components.{root_of};
+ghost use Rattle.audit_channels.specs.Ways.{is_adapter};
+ghost use Rattle.audit_counts.specs.Sites.{IsCensus, IsSiteOf, is_of};
+ghost use Rattle.audit_counts.specs.Sites.{are_adapters, are_joined, are_joined_adapters};
+ghost use Rattle.audit_counts.specs.Sites.{are_one_component, first_root, is_one_root, leads_to, root_at, site_of, switch_of};
+
+use audit::is_same_end;
+use audit_channels::is_adapter;
+use fact_store::{Refused, Store};
+use smp_bytes::{Guid, PortNum};
+use std::alloc::{AllocError, Global};
+use subnet_view::{EndPort, SwitchGraph, Wires, end_ports, is_usable};
+
+/// Where an end port lies.
+#[derive(Clone, Copy, Debug, PartialEq, Eq)]
+pub struct Site {
+    pub port: EndPort,
+    /// The least GUID of the switches in its component.
+    pub root: Option<Guid>,
+    /// The port at the other end of its wire.
+    pub across: Option<(Guid, PortNum)>,
+}
+
+impl Site {
+    /// Whether the two end ports lie in one component.
+    pub fn is_joined_to(&self, other: &Site) -> bool
+        ensures { result ≡ are_joined self.now other.now }
+    {
+        is_same_end(&self.port, &other.port)
+            || is_one_root(self.root, other.root)
+            || leads_to(self.across, &other.port)
+    }
+}
+
+/// Whether two components that have roots are one.
+fn is_one_root(one: Option<Guid>, other: Option<Guid>) -> bool
+    ensures { result ≡ is_one_root one other }
+{
+    match (one, other) {
+        (Some(one), Some(other)) => one == other,
+        _ => false,
+    }
+}
+
+/// Whether a wire leads to the port.
+fn leads_to(far: Option<(Guid, PortNum)>, port: &EndPort) -> bool
+    ensures { result ≡ leads_to far port.now }
+{
+    match far {
+        Some((node, number)) => port.node == node && port.port == number,
+        None => false,
+    }
+}
+
+/// Whether all end ports lie in the component of a root.
+pub fn are_one_component(sites: &[Site]) -> bool
+    ensures { result ≡ are_one_component sites.now }
+{
+    let root = first_root(sites);
+    sites.iter().all(|site| is_one_root(site.root, root))
+}
+
+/// The root of the first end port's component.
+fn first_root(sites: &[Site]) -> Option<Guid>
+    ensures { result ≡ first_root sites.now }
+{
+    match sites {
+        [] => None,
+        [site, ..] => site.root,
+    }
+}
+
+/// What is seen of all end ports at once.
+#[derive(Clone, Copy, Debug, PartialEq, Eq)]
+pub struct Census {
+    /// Whether they lie in one component.
+    pub whole: bool,
+    /// How many are end ports of adapters.
+    pub adapters: usize,
+}
+
+/// The census of end ports. Takes a step for each.
+pub fn census_of(sites: &[Site]) -> Census
+    ensures { IsCensus sites.now result }
+{
+    let whole = are_one_component(sites);
+    let adapters = adapter_count(sites);
+    Census { whole, adapters }
+}
+
+/// How many are end ports of adapters.
+fn adapter_count(sites: &[Site]) -> usize
+    ensures { result ≡ count_by (λ site. is_adapter site.port) sites.now }
+{
+    sites.iter().filter(|site| is_adapter(&site.port)).count()
+}
+
+/// How many end ports lie in the component of this one. Takes a step where all lie in one, or else one for each.
+pub fn joined_count(sites: &[Site], owner: &Site, census: Census) -> usize
+    requires census { IsCensus sites.now census }
+    requires listed { Contains sites.now owner.now }
+    ensures { result ≡ count_by (λ site. are_joined site owner.now) sites.now }
+{
+    if census.whole {
+        return sites.len();
+    }
+    sites.iter().filter(|site| site.is_joined_to(owner)).count()
+}
+
+/// Where this is an adapter's, how many adapter ports lie in its component; none where it is a switch's. Takes a step
+/// or two where all lie in one component, or else one for each.
+pub fn joined_adapters(sites: &[Site], owner: &Site, census: Census) -> usize
+    requires census { IsCensus sites.now census }
+    requires listed { Contains sites.now owner.now }
+    ensures { result ≡ count_by (λ site. are_joined_adapters site owner.now) sites.now }
+{
+    if !is_adapter(&owner.port) {
+        return 0;
+    }
+    if census.whole {
+        return census.adapters;
+    }
+    sites
+        .iter()
+        .filter(|site| are_joined_adapters(site, owner))
+        .count()
+}
+
+/// Whether two adapter ports lie in one component.
+fn are_joined_adapters(site: &Site, owner: &Site) -> bool
+    ensures { result ≡ are_joined_adapters site.now owner.now }
+{
+    site.is_joined_to(owner) && are_adapters(&site.port, &owner.port)
+}
+
+/// Whether both are end ports of adapters.
+pub fn are_adapters(port: &EndPort, other: &EndPort) -> bool
+    ensures { result ≡ are_adapters port.now other.now }
+{
+    is_adapter(port) && is_adapter(other)
+}
+
+/// The end ports of the view, in their order. Takes what a graph of the switches takes, and some seven searches for
+/// each.
+pub fn sites(alloc: Global, store: &Store) -> Result<Vec<Site>, Refused>
+    ensures { IfOk result (λ sites. sites.items
+        ≡ map (site_of (cells_of store.now)) (end_ports (cells_of store.now))) }
+{
+    let wires = Wires::of(alloc, store)?;
+    let graph = SwitchGraph::of(alloc, &wires)?;
+    let roots = graph.roots(alloc)?;
+    let ports = end_ports(alloc, store)?;
+    Ok(sites_of(alloc, &wires, &graph, &roots, &ports)?)
+}
+
+/// Where each of these end ports lies.
+fn sites_of(
+    alloc: Global,
+    wires: &Wires,
+    graph: &SwitchGraph,
+    roots: &[Option<Guid>],
+    ports: &[EndPort],
+) -> Result<Vec<Site>, AllocError>
+    requires graph { graph.now ≡ graph_of (cells_of wires.now) }
+    requires roots { roots.now ≡ map (root_of graph.now) (guids_of graph.now) }
+    ensures { IfOk result (λ sites. sites.items ≡ map (site_of (cells_of wires.now)) ports.now) }
+{
+    let mut sites = Vec::with_capacity(alloc, ports.len())?;
+    for port in ports {
+        sites.push(site_of(wires, graph, roots, port))?;
+    }
+    Ok(sites)
+}
+
+/// Where an end port lies.
+fn site_of(wires: &Wires, graph: &SwitchGraph, roots: &[Option<Guid>], port: &EndPort) -> Site
+    requires graph { graph.now ≡ graph_of (cells_of wires.now) }
+    requires roots { roots.now ≡ map (root_of graph.now) (guids_of graph.now) }
+    ensures { result ≡ site_of (cells_of wires.now) port.now }
+{
+    let root = root_at(wires, graph, roots, port);
+    let across = wires.across(port.node, port.port);
+    Site {
+        port: *port,
+        root,
+        across,
+    }
+}
+
+/// The root of an end port's component.
+fn root_at(
+    wires: &Wires,
+    graph: &SwitchGraph,
+    roots: &[Option<Guid>],
+    port: &EndPort,
+) -> Option<Guid>
+    requires graph { graph.now ≡ graph_of (cells_of wires.now) }
+    requires roots { roots.now ≡ map (root_of graph.now) (guids_of graph.now) }
+    ensures { result ≡ root_at (cells_of wires.now) port.now }
+{
+    let switch = switch_of(wires, port)?;
+    let index = graph.index_of(switch)?;
+    roots[index]
+}
+
+/// The usable switch at which an end port lies.
+fn switch_of(wires: &Wires, port: &EndPort) -> Option<Guid>
+    ensures { result ≡ switch_of (cells_of wires.now) port.now }
+{
+    if is_usable(wires.store(), port.node) {
+        return Some(port.node);
+    }
+    let (switch, _) = wires.attached(port.node, port.port)?;
+    Some(switch)
+}
+
+/// The index of the site of a port, and how many sites there are where none is. Takes a step or two where that is the
+/// index given, or the next one, and else a walk.
+pub fn index_of(sites: &[Site], index: usize, port: &EndPort) -> usize
+    ensures { IsSiteOf sites.now port.now (slice_get sites.now result) }
+{
+    if is_site_at(sites, index, port) {
+        return index;
+    }
+    let next = index.saturating_add(1);
+    if is_site_at(sites, next, port) {
+        return next;
+    }
+    first_at(sites, port)
+}
+
+/// Whether the site at an index is that of a port.
+fn is_site_at(sites: &[Site], index: usize, port: &EndPort) -> bool
+    ensures { result ≡ option_map_or (is_of port.now) (slice_get sites.now index) false }
+{
+    match sites.get(index) {
+        Some(site) => is_same_end(port, &site.port),
+        None => false,
+    }
+}
+
+/// The index of the first site of a port, and how many sites there are where none is.
+fn first_at(sites: &[Site], port: &EndPort) -> usize
+    ensures { result ≡ position_or_len (is_of port.now) sites.now }
+{
+    sites
+        .iter()
+        .position(|site| is_same_end(port, &site.port))
+        .unwrap_or(sites.len())
+}

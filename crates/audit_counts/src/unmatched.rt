@@ -1,0 +1,140 @@
+//! Where the tables that are held and the facts of the subnet differ.
+ghost use Rattle.std.specs.Prelude.{◌≡◌, IfOk};
+ghost use Rattle.fact_store.specs.View.{cells_of};
+ghost use Rattle.audit_counts.specs.Unmatched.{IsUnmatched, has_lid, is_held, is_twice, lidless_among, tableless_among, twice, unknown, unowned};
+
+use crate::first_few::FirstFew;
+use audit::is_same_end;
+use fact_store::{Refused, Store};
+use plan_file::{Held, HeldLid};
+use smp_bytes::Guid;
+use std::alloc::{AllocError, Global};
+use subnet_view::{EndPort, end_ports, is_end_port, is_usable, switches};
+
+/// Where tables and facts differ.
+#[derive(Drop)]
+pub struct Unmatched {
+    /// LIDs with ports that are no end ports of the facts.
+    pub unowned: FirstFew<HeldLid>,
+    /// LIDs that more than one port holds.
+    pub twice: FirstFew<HeldLid>,
+    /// Switches with tables that are no usable switches of the facts.
+    pub unknown: FirstFew<Guid>,
+    /// Usable switches without tables.
+    pub tableless: FirstFew<Guid>,
+    /// End ports of the facts without a LID.
+    pub lidless: FirstFew<EndPort>,
+}
+
+impl Unmatched {
+    /// Those of each kind. Takes two searches and a walk over the LIDs for each LID that is held, a walk over the
+    /// switches that are held for each switch, and one over the LIDs for each end port.
+    pub fn of(alloc: Global, store: &Store, held: &Held) -> Result<Self, Refused>
+        ensures { IfOk result (IsUnmatched (cells_of store.now) held.now) }
+    {
+        let guids = switches(alloc, store)?;
+        let unowned = unowned(alloc, held, store)?;
+        let twice = twice(alloc, held)?;
+        let unknown = unknown(alloc, held, store)?;
+        let tableless = tableless(alloc, held, &guids)?;
+        let ports = end_ports(alloc, store)?;
+        let lidless = lidless(alloc, held, &ports)?;
+        Ok(Unmatched {
+            unowned,
+            twice,
+            unknown,
+            tableless,
+            lidless,
+        })
+    }
+}
+
+/// LIDs with ports that are no end ports of the facts.
+fn unowned(alloc: Global, held: &Held, store: &Store) -> Result<FirstFew<HeldLid>, AllocError>
+    ensures { IfOk result (λ few. few ≡ unowned (cells_of store.now) held.now) }
+{
+    let mut few = FirstFew::new(alloc);
+    for line in held.lids() {
+        if !is_end_port(store, line.port.node, line.port.port) {
+            few.add(*line)?;
+        }
+    }
+    Ok(few)
+}
+
+/// LIDs that more than one port holds, with each of these.
+fn twice(alloc: Global, held: &Held) -> Result<FirstFew<HeldLid>, AllocError>
+    ensures { IfOk result (λ few. few ≡ twice held.now) }
+{
+    let mut few = FirstFew::new(alloc);
+    for line in held.lids() {
+        if is_twice(held, line) {
+            few.add(*line)?;
+        }
+    }
+    Ok(few)
+}
+
+/// Whether more than one port holds the LID.
+fn is_twice(held: &Held, line: &HeldLid) -> bool
+    ensures { result ≡ is_twice held.now line.now }
+{
+    1 < held
+        .lids()
+        .iter()
+        .filter(|other| other.lid == line.lid)
+        .count()
+}
+
+/// Switches with tables that are no usable switches of the facts.
+fn unknown(alloc: Global, held: &Held, store: &Store) -> Result<FirstFew<Guid>, AllocError>
+    ensures { IfOk result (λ few. few ≡ unknown (cells_of store.now) held.now) }
+{
+    let mut few = FirstFew::new(alloc);
+    for switch in held.switches() {
+        if !is_usable(store, switch.guid) {
+            few.add(switch.guid)?;
+        }
+    }
+    Ok(few)
+}
+
+/// Usable switches without tables.
+fn tableless(alloc: Global, held: &Held, guids: &[Guid]) -> Result<FirstFew<Guid>, AllocError>
+    ensures { IfOk result (λ few. few ≡ tableless_among guids.now held.now) }
+{
+    let mut few = FirstFew::new(alloc);
+    for guid in guids {
+        if !is_held(held, *guid) {
+            few.add(*guid)?;
+        }
+    }
+    Ok(few)
+}
+
+/// Whether the switch has tables.
+fn is_held(held: &Held, guid: Guid) -> bool
+    ensures { result ≡ is_held held.now guid }
+{
+    held.switches().iter().any(|switch| switch.guid == guid)
+}
+
+/// End ports without a LID.
+fn lidless(alloc: Global, held: &Held, ports: &[EndPort]) -> Result<FirstFew<EndPort>, AllocError>
+    ensures { IfOk result (λ few. few ≡ lidless_among ports.now held.now) }
+{
+    let mut few = FirstFew::new(alloc);
+    for port in ports {
+        if !has_lid(held, port) {
+            few.add(*port)?;
+        }
+    }
+    Ok(few)
+}
+
+/// Whether a line gives the end port a LID.
+fn has_lid(held: &Held, port: &EndPort) -> bool
+    ensures { result ≡ has_lid held.now port.now }
+{
+    held.lids().iter().any(|line| is_same_end(port, &line.port))
+}
