@@ -4,7 +4,7 @@ use Rattle.std.specs.List.{range_with_len}
 use Rattle.std.specs.List.Sorted.{IsStrictlyIncreasing}
 use Rattle.fact_store.specs.View.{cells_of}
 use Rattle.subnet_view.specs.SwitchEdges.{SwitchEdges}
-use Rattle.subnet_view.specs.Graph.{graph_of, guids_of}
+use Rattle.subnet_view.specs.Graph.{guids_of}
 use Rattle.subnet_view.proofs.GraphSwitches.{graph_guids, switches_rise}
 use Rattle.spread_routes.specs.LeafSwitches.{leaf_switches_of}
 use Rattle.spread_routes.specs.Spread.{Grading, grading_of, spread_at, spread_by}
