@@ -1,5 +1,5 @@
 -- Rows as they are written, from target to target, and the tables that they make.
-use Rattle.std.proofs.Common.{◌≡◌, ◌≢◌, ◌<◌, ◌+◌, ◌*◌, ◌⊎◌, ◌++◌, ℕ, List, [], ◌∷◌, inl, inr, refl, sym, ap, ◌∙◌, subst, arith, Bool, true, false, cond, ◌==◌, length, map, get_or, replicate, All, add-one, append-nil}
+use Rattle.std.proofs.Common.{◌≡◌, ◌≢◌, ◌<◌, ◌≤◌, ◌+◌, ◌*◌, ◌⊎◌, ◌++◌, ℕ, List, [], ◌∷◌, inl, inr, refl, sym, ap, ◌∙◌, subst, arith, Bool, true, false, cond, ◌==◌, length, map, get_or, replicate, All, add-one, append-nil}
 use Rattle.std.proofs.lemmas.Bool.{cases_eq, cases_lt, eq-eqb, eqb-true, ne_eqb, lt-ltb, le-ltb}
 use Rattle.std.proofs.lemmas.List.{get_or-map, get_or_default, get_or-replicate, get_or-set_other, get_or-set_same, length-map, length-replicate, length-set}
 use Rattle.std.proofs.lemmas.List.FromFn.{fill_by_all, get_or-map-range_with_len, length-map-range_with_len}
@@ -14,21 +14,22 @@ use Rattle.spread_labels.proofs.Earlier.{filter_more, numbers_more}
 use Rattle.spread_labels.proofs.Growing.{numbers_below, numbers_there}
 use Rattle.subnet_view.specs.SwitchEdges.{SwitchEdges}
 use Rattle.subnet_view.specs.Graph.{guids_of}
+use Rattle.spread_routes.specs.Tables.{with_entries}
 use Rattle.lft_blocks.specs.declared.attachment.Attachment.{Attachment}
 use Rattle.lft_blocks.specs.Entries.{Next, port_to, entry, blocks}
 use Rattle.lft_blocks.specs.Attachments.{meant, AreWithin, AreIndexed}
 use Rattle.lft_blocks.specs.Plan.{SwitchTable, tables_of}
-use Rattle.lft_blocks.specs.TableRows.{AreLidsAt, AreRows, IsRow, block_of_row, blocks_of_row, entry_before, entry_by, attachment_port, is_attachment_at, lids_at, lids_before, attachment_by_index, table_of_row, written}
+use Rattle.lft_blocks.specs.TableRows.{AreLidsAt, AreRows, IsRow, block_of_row, blocks_of_row, entry_before, entry_by, attachment_port, is_attachment_at, lids_at, lids_before, attachment_by_index, table_of_row}
 use Rattle.lft_blocks.proofs.AttachmentTables.{same_test}
 
 -- what is written of LIDs whose ports are those of a function ----------------------------------
 
 module _ (attachments : List (Option Attachment)) (o : Bool) (f : ℕ → Option ℕ) where
-  abbrev after : List ℕ → List ℕ → List ℕ
-  after row lids = written attachments o row lids (map f lids)
-
   abbrev here : ℕ → ℕ
   here k = entry_by attachments o k (f k)
+
+  abbrev after : List ℕ → List ℕ → List ℕ
+  after row lids = with_entries here row lids
 
   pub as_long : (lids row : List ℕ) → length (after row lids) ≡ length row
   as_long [] row = refl
@@ -75,9 +76,6 @@ turned a b =
     ]
 
 module _ (next : Next) (guids : List ℕ) (attachments : List (Option Attachment)) (t own : ℕ) where
-  abbrev ports_of : List ℕ → List (Option ℕ)
-  ports_of lids = map (λ lid. next lid (slice_index guids own) (slice_index guids t)) lids
-
   abbrev f : ℕ → Option ℕ
   f lid = next lid (slice_index guids own) (slice_index guids t)
 
@@ -118,7 +116,7 @@ module _ (next : Next) (guids : List ℕ) (attachments : List (Option Attachment
           ]
 
   pub row_more : (row : List ℕ) → IsRow next guids attachments t own row
-      → IsRow next guids attachments (t + 1) own (written attachments (own == t) row (lids_at attachments t) (ports_of (lids_at attachments t)))
+      → IsRow next guids attachments (t + 1) own (with_entries (λ lid. entry_by attachments (own == t) lid (f lid)) row (lids_at attachments t))
   row_more row is = record {
     all = as_long attachments (own == t) f (lids_at attachments t) row ∙ is.all;
     entries = λ lid h. entry_more row is lid h (slice_index_or attachments lid None) refl;

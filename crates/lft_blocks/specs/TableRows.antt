@@ -1,5 +1,5 @@
 -- The entries of each switch, LID by LID, as they are written from target to target.
-use Rattle.std.specs.Prelude.{◌≡◌, ◌<◌, ℕ, ◌+◌, ◌*◌, Bool, false, List, [], ◌∷◌, map, filter, length, Option, None, Some, ◌==◌, nat_lt, unwrap_or, option_map, slice_index, slice_index_or, slice_set, if◌then◌else◌}
+use Rattle.std.specs.Prelude.{◌≡◌, ◌<◌, ℕ, ◌+◌, ◌*◌, Bool, false, List, [], map, filter, length, Option, None, Some, ◌==◌, nat_lt, unwrap_or, option_map, slice_index, slice_index_or, if◌then◌else◌}
 use Rattle.std.specs.List.{range_with_len}
 use Rattle.spread_labels.specs.Orders.{numbers_from}
 use Rattle.lft_blocks.specs.declared.attachment.Attachment.{Attachment}
@@ -41,13 +41,6 @@ attachment_port (Some h) = h.port
 abbrev pub entry_by : List (Option Attachment) → Bool → ℕ → Option ℕ → ℕ
 entry_by attachments is_own lid port =
     if is_own then attachment_port (slice_index_or attachments lid None) else unwrap_or port 255
-
--- a row with such entries for these LIDs
-abbrev pub written : List (Option Attachment) → Bool → List ℕ → List ℕ → List (Option ℕ) → List ℕ
-written attachments is_own row [] ports = row
-written attachments is_own row (lid ∷ lids) [] = row
-written attachments is_own row (lid ∷ lids) (port ∷ ports) =
-    written attachments is_own (slice_set row lid (entry_by attachments is_own lid port)) lids ports
 
 -- the entry for a LID of the switch at an index, where its attachment's switch has an index less than t, and else 255
 abbrev pub entry_before : Next → List ℕ → ℕ → ℕ → ℕ → Option Attachment → ℕ

@@ -13,7 +13,7 @@ ghost use Rattle.lft_blocks.specs.TableRows.{AreLidsAt, AreRows, IsRow, attachme
 use crate::attachment::Attachment;
 use crate::table::Table;
 use crate::table_row::{TableRow, lids_by_switch};
-use smp_bytes::{Guid, Lid, PortNum};
+use smp_bytes::{Guid, Lid};
 use spread_routes::{Exits, Spread, Towards, leaf_switches};
 use std::alloc::{AllocError, Global};
 use std::mem;
@@ -87,10 +87,9 @@ fn write_rows(
         towards.now.end rows.new) }
 {
     let mut exits = Exits::new(alloc)?;
-    let mut ports = Vec::new(alloc);
     for (own, row) in rows.iter_mut().enumerate() {
         write_row(
-            row, own, spread, towards, attachments, lids, &mut exits, &mut ports,
+            row, own, spread, towards, attachments, lids, &mut exits,
         )?;
     }
     Ok(())
@@ -105,7 +104,6 @@ fn write_row(
     attachments: &[Option<Attachment>],
     lids: &[Vec<Lid>],
     exits: &mut Exits,
-    ports: &mut Vec<Option<PortNum>>,
 ) -> Result<(), AllocError>
     requires own { own < length spread.now.graph }
     requires towards { AreTowards spread.now towards.now }
@@ -120,8 +118,7 @@ fn write_row(
     spread.exits_from(own, towards, exits)?;
     let first = towards.first();
     for target in first..towards.end() {
-        exits.ports(target - first, &lids[target], ports)?;
-        row.write(attachments, &lids[target], ports, own == target);
+        row.write(attachments, &lids[target], exits, target - first, own == target);
     }
     Ok(())
 }

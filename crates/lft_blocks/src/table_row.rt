@@ -1,11 +1,13 @@
 //! The entries of switches, LID by LID, written from target to target.
-ghost use Rattle.std.specs.Prelude.{◌≡◌, ◌<◌, ◌≤◌, ◌+◌, ◌*◌, [], All, IfOk, length, map, replicate};
+ghost use Rattle.std.specs.Prelude.{◌≡◌, ◌<◌, ◌≤◌, ◌+◌, ◌*◌, [], All, IfOk, None, length, map, replicate, slice_index_or};
+ghost use Rattle.spread_routes.specs.Tables.{port_by, with_entries};
 ghost use Rattle.lft_blocks.specs.Attachments.{AreWithin};
-ghost use Rattle.lft_blocks.specs.TableRows.{AreLidsAt, block_of_row, blocks_of_row, entry_by, attachment_port, written};
+ghost use Rattle.lft_blocks.specs.TableRows.{AreLidsAt, block_of_row, blocks_of_row, entry_by, attachment_port};
 
 use crate::attachment::Attachment;
 use crate::block::NO_WAY;
-use smp_bytes::{Lid, PortNum};
+use smp_bytes::Lid;
+use spread_routes::Exits;
 use std::alloc::{AllocError, Global};
 use std::marker::Model;
 
@@ -41,21 +43,27 @@ impl TableRow {
         }
     }
 
-    /// Writes the entries for these LIDs, whose attachments lie at one switch: the attachments' ports where it is this
-    /// one, and else the ports by which the packets leave for it.
+    /// Writes the entries for these LIDs, whose attachments lie at a target of these exits: the attachments' ports where
+    /// that is this switch, and else the ports by which packets leave for it.
     pub(crate) fn write(
         &mut self,
         attachments: &[Option<Attachment>],
         lids: &[Lid],
-        ports: &[Option<PortNum>],
+        exits: &Exits,
+        target: usize,
         is_own: bool,
     )
         requires lids { All (λ lid. lid < length self.old) lids.now }
         requires attachments { length self.old ≡ length attachments.now }
-        requires ports { length ports.now ≡ length lids.now }
-        ensures { self.new ≡ written attachments.now is_own self.old lids.now ports.now }
+        requires target { target < 64 }
+        ensures { self.new ≡ with_entries (λ lid. entry_by attachments.now is_own lid
+            (port_by exits.now target lid)) self.old lids.now }
     {
-        write_entries(&mut self.entries, attachments, lids, ports, is_own);
+        if is_own {
+            write_own(&mut self.entries, attachments, lids);
+        } else {
+            exits.write(target, lids, NO_WAY, &mut self.entries);
+        }
     }
 
     /// The entries in blocks of 64.
@@ -72,21 +80,15 @@ impl TableRow {
     }
 }
 
-/// Writes the entries for these LIDs.
-fn write_entries(
-    entries: &mut [u8],
-    attachments: &[Option<Attachment>],
-    lids: &[Lid],
-    ports: &[Option<PortNum>],
-    is_own: bool,
-)
+/// Writes the entries for these LIDs at the switch where their attachments lie.
+fn write_own(entries: &mut [u8], attachments: &[Option<Attachment>], lids: &[Lid])
     requires lids { All (λ lid. lid < length entries.old) lids.now }
     requires attachments { length entries.old ≡ length attachments.now }
-    requires ports { length ports.now ≡ length lids.now }
-    ensures { entries.new ≡ written attachments.now is_own entries.old lids.now ports.now }
+    ensures { entries.new ≡ with_entries
+        (λ lid. attachment_port (slice_index_or attachments.now lid None)) entries.old lids.now }
 {
-    for (i, lid) in lids.iter().enumerate() {
-        entries[usize::from(lid.number())] = entry(attachments, is_own, *lid, ports[i]);
+    for lid in lids {
+        entries[usize::from(lid.number())] = own_entry(attachments, *lid);
     }
 }
 
@@ -103,21 +105,14 @@ fn block(entries: &[u8], b: usize) -> [u8; 64]
     block
 }
 
-/// The entry for a LID: at its attachment's switch the attachment's port, elsewhere this port.
-fn entry(attachments: &[Option<Attachment>], is_own: bool, lid: Lid, port: Option<PortNum>) -> u8
+/// The port of the attachment of a LID.
+fn own_entry(attachments: &[Option<Attachment>], lid: Lid) -> u8
     requires { lid < length attachments.now }
-    ensures { result ≡ entry_by attachments.now is_own lid port }
+    ensures { result ≡ attachment_port (slice_index_or attachments.now lid None) }
 {
-    if is_own {
-        match attachments[usize::from(lid.number())] {
-            Some(attachment) => attachment.port.number(),
-            None => NO_WAY,
-        }
-    } else {
-        match port {
-            Some(port) => port.number(),
-            None => NO_WAY,
-        }
+    match attachments[usize::from(lid.number())] {
+        Some(attachment) => attachment.port.number(),
+        None => NO_WAY,
     }
 }
 

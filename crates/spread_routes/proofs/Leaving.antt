@@ -20,7 +20,7 @@ use Rattle.spread_routes.specs.declared.lid_digit.LidDigit.{LidDigit}
 use Rattle.spread_routes.specs.Rule.{by_positions, order_by_keys}
 use Rattle.spread_routes.specs.Spread.{Grading, goes_higher, lid_digit_there, number_by}
 use Rattle.spread_routes.specs.Tables.{AreExits, AreTowards, ExitsValue, TowardsValue, no_lid_digit, port_chosen}
-use Rattle.spread_routes.proofs.Ports.{higher_is, lead, ports_are, position_there}
+use Rattle.spread_routes.proofs.Ports.{higher_is, lead, port_is, position_there}
 
 -- the ports of some edges as the edges themselves ----------------------------------------------
 
@@ -128,14 +128,14 @@ module _ (by : Grading) (good : IsGraph by.graph) (towards : TowardsValue) (are 
       → ((k : ℕ) → k < 64 → has exits.higher k
           ≡ list_any (λ (e : Edge). nat_lt exits.lid_digit.level (slice_index_or lid_digits e.to no_lid_digit).level) (found k))
       → AreExits by towards own exits
-  exits_are lid_digit ports higher k h lids =
+  exits_are lid_digit ports higher k lid h =
       let few : k < 64 = omega (arith, h, are.few) in
       let at : p < length edges = position_there by good own there in
       let is : found k ≡ candidates edges (position_of (order_by_keys by.graph by.keys) (towards.first + k)) p = are.each k p h at in
       let goes : has exits.higher k ≡ goes_higher by p (found k) =
       higher k few ∙ higher_is by good lid_digits p exits.lid_digit (found k) lid_digit each
       (λ e c. lead by good p e (picked_there k (sets_at towards.sets p) (edges_at edges p) e c)) in
-      (λ i. map (λ lid. port_chosen (ports k few i) (number_by (lid_digit i) (goes i) lid)) lids)
-      ∙ (λ i. map (λ lid. port_chosen_is (found k) (number_by (lid_digit_there by p) (goes_higher by p (found k)) lid) i) lids)
-      ∙ (λ i. map (λ lid. option_map (λ (e : Edge). e.port) (chosen (is i) (number_by (lid_digit_there by p) (goes_higher by p (is i)) lid))) lids)
-      ∙ ports_are by good lids (towards.first + k) own (omega (arith, h, are.within)) there
+      (λ i. port_chosen (ports k few i) (number_by (lid_digit i) (goes i) lid))
+      ∙ port_chosen_is (found k) (number_by (lid_digit_there by p) (goes_higher by p (found k)) lid)
+      ∙ (λ i. option_map (λ (e : Edge). e.port) (chosen (is i) (number_by (lid_digit_there by p) (goes_higher by p (is i)) lid)))
+      ∙ port_is by good lid (towards.first + k) own (omega (arith, h, are.within)) there

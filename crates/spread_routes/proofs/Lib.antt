@@ -5,3 +5,4 @@ pub mod Positions
 pub mod Ports
 pub mod Whole
 pub mod Leaving
+pub mod Counting

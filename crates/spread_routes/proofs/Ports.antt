@@ -7,6 +7,7 @@ use Rattle.port_graph.specs.declared.edge.Edge.{Edge}
 use Rattle.port_graph.specs.Heads.{edges_at, LeadToVertices}
 use Rattle.port_graph.proofs.Counts.{length_map}
 use Rattle.port_graph.proofs.SearchSteps.{all_from_contained}
+use Rattle.spread_labels.specs.Candidates.{chosen}
 use Rattle.spread_labels.specs.Labels.{candidates}
 use Rattle.spread_labels.specs.LabelLaws.{IsSymmetric}
 use Rattle.spread_labels.specs.Levels.{rises_at, digit_weight_of, width_of}
@@ -20,7 +21,7 @@ use Rattle.subnet_view.specs.SwitchGraph.{switch_at}
 use Rattle.spread_routes.specs.declared.lid_digit.LidDigit.{LidDigit}
 use Rattle.spread_routes.specs.Rule.{Spreading, by_index, by_positions, order_by_keys, position, edge_to}
 use Rattle.spread_routes.specs.Spread.{Grading, goes_higher, number_there, spread_at, lid_digit_there}
-use Rattle.spread_routes.specs.Tables.{no_lid_digit, ports_among, ports_between}
+use Rattle.spread_routes.specs.Tables.{no_lid_digit}
 use Rattle.spread_routes.proofs.Indices.{index_of_switch}
 use Rattle.spread_routes.proofs.Names.{all_positioned, grows, is_grown_graph}
 
@@ -52,13 +53,14 @@ module _ (by : Grading) (good : IsGraph by.graph) where
       let below : i < length (guids_of by.graph) = omega (arith, length_map (λ (c : SwitchEdges). c.guid) by.graph) in
       ap (position_of order) (sym (index_of_switch by.graph good i below))
 
-  -- the ports of a switch to another, by its candidates
-  pub ports_are : (lids : List ℕ) (target i : ℕ) → target < length by.graph → i < length by.graph
-      → ports_among by lids (position_of order i) (candidates edges (position_of order target) (position_of order i))
-      ≡ ports_between (spread_at by) lids (switch_at by.graph target) (switch_at by.graph i)
-  ports_are lids target i t h =
+  -- the port of a switch to another, by its candidates
+  pub port_is : (lid target i : ℕ) → target < length by.graph → i < length by.graph
+      → option_map (λ (e : Edge). e.port) (chosen (candidates edges (position_of order target) (position_of order i))
+          (number_there by lid (position_of order i) (candidates edges (position_of order target) (position_of order i))))
+      ≡ (spread_at by).next lid (switch_at by.graph i) (switch_at by.graph target)
+  port_is lid target i t h =
       let sp : Spreading = record { keys = by.keys; number = number_there by } in
-      (λ j. map (λ lid. option_map (λ (e : Edge). e.port) (edge_to by.graph sp lid (position_of_switch i h j) (position_of_switch target t j))) lids)
+      (λ j. option_map (λ (e : Edge). e.port) (edge_to by.graph sp lid (position_of_switch i h j) (position_of_switch target t j)))
 
   -- the edges at a position lead to positions, and so do those of them that pass a test
   pub row_leads : (n p : ℕ) (es : List Edge) → n ≡ length edges → es ≡ edges_at edges p → All (λ e. e.to < n) es

@@ -1,5 +1,5 @@
 -- What is held of the rule, and the ports that it gives.
-use Rattle.std.specs.Prelude.{◌≡◌, ◌<◌, ◌≤◌, ◌+◌, ◌%◌, ℕ, List, [], ◌∷◌, map, length, Option, None, option_map, slice_get, slice_index, slice_index_or}
+use Rattle.std.specs.Prelude.{◌≡◌, ◌<◌, ◌≤◌, ◌+◌, ◌%◌, ℕ, List, [], ◌∷◌, map, length, Option, None, option_map, slice_get, slice_index, slice_index_or, slice_set}
 use Rattle.port_graph.specs.declared.edge.Edge.{Edge}
 use Rattle.port_graph.specs.Heads.{edges_at}
 use Rattle.spread_labels.specs.declared.target_set.TargetSet.{TargetSet}
@@ -70,6 +70,10 @@ abbrev pub port_chosen : List ℕ → ℕ → Option ℕ
 port_chosen [] choice = None
 port_chosen (port ∷ ports) choice = slice_get (port ∷ ports) (choice % length (port ∷ ports))
 
+-- the same where there are some
+abbrev pub port_turn : List ℕ → ℕ → ℕ
+port_turn ports choice = slice_index ports (choice % length ports)
+
 -- the port that a LID takes towards a target
 abbrev pub port_by : ExitsValue → ℕ → ℕ → Option ℕ
 port_by exits k lid =
@@ -77,5 +81,10 @@ port_by exits k lid =
 
 -- by these ports packets for LIDs leave the switch at an index towards each of those
 abbrev pub AreExits : Grading → TowardsValue → ℕ → ExitsValue → Type 0
-AreExits by towards own exits = (k : ℕ) → towards.first + k < towards.end → (lids : List ℕ) → map (port_by exits k) lids
-    ≡ ports_between (spread_at by) lids (switch_at by.graph (towards.first + k)) (switch_at by.graph own)
+AreExits by towards own exits = (k lid : ℕ) → towards.first + k < towards.end → port_by exits k lid
+    ≡ (spread_at by).next lid (switch_at by.graph own) (switch_at by.graph (towards.first + k))
+
+-- entries with those of a function at these LIDs
+abbrev pub with_entries : (ℕ → ℕ) → List ℕ → List ℕ → List ℕ
+with_entries f entries [] = entries
+with_entries f entries (lid ∷ lids) = with_entries f (slice_set entries lid (f lid)) lids

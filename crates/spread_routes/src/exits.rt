@@ -1,9 +1,9 @@
 //! How packets leave a switch towards others.
-ghost use Rattle.std.specs.Prelude.{◌≡◌, ◌<◌, OnOk, length, map, slice_index_or, []};
+ghost use Rattle.std.specs.Prelude.{◌≡◌, ◌<◌, [], All, OnOk, length, map, slice_index_or, unwrap_or};
 ghost use Rattle.spread_labels.specs.TargetSets.{EachTarget};
 ghost use Rattle.spread_labels.specs.MarkSets.{picked};
 ghost use Rattle.spread_routes.specs.Spread.{number_by};
-ghost use Rattle.spread_routes.specs.Tables.{port_by, port_chosen};
+ghost use Rattle.spread_routes.specs.Tables.{port_by, port_turn, with_entries};
 
 use crate::lid_digit::LidDigit;
 use port_graph::Edge;
@@ -66,49 +66,51 @@ impl Exits {
         self.lists.find(edges, sets)
     }
 
-    /// The ports that LIDs take towards a target, instead of what the row held: none at the target, and where no way
-    /// leads there.
-    pub fn ports(
-        &self,
-        target: usize,
-        lids: &[Lid],
-        row: &mut Vec<Option<PortNum>>,
-    ) -> Result<(), AllocError>
-        requires { target < 64 }
-        ensures { OnOk result (row.new.items ≡ map (port_by self.now target) lids.now) }
+    /// Writes at each of some LIDs the number of the port that it takes towards a target, and `none` where no way leads
+    /// there. Takes a step for each LID, and some more where LIDs do not follow one another.
+    pub fn write(&self, target: usize, lids: &[Lid], none: u8, entries: &mut [u8])
+        requires target { target < 64 }
+        requires lids { All (λ lid. lid < length entries.old) lids.now }
+        ensures { entries.new ≡ with_entries (λ lid. unwrap_or (port_by self.now target lid) none)
+            entries.old lids.now }
     {
         let ports = self.lists.at(target);
-        let is_higher = self.higher.has(target);
-        ports_of(row, ports, &self.lid_digit, is_higher, lids)
+        if ports.is_empty() {
+            write_none(entries, lids, none);
+        } else {
+            write_ports(entries, lids, ports, &self.lid_digit, self.higher.has(target));
+        }
     }
 }
 
-/// The ports that LIDs take, of these, instead of what the row held.
-fn ports_of(
-    row: &mut Vec<Option<PortNum>>,
+/// Writes the same at each of these LIDs.
+fn write_none(entries: &mut [u8], lids: &[Lid], none: u8)
+    requires { All (λ lid. lid < length entries.old) lids.now }
+    ensures { entries.new ≡ with_entries (λ lid. none) entries.old lids.now }
+{
+    for lid in lids {
+        entries[usize::from(lid.number())] = none;
+    }
+}
+
+/// Writes the ports that LIDs take, of these.
+fn write_ports(
+    entries: &mut [u8],
+    lids: &[Lid],
     ports: &[PortNum],
     lid_digit: &LidDigit,
     is_higher: bool,
-    lids: &[Lid],
-) -> Result<(), AllocError>
-    requires { 0 < lid_digit.now.digit_weight }
-    ensures { OnOk result (row.new.items
-        ≡ map (λ lid. port_chosen ports.now (number_by lid_digit.now is_higher lid)) lids.now) }
+)
+    requires weight { 0 < lid_digit.now.digit_weight }
+    requires ports { 0 < length ports.now }
+    requires lids { All (λ lid. lid < length entries.old) lids.now }
+    ensures { entries.new
+        ≡ with_entries (λ lid. port_turn ports.now (number_by lid_digit.now is_higher lid)) entries.old lids.now }
 {
-    row.clear();
+    let mut turn = lid_digit.turn(is_higher, ports.len());
     for lid in lids {
-        row.push(port_chosen(ports, lid_digit.number(is_higher, *lid)))?;
-    }
-    Ok(())
-}
-
-/// Of some ports the one with this number, counted round. None of none.
-fn port_chosen(ports: &[PortNum], choice: usize) -> Option<PortNum>
-    ensures { result ≡ port_chosen ports.now choice }
-{
-    if ports.is_empty() {
-        None
-    } else {
-        ports.get(choice % ports.len()).copied()
+        let lid = usize::from(lid.number());
+        turn.go_to(lid);
+        entries[lid] = ports[turn.choice()].number();
     }
 }

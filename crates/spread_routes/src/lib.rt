@@ -7,6 +7,7 @@ pub mod laws;
 mod leaves;
 mod lid_digit;
 mod spread;
+mod turn;
 
 pub use exits::Exits;
 pub use leaves::leaf_switches;

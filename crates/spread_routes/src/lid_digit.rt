@@ -1,15 +1,16 @@
 //! What switches go by when they choose among edges.
-ghost use Rattle.std.specs.Prelude.{◌≡◌, ◌<◌, All, IfOk, length, map, nat_lt, slice_index_or};
+ghost use Rattle.std.specs.Prelude.{◌≡◌, ◌<◌, All, IfOk, length, map, nat_lt, slice_index_or, if◌then◌else◌};
 ghost use Rattle.std.specs.List.{list_any};
 ghost use Rattle.port_graph.specs.Heads.{LeadToVertices};
 ghost use Rattle.spread_labels.specs.TargetSets.{EachTarget, has};
 ghost use Rattle.spread_labels.specs.MarkSets.{picked};
 ghost use Rattle.spread_routes.specs.Rule.{by_index};
-ghost use Rattle.spread_routes.specs.Spread.{number_by, lid_digit_at};
+ghost use Rattle.spread_routes.specs.Spread.{lid_digit_at};
 ghost use Rattle.spread_routes.specs.Tables.{no_lid_digit};
+ghost use Rattle.spread_routes.specs.Turns.{IsTurn};
 
+use crate::turn::Turn;
 use port_graph::{Adjacency, Edge};
-use smp_bytes::Lid;
 use spread_labels::{TargetSet, digit_weights};
 use std::alloc::{AllocError, Global};
 use subnet_view::SwitchGraph;
@@ -26,18 +27,17 @@ pub(crate) struct LidDigit {
 }
 
 impl LidDigit {
-    /// The number of a LID where an edge leads to a higher switch, or where none does.
-    pub(crate) fn number(&self, is_higher: bool, lid: Lid) -> usize
-        requires { 0 < self.now.digit_weight }
-        ensures { result ≡ number_by self.now is_higher lid }
+    /// The turns of LIDs among so many ports, where one of them leads to a higher switch, or where none does.
+    pub(crate) fn turn(&self, is_higher: bool, count: usize) -> Turn
+        requires weight { 0 < self.now.digit_weight }
+        requires count { 0 < count }
+        ensures turn { IsTurn result }
+        ensures count { result.count ≡ count }
+        ensures offset { result.offset ≡ self.now.offset }
+        ensures weight { result.weight ≡ (if is_higher then self.now.digit_weight else 1) }
     {
-        let lid = usize::from(lid.number());
-        let digit = if is_higher {
-            lid / self.digit_weight
-        } else {
-            lid
-        };
-        digit + usize::from(self.offset)
+        let weight = if is_higher { self.digit_weight } else { 1 };
+        Turn::at(weight, usize::from(self.offset), count, 0)
     }
 }
 

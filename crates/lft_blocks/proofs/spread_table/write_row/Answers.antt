@@ -1,12 +1,11 @@
-use Rattle.std.proofs.Common.{◌≡◌, ◌<◌, ◌≤◌, ◌+◌, ◌-◌, ◌==◌, [], ℕ, List, Vec, Global, sym, ap, ◌∙◌, subst, arith, length, map, All}
+use Rattle.std.proofs.Common.{◌≡◌, ◌<◌, ◌+◌, ◌-◌, ◌==◌, [], ℕ, List, Vec, Global, sym, ap, ◌∙◌, subst, arith, length, map, All}
 use Rattle.std.proofs.lemmas.List.{get_or-map, length-map}
 use Rattle.std.specs.Prelude.{Option, slice_index, slice_index_or}
 use Rattle.subnet_view.specs.Graph.{guids_of}
-use Rattle.subnet_view.specs.SwitchGraph.{switch_at}
 use Rattle.spread_routes.specs.Spread.{spread_at}
-use Rattle.spread_routes.specs.Tables.{port_by, ports_between}
+use Rattle.spread_routes.specs.Tables.{port_by, with_entries}
 use Rattle.lft_blocks.specs.declared.attachment.Attachment.{Attachment}
-use Rattle.lft_blocks.specs.TableRows.{AreLidsAt, IsRow, lids_at, written}
+use Rattle.lft_blocks.specs.TableRows.{AreLidsAt, IsRow, entry_by, lids_at}
 use Rattle.lft_blocks.proofs.RowSteps.{lids_within, row_more}
 use Rattle.lft_blocks.proofs.spread_table.write_row.Goals as goal
 
@@ -25,10 +24,9 @@ write-requires-clause-lids c =
     let attachments = c.args.attachments.now in
     let t = c.loop-target.target in
     let below : t < length c.args.spread.now.graph = omega (arith, c.loop-target-test.true, c.end-target-end.ensures, c.requires.towards.within) in
-    let lids : c.deref-in-loop-target.result.now ≡ lids_at attachments t =
-    c.deref-in-loop-target.ensures.value
-    ∙ listed attachments (length c.args.spread.now.graph) t c.args.lids.now c.index-lids-target-in-loop-target.result c.requires.lids below
-    c.index-lids-target-in-loop-target.is in
+    let lids : c.deref.result.now ≡ lids_at attachments t =
+    c.deref.ensures.value
+    ∙ listed attachments (length c.args.spread.now.graph) t c.args.lids.now c.index-lids-target.result c.requires.lids below c.index-lids-target.is in
     subst (λ (x : List ℕ × ℕ). All (λ lid. lid < x.1) x.0) (λ i. (sym lids i, sym c.loop-target.invariant.all i)) (lids_within attachments t)
 
 pub loop-target-preserved : goal.loop-target-preserved
@@ -45,18 +43,12 @@ loop-target-preserved c =
     let below : t < length by.graph = omega (arith, c.loop-target-test.true, c.end-target-end.ensures, c.requires.towards.within) in
     let there : first + k ≡ t = omega (arith, c.loop-target.auto.target, c.first-first.ensures) in
     let inside : first + k < c.args.towards.now.end = omega (arith, there, c.loop-target-test.true, c.end-target-end.ensures) in
-    let asked : c.deref.result.now ≡ lids_at attachments t =
+    let lids : c.deref.result.now ≡ lids_at attachments t =
     c.deref.ensures.value
     ∙ listed attachments (length by.graph) t c.args.lids.now c.index-lids-target.result c.requires.lids below c.index-lids-target.is in
-    let lids : c.deref-in-loop-target.result.now ≡ lids_at attachments t =
-    c.deref-in-loop-target.ensures.value
-    ∙ listed attachments (length by.graph) t c.args.lids.now c.index-lids-target-in-loop-target.result c.requires.lids below
-    c.index-lids-target-in-loop-target.is in
-    let ports : c.deref-in-loop-target-2.result.now ≡ ports_between (spread_at by) (lids_at attachments t) (switch_at by.graph t) (switch_at by.graph own) =
-    c.deref-in-loop-target-2.ensures.value ∙ c.in_ok-ports.ensures ∙ ap (map (port_by exits k)) asked
-    ∙ c.in_ok-exits_from.ensures k inside (lids_at attachments t)
-    ∙ ap (λ x. ports_between (spread_at by) (lids_at attachments t) (switch_at by.graph x) (switch_at by.graph own)) there in
-    let is : c.write.new.self ≡ written attachments (own == t) c.loop-target.row (lids_at attachments t)
-    (map (λ lid. next lid (slice_index guids own) (slice_index guids t)) (lids_at attachments t)) =
-    c.write.ensures ∙ (λ i. written attachments (own == t) c.loop-target.row (lids i) (ports i)) in
+    let port : (lid : ℕ) → port_by exits k lid ≡ next lid (slice_index guids own) (slice_index guids t) =
+    λ lid. c.in_ok-exits_from.ensures k lid inside ∙ ap (λ x. next lid (slice_index guids own) (slice_index guids x)) there in
+    let is : c.write.new.self ≡ with_entries (λ lid. entry_by attachments (own == t) lid (next lid (slice_index guids own) (slice_index guids t)))
+    c.loop-target.row (lids_at attachments t) =
+    c.write.ensures ∙ (λ i. with_entries (λ lid. entry_by attachments (own == t) lid (port lid i)) c.loop-target.row (lids i)) in
     subst (IsRow next guids attachments (t + 1) own) (sym is) (row_more next guids attachments t own c.loop-target.row c.loop-target.invariant)

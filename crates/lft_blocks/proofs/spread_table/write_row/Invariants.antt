@@ -1,6 +1,5 @@
 use Rattle.subnet_view.specs.Graph.{guids_of}
 use Rattle.spread_routes.specs.Spread.{spread_at}
-use Rattle.spread_routes.specs.Tables.{AreExits}
 use Rattle.lft_blocks.specs.TableRows.{IsRow}
 use Rattle.lft_blocks.proofs.spread_table.write_row.Given as goal
 

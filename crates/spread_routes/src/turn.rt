@@ -1,0 +1,81 @@
+//! Whose turn it is among the ports of a switch, as LIDs rise.
+ghost use Rattle.std.specs.Prelude.{◌≡◌, ◌<◌, ◌+◌, ◌/◌, ◌%◌, ◌^◌};
+ghost use Rattle.spread_routes.specs.Turns.{IsTurn, IsOfSame};
+
+/// Numbers by a digit of a LID, counted round: the one of a LID near the last is found without a division.
+#[derive(Clone, Copy)]
+pub(crate) struct Turn {
+    /// What the digit counts.
+    weight: usize,
+    /// What is added to it.
+    offset: usize,
+    /// How many ports there are.
+    count: usize,
+    /// The least LID with the digit of the last one.
+    start: usize,
+    /// The number of these LIDs, counted round.
+    choice: usize,
+}
+
+impl Turn {
+    /// That of a LID.
+    pub(crate) fn at(weight: usize, offset: usize, count: usize, lid: usize) -> Self
+        requires weight { 0 < weight }
+        requires offset { offset < 2 ^ 16 }
+        requires count { 0 < count }
+        requires lid { lid < 2 ^ 16 }
+        ensures turn { IsTurn result }
+        ensures weight { result.weight ≡ weight }
+        ensures offset { result.offset ≡ offset }
+        ensures count { result.count ≡ count }
+        ensures choice { result.choice ≡ (lid / weight + offset) % count }
+    {
+        let digit = lid / weight;
+        Turn {
+            weight,
+            offset,
+            count,
+            start: digit * weight,
+            choice: (digit + offset) % count,
+        }
+    }
+
+    /// That of another LID.
+    pub(crate) fn go_to(&mut self, lid: usize)
+        requires turn { IsTurn self.old }
+        requires lid { lid < 2 ^ 16 }
+        ensures turn { IsTurn self.new }
+        ensures same { IsOfSame self.old self.new }
+        ensures choice { self.new.choice ≡ (lid / self.old.weight + self.old.offset) % self.old.count }
+    {
+        if lid < self.start {
+            *self = Turn::at(self.weight, self.offset, self.count, lid);
+            return;
+        }
+        let past = lid - self.start;
+        if past < self.weight {
+            return;
+        }
+        if past - self.weight < self.weight {
+            self.start += self.weight;
+            self.choice = next_round(self.choice, self.count);
+        } else {
+            *self = Turn::at(self.weight, self.offset, self.count, lid);
+        }
+    }
+
+    /// The number, counted round.
+    pub(crate) fn choice(&self) -> usize
+        ensures { result ≡ self.now.choice }
+    {
+        self.choice
+    }
+}
+
+/// The number behind one, counted round.
+fn next_round(choice: usize, count: usize) -> usize
+    requires { choice < count }
+    ensures { result ≡ (choice + 1) % count }
+{
+    if choice + 1 == count { 0 } else { choice + 1 }
+}
