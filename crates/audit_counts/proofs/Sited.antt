@@ -1,12 +1,13 @@
 -- The sites of end ports, and which of them is that of a port.
-use Rattle.std.proofs.Common.{◌≡◌, ◌<◌, ℕ, zero, suc, List, [], ◌∷◌, refl, sym, ap, subst, ◌∙◌, Bool, true, false, cond, ◌&&◌, ◌||◌, length, get_or, arith}
+use Rattle.std.proofs.Common.{◌≡◌, ◌<◌, ◌≤◌, ℕ, zero, suc, List, [], ◌∷◌, refl, sym, ap, subst, ◌∙◌, Bool, true, false, cond, ◌&&◌, ◌||◌, length, get_or, arith}
 use Rattle.std.specs.Prelude.{Contains, Option, None, Some, count_by, find, map, slice_get}
-use Rattle.std.proofs.lemmas.Bool.{eq-eqb, eqb-true}
+use Rattle.std.proofs.lemmas.Bool.{eq-eqb, eqb-true, ltb-false}
 use Rattle.std.proofs.lemmas.List.Sums.{sum_by-cons}
 use Rattle.std.proofs.lemmas.Option.{same_Some}
 use Rattle.smp_bytes.proofs.Members.{contains_here, contains_later, list_all_at}
 use Rattle.std.proofs.lemmas.List.Folds.{find_at}
-use Rattle.std.specs.List.{list_any, position_or_len}
+use Rattle.std.specs.List.{list_any, position, position_or_len}
+use Rattle.subnet_view.proofs.Apart.{contains-from_map}
 use Rattle.std.specs.Option.{option_map_or}
 use Rattle.subnet_view.proofs.Members.{contains_in, list_any_true}
 use Rattle.audit.proofs.PlanSteps.{contains_at}
@@ -120,18 +121,40 @@ site_at sites port index h = by (slice_get sites index) refl h
     by None e k = absurd (cc)
     by (Some site) e k = (contains_at sites index site e, k)
 
-pub first_site : (sites : List Site) (port : EndPort) (index : ℕ) → index ≡ position_or_len (is_of port) sites
-    → IsSiteOf sites port (slice_get sites index)
-first_site sites port index e = subst (λ (o : Option Site). IsSiteOf sites port o) (find_at (is_of port) sites ∙ ap (slice_get sites) (sym e)) (found sites)
-  where
-    found : (xs : List Site) → IsSiteOf xs port (find (is_of port) xs)
-    found [] = refl
-    found (x ∷ xs) =
-        elim (is_of port x) as (λ t. is_of port x ≡ t → IsSiteOf (x ∷ xs) port (cond t (Some x) (find (is_of port) xs))) [
-          | true ↦ λ q. (contains_here x xs, q)
-          | false ↦ λ q. later x xs q (find (is_of port) xs) (found xs)
-        ] refl
+module _ (port : EndPort) where
+  later : (x : Site) (xs : List Site) → is_of port x ≡ false → (o : Option Site) → IsSiteOf xs port o → IsSiteOf (x ∷ xs) port o
+  later x xs q None h = ap (λ t. t || list_any (is_of port) xs) q ∙ h
+  later x xs q (Some site) h = (contains_later x site xs h.0, h.1)
 
-    later : (x : Site) (xs : List Site) → is_of port x ≡ false → (o : Option Site) → IsSiteOf xs port o → IsSiteOf (x ∷ xs) port o
-    later x xs q None h = ap (λ t. t || list_any (is_of port) xs) q ∙ h
-    later x xs q (Some site) h = (contains_later x site xs h.0, h.1)
+  found : (xs : List Site) → IsSiteOf xs port (find (is_of port) xs)
+  found [] = refl
+  found (x ∷ xs) =
+      elim (is_of port x) as (λ t. is_of port x ≡ t → IsSiteOf (x ∷ xs) port (cond t (Some x) (find (is_of port) xs))) [
+        | true ↦ λ q. (contains_here x xs, q)
+        | false ↦ λ q. later x xs q (find (is_of port) xs) (found xs)
+      ] refl
+
+  some_is : (t : Bool) (n i : ℕ) → ◌≡◌ {A = Option ℕ} (cond t (Some n) None) (Some i) → n ≡ i
+  some_is true n i e = cc
+  some_is false n i e = absurd (cc)
+
+  none_is : (t : Bool) (n : ℕ) → ◌≡◌ {A = Option ℕ} (cond t (Some n) None) None → t ≡ false
+  none_is true n e = absurd (cc)
+  none_is false n e = refl
+
+  past_end : (xs : List Site) (n : ℕ) → length xs ≤ n → slice_get xs n ≡ None
+  past_end [] n h = refl
+  past_end (x ∷ xs) zero h = absurd (omega arith)
+  past_end (x ∷ xs) (suc n) h = past_end xs n (omega arith)
+
+  pub first_some : (sites : List Site) (index : ℕ) → position (is_of port) sites ≡ Some index → IsSiteOf sites port (slice_get sites index)
+  first_some sites index e =
+      let at : position_or_len (is_of port) sites ≡ index = some_is _ _ _ e in
+      subst (λ (o : Option Site). IsSiteOf sites port o) (find_at (is_of port) sites ∙ ap (slice_get sites) at) (found sites)
+
+  pub first_none : (sites : List Site) → position (is_of port) sites ≡ None → IsSiteOf sites port (slice_get sites (length sites))
+  first_none sites e =
+      let past : length sites ≤ position_or_len (is_of port) sites = ltb-false _ _ (none_is _ _ e) in
+      subst (λ (o : Option Site). IsSiteOf sites port o)
+      (find_at (is_of port) sites ∙ past_end sites (position_or_len (is_of port) sites) past
+      ∙ sym (past_end sites (length sites) (omega arith))) (found sites)

@@ -11,14 +11,14 @@ ghost use Rattle.audit_counts.specs.PacketTally.{IsTally};
 
 use crate::packet_tally::PacketTally;
 use crate::sent_packet::SentPacket;
-use crate::site::{Census, Site, census_of, index_of, joined_adapters, joined_count};
+use crate::site::{Census, Site, census_of, index_of, joined_adapters, joined_count, site_in};
 use audit::{Blocks, Network};
 use plan_file::HeldLid;
 use std::alloc::{AllocError, Global};
 
 /// What is counted of packets, and of which lines all of them are delivered.
 #[derive(Drop)]
-pub struct Survey {
+pub struct PacketSurvey {
     pub tally: PacketTally,
     /// By the lines' indices: whether it is told of one that all packets for its LID are delivered at its port.
     pub told: Vec<bool>,
@@ -26,7 +26,7 @@ pub struct Survey {
 
 /// Counts the packets that end ports send to the LIDs of their components. Takes what `Network::ends` does for each
 /// LID, a walk over all blocks for each 64, and a step for each two end ports.
-pub fn survey(alloc: Global, network: &Network, sites: &[Site]) -> Result<Survey, AllocError>
+pub fn survey(alloc: Global, network: &Network, sites: &[Site]) -> Result<PacketSurvey, AllocError>
     requires { sites.now ≡ map (site_of (cells_of network.now.facts)) (end_ports (cells_of network.now.facts)) }
     ensures tally { IfOk result (λ survey.
         IsTally (packets_of (cells_of network.now.facts) network.now.held) survey.tally) }
@@ -41,15 +41,15 @@ pub fn survey(alloc: Global, network: &Network, sites: &[Site]) -> Result<Survey
     for line in network.lids() {
         blocks = network.blocks_for(alloc, blocks, line.lid)?;
         index = index_of(sites, index, &line.port);
-        let all = match sites.get(index) {
+        let all = match site_in(sites, index) {
             Some(owner) => add_packets(
-                alloc, &mut tally, network, &blocks, sites, census, line, owner,
+                alloc, &mut tally, network, &blocks, sites, census, line, &owner,
             )?,
             None => false,
         };
         told.push(all)?;
     }
-    Ok(Survey { tally, told })
+    Ok(PacketSurvey { tally, told })
 }
 
 /// Counts those for the LID of a line; answers whether all are seen to be delivered at its port.

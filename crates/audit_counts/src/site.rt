@@ -1,6 +1,5 @@
 //! Where end ports lie: which of them are in one component.
-ghost use Rattle.std.specs.Prelude.{◌≡◌, false, Contains, IfOk, count_by, map, slice_get};
-ghost use Rattle.std.specs.List.{position_or_len};
+ghost use Rattle.std.specs.Prelude.{◌≡◌, false, Contains, IfOk, count_by, map, position, slice_get};
 ghost use Rattle.std.specs.Option.{option_map_or};
 ghost use Rattle.fact_store.specs.View.{cells_of};
 ghost use Rattle.subnet_view.specs.EndPorts.{end_ports};
@@ -240,18 +239,32 @@ pub fn index_of(sites: &[Site], index: usize, port: &EndPort) -> usize
 fn is_site_at(sites: &[Site], index: usize, port: &EndPort) -> bool
     ensures { result ≡ option_map_or (is_of port.now) (slice_get sites.now index) false }
 {
-    match sites.get(index) {
+    match site_in(sites, index) {
         Some(site) => is_same_end(port, &site.port),
         None => false,
     }
 }
 
+/// The site at an index.
+pub fn site_in(sites: &[Site], index: usize) -> Option<Site>
+    ensures { result ≡ slice_get sites.now index }
+{
+    sites.get(index).copied()
+}
+
 /// The index of the first site of a port, and how many sites there are where none is.
 fn first_at(sites: &[Site], port: &EndPort) -> usize
-    ensures { result ≡ position_or_len (is_of port.now) sites.now }
+    ensures { IsSiteOf sites.now port.now (slice_get sites.now result) }
 {
-    sites
-        .iter()
-        .position(|site| is_same_end(port, &site.port))
-        .unwrap_or(sites.len())
+    match position_of(sites, port) {
+        Some(index) => index,
+        None => sites.len(),
+    }
+}
+
+/// The index of the first site of a port.
+fn position_of(sites: &[Site], port: &EndPort) -> Option<usize>
+    ensures { result ≡ position (is_of port.now) sites.now }
+{
+    sites.iter().position(|site| is_same_end(port, &site.port))
 }

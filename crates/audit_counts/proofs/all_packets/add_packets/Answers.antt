@@ -1,10 +1,10 @@
 -- An end port more.
 use Rattle.std.proofs.Common.{◌≡◌, ◌<◌, ◌+◌, ◌∙◌, sym, ap, subst, arith, length, get_or}
-use Rattle.std.proofs.lemmas.Result.{on_ok_weaker}
 use Rattle.fact_store.specs.View.{cells_of}
 use Rattle.port_graph.proofs.Counts.{length_map}
 use Rattle.subnet_view.specs.declared.end_port.EndPort.{EndPort}
 use Rattle.subnet_view.specs.EndPorts.{end_ports}
+use Rattle.audit_channels.proofs.Senders.{all_come_to}
 use Rattle.audit_counts.specs.declared.site.Site.{Site}
 use Rattle.audit_counts.specs.declared.packet_tally.PacketTally.{PacketTally}
 use Rattle.audit_counts.specs.Sites.{are_joined, site_of}
@@ -55,18 +55,24 @@ returns-in-None c =
     let line = c.args.line.now in
     let count = c.joined_count-count.result in
     let between = c.joined_adapters-between.result in
+    let ends = c.in_ok-ends.ends in
     let none = sym c.in-None.ensures in
-    on_ok_weaker c.add_arrived.result
-    (λ w. λ packets before.
-    tally_arrived packets (sent_to cells held line) c.args.tally.now c.add_arrived.new.self count between before
-    (sent_arrive cells held line c.in_ok-ends.ends.port c.in_ok-ends.ends.ends c.in_ok-ends.ensures.0 c.in_ok-ends.ensures.1 none)
-    (all_sent cells held line c.args.owner.now c.args.sites.now count c.requires.owner c.requires.sites c.joined_count-count.ensures)
-    (adapters_sent cells held line c.args.owner.now c.args.sites.now between c.requires.owner c.requires.sites c.joined_adapters-between.ensures) w)
-    c.add_arrived.ensures
+    record {
+      counted = λ packets before.
+          tally_arrived packets (sent_to cells held line) c.args.tally.now c.add_arrived.new.self count between before
+          (sent_arrive cells held line ends.port ends.ends c.in_ok-ends.ensures.0 c.in_ok-ends.ensures.1 none)
+          (all_sent cells held line c.args.owner.now c.args.sites.now count c.requires.owner c.requires.sites c.joined_count-count.ensures)
+          (adapters_sent cells held line c.args.owner.now c.args.sites.now between c.requires.owner c.requires.sites c.joined_adapters-between.ensures)
+          c.in_ok-add_arrived-in-None.ensures;
+      told = λ e. all_come_to cells held line ends.port ends.ends c.in_ok-ends.ensures.0 c.in_ok-ends.ensures.1 none;
+    }
 
 pub returns : goal.returns
 returns c =
     let cells = cells_of c.args.network.now.facts in
     let ports = end_ports cells in
-    all_counted cells c.args.network.now.held c.args.line.now c.args.tally.now c.loop-index.tally c.loop-index.index c.loop-index.invariant
-    (omega (arith, c.loop-index-test.false, ap length c.requires.sites, length_map (site_of cells) ports))
+    record {
+      counted = all_counted cells c.args.network.now.held c.args.line.now c.args.tally.now c.loop-index.tally c.loop-index.index c.loop-index.invariant
+          (omega (arith, c.loop-index-test.false, ap length c.requires.sites, length_map (site_of cells) ports));
+      told = λ e. absurd (cc);
+    }
