@@ -17,7 +17,7 @@ impl Causes {
     ghost use Rattle.audit_counts.specs.Causes.{AreCausesWith, causes_of};
 
     /// None is lost.
-    pub fn new() -> Self
+    pub(crate) fn new() -> Self
         ensures { result ≡ causes_of [] }
     {
         Causes {
@@ -30,7 +30,7 @@ impl Causes {
     }
 
     /// One more is lost for a cause.
-    pub fn add(&mut self, cause: Cause) -> Result<(), AllocError>
+    pub(crate) fn add(&mut self, cause: Cause) -> Result<(), AllocError>
         ensures { OnOk result (AreCausesWith self.old cause self.new) }
     {
         match cause {

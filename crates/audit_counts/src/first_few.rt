@@ -25,7 +25,7 @@ impl<T> Model for FirstFew<T> {
 
 impl<T: Drop> FirstFew<T> {
     /// None of them.
-    pub fn new(alloc: Global) -> Self
+    pub(crate) fn new(alloc: Global) -> Self
         ensures { result ≡ record { first = []; count = 0 } }
     {
         FirstFew {
@@ -35,7 +35,7 @@ impl<T: Drop> FirstFew<T> {
     }
 
     /// One more.
-    pub fn add(&mut self, item: T) -> Result<(), AllocError>
+    pub(crate) fn add(&mut self, item: T) -> Result<(), AllocError>
         ensures { OnOk result (self.new ≡ listed self.old item) }
     {
         self.count = self.count.checked_add(1).ok_or(AllocError)?;
@@ -65,7 +65,7 @@ impl<T: Drop> FirstFew<T> {
 }
 
 /// Puts one behind those that are told, as long as these are few.
-pub fn note<T: Drop>(told: &mut Vec<T>, item: T) -> Result<(), AllocError>
+pub(crate) fn note<T: Drop>(told: &mut Vec<T>, item: T) -> Result<(), AllocError>
     ensures { OnOk result (told.new.items ≡ first_few told.old.items item) }
 {
     if told.len() < MOST_TOLD {

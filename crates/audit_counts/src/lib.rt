@@ -4,7 +4,7 @@
 
 mod all_packets;
 mod causes;
-mod disputes;
+mod disputed_facts;
 mod first_few;
 mod packet_tally;
 mod pairs;
@@ -12,9 +12,9 @@ mod sent_packet;
 mod site;
 mod unmatched;
 
-pub use all_packets::{Survey, survey};
+pub use all_packets::{PacketSurvey, survey};
 pub use causes::Causes;
-pub use disputes::disputed;
+pub use disputed_facts::disputed;
 pub use first_few::FirstFew;
 pub use packet_tally::PacketTally;
 pub use pairs::Pairs;

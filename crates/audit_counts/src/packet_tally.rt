@@ -25,7 +25,7 @@ impl PacketTally {
     ghost use Rattle.audit_counts.specs.PacketTally.{IsCountedWith, IsMissed, IsTally, IsWith, IsWithArrived};
 
     /// No packet.
-    pub fn new(alloc: Global) -> Self
+    pub(crate) fn new(alloc: Global) -> Self
         ensures { IsTally [] result }
     {
         PacketTally {
@@ -39,7 +39,7 @@ impl PacketTally {
     }
 
     /// A packet more.
-    pub fn add(&mut self, packet: SentPacket) -> Result<(), AllocError>
+    pub(crate) fn add(&mut self, packet: SentPacket) -> Result<(), AllocError>
         ensures { OnOk result (IsWith self.old packet self.new) }
     {
         self.count(&packet)?;
@@ -50,7 +50,7 @@ impl PacketTally {
     }
 
     /// So many packets more, of which so many are between adapter ports, which arrive.
-    pub fn add_arrived(&mut self, count: u64, between: u64) -> Result<(), AllocError>
+    pub(crate) fn add_arrived(&mut self, count: u64, between: u64) -> Result<(), AllocError>
         ensures { OnOk result (IsWithArrived self.old count between self.new) }
     {
         self.all.add_arrived(count)?;

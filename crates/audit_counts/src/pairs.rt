@@ -14,7 +14,7 @@ impl Pairs {
     ghost use Rattle.audit_counts.specs.Pairs.{ArePairs, ArePairsIf, ArePairsWithArrived};
 
     /// No packet.
-    pub fn new() -> Self
+    pub(crate) fn new() -> Self
         ensures { ArePairs [] result }
     {
         Pairs {
@@ -24,7 +24,7 @@ impl Pairs {
     }
 
     /// A packet more where it is one of them, by whether it arrives.
-    pub fn add(&mut self, is_one: bool, arrives: bool) -> Result<(), AllocError>
+    pub(crate) fn add(&mut self, is_one: bool, arrives: bool) -> Result<(), AllocError>
         ensures { OnOk result (ArePairsIf self.old is_one arrives self.new) }
     {
         if !is_one {
@@ -38,7 +38,7 @@ impl Pairs {
     }
 
     /// So many packets more, which arrive.
-    pub fn add_arrived(&mut self, count: u64) -> Result<(), AllocError>
+    pub(crate) fn add_arrived(&mut self, count: u64) -> Result<(), AllocError>
         ensures { OnOk result (ArePairsWithArrived self.old count self.new) }
     {
         self.sent = self.sent.checked_add(count).ok_or(AllocError)?;

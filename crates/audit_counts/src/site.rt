@@ -59,7 +59,7 @@ fn leads_to(far: Option<(Guid, PortNum)>, port: &EndPort) -> bool
 }
 
 /// Whether all end ports lie in the component of a root.
-pub fn are_one_component(sites: &[Site]) -> bool
+pub(crate) fn are_one_component(sites: &[Site]) -> bool
     ensures { result ≡ are_one_component sites.now }
 {
     let root = first_root(sites);
@@ -78,7 +78,7 @@ fn first_root(sites: &[Site]) -> Option<Guid>
 
 /// What is seen of all end ports at once.
 #[derive(Clone, Copy, Debug, PartialEq, Eq)]
-pub struct Census {
+pub(crate) struct Census {
     /// Whether they lie in one component.
     pub whole: bool,
     /// How many are end ports of adapters.
@@ -86,7 +86,7 @@ pub struct Census {
 }
 
 /// The census of end ports. Takes a step for each.
-pub fn census_of(sites: &[Site]) -> Census
+pub(crate) fn census_of(sites: &[Site]) -> Census
     ensures { IsCensus sites.now result }
 {
     let whole = are_one_component(sites);
@@ -102,7 +102,7 @@ fn adapter_count(sites: &[Site]) -> usize
 }
 
 /// How many end ports lie in the component of this one. Takes a step where all lie in one, or else one for each.
-pub fn joined_count(sites: &[Site], owner: &Site, census: Census) -> usize
+pub(crate) fn joined_count(sites: &[Site], owner: &Site, census: Census) -> usize
     requires census { IsCensus sites.now census }
     requires listed { Contains sites.now owner.now }
     ensures { result ≡ count_by (λ site. are_joined site owner.now) sites.now }
@@ -115,7 +115,7 @@ pub fn joined_count(sites: &[Site], owner: &Site, census: Census) -> usize
 
 /// Where this is an adapter's, how many adapter ports lie in its component; none where it is a switch's. Takes a step
 /// or two where all lie in one component, or else one for each.
-pub fn joined_adapters(sites: &[Site], owner: &Site, census: Census) -> usize
+pub(crate) fn joined_adapters(sites: &[Site], owner: &Site, census: Census) -> usize
     requires census { IsCensus sites.now census }
     requires listed { Contains sites.now owner.now }
     ensures { result ≡ count_by (λ site. are_joined_adapters site owner.now) sites.now }
@@ -140,7 +140,7 @@ fn are_joined_adapters(site: &Site, owner: &Site) -> bool
 }
 
 /// Whether both are end ports of adapters.
-pub fn are_adapters(port: &EndPort, other: &EndPort) -> bool
+pub(crate) fn are_adapters(port: &EndPort, other: &EndPort) -> bool
     ensures { result ≡ are_adapters port.now other.now }
 {
     is_adapter(port) && is_adapter(other)
@@ -222,7 +222,7 @@ fn switch_of(wires: &Wires, port: &EndPort) -> Option<Guid>
 
 /// The index of the site of a port, and how many sites there are where none is. Takes a step or two where that is the
 /// index given, or the next one, and else a walk.
-pub fn index_of(sites: &[Site], index: usize, port: &EndPort) -> usize
+pub(crate) fn index_of(sites: &[Site], index: usize, port: &EndPort) -> usize
     ensures { IsSiteOf sites.now port.now (slice_get sites.now result) }
 {
     if is_site_at(sites, index, port) {
@@ -246,7 +246,7 @@ fn is_site_at(sites: &[Site], index: usize, port: &EndPort) -> bool
 }
 
 /// The site at an index.
-pub fn site_in(sites: &[Site], index: usize) -> Option<Site>
+pub(crate) fn site_in(sites: &[Site], index: usize) -> Option<Site>
     ensures { result ≡ slice_get sites.now index }
 {
     sites.get(index).copied()

@@ -4,7 +4,7 @@ use Rattle.fact_store.specs.View.{cells_of}
 use Rattle.fact_store.specs.Walk.{cells_left}
 use Rattle.audit_counts.specs.Disputed.{disputed}
 use Rattle.audit_counts.proofs.Disputes.{CountedTo}
-use Rattle.audit_counts.proofs.disputes.disputed.Goals as goal
+use Rattle.audit_counts.proofs.disputed_facts.disputed.Goals as goal
 
 pub loop-sighting-init : goal.loop-sighting-init
 loop-sighting-init c =

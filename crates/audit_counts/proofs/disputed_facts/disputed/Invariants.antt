@@ -2,7 +2,7 @@ use Rattle.fact_store.specs.View.{cells_of}
 use Rattle.fact_store.specs.Walk.{cells_left}
 use Rattle.audit_counts.specs.Disputed.{disputed}
 use Rattle.audit_counts.proofs.Disputes.{CountedTo}
-use Rattle.audit_counts.proofs.disputes.disputed.Given as goal
+use Rattle.audit_counts.proofs.disputed_facts.disputed.Given as goal
 
 -- counted so far
 abbrev pub invariant-loop-sighting : goal.invariant-loop-sighting
