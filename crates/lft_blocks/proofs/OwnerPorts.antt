@@ -4,7 +4,7 @@ use Rattle.std.proofs.lemmas.Bool.{and_left}
 use Rattle.std.proofs.lemmas.Option.{same_Some}
 use Rattle.std.specs.Prelude.{IsTrue, Option, None, Some, Contains, is_some, option_map, option_and_then, slice_get}
 use Rattle.fabric_model.specs.declared.cable.NodePort.{NodePort}
-use Rattle.fabric_model.specs.Fabric.{Node, Fabric, IsEndPort, is_switch_at, range_at, owns}
+use Rattle.fabric_model.specs.Fabric.{Node, Fabric, IsEndPort, is_switch_at, owns}
 use Rattle.fabric_model.specs.FabricWalks.{IsJoinedTo}
 use Rattle.smp_bytes.specs.LidRange.{has_lid}
 use Rattle.fabric_model.proofs.FabricWalks.{same_port, type_at, adapter_vertex}

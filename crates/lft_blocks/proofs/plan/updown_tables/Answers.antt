@@ -1,6 +1,5 @@
-use Rattle.std.proofs.Common.{refl, sym, ap, ◌∙◌, List, ℕ, length, map}
+use Rattle.std.proofs.Common.{refl, sym, ◌∙◌, length, map}
 use Rattle.std.specs.List.{range_with_len}
-use Rattle.subnet_view.specs.SwitchEdges.{SwitchEdges}
 use Rattle.subnet_view.specs.Graph.{guids_of}
 use Rattle.lft_blocks.specs.Attachments.{table_in}
 use Rattle.lft_blocks.specs.TableRows.{attachment_by_index}
