@@ -88,9 +88,7 @@ fn write_rows(
 {
     let mut exits = Exits::new(alloc)?;
     for (own, row) in rows.iter_mut().enumerate() {
-        write_row(
-            row, own, spread, towards, attachments, lids, &mut exits,
-        )?;
+        write_row(row, own, spread, towards, attachments, lids, &mut exits)?;
     }
     Ok(())
 }
@@ -118,7 +116,13 @@ fn write_row(
     spread.exits_from(own, towards, exits)?;
     let first = towards.first();
     for target in first..towards.end() {
-        row.write(attachments, &lids[target], exits, target - first, own == target);
+        row.write(
+            attachments,
+            &lids[target],
+            exits,
+            target - first,
+            own == target,
+        );
     }
     Ok(())
 }

@@ -43,8 +43,8 @@ impl TableRow {
         }
     }
 
-    /// Writes the entries for these LIDs, whose attachments lie at a target of these exits: the attachments' ports where
-    /// that is this switch, and else the ports by which packets leave for it.
+    /// Writes the entries for these LIDs, whose attachments lie at a target of these exits: the attachments' ports
+    /// where that is this switch, and else the ports by which packets leave for it.
     pub(crate) fn write(
         &mut self,
         attachments: &[Option<Attachment>],

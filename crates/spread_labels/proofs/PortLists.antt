@@ -47,7 +47,8 @@ picked_first k (set ∷ sets) (e ∷ es) (suc i) long h = picked_first k sets es
 pub added_is : (set : TargetSet) (k : ℕ) (e : Edge) (list : List ℕ) (rest : List Edge)
     → added set e.port k list ++ map (λ (x : Edge). x.port) rest ≡ list ++ map (λ (x : Edge). x.port) (cond (has set k) (e ∷ rest) rest)
 added_is set k e list rest =
-    elim (has set k) as (λ b. cond b (list ++ e.port ∷ []) list ++ map (λ (x : Edge). x.port) rest ≡ list ++ map (λ (x : Edge). x.port) (cond b (e ∷ rest) rest)) [
+    elim (has set k) as (λ b. cond b (list ++ e.port ∷ []) list ++ map (λ (x : Edge). x.port) rest
+    ≡ list ++ map (λ (x : Edge). x.port) (cond b (e ∷ rest) rest)) [
       | true ↦ append_assoc list (e.port ∷ []) (map (λ (x : Edge). x.port) rest)
       | false ↦ refl
     ]

@@ -1,9 +1,9 @@
 -- The positions of vertices, as they are written.
-use Rattle.std.proofs.Common.{◌≡◌, ◌<◌, ℕ, List, sym, ap, ◌∙◌, subst, length, map, get_or, refl, [], ◌∷◌}
+use Rattle.std.proofs.Common.{◌≡◌, ◌<◌, ℕ, List, sym, ap, ◌∙◌, length, map, get_or, refl, [], ◌∷◌}
 use Rattle.std.specs.Prelude.{Contains}
 use Rattle.smp_bytes.proofs.Members.{contains_here, contains_later}
 use Rattle.port_graph.specs.declared.edge.Edge.{Edge}
-use Rattle.spread_labels.specs.Orders.{at_position, position_of, positioned_edge}
+use Rattle.spread_labels.specs.Orders.{position_of, positioned_edge}
 use Rattle.spread_labels.specs.Positions.{StandOnce, ArePositions, to_position}
 use Rattle.spread_labels.proofs.ByPositions.{position_less}
 

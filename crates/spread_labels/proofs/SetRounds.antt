@@ -40,13 +40,15 @@ module _ (edges : List (List Edge)) (marked downs : List TargetSet) (rows : List
     all_downs = length-append ds (d ∷ []) ∙ ap (λ n. n + 1) so.all_downs;
     all_rows = length-set now v row ∙ so.all_rows;
     steps = λ s h. elim (cases_eq s v) [
-      | inl same ↦ subst (λ (x : ℕ). IsSetStep x (edges_at edges x) marked downs (sets_at rows x) (set_at (ms ++ m ∷ []) x) (set_at (ds ++ d ∷ []) x) (sets_at (slice_set now v row) x))
+      | inl same ↦ subst (λ (x : ℕ). IsSetStep x (edges_at edges x) marked downs (sets_at rows x) (set_at (ms ++ m ∷ []) x)
+      (set_at (ds ++ d ∷ []) x) (sets_at (slice_set now v row) x))
           (sym same) (subst (λ (x : TargetSet × TargetSet × List TargetSet). IsSetStep v (edges_at edges v) marked downs (sets_at rows v) x.0 x.1 x.2)
           (λ i. (sym (last ms v m no_targets so.all_marked) i, sym (last ds v d no_targets so.all_downs) i, sym (get_or-set_same now v row [] within) i)) step)
       | inr other ↦
           let below : s < v = grind arith in
           subst (λ (x : TargetSet × TargetSet × List TargetSet). IsSetStep s (edges_at edges s) marked downs (sets_at rows s) x.0 x.1 x.2)
-          (λ i. (sym (there ms v m no_targets so.all_marked s below) i, sym (there ds v d no_targets so.all_downs s below) i, sym (get_or-set_other now v s row [] other) i))
+          (λ i. (sym (there ms v m no_targets so.all_marked s below) i, sym (there ds v d no_targets so.all_downs s below) i,
+          sym (get_or-set_other now v s row [] other) i))
           (so.steps s below)
     ];
   }
@@ -87,11 +89,13 @@ mark_of_givers round s p es = by_list (filter p es) ∙ (λ i. mark_of round (up
   where
     by_list : (gs : List Edge) → mark_by round s gs ≡ mark_of round (leads_up s gs) (has_some gs)
     by_list [] = refl
-    by_list (e ∷ gs) = elim (leads_up s (e ∷ gs)) as (λ b. Some (record { cost = round; label = cond b Up Down }) ≡ mark_of round b true) [ true ↦ refl | false ↦ refl ]
+    by_list (e ∷ gs) = elim (leads_up s (e ∷ gs)) as (λ b. Some (record { cost = round; label = cond b Up Down }) ≡ mark_of round b true)
+        [ true ↦ refl | false ↦ refl ]
 
     ups : (es : List Edge) → leads_up s (filter p es) ≡ list_any (λ e. p e && nat_lt e.to s) es
     ups [] = refl
-    ups (e ∷ es) = elim (p e) as (λ b. leads_up s (cond b (e ∷ filter p es) (filter p es)) ≡ ((b && nat_lt e.to s) || list_any (λ x. p x && nat_lt x.to s) es)) [
+    ups (e ∷ es) = elim (p e) as (λ b. leads_up s (cond b (e ∷ filter p es) (filter p es))
+        ≡ ((b && nat_lt e.to s) || list_any (λ x. p x && nat_lt x.to s) es)) [
       | true ↦ ap (λ b. nat_lt e.to s || b) (ups es)
       | false ↦ ups es
     ]
@@ -120,7 +124,8 @@ module _ (edges : List (List Edge)) (t s round : ℕ) (old : Option Mark) (up an
   some_new : is_some new ≡ (is_some old || (any && not (is_some old)))
   some_new = by old up any only
     where
-      by : (old : Option Mark) (up any : Bool) → (up ≡ true → any ≡ true) → is_some (mark_or old (mark_of (suc round) up any)) ≡ (is_some old || (any && not (is_some old)))
+      by : (old : Option Mark) (up any : Bool) → (up ≡ true → any ≡ true) → is_some (mark_or old (mark_of (suc round) up any))
+          ≡ (is_some old || (any && not (is_some old)))
       by (Some m) up any only = refl
       by None true true only = refl
       by None true false only = absurd (let no = only refl in cc)
@@ -135,7 +140,8 @@ module _ (edges : List (List Edge)) (t s round : ℕ) (old : Option Mark) (up an
       settled false true = refl
       settled false false = refl
 
-      by : (old : Option Mark) (up any : Bool) → (up ≡ true → any ≡ true) → down_of (mark_or old (mark_of (suc round) up any)) ≡ (down_of old || ((any && not (is_some old)) && not up))
+      by : (old : Option Mark) (up any : Bool) → (up ≡ true → any ≡ true) → down_of (mark_or old (mark_of (suc round) up any))
+          ≡ (down_of old || ((any && not (is_some old)) && not up))
       by (Some m) up any only = with_up (is_down m.label) any up
         where
           with_up : (a b u : Bool) → a ≡ (a || ((b && false) && not u))
@@ -362,7 +368,8 @@ pub sets_at_first : (edges : List (List Edge)) (targets : List ℕ) (marked down
 sets_at_first edges targets marked downs rows ms ds few are = record {
   all_marked = ms.all;
   all_downs = ds.all;
-  are_rows = record { all = ap length are ∙ length-map edges no_sets; long = λ s h. ap length (row s h) ∙ length-replicate (length (edges_at edges s)) no_targets };
+  are_rows = record { all = ap length are ∙ length-map edges no_sets;
+  long = λ s h. ap length (row s h) ∙ length-replicate (length (edges_at edges s)) no_targets };
   each = λ k h. record {
     is_marked = λ s l. ms.each k s h l ∙ is_some_if (s == slice_index targets k);
     is_down = λ s l. ds.each k s h l ∙ is_down_if (s == slice_index targets k);

@@ -80,11 +80,7 @@ fn clear(lists: &mut [Vec<PortNum>])
 }
 
 /// Adds to the list of each target the ports of the edges whose set has it.
-fn add_all(
-    lists: &mut [Vec<PortNum>],
-    edges: &[Edge],
-    sets: &[TargetSet],
-) -> Result<(), AllocError>
+fn add_all(lists: &mut [Vec<PortNum>], edges: &[Edge], sets: &[TargetSet]) -> Result<(), AllocError>
     requires lists { length lists.old ≡ 64 }
     requires all { length sets.now ≡ length edges.now }
     ensures { OnOk result (EachTarget (λ k. slice_index_or (map (λ list. list.items) lists.new) k []

@@ -27,11 +27,7 @@ impl Model for CandidateSets {
 impl CandidateSets {
     /// Of all edges, towards these targets, of which there are at most 64. Takes a step or two for each edge in each of
     /// as many rounds as the greatest cost, and one, for all targets together.
-    pub fn towards(
-        alloc: Global,
-        edges: &Adjacency,
-        targets: &[usize],
-    ) -> Result<Self, AllocError>
+    pub fn towards(alloc: Global, edges: &Adjacency, targets: &[usize]) -> Result<Self, AllocError>
         requires lead { LeadToVertices edges.now }
         requires few { length targets.now ≤ 64 }
         requires vertices { All (λ target. target < length edges.now) targets.now }

@@ -37,9 +37,9 @@ picked_there k [] (x ∷ es) e h = absurd (contains_none e h)
 picked_there k (set ∷ sets) (x ∷ es) e h =
     elim (has set k) as (λ b. Contains (cond b (x ∷ picked k sets es) (picked k sets es)) e → Contains (x ∷ es) e) [
       | true ↦ λ c. (elim (contains_cases x e (picked k sets es) c) [
-          | inl same ↦ subst (λ (y : Edge). Contains (x ∷ es) y) same (contains_here x es)
-          | inr later ↦ contains_later x e es (picked_there k sets es e later)
-        ])
+        | inl same ↦ subst (λ (y : Edge). Contains (x ∷ es) y) same (contains_here x es)
+        | inr later ↦ contains_later x e es (picked_there k sets es e later)
+      ])
       | false ↦ λ c. contains_later x e es (picked_there k sets es e c)
     ] h
 
@@ -126,7 +126,7 @@ module _ (by : Grading) (good : IsGraph by.graph) (towards : TowardsValue) (are 
   pub exits_are : exits.lid_digit ≡ lid_digit_there by p
       → ((k : ℕ) → k < 64 → slice_index_or exits.ports k [] ≡ map (λ (e : Edge). e.port) (found k))
       → ((k : ℕ) → k < 64 → has exits.higher k
-          ≡ list_any (λ (e : Edge). nat_lt exits.lid_digit.level (slice_index_or lid_digits e.to no_lid_digit).level) (found k))
+      ≡ list_any (λ (e : Edge). nat_lt exits.lid_digit.level (slice_index_or lid_digits e.to no_lid_digit).level) (found k))
       → AreExits by towards own exits
   exits_are lid_digit ports higher k lid h =
       let few : k < 64 = omega (arith, h, are.few) in

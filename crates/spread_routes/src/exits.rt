@@ -78,7 +78,13 @@ impl Exits {
         if ports.is_empty() {
             write_none(entries, lids, none);
         } else {
-            write_ports(entries, lids, ports, &self.lid_digit, self.higher.has(target));
+            write_ports(
+                entries,
+                lids,
+                ports,
+                &self.lid_digit,
+                self.higher.has(target),
+            );
         }
     }
 }

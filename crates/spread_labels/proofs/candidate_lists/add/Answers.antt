@@ -12,8 +12,10 @@ target-preserved c =
     record {
       all = length-set lists t list ∙ i.all;
       each = λ k h.
-          added_more c.target.left c.but-left.result c.args.port t lists list (omega (arith, i.all, c.in-Some.ensures.0)) c.in-Some.ensures.1 c.but-left.ensures.others
-          (c.in_ok-push.ensures.items ∙ ap (λ xs. xs ++ c.args.port ∷ []) (sym (list_of lists t c.index-lists-target.result (omega (arith, i.all, c.in-Some.ensures.0)))))
+          added_more c.target.left c.but-left.result c.args.port t lists list (omega (arith, i.all, c.in-Some.ensures.0))
+          c.in-Some.ensures.1 c.but-left.ensures.others
+          (c.in_ok-push.ensures.items ∙ ap (λ xs. xs ++ c.args.port ∷ [])
+          (sym (list_of lists t c.index-lists-target.result (omega (arith, i.all, c.in-Some.ensures.0)))))
           k h
           ∙ i.each k h;
     }

@@ -1,4 +1,4 @@
-use Rattle.std.proofs.Common.{◌≡◌, ◌+◌, ℕ, suc, List, Vec, Global, refl, sym, ap, ◌∙◌, subst, arith, add-one, length, map}
+use Rattle.std.proofs.Common.{◌≡◌, ℕ, List, Vec, Global, sym, ap, ◌∙◌, subst, arith, add-one, length, map}
 use Rattle.std.proofs.lemmas.List.{length-map, with_items_is}
 use Rattle.std.specs.Vec.{with_items}
 use Rattle.spread_labels.specs.declared.target_set.TargetSet.{TargetSet}
@@ -33,7 +33,9 @@ loop-round-preserved c =
     let next = c.in_ok-next.next in
     let rows = map row_items c.loop-round.rows.items in
     let new = map row_items c.after_round.new.rows in
-    let steps = subst (λ (xs : List (Vec TargetSet Global)). AreSetSteps edges marks.marked.items marks.downs.items (map row_items xs) (length edges) next.marked.items next.downs.items new)
+    let steps = subst
+    (λ (xs : List (Vec TargetSet Global)). AreSetSteps edges marks.marked.items marks.downs.items (map row_items xs) (length edges)
+    next.marked.items next.downs.items new)
     c.deref_mut.ensures.value c.in_ok-next.ensures in
     let more = sets_more edges targets n marks.marked.items marks.downs.items rows next.marked.items next.downs.items new c.requires.lead c.requires.few
     c.loop-round.invariant steps in
@@ -47,7 +49,8 @@ returns c = elim c.loop-round-test.branch [
       let targets = c.args.targets.now in
       let marks = c.loop-round.marks in
       let ended : c.loop-round.round ≡ length edges = omega (arith, w.loop-round-test.false, c.loop-round.auto.round-end, c.len-round-end.ensures) in
-      let all = subst (λ (k : ℕ). AreSetsAfter edges targets k marks.marked.items marks.downs.items (map row_items c.loop-round.rows.items)) ended c.loop-round.invariant in
+      let all = subst
+      (λ (k : ℕ). AreSetsAfter edges targets k marks.marked.items marks.downs.items (map row_items c.loop-round.rows.items)) ended c.loop-round.invariant in
       subst (λ (rows : List (Vec TargetSet Global)). AreCandidateSets edges targets (map row_items rows)) (sym (ap (λ v. v.items) w.rows-is))
       (are_candidates edges targets marks.marked.items marks.downs.items (map row_items c.loop-round.rows.items) all)
   | then-loop-round-test+in_ok-next+then-is_last w ↦
@@ -58,11 +61,14 @@ returns c = elim c.loop-round-test.branch [
       let next = w.in_ok-next.next in
       let rows = map row_items c.loop-round.rows.items in
       let new = map row_items w.after_round.new.rows in
-      let steps = subst (λ (xs : List (Vec TargetSet Global)). AreSetSteps edges marks.marked.items marks.downs.items (map row_items xs) (length edges) next.marked.items next.downs.items new)
+      let steps = subst
+      (λ (xs : List (Vec TargetSet Global)). AreSetSteps edges marks.marked.items marks.downs.items (map row_items xs) (length edges)
+      next.marked.items next.downs.items new)
       w.deref_mut.ensures.value w.in_ok-next.ensures in
       let more = sets_more edges targets n marks.marked.items marks.downs.items rows next.marked.items next.downs.items new c.requires.lead c.requires.few
       c.loop-round.invariant steps in
-      let same = subst (λ (k : ℕ). AreSame marks.marked.items next.marked.items k) c.loop-round.invariant.all_marked (w.are_same-is_last.ensures w.if-is_last.true) in
+      let same = subst (λ (k : ℕ). AreSame marks.marked.items next.marked.items k) c.loop-round.invariant.all_marked
+      (w.are_same-is_last.ensures w.if-is_last.true) in
       let all = all_stays edges targets n (length edges) marks.marked.items marks.downs.items next.marked.items next.downs.items rows new c.requires.lead
       (omega (arith, w.loop-round-test.true, c.len-round-end.ensures)) c.requires.few c.loop-round.invariant more same in
       subst (λ (xs : List (Vec TargetSet Global)). AreCandidateSets edges targets (map row_items xs))

@@ -44,7 +44,8 @@ loop-vertex-preserved c =
     sym (i.left v (omega arith)) ∙ get_or-map row_items c.loop-vertex.rows v c.index-rows-vertex.result [] inside
     ∙ sym c.deref_mut.ensures.value in
     let step : IsSetStep v (edges_at edges v) marked downs (sets_at rows v) next.marked next.downs row =
-    subst (λ (x : List Edge × List TargetSet). IsSetStep v x.0 marked downs x.1 next.marked next.downs row) (λ k. (c.at.ensures k, sym at k)) c.set_step-next.ensures in
+    subst (λ (x : List Edge × List TargetSet). IsSetStep v x.0 marked downs x.1 next.marked next.downs row)
+    (λ k. (c.at.ensures k, sym at k)) c.set_step-next.ensures in
     let so = steps_more edges marked downs rows v c.loop-vertex.marked.items c.loop-vertex.downs.items now next.marked next.downs row below i.done step in
     record {
       done = subst (λ (x : List TargetSet × List TargetSet × List (List TargetSet)). AreSetSteps edges marked downs rows (v + 1) x.0 x.1 x.2)

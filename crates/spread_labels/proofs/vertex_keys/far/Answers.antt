@@ -1,5 +1,5 @@
 -- First by first.
-use Rattle.std.proofs.Common.{◌≡◌, ◌<◌, ◌+◌, ℕ, List, refl, sym, ap, ap₂, ◌∙◌, subst, arith, length, replicate, get_or, true}
+use Rattle.std.proofs.Common.{◌≡◌, ◌<◌, ◌+◌, ℕ, refl, sym, ap, ap₂, ◌∙◌, subst, arith, length, replicate, get_or, true}
 use Rattle.std.proofs.lemmas.List.{with_items_is, get_or_default}
 use Rattle.std.specs.Prelude.{Option, None, Some, is_some}
 use Rattle.std.specs.Option.{option_or}

@@ -1,4 +1,4 @@
-use Rattle.std.proofs.Common.{ℕ, ◌<◌, arith, length}
+use Rattle.std.proofs.Common.{arith}
 use Rattle.spread_labels.proofs.PositionSteps.{positions_are}
 use Rattle.spread_labels.proofs.vertex_positions.positions.Goals as goal
 

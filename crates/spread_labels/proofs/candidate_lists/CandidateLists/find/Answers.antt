@@ -11,6 +11,8 @@ pub returns : goal.returns
 returns c =
     let inside = c.self.inside in
     let new = c.find_all.new.lists in
-    let long : length new ≡ inside.lists.len = omega (arith, c.find_all.auto.lists, c.deref_mut.ensures.len, ap length c.deref_mut.ensures.value, inside.lists.ok.0) in
-    subst (λ (lists : List (Vec ℕ Global)). OnOk c.find_all.result (EachTarget (λ k. list_at lists k ≡ map (λ (e : Edge). e.port) (picked k c.args.sets.now c.args.edges.now))))
+    let long : length new ≡ inside.lists.len =
+    omega (arith, c.find_all.auto.lists, c.deref_mut.ensures.len, ap length c.deref_mut.ensures.value, inside.lists.ok.0) in
+    subst (λ (lists : List (Vec ℕ Global)). OnOk c.find_all.result (EachTarget
+    (λ k. list_at lists k ≡ map (λ (e : Edge). e.port) (picked k c.args.sets.now c.args.edges.now))))
     (sym (with_items_is inside.lists new long)) c.find_all.ensures

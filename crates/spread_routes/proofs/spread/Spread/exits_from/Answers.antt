@@ -62,9 +62,11 @@ find-requires-clause-weight c =
     let below : c.index-position.result.now < length inside.edges =
     omega (arith, at, position_there by is.is_graph own c.requires.own, ap length is.by_position) in
     let lid_digit : c.index.result.now ≡ lid_digit_there by c.index-position.result.now =
-    c.index.ensures ∙ sym (get_or_default inside.lid_digits.items c.index-position.result.now no_lid_digit c.index.result.now (omega (arith, below, is.all_lid_digits)))
+    c.index.ensures ∙ sym (get_or_default inside.lid_digits.items c.index-position.result.now no_lid_digit c.index.result.now
+    (omega (arith, below, is.all_lid_digits)))
     ∙ is.lid_digit c.index-position.result.now below in
-    subst (λ (s : LidDigit). 0 < s.digit_weight) (sym lid_digit) (digit_weight_positive (by_index by.graph) by.levels (level_there by c.index-position.result.now))
+    subst (λ (s : LidDigit). 0 < s.digit_weight) (sym lid_digit)
+    (digit_weight_positive (by_index by.graph) by.levels (level_there by c.index-position.result.now))
 
 pub returns : goal.returns
 returns c =
@@ -91,5 +93,6 @@ returns c =
     (c.find.ensures.lid_digit ∙ lid_digit ∙ ap (lid_digit_there by) at)
     (λ k h. ports k h ∙ (λ i. map (λ (e : Edge). e.port) (picked k (sets i) (edges i))))
     (λ k h. ap (λ set. has set k) c.find.ensures.higher ∙ c.higher_targets-higher.ensures k h
-    ∙ (λ i. list_any (λ (e : Edge). nat_lt (sym c.find.ensures.lid_digit i).level (slice_index_or (c.deref.ensures.value i) e.to no_lid_digit).level) (picked k (sets i) (edges i)))))
+    ∙ (λ i. list_any (λ (e : Edge). nat_lt (sym c.find.ensures.lid_digit i).level (slice_index_or (c.deref.ensures.value i) e.to no_lid_digit).level)
+    (picked k (sets i) (edges i)))))
     c.find.ensures.ports

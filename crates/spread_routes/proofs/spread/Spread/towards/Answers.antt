@@ -37,6 +37,7 @@ returns-clause-are c =
     let inside = c.self.inside in
     let is = subst (Is inside.edges inside.positions.items inside.lid_digits.items) c.self.view_is c.self.invariant in
     let value = c.deref.ensures.value in
-    towards_are by is.is_graph inside.edges c.deref.result.now c.args.first (c.args.first + c.min.result) c.in_ok-sets.sets is.by_position (ap length value ∙ is.all_positions)
+    towards_are by is.is_graph inside.edges c.deref.result.now c.args.first (c.args.first + c.min.result) c.in_ok-sets.sets
+    is.by_position (ap length value ∙ is.all_positions)
     (λ i h. ap (λ xs. get_or xs i 0) value ∙ is.position i h) (omega (arith, c.min.ensures))
     (omega (arith, c.requires, c.min.ensures, c.len.ensures, inside.positions.ok.0, is.all_positions)) c.in_ok-sets.ensures

@@ -6,7 +6,8 @@ pub returns-then-past-self-clause-choice : goal.returns-then-past-self-clause-ch
 returns-then-past-self-clause-choice c =
     let turn = c.args.self.now in
     c.requires.turn.choice
-    ∙ ap (λ d. (d + turn.offset) % turn.count) (sym (same_digit turn.start turn.weight c.args.lid c.requires.turn.whole c.if-lid-self.false c.if-past-self.true))
+    ∙ ap (λ d. (d + turn.offset) % turn.count) (sym (same_digit turn.start turn.weight c.args.lid c.requires.turn.whole
+    c.if-lid-self.false c.if-past-self.true))
 
 pub returns-then-past-self-2-clause-turn : goal.returns-then-past-self-2-clause-turn
 returns-then-past-self-2-clause-turn c =
