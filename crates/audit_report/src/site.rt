@@ -266,7 +266,5 @@ fn first_at(sites: &[Site], port: &EndPort) -> usize
 fn position_of(sites: &[Site], port: &EndPort) -> Option<usize>
     ensures { result ≡ position (is_of port.now) sites.now }
 {
-    sites
-        .iter()
-        .position(|site| is_same_end(port, &site.port))
+    sites.iter().position(|site| is_same_end(port, &site.port))
 }
