@@ -1,5 +1,5 @@
 -- A LID more, and all of them.
-use Rattle.std.proofs.Common.{◌≡◌, ◌∙◌, ◌+◌, ◌≤◌, ◌++◌, ℕ, List, ap, arith, length, max, subst, sym}
+use Rattle.std.proofs.Common.{◌≡◌, ◌∙◌, ◌+◌, ◌≤◌, ◌++◌, ℕ, List, ap, arith, length, subst, sym}
 use Rattle.std.specs.Prelude.{Option, drop, take}
 use Rattle.std.proofs.Math.Seq.{take-append_seam}
 use Rattle.port_graph.specs.declared.edge.Edge.{Edge}
