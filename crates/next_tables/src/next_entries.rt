@@ -10,8 +10,8 @@ use std::alloc::{AllocError, Global};
 use subnet_view::EndPort;
 
 /// The next entries of the switches, by what each does by the tables held and by the plan. Takes for each switch some
-/// steps for a walk, by the number of digits of the longest way's length, of a second where the tables held and the plan
-/// differ, and of a third where the plan does not lead on from each switch, or the tables held deliver.
+/// steps for a walk, by the number of digits of the longest way's length, of a second where the tables held and the
+/// plan differ, and of a third where the plan does not lead on from each switch, or the tables held deliver.
 pub(crate) fn next_entries(
     alloc: Global,
     port: &EndPort,

@@ -2,4 +2,4 @@ pub mod Rule
 pub mod LeafSwitches
 pub mod Spread
 pub mod Tables
-pub mod Turns
+pub mod RoundRobins

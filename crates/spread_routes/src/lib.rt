@@ -6,8 +6,8 @@ mod index;
 pub mod laws;
 mod leaves;
 mod lid_digit;
+mod round_robin;
 mod spread;
-mod turn;
 
 pub use exits::Exits;
 pub use leaves::leaf_switches;

@@ -7,9 +7,9 @@ ghost use Rattle.spread_labels.specs.MarkSets.{picked};
 ghost use Rattle.spread_routes.specs.Rule.{by_index};
 ghost use Rattle.spread_routes.specs.Spread.{number_by, lid_digit_at};
 ghost use Rattle.spread_routes.specs.Tables.{no_lid_digit};
-ghost use Rattle.spread_routes.specs.Turns.{IsTurn};
+ghost use Rattle.spread_routes.specs.RoundRobins.{IsTurn};
 
-use crate::turn::Turn;
+use crate::round_robin::RoundRobin;
 use port_graph::{Adjacency, Edge};
 use smp_bytes::Lid;
 use spread_labels::{TargetSet, digit_weights};
@@ -43,7 +43,7 @@ impl LidDigit {
     }
 
     /// The turns of LIDs among so many ports, where one of them leads to a higher switch, or where none does.
-    pub(crate) fn turn(&self, is_higher: bool, count: usize) -> Turn
+    pub(crate) fn turn(&self, is_higher: bool, count: usize) -> RoundRobin
         requires weight { 0 < self.now.digit_weight }
         requires count { 0 < count }
         ensures turn { IsTurn result }
@@ -52,7 +52,7 @@ impl LidDigit {
         ensures weight { result.weight ≡ (if is_higher then self.now.digit_weight else 1) }
     {
         let weight = if is_higher { self.digit_weight } else { 1 };
-        Turn::at(weight, usize::from(self.offset), count, 0)
+        RoundRobin::at(weight, usize::from(self.offset), count, 0)
     }
 }
 

@@ -16,6 +16,7 @@ loop-index-preserved c =
 
 pub returns : goal.returns
 returns c = (
-  λ t. ext_get_or (To 0) c.args.hops.now (hops_of c.args.steps.now) (c.if-hops-steps.false ∙ sym (length-map c.args.steps.now (λ (x : SwitchStep). x.hop))) (λ k less. c.loop-index.invariant k (omega arith)),
+  λ t. ext_get_or (To 0) c.args.hops.now (hops_of c.args.steps.now) (c.if-hops-steps.false ∙ sym (length-map c.args.steps.now (λ (x : SwitchStep). x.hop)))
+      (λ k less. c.loop-index.invariant k (omega arith)),
   λ e. refl,
 )

@@ -1,6 +1,6 @@
 use Rattle.std.proofs.Common.{◌+◌, ◌*◌, ◌/◌, ◌%◌, sym, ap}
 use Rattle.spread_routes.proofs.Counting.{digit_again}
-use Rattle.spread_routes.proofs.turn.Turn.at.Goals as goal
+use Rattle.spread_routes.proofs.round_robin.RoundRobin.at.Goals as goal
 
 pub returns-clause-turn : goal.returns-clause-turn
 returns-clause-turn c =

@@ -1,6 +1,6 @@
 use Rattle.std.proofs.Common.{◌≡◌, ◌+◌, ◌*◌, ◌/◌, ◌%◌, sym, ap, ◌∙◌, arith}
 use Rattle.spread_routes.proofs.Counting.{next_choice, next_digit, next_start, same_digit}
-use Rattle.spread_routes.proofs.turn.Turn.go_to.Goals as goal
+use Rattle.spread_routes.proofs.round_robin.RoundRobin.go_to.Goals as goal
 
 pub returns-then-past-self-clause-choice : goal.returns-then-past-self-clause-choice
 returns-then-past-self-clause-choice c =

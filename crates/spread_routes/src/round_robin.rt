@@ -1,10 +1,10 @@
 //! Whose turn it is among the ports of a switch, as LIDs rise.
 ghost use Rattle.std.specs.Prelude.{◌≡◌, ◌<◌, ◌+◌, ◌/◌, ◌%◌, ◌^◌};
-ghost use Rattle.spread_routes.specs.Turns.{IsTurn, IsOfSame};
+ghost use Rattle.spread_routes.specs.RoundRobins.{IsTurn, IsOfSame};
 
 /// Numbers by a digit of a LID, counted round: the one of a LID near the last is found without a division.
 #[derive(Clone, Copy)]
-pub(crate) struct Turn {
+pub(crate) struct RoundRobin {
     /// What the digit counts.
     weight: usize,
     /// What is added to it.
@@ -17,7 +17,7 @@ pub(crate) struct Turn {
     choice: usize,
 }
 
-impl Turn {
+impl RoundRobin {
     /// That of a LID.
     pub(crate) fn at(weight: usize, offset: usize, count: usize, lid: usize) -> Self
         requires weight { 0 < weight }
@@ -31,7 +31,7 @@ impl Turn {
         ensures choice { result.choice ≡ (lid / weight + offset) % count }
     {
         let digit = lid / weight;
-        Turn {
+        RoundRobin {
             weight,
             offset,
             count,
@@ -49,7 +49,7 @@ impl Turn {
         ensures choice { self.new.choice ≡ (lid / self.old.weight + self.old.offset) % self.old.count }
     {
         if lid < self.start {
-            *self = Turn::at(self.weight, self.offset, self.count, lid);
+            *self = RoundRobin::at(self.weight, self.offset, self.count, lid);
             return;
         }
         let past = lid - self.start;
@@ -60,7 +60,7 @@ impl Turn {
             self.start += self.weight;
             self.choice = next_round(self.choice, self.count);
         } else {
-            *self = Turn::at(self.weight, self.offset, self.count, lid);
+            *self = RoundRobin::at(self.weight, self.offset, self.count, lid);
         }
     }
 
