@@ -1,10 +1,12 @@
-ghost use Rattle.std.specs.Prelude.{◌≡◌, ◌<◌, length, Some, None, true};
+ghost use Rattle.std.specs.Prelude.{◌≡◌, ◌<◌, length, None, true};
 ghost use Rattle.smp_bytes.specs.Packet.{is_directed, fault_of};
-ghost use Rattle.fabric_sim.specs.Outcome.{Outcome, Asks};
+ghost use Rattle.fabric_sim.specs.Outcome.{Asks};
 ghost use Rattle.fabric_sim.specs.declared.packet.Packet.{Packet};
 ghost use Rattle.fabric_sim.specs.declared.delivered.Delivered.TheVariants.{Discarded};
 ghost use Rattle.fabric_sim.specs.Simulation.{port_of, is_cable_port, IsFlightAt};
-ghost use Rattle.fabric_sim.specs.Delivery.{here_at, is_for_manager, leaving, at_agent, arrived, directed_outcome, lid_routed_outcome, outcome_of, CanFare, packet_in, flight_in, IsEnvelopeAt, outcome_by, after_outcome, after_deliver, without};
+ghost use Rattle.fabric_sim.specs.Delivery.{here_at, is_for_manager, leaving, at_agent, arrived, directed_outcome};
+ghost use Rattle.fabric_sim.specs.Delivery.{lid_routed_outcome, outcome_of, packet_in, flight_in, IsEnvelopeAt};
+ghost use Rattle.fabric_sim.specs.Delivery.{outcome_by, CanFare, after_outcome, after_deliver, without};
 
 use crate::action::Action;
 use crate::delivered::{Delivered, Reason};
