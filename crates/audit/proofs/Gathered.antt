@@ -124,7 +124,7 @@ passed held number rows k (suc count) h within other =
     let less : k < length held.blocks = omega arith in
     let e : (k + 1) + count ≡ k + suc count = omega arith in
     let next = other_more held number rows k none h less (λ same. other k (omega arith) (omega arith) (get_or-map number_of held.blocks k none 0 less ∙
-        same)) in
+    same)) in
     subst (AreGathered held number rows) e (passed held number rows (k + 1) count next (omega arith) (λ j low high is. other j (omega arith) (omega arith) is))
 
 -- the rows have the last of the blocks up to the next one of the number

@@ -7,7 +7,7 @@ use Rattle.audit.proofs.chains.chains_of.Goals as goal
 pub loop-index-init : goal.loop-index-init
 loop-index-init c =
     none_chained c.args.numbers.now c.in_ok-firsts.firsts.items c.in_ok-nexts.nexts.items (length c.args.numbers.now) c.in_ok-firsts.ensures
-        c.in_ok-nexts.ensures refl
+    c.in_ok-nexts.ensures refl
 
 pub loop-index-preserved : goal.loop-index-preserved
 loop-index-preserved c =

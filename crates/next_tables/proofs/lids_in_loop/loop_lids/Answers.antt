@@ -31,7 +31,7 @@ loop-below-preserved c =
     let long : was.len ≡ length new = omega (arith, c.note_lid.ensures.as_many, ap length c.deref_mut.ensures.value, was.ok.0) in
     let kept : take was.len (new ++ rest) ≡ new = ap (λ n. take n (new ++ rest)) long ∙ take-append_seam new rest in
     let one = subst (λ (xs : List (Option Edge)). AreNoted xs c.deref-in-loop-below-3.result.now lid cycle c.deref-in-loop-below.result.now
-        c.deref_mut.result.now new)
+    c.deref_mut.result.now new)
     c.deref-in-loop-below-2.ensures.value c.note_lid.ensures in
     let two = subst (λ (xs : List (Option Edge)). AreNoted before xs lid cycle c.deref-in-loop-below.result.now c.deref_mut.result.now new)
     c.deref-in-loop-below-3.ensures.value one in
