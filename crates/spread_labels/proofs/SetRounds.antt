@@ -41,14 +41,17 @@ module _ (edges : List (List Edge)) (marked downs : List TargetSet) (rows : List
     all_rows = length-set now v row ∙ so.all_rows;
     steps = λ s h. elim (cases_eq s v) [
       | inl same ↦ subst (λ (x : ℕ). IsSetStep x (edges_at edges x) marked downs (sets_at rows x) (set_at (ms ++ m ∷ []) x)
-      (set_at (ds ++ d ∷ []) x) (sets_at (slice_set now v row) x))
+          (set_at (ds ++ d ∷ []) x) (sets_at (slice_set now v row) x))
           (sym same) (subst (λ (x : TargetSet × TargetSet × List TargetSet). IsSetStep v (edges_at edges v) marked downs (sets_at rows v) x.0 x.1 x.2)
           (λ i. (sym (last ms v m no_targets so.all_marked) i, sym (last ds v d no_targets so.all_downs) i, sym (get_or-set_same now v row [] within) i)) step)
       | inr other ↦
           let below : s < v = grind arith in
           subst (λ (x : TargetSet × TargetSet × List TargetSet). IsSetStep s (edges_at edges s) marked downs (sets_at rows s) x.0 x.1 x.2)
-          (λ i. (sym (there ms v m no_targets so.all_marked s below) i, sym (there ds v d no_targets so.all_downs s below) i,
-          sym (get_or-set_other now v s row [] other) i))
+          (λ i. (
+            sym (there ms v m no_targets so.all_marked s below) i,
+            sym (there ds v d no_targets so.all_downs s below) i,
+            sym (get_or-set_other now v s row [] other) i,
+          ))
           (so.steps s below)
     ];
   }
@@ -96,9 +99,9 @@ mark_of_givers round s p es = by_list (filter p es) ∙ (λ i. mark_of round (up
     ups [] = refl
     ups (e ∷ es) = elim (p e) as (λ b. leads_up s (cond b (e ∷ filter p es) (filter p es))
         ≡ ((b && nat_lt e.to s) || list_any (λ x. p x && nat_lt x.to s) es)) [
-      | true ↦ ap (λ b. nat_lt e.to s || b) (ups es)
-      | false ↦ ups es
-    ]
+          | true ↦ ap (λ b. nat_lt e.to s || b) (ups es)
+          | false ↦ ups es
+        ]
 
     some : (es : List Edge) → has_some (filter p es) ≡ list_any p es
     some [] = refl
@@ -368,8 +371,10 @@ pub sets_at_first : (edges : List (List Edge)) (targets : List ℕ) (marked down
 sets_at_first edges targets marked downs rows ms ds few are = record {
   all_marked = ms.all;
   all_downs = ds.all;
-  are_rows = record { all = ap length are ∙ length-map edges no_sets;
-  long = λ s h. ap length (row s h) ∙ length-replicate (length (edges_at edges s)) no_targets };
+  are_rows = record {
+    all = ap length are ∙ length-map edges no_sets;
+    long = λ s h. ap length (row s h) ∙ length-replicate (length (edges_at edges s)) no_targets;
+  };
   each = λ k h. record {
     is_marked = λ s l. ms.each k s h l ∙ is_some_if (s == slice_index targets k);
     is_down = λ s l. ds.each k s h l ∙ is_down_if (s == slice_index targets k);

@@ -10,9 +10,9 @@ abbrev pub invariant-loop-edge : goal.invariant-loop-edge
 invariant-loop-edge l =
     record {
       targets : EachTarget (λ k. (has l.targets k ||
-      list_any (λ e. has (giver_set l.vertex l.marks.marked.items l.marks.downs.items e) k) (drop l.edge-index l.edges))
+          list_any (λ e. has (giver_set l.vertex l.marks.marked.items l.marks.downs.items e) k) (drop l.edge-index l.edges))
           ≡ list_any (λ e. has (giver_set l.vertex l.marks.marked.items l.marks.downs.items e) k) l.edges);
       ups : EachTarget (λ k. (has l.ups k ||
-      list_any (λ e. has (giver_set l.vertex l.marks.marked.items l.marks.downs.items e) k && nat_lt e.to l.vertex) (drop l.edge-index l.edges))
+          list_any (λ e. has (giver_set l.vertex l.marks.marked.items l.marks.downs.items e) k && nat_lt e.to l.vertex) (drop l.edge-index l.edges))
           ≡ list_any (λ e. has (giver_set l.vertex l.marks.marked.items l.marks.downs.items e) k && nat_lt e.to l.vertex) l.edges);
     }
