@@ -25,7 +25,7 @@ pub(crate) struct PacketSurvey {
 }
 
 /// Counts the packets that end ports send to the LIDs of their components. Takes what `Network::ends` does for each
-/// LID, a walk over all blocks for each 64, and a step for each two end ports.
+/// LID, what `Network::blocks` does for each 64, and a step for each two end ports.
 pub(crate) fn survey(
     alloc: Global,
     network: &Network,
