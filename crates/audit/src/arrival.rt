@@ -11,8 +11,8 @@ use std::alloc::{AllocError, Global};
 #[tactic(auto, using(crate::proofs::Judged::right_none))]
 /// The first packet, by the order of LIDs and then of end ports, that an end port of the view sends to a LID which
 /// an end port of it holds, and that is not delivered there; None where all are. So a LID that two end ports hold is
-/// a failure, and so are end ports that are not joined. Takes what `Network::ends` does for each LID, and a walk over
-/// all blocks for each 64.
+/// a failure, and so are end ports that are not joined. Takes what `Network::ends` does for each LID, and what
+/// `Network::blocks` does for each 64.
 pub fn first_failure(alloc: Global, network: &Network) -> Result<Option<Failure>, AllocError>
     ensures { IfOk result (λ failure. MatchOption failure
         (AllArrive (cells_of network.now.facts) network.now.held)

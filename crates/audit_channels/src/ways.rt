@@ -29,9 +29,9 @@ pub struct WayFigures {
 }
 
 /// How far packets go between adapter ports, and how evenly they load the channels. Takes what `Network::ends` and
-/// `Network::edges` do for each LID, a walk over all blocks for each 64, for each LID a walk from each switch at which
-/// an adapter lies, and a step for each end port where not all packets for the LID are delivered. Refused for lack of
-/// memory, and where 64 bits are too few.
+/// `Network::edges` do for each LID, what `Network::blocks` does for each 64, for each LID a walk from each switch at
+/// which an adapter lies, and a step for each end port where not all packets for the LID are delivered. Refused for
+/// lack of memory, and where 64 bits are too few.
 pub fn figures_of_ways(alloc: Global, network: &Network) -> Result<WayFigures, AllocError>
     ensures { IfOk result (IsToldOfWays (cells_of network.now.facts) network.now.held) }
 {

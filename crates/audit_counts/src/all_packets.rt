@@ -25,7 +25,7 @@ pub struct PacketSurvey {
 }
 
 /// Counts the packets that end ports send to the LIDs of their components. Takes what `Network::ends` does for each
-/// LID, a walk over all blocks for each 64, and a step for each two end ports.
+/// LID, what `Network::blocks` does for each 64, and a step for each two end ports.
 pub fn survey(alloc: Global, network: &Network, sites: &[Site]) -> Result<PacketSurvey, AllocError>
     requires { sites.now ≡ map (site_of (cells_of network.now.facts)) (end_ports (cells_of network.now.facts)) }
     ensures tally { IfOk result (λ survey.

@@ -40,8 +40,9 @@ impl<'a> Model for Audit<'a> {
 impl<'a> Audit<'a> {
     /// Follows the packets that the end ports of the view send to the LIDs which are held, each from every end port of
     /// the component in which the LID's end port lies, by these tables; counts the wires and the channels that those
-    /// between adapter ports take; and orders channels. Takes what `Network::ends` and `Network::edges` do for each LID
-    /// twice, and a step or two for each two end ports.
+    /// between adapter ports take; and orders channels. Takes what `Network::edges` does for each LID twice,
+    /// what `Network::ends` does once, and twice where not all packets for the LID are delivered at its port, and a
+    /// step or two for each two end ports.
     pub fn of(alloc: Global, store: &'a Store, held: &'a Held) -> Result<Self, Refused>
         ensures facts { IfOk result (λ audit. audit.facts ≡ store.now) }
         ensures held { IfOk result (λ audit. audit.held ≡ held.now) }

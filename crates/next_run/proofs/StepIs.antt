@@ -1,5 +1,5 @@
 -- What was written and said is the step, as it is of the facts, of the tables held, and of the plan.
-use Rattle.std.proofs.Common.{◌≡◌, ◌∙◌, ◌==◌, ◌⊎◌, ◌↔◌, ℕ, Bool, true, List, [], ◌∷◌, Option, None, Some, Result, Ok, Err, IsTrue, length, ap, inl, inr, refl, subst, sym}
+use Rattle.std.proofs.Common.{◌≡◌, ◌∙◌, ◌==◌, ◌⊎◌, ◌↔◌, ℕ, Bool, true, cond, List, [], ◌∷◌, Option, None, Some, Result, Ok, Err, IsTrue, length, ap, inl, inr, refl, subst, sym}
 use Rattle.std.proofs.lemmas.Bool.{eqb-true}
 use Rattle.std.proofs.lemmas.List.{nil_from_length}
 use Rattle.std.specs.Prelude.{OnErr, OnOk}
@@ -13,11 +13,13 @@ use Rattle.lft_blocks.specs.Rules.{RuleValue}
 use Rattle.plan_file.specs.Held.{HeldPlan}
 use Rattle.plan_file.specs.Printed.{held_plan}
 use Rattle.plan_file.specs.TablesText.{next_text}
-use Rattle.next_tables.specs.NextTables.{first_moved, next_tables, step_fault}
+use Rattle.next_tables.specs.declared.fault.StepFault.{StepFault}
+use Rattle.next_tables.specs.declared.fault.StepFault.TheVariants as steps
+use Rattle.next_tables.specs.NextTables.{first_moved, is_memory, next_tables, step_fault}
 use Rattle.sm_cli.proofs.Plans.{has_room}
 use Rattle.next_tables.specs.StepOrder.{NoneShorter, WaitInCycle}
 use Rattle.next_run.specs.LoopText.{loop_text}
-use Rattle.next_run.specs.RunNext.{IsCycleInStep, IsLoopInStep, IsSaid, IsStep, planned, stepped}
+use Rattle.next_run.specs.RunNext.{IsCycleInStep, IsLoopInStep, IsSaid, IsStep, StopsStep, fault_of_step, planned, stepped}
 
 none_moves : (o : Option ℕ) → step_fault o ≡ None → o ≡ None
 none_moves None e = refl
@@ -65,3 +67,19 @@ module _ (lmc : ℕ) (rule : RuleValue) (facts : Facts) (held : HeldPlan) (plan 
     said = subst (λ (f : Facts). says (loop_text (cells_of f) cycle lids)) is_known said;
     judged = judged;
   }
+
+-- why there is none, where a LID moves or memory was refused
+which_moves : (o : Option ℕ) (lid : ℕ) → step_fault o ≡ Some (steps.Moves lid) → o ≡ Some lid
+which_moves None lid e = absurd (cc)
+which_moves (Some x) lid e = cc
+
+pub step_stops : (lmc : ℕ) (rule : RuleValue) (facts : Facts) (held before to : HeldPlan) (at : ℕ) (failed : Bool) (fault : StepFault) → before ≡ held
+    → to ≡ planned lmc rule facts → lid_fault (no_room lmc (cells_of facts)) ≡ None
+    → step_fault (first_moved before to) ≡ cond (is_memory fault) None (Some fault)
+    → StopsStep at lmc rule facts held failed (fault_of_step at fault)
+step_stops lmc rule facts held before to at failed (steps.Moves lid) is_before is_to room judged = (
+  refl,
+  ap (λ h. first_moved h (planned lmc rule facts)) (sym is_before) ∙ ap (first_moved before) (sym is_to)
+      ∙ which_moves (first_moved before to) lid judged,
+)
+step_stops lmc rule facts held before to at failed steps.Memory is_before is_to room judged = has_room lmc facts room
