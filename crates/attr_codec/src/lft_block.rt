@@ -5,7 +5,8 @@ use smp_bytes::{AttributeId, PortNum};
 use std::marker::Model;
 
 /// A block of a linear forwarding table (subnet management, LinearForwardingTable): a port for each of 64 LIDs, where
-/// entry `i` of block `b` is for LID 64 `b` + `i`. Contracts see the list of ports.
+/// entry `i` of block `b` is for LID 64 `b` + `i`. Contracts see the list of ports. Tables, agents and steps hold the
+/// entries as packets carry them, `[u8; 64]`: they go in and out whole.
 #[derive(Clone, Copy, Debug, PartialEq, Eq)]
 pub struct LftBlock {
     ports: [u8; 64],

@@ -21,7 +21,7 @@ pub(crate) enum Owner {
 }
 
 /// More than the greatest LID that an end port can hold.
-const LIDS: usize = 0xC000;
+const LIDS: usize = Lid::UNICAST_END as usize;
 
 /// Who holds each LID. Takes a step for each that is held.
 pub(crate) fn owners(alloc: Global, held: &Held) -> Result<Vec<Owner>, AllocError>

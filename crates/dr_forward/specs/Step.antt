@@ -1,9 +1,10 @@
 -- One step of a packet on a directed route. Its hop pointer says how far it has come: on its way out each node notes
 -- the port by which the packet came, and on its way back it leaves by the ports that were noted. InfiniBand
 -- Architecture Specification, Volume 1: directed route SMPs, outgoing and returning.
-use Rattle.std.specs.Prelude.{ℕ, ◌+◌, ◌-◌, Bool, ◌&&◌, ◌||◌, List, nat_lt, nat_le, ◌==◌, if◌then◌else◌}
+use Rattle.std.specs.Prelude.{ℕ, ◌+◌, ◌-◌, Bool, ◌||◌, List, nat_lt, ◌==◌, if◌then◌else◌}
 use Rattle.smp_bytes.specs.Field.{number_in, with_number}
 use Rattle.smp_bytes.specs.Packet.{hop_pointer, hop_count, initial_path, return_path, is_returning}
+use Rattle.smp_bytes.specs.Ports.{is_within}
 use Rattle.dr_forward.specs.declared.here.Here.{Here}
 use Rattle.dr_forward.specs.declared.verdict.Verdict.{Verdict}
 use Rattle.dr_forward.specs.declared.verdict.Verdict.TheVariants.{Out, ToAgent, ToManager, Discard}
@@ -29,7 +30,7 @@ noted at here packet = with_number (return_path at) here.arrival packet
 
 -- a port from 1 to the node's count
 abbrev pub is_port : Here → ℕ → Bool
-is_port here port = nat_le 1 port && nat_le port here.ports
+is_port here port = is_within port here.ports
 
 -- the packet leaves by the port so changed, where the node has such a port
 abbrev pub leaves_by : Here → ℕ → List ℕ → List ℕ → Stepped

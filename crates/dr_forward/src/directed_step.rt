@@ -113,5 +113,5 @@ fn go_back(smp: &mut Smp, here: &Here, before: u8) -> Verdict
 fn is_port(here: &Here, port: PortNum) -> bool
     ensures { result ≡ is_port here.now port }
 {
-    1 <= port.number() && port.number() <= here.ports
+    port.is_within(here.ports)
 }

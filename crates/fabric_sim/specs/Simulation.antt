@@ -1,6 +1,7 @@
 -- A simulated fabric: the agents of its nodes, the cables between their ports, and the packets on their way.
 use Rattle.std.specs.Prelude.{◌≡◌, ℕ, ◌+◌, ◌^◌, ◌<◌, ◌≤◌, ◌↔◌, ◌&&◌, ◌||◌, not, Bool, true, false, List, [], map, length, All, AllPairs, find, filter, slice_get, slice_index_or, nat_le, ◌==◌, if◌then◌else◌, Option, Some, None, option_map}
 use Rattle.std.specs.Option.{option_map_or}
+use Rattle.smp_bytes.specs.Ports.{is_within}
 use Rattle.fabric_model.specs.declared.cable.NodePort.{NodePort}
 use Rattle.fabric_model.specs.Fabric.{Fabric, is_switch_at}
 use Rattle.attr_codec.specs.declared.port_state.PortState.TheVariants.{Down}
@@ -34,8 +35,7 @@ port_count s id = option_map_or (λ a. a.node.ports) (agent_at s id) 0
 
 -- a port from 1 to its node's count, into which a cable can go
 abbrev pub has_cable_port : List Agent → NodePort → Bool
-has_cable_port agents p =
-    nat_le 1 p.port && nat_le p.port (option_map_or (λ a. a.node.ports) (slice_get agents p.node) 0)
+has_cable_port agents p = is_within p.port (option_map_or (λ a. a.node.ports) (slice_get agents p.node) 0)
 
 abbrev pub is_cable_port : Simulation → NodePort → Bool
 is_cable_port s p = has_cable_port s.agents p

@@ -116,7 +116,7 @@ impl Fabric {
         ensures { result ≡ is_cable_port self.now port.now }
     {
         match self.agent(port.node) {
-            Some(agent) => 1 <= port.port.number() && port.port.number() <= agent.ports(),
+            Some(agent) => port.port.is_within(agent.ports()),
             None => false,
         }
     }
@@ -127,7 +127,7 @@ impl Fabric {
     {
         match self.agent(port.node) {
             Some(agent) => agent.base_lid(port.port),
-            None => Lid::new(0),
+            None => Lid::NONE,
         }
     }
 }

@@ -16,7 +16,7 @@ pub fn block_count(top: Option<Lid>) -> usize
     ensures few { result ≤ 1024 }
 {
     match top {
-        Some(top) => usize::from(top.number()) / 64 + 1,
+        Some(top) => usize::from(top.block()) + 1,
         None => 0,
     }
 }

@@ -11,10 +11,11 @@ use crate::lid_marks::width;
 use crate::room::room;
 use attr_codec::Lmc;
 use fact_store::Store;
+use smp_bytes::Lid;
 use subnet_view::{claim, next_end_port};
 
 /// How many numbers are below the first that is no unicast LID.
-const NUMBERS: usize = 0xC000;
+const NUMBERS: usize = Lid::UNICAST_END as usize;
 
 /// Whether one of the end ports finds no LID. Takes no memory, and walks the cells twice for each end port.
 pub(crate) fn runs_out(store: &Store, lmc: Lmc) -> bool

@@ -56,7 +56,7 @@ impl Agent {
             node,
             ports,
             table,
-            top: Lid::new(0),
+            top: Lid::NONE,
         })
     }
 

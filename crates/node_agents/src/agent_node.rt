@@ -24,9 +24,6 @@ impl AgentNode {
     pub(crate) fn is_switch(&self) -> bool
         ensures { result ≡ is_switch self.now.kind }
     {
-        match self.kind {
-            NodeType::Switch => true,
-            NodeType::ChannelAdapter | NodeType::Router => false,
-        }
+        self.kind.is_switch()
     }
 }

@@ -25,9 +25,9 @@ impl Port {
         ensures { result ≡ port_in state }
     {
         Port {
-            base_lid: Lid::new(0),
+            base_lid: Lid::NONE,
             lmc: Lmc::ZERO,
-            master_sm_lid: Lid::new(0),
+            master_sm_lid: Lid::NONE,
             state,
             is_sm: false,
         }

@@ -9,9 +9,6 @@ use crate::port::Port;
 use attr_codec::{Attribute, Lmc, PortInfo, PortState};
 use smp_bytes::{Lid, PortNum};
 
-/// The first number that is no unicast LID.
-const LID_END: u16 = 0xC000;
-
 /// What a Get tells.
 pub(crate) fn get(agent: &Agent, modifier: u32, arrival: PortNum) -> Option<[u8; 64]>
     ensures { result ≡ get_port_info agent.now modifier arrival }
@@ -119,7 +116,7 @@ fn may_have(base: Lid, lmc: Lmc) -> bool
 {
     let first = u32::from(base.number());
     let count = u32::from(lmc.width());
-    first == 0 || (first % count == 0 && first + count <= u32::from(LID_END))
+    first == 0 || (first % count == 0 && first + count <= u32::from(Lid::UNICAST_END))
 }
 
 /// What a Set makes of a port, or None where it refuses the LIDs or the state.

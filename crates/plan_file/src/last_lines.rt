@@ -11,7 +11,7 @@ use smp_bytes::{Guid, Lid};
 use subnet_view::EndPort;
 
 /// The first number that is no LID of an end port.
-const LID_END: u32 = 0xC000;
+const LID_END: u32 = Lid::UNICAST_END as u32;
 
 /// What the lines before leave for the order of those to come.
 #[derive(Clone, Copy)]

@@ -8,7 +8,7 @@ use smp_bytes::{Guid, Lid, PortNum};
 use text_words::{count, is_word, split_word};
 
 /// The greatest LID of an end port.
-const MAX_LID: u16 = 0xBFFF;
+const MAX_LID: u16 = Lid::UNICAST_END - 1;
 
 /// The number of the last block that has a LID of an end port.
 const MAX_BLOCK: u16 = 767;

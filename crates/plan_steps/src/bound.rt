@@ -3,10 +3,11 @@ ghost use Rattle.fact_store.specs.View.{cells_of};
 ghost use Rattle.plan_steps.specs.Bound.{most_steps};
 
 use fact_store::Store;
+use smp_bytes::Lid;
 use subnet_view::usable_guid;
 
 /// One for each number below the first that is no unicast LID.
-const NUMBERS: usize = 0xC000;
+const NUMBERS: usize = Lid::UNICAST_END as usize;
 
 /// One for each block of these.
 const BLOCKS: usize = NUMBERS / 64;

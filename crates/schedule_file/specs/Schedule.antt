@@ -1,11 +1,12 @@
 -- What a text says: a schedule, or its first fault.
-use Rattle.std.specs.Prelude.{◌≡◌, ◌<◌, ℕ, ◌+◌, ◌&&◌, not, Bool, true, false, All, List, [], ◌∷◌, ◌++◌, Option, None, Some, Result, Ok, Err, length, is_some, nat_le}
+use Rattle.std.specs.Prelude.{◌≡◌, ◌<◌, ℕ, ◌+◌, ◌&&◌, not, Bool, true, false, All, List, [], ◌∷◌, ◌++◌, Option, None, Some, Result, Ok, Err, length, is_some}
 use Rattle.std.specs.Prelude.{option_map, option_and_then, position, slice_get, if◌then◌else◌}
 use Rattle.std.specs.List.{list_any}
 use Rattle.std.specs.Option.{option_map_or}
 use Rattle.std.specs.Str.{bytes_eq}
 use Rattle.fabric_model.specs.Cables.{is_same_port}
 use Rattle.smp_bytes.specs.NodeType.{is_switch}
+use Rattle.smp_bytes.specs.Ports.{is_within}
 use Rattle.fabric_model.specs.declared.cable.NodePort.{NodePort}
 use Rattle.text_words.specs.Text.{lines}
 use Rattle.topo_file.specs.declared.node.Node.{Node}
@@ -46,7 +47,7 @@ is_taken seats p = list_any (λ seat. is_same_port seat.at p) seats
 
 -- a manager may sit at a port that the node has, and that is no switch's
 abbrev pub may_seat : Node → ℕ → Bool
-may_seat node port = not (is_switch node.kind) && nat_le 1 port && nat_le port node.ports
+may_seat node port = not (is_switch node.kind) && is_within port node.ports
 
 -- a manager may sit at the port
 abbrev pub is_seat : List Node → NodePort → Bool

@@ -9,6 +9,7 @@ use crate::manager_name::ManagerName;
 use crate::named::{NamedCommand, PortName};
 use crate::schedule::Seat;
 use fabric_model::NodePort;
+use smp_bytes::PortNum;
 use topo_file::{Node, Topology};
 
 /// A command as it is run: managers by the indices of their seats, from 0, and nodes by theirs.
@@ -92,14 +93,14 @@ fn is_seat(topology: &Topology, port: &NodePort) -> bool
     ensures { result ≡ is_seat topology.now.nodes port.now }
 {
     match topology.node(port.node) {
-        Some(node) => may_seat(node, port.port.number()),
+        Some(node) => may_seat(node, port.port),
         None => false,
     }
 }
 
 /// Whether a manager may sit at a port of the node.
-fn may_seat(node: &Node, port: u8) -> bool
+fn may_seat(node: &Node, port: PortNum) -> bool
     ensures { result ≡ may_seat node.now port }
 {
-    !node.kind.is_switch() && 1 <= port && port <= node.ports
+    !node.kind.is_switch() && port.is_within(node.ports)
 }

@@ -35,7 +35,7 @@ impl Default for Seat {
             name: ManagerName::default(),
             at: NodePort {
                 node: NodeId::new(0),
-                port: PortNum::new(0),
+                port: PortNum::MANAGEMENT,
             },
             priority: Priority::new(0).unwrap(),
         }

@@ -116,7 +116,7 @@ fn write_blocks<W: Sink>(sink: &mut W, agent: &Agent) -> Result<(), RunFault>
     ensures prints { PrintsUnless W.written W.has_failed result sink.old sink.new
         (blocks_text agent.now) }
 {
-    for b in 0..usize::from(agent.top().number()) / 64 + 1 {
+    for b in 0..usize::from(agent.top().block()) + 1 {
         write_block(sink, b, &block(agent, b))?;
     }
     Ok(())

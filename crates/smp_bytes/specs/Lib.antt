@@ -6,6 +6,7 @@ pub mod Laws
 pub mod LidRange
 pub mod NodeType
 pub mod Packet
+pub mod Ports
 pub mod ReadBack
 pub mod Requests
 pub mod SmpFault

@@ -1,4 +1,5 @@
 ghost use Rattle.std.specs.Prelude.{◌≡◌, Some, decimal};
+ghost use Rattle.smp_bytes.specs.Ports.{is_within};
 
 use std::fmt;
 use std::marker::Model;
@@ -31,6 +32,13 @@ impl PortNum {
         ensures { result ≡ self }
     {
         self.0
+    }
+
+    /// Whether it is one from 1 to a count: the ports of a node but for the management port of a switch.
+    pub const fn is_within(self, count: u8) -> bool
+        ensures { result ≡ is_within self count }
+    {
+        1 <= self.0 && self.0 <= count
     }
 }
 

@@ -7,6 +7,7 @@ use Rattle.std.specs.Ordering.{is_lt}
 use Rattle.std.specs.FinMap.{find, is_sorted}
 use Rattle.std.specs.Option.{option_map_or}
 use Rattle.smp_bytes.specs.declared.node_type.NodeType.{NodeType}
+use Rattle.smp_bytes.specs.Ports.{is_within}
 use Rattle.fact_join.specs.declared.cell.Cell.{Cell}
 use Rattle.fact_store.specs.declared.key.Key.{Key}
 use Rattle.fact_store.specs.declared.key.Key.TheVariants.{Node, PortGuid, Link, Port, Claim, Cap}
@@ -17,7 +18,7 @@ use Rattle.fact_store.specs.View.{Facts, cell_for, cells_of}
 use Rattle.fact_store.proofs.Entries.{cells_in_order}
 use Rattle.fact_store.proofs.Orders.{below_at, first_true, second_true, greater_back}
 use Rattle.subnet_view.specs.declared.port_reader.PortReader.{PortReader}
-use Rattle.subnet_view.specs.Reading.{Cells, port_guid_of, cap_of, is_up, is_switch_in, is_switch_node, is_counted, is_port_of}
+use Rattle.subnet_view.specs.Reading.{Cells, port_guid_of, cap_of, is_up, is_switch_in, is_switch_node, is_port_of}
 use Rattle.subnet_view.specs.WireEnds.{count_of, end_read, is_end_read, wire_end, wire_ends, HasNotPassed, PassesNone, ReadsAll}
 use Rattle.subnet_view.specs.Wires.{is_wire_end}
 use Rattle.subnet_view.proofs.Members.{contains_here, contains_later}
@@ -25,7 +26,7 @@ use Rattle.subnet_view.proofs.Walks.{cell_given, given_more, known_by_cell}
 
 -- a port that can have a wire, by what is known of it
 abbrev by_parts : Option (NodeType × ℕ) → Bool → Bool → Bool → ℕ → Bool
-by_parts node up room guid p = up && is_counted p (count_of node) && cond (is_switch_in node) room guid
+by_parts node up room guid p = up && is_within p (count_of node) && cond (is_switch_in node) room guid
 
 said_twice : (a b s room guid at_zero : Bool) → (a && b && cond s room guid) ≡ (a && b && cond s (s && room) (cond s at_zero b && guid))
 said_twice a b true room guid at_zero = refl

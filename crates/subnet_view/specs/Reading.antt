@@ -1,11 +1,12 @@
 -- What facts say of the nodes and ports of a subnet.
-use Rattle.std.specs.Prelude.{◌≡◌, ◌↔◌, ◌<◌, ℕ, Bool, false, List, Contains, Option, None, Some, IsTrue, IsSome, is_some, nat_le, ◌&&◌, if◌then◌else◌}
+use Rattle.std.specs.Prelude.{◌≡◌, ◌↔◌, ◌<◌, ℕ, Bool, false, List, Contains, Option, None, Some, IsTrue, IsSome, is_some, ◌&&◌, if◌then◌else◌}
 use Rattle.std.specs.Option.{option_map_or}
 use Rattle.std.specs.List.{filter_map, AllPairs}
 use Rattle.std.specs.FinMap.{find}
 use Rattle.smp_bytes.specs.declared.node_type.NodeType.{NodeType}
 use Rattle.smp_bytes.specs.declared.node_type.NodeType.TheVariants.{Switch}
 use Rattle.smp_bytes.specs.NodeType.{is_switch}
+use Rattle.smp_bytes.specs.Ports.{is_within}
 use Rattle.fact_join.specs.declared.cell.Cell.{Cell}
 use Rattle.fact_store.specs.declared.key.Key.{Key}
 use Rattle.fact_store.specs.declared.key.Key.TheVariants.{Node, PortGuid, Link, Port, Claim, Cap}
@@ -66,13 +67,9 @@ port_count_of cells g = option_map_or (λ n. n.1) (node_of cells g) 0
 abbrev pub is_usable : Cells → ℕ → Bool
 is_usable cells g = is_switch_node cells g && is_some (cap_of cells g)
 
--- a port from 1 to a count
-abbrev pub is_counted : ℕ → ℕ → Bool
-is_counted p count = nat_le 1 p && nat_le p count
-
 -- a port from 1 to the node's count
 abbrev pub is_port_of : Cells → ℕ → ℕ → Bool
-is_port_of cells g p = is_counted p (port_count_of cells g)
+is_port_of cells g p = is_within p (port_count_of cells g)
 
 -- the node of a cell, where it is a usable switch
 abbrev pub usable_guid : Cells → Key × Cell Value → Option ℕ

@@ -4,6 +4,7 @@ use Rattle.std.specs.Option.{option_map_or}
 use Rattle.std.specs.List.{filter_map}
 use Rattle.std.specs.FinMap.{find}
 use Rattle.smp_bytes.specs.declared.node_type.NodeType.{NodeType}
+use Rattle.smp_bytes.specs.Ports.{is_within}
 use Rattle.fact_join.specs.declared.cell.Cell.{Cell}
 use Rattle.fact_store.specs.declared.key.Key.{Key}
 use Rattle.fact_store.specs.declared.key.Key.TheVariants.{Node, PortGuid, Link, Port, Cap}
@@ -11,7 +12,7 @@ use Rattle.fact_store.specs.declared.value.Value.{Value}
 use Rattle.fact_store.specs.Key.{key_cmp}
 use Rattle.fact_store.specs.Known.{peer_in, value_in}
 use Rattle.subnet_view.specs.declared.port_reader.PortReader.{PortReader}
-use Rattle.subnet_view.specs.Reading.{Cells, node_of, port_guid_of, link_of, cap_of, is_up, is_switch_in, is_counted}
+use Rattle.subnet_view.specs.Reading.{Cells, node_of, port_guid_of, link_of, cap_of, is_up, is_switch_in}
 use Rattle.subnet_view.specs.CellCursor.{KeepsFrom, is_before}
 use Rattle.subnet_view.specs.Wires.{is_at, is_wire_end}
 
@@ -40,7 +41,7 @@ count_of node = option_map_or (λ n. n.1) node 0
 
 -- a port that can have a wire, by what was not passed yet
 abbrev pub is_end_read : PortReader → ℕ → ℕ → Bool
-is_end_read r g p = let node = node_of r.nodes g in is_up r.ports g p && is_counted p (count_of node)
+is_end_read r g p = let node = node_of r.nodes g in is_up r.ports g p && is_within p (count_of node)
     && (if is_switch_in node then is_some (cap_of r.caps g) else is_some (port_guid_of r.guids g p))
 
 -- the same of a cell, with where its link leads

@@ -4,7 +4,7 @@ ghost use Rattle.std.specs.List.Sorted.{IsPermutation, IsSorted};
 ghost use Rattle.fact_store.specs.View.{cell_for, cells_of};
 ghost use Rattle.subnet_view.specs.EndPorts.{is_end_port, is_end_port_number, guid_and_port, port_numbers, port_cmp, in_order, end_ports};
 
-use crate::reading::{guid_said, is_counted, node, port_guid};
+use crate::reading::{guid_said, node, port_guid};
 use fact_store::{Key, Refused, Sighting, Store};
 use smp_bytes::{Guid, NodeType, PortNum};
 use std::alloc::{AllocError, Global};
@@ -122,7 +122,7 @@ fn is_end_port_number(store: &Store, node: Guid, port: PortNum) -> bool
 {
     match self::node(store, node) {
         Some((NodeType::Switch, _)) => port.number() == 0,
-        Some((_, ports)) => is_counted(port, ports),
+        Some((_, ports)) => port.is_within(ports),
         None => false,
     }
 }

@@ -1,10 +1,11 @@
 ghost use Rattle.std.specs.Prelude.{◌≡◌, ◌&&◌, is_some, if◌then◌else◌};
 ghost use Rattle.fact_store.specs.View.{cells_of};
-ghost use Rattle.subnet_view.specs.Reading.{is_counted, is_switch_in};
+ghost use Rattle.smp_bytes.specs.Ports.{is_within};
+ghost use Rattle.subnet_view.specs.Reading.{is_switch_in};
 ghost use Rattle.subnet_view.specs.WireEnds.{count_of, is_end_read, end_read, KeepsPort, PassesNone, ReadsAll};
 
 use crate::cell_cursor::CellCursor;
-use crate::reading::{is_counted, peer_said};
+use crate::reading::peer_said;
 use fact_store::{Key, Sighting, Store};
 use smp_bytes::{Guid, NodeType, PortNum};
 
@@ -66,10 +67,10 @@ impl<'s> PortReader<'s> {
 
 /// Whether the port is one from 1 to the count of what is known of its node.
 fn is_port_of(port: PortNum, node: Option<(NodeType, u8)>) -> bool
-    ensures { result ≡ is_counted port (count_of node) }
+    ensures { result ≡ is_within port (count_of node) }
 {
     match node {
-        Some((_, ports)) => is_counted(port, ports),
+        Some((_, ports)) => port.is_within(ports),
         None => false,
     }
 }

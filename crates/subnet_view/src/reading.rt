@@ -1,7 +1,7 @@
 ghost use Rattle.std.specs.Prelude.{◌≡◌, Some};
 ghost use Rattle.fact_store.specs.Known.{guid_in, kind_in, peer_in, value_in};
 ghost use Rattle.fact_store.specs.View.{cells_of};
-ghost use Rattle.subnet_view.specs.Reading.{node_of, port_count_of, port_guid_of, link_of, claim_of, cap_of, up_of, is_up, is_switch_in, is_switch_node, is_counted};
+ghost use Rattle.subnet_view.specs.Reading.{node_of, port_count_of, port_guid_of, link_of, claim_of, cap_of, up_of, is_up, is_switch_in, is_switch_node};
 
 use crate::end_port::EndPort;
 use fact_store::{Cell, Sighting, Store, Value};
@@ -73,13 +73,6 @@ pub(crate) fn is_switch(store: &Store, node: Guid) -> bool
     ensures { result ≡ is_switch_node (cells_of store.now) node }
 {
     matches!(self::node(store, node), Some((NodeType::Switch, _)))
-}
-
-/// Whether the port is one from 1 to a count.
-pub(crate) fn is_counted(port: PortNum, count: u8) -> bool
-    ensures { result ≡ is_counted port count }
-{
-    1 <= port.number() && port.number() <= count
 }
 
 /// Whether a cell says that its node is a switch.

@@ -2,7 +2,7 @@ ghost use Rattle.std.specs.Prelude.{◌≡◌};
 ghost use Rattle.fact_store.specs.View.{cells_of};
 ghost use Rattle.subnet_view.specs.Wires.{is_wire_end, is_wire, across, attached};
 
-use crate::reading::{cap, is_counted, is_switch, is_up, link, node, port_guid};
+use crate::reading::{cap, is_switch, is_up, link, node, port_guid};
 use fact_store::Store;
 use smp_bytes::{Guid, NodeType, PortNum};
 
@@ -53,7 +53,7 @@ fn is_wire_end(store: &Store, end: (Guid, PortNum)) -> bool
     let (guid, port) = end;
     match node(store, guid) {
         Some((kind, ports)) => {
-            is_counted(port, ports)
+            port.is_within(ports)
                 && is_up(store, guid, port)
                 && match kind {
                     NodeType::Switch => cap(store, guid).is_some(),

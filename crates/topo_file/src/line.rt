@@ -2,7 +2,7 @@ ghost use Rattle.std.specs.Prelude.{◌≡◌, ◌∷◌};
 ghost use Rattle.text_words.specs.Text.{words};
 ghost use Rattle.topo_file.specs.TopologyLine.{line_of, kind_of, node_line, cap_of, link_line};
 
-use smp_bytes::{Guid, NodeType};
+use smp_bytes::{Guid, Lid, NodeType};
 use text_words::{
     NodeName, bracketed_port, count, guid, is_word, named_port, port_number, quoted_name,
     split_word,
@@ -105,7 +105,7 @@ fn given_cap(word: &[u8], line: &[u8]) -> Option<Option<u16>>
         return None;
     }
     if is_word(word, "cap") {
-        count(number, 0xC000)
+        count(number, Lid::UNICAST_END)
     } else {
         None
     }
