@@ -4,6 +4,7 @@ pub mod Chained
 pub mod Ended
 pub mod FabricParts
 pub mod FabricsJudged
+pub mod FarRows
 pub mod Fars
 pub mod Further
 pub mod Gathered

@@ -1,21 +1,19 @@
 -- In each fabric that is seen, packets end as told.
-use Rattle.std.proofs.Common.{◌≡◌, ◌≢◌, ℕ, zero, suc, ◌<◌, ◌≤◌, Bool, true, false, cond, ◌||◌, List, [], ◌∷◌, length, Option, None, Some, refl, sym, ap, ◌∙◌, subst, arith, inl, inr, ◌⊎◌}
+use Rattle.std.proofs.Common.{◌≡◌, ◌≢◌, ℕ, zero, suc, ◌≤◌, Bool, true, false, cond, ◌||◌, List, [], ◌∷◌, Option, None, Some, refl, sym, ap, ◌∙◌, subst, arith, inl, inr, ◌⊎◌}
 use Rattle.std.specs.Prelude.{IsTrue, slice_get, slice_index_or, map, nat_lt, ◌==◌}
-use Rattle.std.specs.Option.{option_map_or}
-use Rattle.std.proofs.lemmas.Bool.{cases_lt, eqb-true, le-ltb, ltb-true, ltb-false}
+use Rattle.std.proofs.lemmas.Bool.{eqb-true, le-ltb}
 use Rattle.std.proofs.lemmas.Option.{same_Some}
-use Rattle.std.proofs.lemmas.List.FromFn.{get_or-map-range_with_len, length-map-range_with_len}
 use Rattle.fabric_model.specs.declared.cable.NodePort.{NodePort}
-use Rattle.fabric_model.specs.declared.course.Course.{Course}
 use Rattle.fabric_model.specs.declared.course.Course.TheVariants.{Delivers, LeavesBy, Drops}
 use Rattle.fabric_model.specs.Cables.{is_same_port}
 use Rattle.smp_bytes.specs.NodeType.{is_switch}
 use Rattle.fabric_model.specs.Fabric.{Node, Fabric, IsFabric, IsNodeAt, is_switch_at, owns}
 use Rattle.fabric_model.specs.FabricWalks.{IsWire, AreNeighbors, Walk, IsJoinedTo, vertex_of}
-use Rattle.fabric_model.specs.Forwarding.{Standing, sent_from, arrived_at, course, adapter_course, entry_course, switch_course, Hop, Goes, IsLost}
+use Rattle.fabric_model.specs.Forwarding.{Standing, sent_from, arrived_at, course, entry_course, Hop, Goes, IsLost}
 use Rattle.fabric_model.proofs.Cabled.{same_port-is, same_port-refl}
 use Rattle.fabric_model.proofs.FabricWalks.{port_at, same_port, EndNumber, type_at, walk_further, vertex_node, switch_vertex, adapter_vertex, adapter_start, switch_number}
 use Rattle.fabric_model.proofs.Forwarded.{packets_end_once}
+use Rattle.fabric_model.proofs.NodeCourses.{adapter_drops, adapter_sends, adapter_takes, switch_enters}
 use Rattle.fact_store.specs.View.{Facts, cells_of}
 use Rattle.subnet_view.specs.declared.end_port.EndPort.{EndPort}
 use Rattle.subnet_view.specs.Reading.{Cells, switches}
@@ -33,9 +31,10 @@ use Rattle.audit.specs.declared.next_hop.NextHop.TheVariants.{To, Ends}
 use Rattle.audit.specs.Fabrics.{IsSeenIn, EndsAs, PacketsEndAsTold, PacketsEndAsToldInParts}
 use Rattle.audit.specs.Network.{index_in, far_at, far_to, far_of, row_of, sender_of}
 use Rattle.audit.specs.NextHops.{IsBrought, at_port, over, cause_of, by_entry, next_hops_of, sent, first_hop}
-use Rattle.audit.specs.Tables.{owners_of, is_owner, entry_for, top_of, entry_of}
+use Rattle.audit.specs.Tables.{owners_of, is_owner, counted, entry_for, top_of}
 use Rattle.audit.specs.WalkEnds.{onward, after, IsEndOf}
 use Rattle.audit.proofs.FabricParts.{InFabric, as_part, seen_whole, vertex_part, switch_end, listed, indexed, wire_told, told_wire}
+use Rattle.audit.proofs.FarRows.{has, lacks, no_far, no_port, row_at}
 
 same_out : (p q : NodePort) → LeavesBy p ≡ LeavesBy q → p ≡ q
 same_out p q e = cc
@@ -93,26 +92,6 @@ module _ (f : Fabric) (lid : ℕ) where
     named = d.named;
   }
 
-  -- what a node does
-  abbrev node_does : Standing → Node → Course
-  node_does st n =
-      cond (is_switch n.kind) (switch_course n.ports st.at.node (f.top st.at.node) lid (f.entry st.at.node lid)) (adapter_course (owns f st.at lid) st)
-
-  course_at : (st : Standing) (node : Node) → IsNodeAt f st.at.node node → course f lid st ≡ node_does st node
-  course_at st node at = ap (λ o. option_map_or (node_does st) o Drops) at
-
-  adapter_is : (st : Standing) (node : Node) → IsNodeAt f st.at.node node → is_switch node.kind ≡ false → course f lid st ≡ adapter_course (owns f st.at lid) st
-  adapter_is st node at kind =
-      course_at st node at
-      ∙ ap (λ t. cond t (switch_course node.ports st.at.node (f.top st.at.node) lid (f.entry st.at.node lid)) (adapter_course (owns f st.at lid) st)) kind
-
-  takes_own : (q : NodePort) (node : Node) → IsNodeAt f q.node node → is_switch node.kind ≡ false → owns f q lid ≡ true → course f lid (arrived_at q)
-      ≡ Delivers q
-  takes_own q node at kind own = adapter_is (arrived_at q) node at kind ∙ ap (λ t. cond t (Delivers q) Drops) own
-
-  drops_other : (q : NodePort) (node : Node) → IsNodeAt f q.node node → is_switch node.kind ≡ false → owns f q lid ≡ false → course f lid (arrived_at q) ≡ Drops
-  drops_other q node at kind other = adapter_is (arrived_at q) node at kind ∙ ap (λ t. cond t (Delivers q) Drops) other
-
 -- a wire leads on within the part
 abbrev pub IsClosed : Part → Fabric → Type 0
 IsClosed part f = (p q : NodePort) → part (vertex_of f p) → IsWire f p q → part (vertex_of f q)
@@ -149,10 +128,6 @@ module _ (part : Part) (facts : Facts) (held : HeldPlan) (f : Fabric) (seen : Is
   Leads st (To j) = Crosses st j
   Leads st (Ends x) = LeadsTo st x
 
-  -- there is no wire, as far as the facts know
-  no_far : (g p : ℕ) → across cells g p ≡ None → far_of cells g p ≡ Nothing
-  no_far g p e = ap (far_to (switches cells)) e
-
   -- at an adapter port
   at_adapter : (st : Standing) (p q : NodePort) (node : Node) → course f lid st ≡ LeavesBy p → f.across p ≡ Some q → InFabric part facts held f seen q node
       → is_switch node.kind ≡ false → (b : Bool) → is_owner owners (record { node = node.guid; port = q.port }) ≡ b
@@ -165,12 +140,12 @@ module _ (part : Part) (facts : Facts) (held : HeldPlan) (f : Fabric) (seen : Is
         end = arrived_at q;
         target = q;
         goes = refl;
-        delivers = takes_own f lid q node here.node_there kind own;
+        delivers = adapter_takes f lid (arrived_at q) node here.node_there kind own;
         named = record { node = node; node_there = here.node_there; guid_is = refl; port_is = refl };
       })
   at_adapter st p q node leaves wire here kind false e =
       let other : owns f q lid ≡ false = seen.holds.lids q node lid here some ∙ e in
-      never_on f lid st p q leaves wire (never_dropped f lid (arrived_at q) (drops_other f lid q node here.node_there kind other))
+      never_on f lid st p q leaves wire (never_dropped f lid (arrived_at q) (adapter_drops f lid q node here.node_there kind other))
 
   -- over a wire to another port
   crossing : (g : ℕ) (cause : Cause) (st : Standing) (p q : NodePort) (node : Node) → course f lid st ≡ LeavesBy p → f.across p ≡ Some q
@@ -212,7 +187,7 @@ module _ (part : Part) (facts : Facts) (held : HeldPlan) (f : Fabric) (seen : Is
 
     -- without a wire the packet is lost
     lost_there : Never f lid st → across cells g p.port ≡ None → Leads st (over owners g cause (far_of cells g p.port))
-    lost_there never e = subst (λ (far : Far). Leads st (over owners g cause far)) (sym (no_far g p.port e)) never
+    lost_there never e = subst (λ (far : Far). Leads st (over owners g cause far)) (sym (no_far cells g p.port e)) never
 
     no_cable : f.across p ≡ None → Leads st (over owners g cause (far_of cells g p.port))
     no_cable none =
@@ -252,70 +227,21 @@ module _ (part : Part) (facts : Facts) (held : HeldPlan) (f : Fabric) (seen : Is
           ] refl)
         ] refl
 
-  -- a switch goes by the entry that counts
-  counts : (t : Bool) (ports k entry : ℕ) → cond t Drops (entry_course ports k entry) ≡ entry_course ports k (cond t 255 entry)
-  counts true ports k entry = refl
-  counts false ports k entry = refl
-
   abbrev entry : Node → ℕ
   entry node = entry_for held lid node.guid
 
   abbrev why : Node → Cause
   why node = cause_of cells held lid node.guid
 
+  -- a switch goes by the entry that counts
   pub switch_goes : (st : Standing) (node : Node) → IsNodeAt f st.at.node node → is_switch node.kind ≡ true → part (port_at st.at.node 0)
       → course f lid st ≡ entry_course node.ports st.at.node (entry node)
   switch_goes st node at kind within =
       let k = st.at.node in
       let here = switch_end part facts held f seen k node at kind within in
-      course_at f lid st node at
-      ∙ ap (λ t. cond t (switch_course node.ports k (f.top k) lid (f.entry k lid)) (adapter_course (owns f st.at lid) st)) kind
-      ∙ ap (λ n. switch_course node.ports k n lid (f.entry k lid)) (seen.holds.tops (port_at k 0) node here kind)
-      ∙ ap (λ n. switch_course node.ports k (top_of held node.guid) lid n) (seen.holds.entries (port_at k 0) node lid here kind)
-      ∙ counts (lid == 0 || nat_lt (top_of held node.guid) lid) node.ports k (entry_of held node.guid lid)
-
-  -- a port that the switch lacks leads nowhere
-  past_row : (row : List Far) (n : ℕ) → length row ≤ n → slice_index_or row n Nothing ≡ Nothing
-  past_row [] n h = refl
-  past_row (x ∷ row) zero h = absurd (omega arith)
-  past_row (x ∷ row) (suc n) h = past_row row n (omega arith)
-
-  pub row_at : (h p : ℕ) → p < 255 → slice_index_or (row_of cells h) p Nothing ≡ far_of cells h p
-  row_at h p less = get_or-map-range_with_len (far_of cells h) 0 255 p p Nothing less (omega arith)
-
-  no_port : (k : ℕ) (node : Node) (p : ℕ) → IsNodeAt f k node → is_switch node.kind ≡ true → part (port_at k 0) → (p ≡ 255) ⊎ (node.ports < p)
-      → slice_index_or (row_of cells node.guid) p Nothing ≡ Nothing
-  no_port k node p at kind within none =
-      elim (cases_lt p 255) [
-        | inr more ↦ past_row (row_of cells node.guid) p (omega (arith, length-map-range_with_len (far_of cells node.guid) 0 255))
-        | inl less ↦ row_at node.guid p less
-            ∙ (elim (across cells node.guid p) as (λ o. across cells node.guid p ≡ o → far_of cells node.guid p ≡ Nothing) [
-              | None ↦ λ e. no_far node.guid p e
-              | Some x ↦ λ e.
-                  let vertex : vertex_of f (port_at k p) ≡ port_at k 0 = switch_vertex f (port_at k p) (type_at f k node at ∙ kind) in
-                  let w = told_wire part facts held f seen (port_at k p) (port_at k 0) node x.0 x.1
-                  (switch_end part facts held f seen k node at kind within) refl (subst part (sym vertex) within) e in
-                  let (other, at_other, low, high) = seen.is_fabric.cabled (port_at k p) w.to w.wire in
-                  let same : other ≡ node = same_Some other node (sym at_other ∙ at) in
-                  let few_enough : p ≤ node.ports = subst (λ (n : Node). p ≤ n.ports) same high in
-                  let few = (seen.is_fabric.counts k node at).1 in
-                  elim none [ inl a ↦ absurd (omega arith) | inr b ↦ absurd (omega arith) ]
-            ] refl)
-      ]
-
-  lacks : (p ports : ℕ) → (p == 255 || nat_lt ports p) ≡ true → (p ≡ 255) ⊎ (ports < p)
-  lacks p ports e =
-      elim (p == 255) as (λ t. (p == 255) ≡ t → (t || nat_lt ports p) ≡ true → (p ≡ 255) ⊎ (ports < p)) [
-        | true ↦ λ q k. inl (eqb-true p 255 q)
-        | false ↦ λ q k. inr (ltb-true ports p k)
-      ] refl e
-
-  pub has : (p ports : ℕ) → (p == 255 || nat_lt ports p) ≡ false → p ≤ ports
-  has p ports e =
-      elim (p == 255) as (λ t. (t || nat_lt ports p) ≡ false → p ≤ ports) [
-        | true ↦ λ k. absurd (cc)
-        | false ↦ λ k. ltb-false ports p k
-      ] e
+      switch_enters f lid st node at kind
+      ∙ ap (λ n. entry_course node.ports k (counted lid n (f.entry k lid))) (seen.holds.tops (port_at k 0) node here kind)
+      ∙ ap (λ n. entry_course node.ports k (counted lid (top_of held node.guid) n)) (seen.holds.entries (port_at k 0) node lid here kind)
 
   -- a switch does as its step says
   switch_leads : (i : ℕ) (st : Standing) (a : At i st) → Leads st (by_entry owners a.node.guid (why a.node) (row_of cells a.node.guid) (entry a.node))
@@ -346,7 +272,7 @@ module _ (part : Part) (facts : Facts) (held : HeldPlan) (f : Fabric) (seen : Is
             → Leads st (over owners node.guid (why node) (slice_index_or (row_of cells node.guid) n Nothing))) [
               | true ↦ λ e.
                   let drops : course f lid st ≡ Drops = goes ∙ ap (λ t. cond t Drops (cond (n == 0) (Delivers (port_at k 0)) (LeavesBy (port_at k n)))) e in
-                  subst (λ (far : Far). Leads st (over owners node.guid (why node) far)) (sym (no_port k node n a.at a.kind a.within (lacks n node.ports e)))
+                  subst (λ (far : Far). Leads st (over owners node.guid (why node) far)) (sym (no_port part facts held f seen k node n a.at a.kind a.within (lacks n node.ports e)))
                   (never_dropped f lid st drops)
               | false ↦ λ e.
                   let within = has n node.ports e in
@@ -355,7 +281,7 @@ module _ (part : Part) (facts : Facts) (held : HeldPlan) (f : Fabric) (seen : Is
                   ∙ ap (λ m. entry_course node.ports m n) same
                   ∙ ap (λ t. cond t Drops (cond (n == 0) (Delivers (port_at k 0)) (LeavesBy (port_at k n)))) e
                   ∙ ap (λ t. cond t (Delivers (port_at k 0)) (LeavesBy (port_at k n))) z in
-                  subst (λ (far : Far). Leads st (over owners node.guid (why node) far)) (sym (row_at node.guid n (omega arith)))
+                  subst (λ (far : Far). Leads st (over owners node.guid (why node) far)) (sym (row_at cells node.guid n (omega arith)))
                   (leaving (why node) st (port_at k n) (port_at k 0) node here refl (subst part (sym (vertex n)) a.within) (leaves st refl a.at)
                   (inl (leaves (arrived_at (port_at k n)) refl a.at)))
             ] refl)
@@ -463,15 +389,15 @@ module _ (part : Part) (facts : Facts) (held : HeldPlan) (f : Fabric) (seen : Is
           end = st;
           target = source;
           goes = refl;
-          delivers = adapter_is f lid st node at kind ∙ ap (λ t. cond t (Delivers source) (LeavesBy source)) own;
+          delivers = adapter_takes f lid st node at kind own;
           named = record { node = node; node_there = at; guid_is = refl; port_is = refl };
         }
     sends kind false e =
         let other : owns f source lid ≡ false = seen.holds.lids source node lid here some ∙ e in
-        let leaves : course f lid st ≡ LeavesBy source = adapter_is f lid st node at kind ∙ ap (λ t. cond t (Delivers source) (LeavesBy source)) other in
+        let leaves : course f lid st ≡ LeavesBy source = adapter_sends f lid source node at kind other in
         as_begun st (over owners node.guid NoLink (far_of cells node.guid source.port))
         (leaving NoLink st source source node here refl (subst part (sym (adapter_vertex f source (type_at f source.node node at ∙ kind))) here.in_part) leaves
-        (inr (drops_other f lid source node at kind other)))
+        (inr (adapter_drops f lid source node at kind other)))
 
     begins : Begins st (first_hop owners (sender_of cells this))
     begins =

@@ -26,7 +26,8 @@ use Rattle.audit.specs.Fabrics.{IsSeenIn}
 use Rattle.audit.specs.Network.{index_in, far_at, far_to, far_of, row_of}
 use Rattle.audit.specs.Tables.{entry_for}
 use Rattle.audit.proofs.FabricParts.{indexed, listed, wire_told, switch_end}
-use Rattle.audit.proofs.Told.{IsClosed, switch_goes, row_at, has, joined_closed}
+use Rattle.audit.proofs.FarRows.{has, row_at}
+use Rattle.audit.proofs.Told.{IsClosed, switch_goes, joined_closed}
 use Rattle.audit_channels.specs.Fabrics.{IsChannel, ChannelsRise}
 use Rattle.audit_channels.specs.Waiting.{RiseOnWays}
 
@@ -136,7 +137,7 @@ module _ (part : Part) (facts : Facts) (held : HeldPlan) (f : Fabric) (seen : Is
       let goes = switch_goes part facts held f seen closed lid some st node at c.from_switch here in
       let by = by_entry (n == 255 || nat_lt node.ports n) (n == 0) k n hop.out (sym goes ∙ on) in
       let few = (seen.is_fabric.counts k node at).1 in
-      let small : n ≤ node.ports = has part facts held f seen closed lid some n node.ports by.there in
+      let small : n ≤ node.ports = has n node.ports by.there in
       let port : hop.out.port ≡ n = ap (λ (q : NodePort). q.port) by.out in
       let leaving : part (vertex_of f hop.out) = subst part (sym its.vertex_is) within in
       let to = known hop.into c.to c.to_there c.to_switch (closed hop.out hop.into leaving c.wire) in
@@ -144,7 +145,7 @@ module _ (part : Part) (facts : Facts) (held : HeldPlan) (f : Fabric) (seen : Is
       wire_told part facts held f seen hop.out hop.into node c.to c.wire.cable c.wire.different c.from_there c.to_there leaving in
       let far : far_of cells g n ≡ Switch to.index =
       ap (far_to (switches cells)) (ap (across cells g) (sym port) ∙ told) ∙ ap (far_at (c.to.guid, hop.into.port)) to.index_is in
-      let within_row : slice_index_or (row_of cells g) n Nothing ≡ Switch to.index = row_at part facts held f seen closed lid some g n (omega arith) ∙ far in
+      let within_row : slice_index_or (row_of cells g) n Nothing ≡ Switch to.index = row_at cells g n (omega arith) ∙ far in
       let nth = (indexed part facts held f seen (port_at k 0) node c.index (switch_end part facts held f seen k node at c.from_switch here) c.index_is).1 in
       record {
         far = to.index;

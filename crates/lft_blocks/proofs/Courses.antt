@@ -5,13 +5,12 @@ use Rattle.std.proofs.lemmas.Option.{same_Some}
 use Rattle.std.specs.Prelude.{Some, nat_lt, unwrap_or, slice_get}
 use Rattle.std.specs.Option.{option_map_or}
 use Rattle.fabric_model.specs.declared.cable.NodePort.{NodePort}
-use Rattle.fabric_model.specs.declared.course.Course.{Course}
 use Rattle.fabric_model.specs.declared.course.Course.TheVariants.{Delivers, LeavesBy, Drops}
-use Rattle.smp_bytes.specs.NodeType.{is_switch as is_switch_type}
-use Rattle.fabric_model.specs.Fabric.{Node, Fabric, is_switch_at, owns}
+use Rattle.fabric_model.specs.Fabric.{Node, Fabric, is_switch_at}
 use Rattle.fabric_model.specs.FabricWalks.{IsJoinedTo}
-use Rattle.fabric_model.specs.Forwarding.{Standing, sent_from, arrived_at, course, adapter_course, entry_course, switch_course, Hop, Goes}
+use Rattle.fabric_model.specs.Forwarding.{Standing, arrived_at, course, entry_course, switch_course, Hop, Goes}
 use Rattle.fabric_model.proofs.FabricWalks.{port_at}
+use Rattle.fabric_model.proofs.NodeCourses.{switch_does}
 use Rattle.subnet_view.specs.declared.end_port.EndPort.{EndPort}
 use Rattle.subnet_view.specs.Reading.{Cells, is_usable}
 use Rattle.lid_assign.specs.Lids.{lids}
@@ -45,38 +44,12 @@ pub record WayTaken (f : Fabric) (origin : NodePort) (lid : ℕ) (start : Standi
 pub guid_there : {f : Fabric} {origin : NodePort} {index g : ℕ} (p : NodePort) → SwitchIn f origin index g → p.node ≡ index → guid_at f p ≡ g
 guid_there {f = f} p s here = ap (λ o. option_map_or (λ (n : Node). n.guid) o 0) (ap (slice_get f.nodes) here ∙ s.at) ∙ s.guid
 
--- what a switch does, by its own top and table
-abbrev switch_goes : Fabric → ℕ → Node → ℕ → Course
-switch_goes f lid node index = switch_course node.ports index (f.top index) lid (f.entry index lid)
-
 module _ (f : Fabric) (lid : ℕ) where
   -- over some wires, and then over others
   pub goes_on : (hops others : List Hop) (start middle end : Standing) → Goes f lid start hops middle → Goes f lid middle others end
       → Goes f lid start (hops ++ others) end
   goes_on [] others start middle end g k = subst (λ (x : Standing). Goes f lid x others end) (sym g) k
   goes_on (h ∷ hops) others start middle end (leaves, wire, rest) k = (leaves, wire, goes_on hops others (arrived_at h.into) middle end rest k)
-
-  at_node : (start : Standing) (node : Node) → slice_get f.nodes start.at.node ≡ Some node
-      → course f lid start ≡ cond (is_switch_type node.kind) (switch_goes f lid node start.at.node) (adapter_course (owns f start.at lid) start)
-  at_node start node at =
-      ap (λ o. option_map_or
-      (λ (n : Node). cond (is_switch_type n.kind) (switch_goes f lid n start.at.node) (adapter_course (owns f start.at lid) start)) o Drops) at
-
-  -- an adapter port takes its own LID
-  pub adapter_takes : (start : Standing) (node : Node) → slice_get f.nodes start.at.node ≡ Some node → is_switch_type node.kind ≡ false
-      → owns f start.at lid ≡ true → course f lid start ≡ Delivers start.at
-  adapter_takes start node at kind own =
-      at_node start node at
-      ∙ ap (λ t. cond t (switch_goes f lid node start.at.node) (adapter_course (owns f start.at lid) start)) kind
-      ∙ ap (λ t. cond t (Delivers start.at) (cond start.by_wire Drops (LeavesBy start.at))) own
-
-  -- and sends any other out
-  pub adapter_sends : (p : NodePort) (node : Node) → slice_get f.nodes p.node ≡ Some node → is_switch_type node.kind ≡ false
-      → owns f p lid ≡ false → course f lid (sent_from p) ≡ LeavesBy p
-  adapter_sends p node at kind other =
-      at_node (sent_from p) node at
-      ∙ ap (λ t. cond t (switch_goes f lid node p.node) (adapter_course (owns f p lid) (sent_from p))) kind
-      ∙ ap (λ t. cond t (Delivers p) (LeavesBy p)) other
 
 module _ {rule : Routing} {lmc : ℕ} {cells : Cells} {f : Fabric} {origin : NodePort} {lid : ℕ} {owner : EndPort} (told : IsTold cells f origin)
     (planned : IsPlanned rule lmc cells f origin lid owner) where
@@ -96,9 +69,8 @@ module _ {rule : Routing} {lmc : ℕ} {cells : Cells} {f : Fabric} {origin : Nod
       or_from (lid == 0) (nat_lt (f.top index) lid) (ne_eqb lid 0 (λ e. omega (arith, e, from_one))) (le-ltb (f.top index) lid low) in (
         s.node,
         s.at,
-        at_node f lid start s.node (ap (slice_get f.nodes) here ∙ s.at)
-            ∙ ap (λ t. cond t (switch_goes f lid s.node start.at.node) (adapter_course (owns f start.at lid) start)) s.is_switch
-            ∙ ap (switch_goes f lid s.node) here
+        switch_does f lid start s.node (ap (slice_get f.nodes) here ∙ s.at) s.is_switch
+            ∙ ap (λ k. switch_course s.node.ports k (f.top k) lid (f.entry k lid)) here
             ∙ ap (λ t. cond t Drops (entry_course s.node.ports index (f.entry index lid))) inside
             ∙ ap (entry_course s.node.ports index) its_entry,
       )

@@ -8,6 +8,7 @@ use Rattle.fabric_model.specs.Fabric.{Fabric, IsEndPort, is_switch_at, owns}
 use Rattle.fabric_model.specs.FabricWalks.{IsJoinedTo}
 use Rattle.fabric_model.specs.Forwarding.{Standing, sent_from, arrived_at, course, Hop, Goes, IsDelivered}
 use Rattle.fabric_model.proofs.FabricWalks.{port_at, same_port, type_at}
+use Rattle.fabric_model.proofs.NodeCourses.{adapter_sends, adapter_takes}
 use Rattle.fact_store.specs.View.{Facts, cells_of}
 use Rattle.subnet_view.specs.declared.end_port.EndPort.{EndPort}
 use Rattle.subnet_view.specs.Reading.{Cells}
@@ -32,7 +33,7 @@ use Rattle.lft_blocks.specs.Arrival.{EveryPacketArrives, PacketsArriveByEachRout
 use Rattle.lft_blocks.proofs.HeldEntries.{entry_of, planned_block}
 use Rattle.lft_blocks.proofs.OwnerPorts.{IsPlanned, OwnerPort, owner_port, owner_there, lid_is_owners, owner_attachment}
 use Rattle.lft_blocks.proofs.Courses.{WayTaken, guid_there, way_taken, goes_on}
-use Rattle.lft_blocks.proofs.Courses.{adapter_takes, adapter_sends, switch_takes, switch_sends, entry_at_attachment}
+use Rattle.lft_blocks.proofs.Courses.{switch_takes, switch_sends, entry_at_attachment}
 use Rattle.lft_blocks.proofs.Routed.{arrival_ports, arrivals, adapter_hops, way_arrivals, way_switch_hops, way_adapter_hops}
 use Rattle.lft_blocks.proofs.Routed.{routed_by_way, routed_past_switches}
 

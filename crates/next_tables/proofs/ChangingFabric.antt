@@ -1,19 +1,16 @@
 -- In a fabric whose switches go over to the next tables meanwhile, packets do as the entries say that they meet.
 use Rattle.std.proofs.Common.{◌≡◌, ℕ, suc, ◌+◌, ◌*◌, ◌<◌, ◌≤◌, Bool, true, false, cond, ◌||◌, List, [], ◌∷◌, length, Option, None, Some, refl, sym, ap, ◌∙◌, subst, arith, inl, inr, ◌⊎◌}
 use Rattle.std.specs.Prelude.{nat_lt, slice_get, slice_index_or, ◌==◌}
-use Rattle.std.specs.Option.{option_map_or}
-use Rattle.std.proofs.lemmas.Bool.{cases_lt, eqb-true, le-ltb, ltb-true, ltb-false}
+use Rattle.std.proofs.lemmas.Bool.{eqb-true, le-ltb}
 use Rattle.std.proofs.lemmas.Option.{same_Some}
-use Rattle.std.proofs.lemmas.List.{get_or_past}
-use Rattle.std.proofs.lemmas.List.FromFn.{get_or-map-range_with_len, length-map-range_with_len}
 use Rattle.fabric_model.specs.declared.cable.NodePort.{NodePort}
-use Rattle.fabric_model.specs.declared.course.Course.{Course}
 use Rattle.fabric_model.specs.declared.course.Course.TheVariants.{Delivers, LeavesBy, Drops}
 use Rattle.smp_bytes.specs.NodeType.{is_switch}
 use Rattle.fabric_model.specs.Fabric.{Node, Fabric, IsNodeAt, owns}
 use Rattle.fabric_model.specs.FabricWalks.{IsJoinedTo, vertex_of}
-use Rattle.fabric_model.specs.Forwarding.{Standing, sent_from, arrived_at, course, adapter_course, entry_course, switch_course, Hop}
+use Rattle.fabric_model.specs.Forwarding.{Standing, sent_from, arrived_at, course, entry_course, Hop}
 use Rattle.fabric_model.proofs.FabricWalks.{port_at, same_port, EndNumber, type_at, switch_vertex, adapter_vertex, switch_number}
+use Rattle.fabric_model.proofs.NodeCourses.{adapter_sends, adapter_takes, switch_enters}
 use Rattle.fact_store.specs.View.{Facts, cells_of}
 use Rattle.subnet_view.specs.declared.end_port.EndPort.{EndPort}
 use Rattle.subnet_view.specs.Reading.{Cells, switches}
@@ -35,6 +32,7 @@ use Rattle.audit.specs.Tables.{owners_of, is_owner, entry_for}
 use Rattle.audit.specs.WalkEnds.{after}
 use Rattle.audit.proofs.Ended.{after_ended}
 use Rattle.audit.proofs.FabricParts.{as_part, vertex_part, switch_end, listed, indexed, wire_told, told_wire}
+use Rattle.audit.proofs.FarRows.{has, lacks, no_far, no_port, row_at}
 use Rattle.audit.proofs.HeldTables.{within_length}
 use Rattle.audit.proofs.Told.{IsClosed, joined_closed}
 use Rattle.next_tables.specs.Next.{step_at, IsNext}
@@ -144,33 +142,10 @@ module _ (part : Part) (facts : Facts) (held : HeldPlan) (f : Fabric) (seen : Is
     node_now : (number : ℕ) (node : Node) → IsNodeAt f number node → IsNodeAt now number node
     node_now number node at_node = ap (λ ns. slice_get ns number) is.still.nodes ∙ at_node
 
-    -- what a node does
-    abbrev node_does : Standing → Node → Course
-    node_does st n =
-        cond (is_switch n.kind) (switch_course n.ports st.at.node (now.top st.at.node) lid (now.entry st.at.node lid)) (adapter_course (owns now st.at lid) st)
-
-    course_now : (st : Standing) (node : Node) → IsNodeAt f st.at.node node → course now lid st ≡ node_does st node
-    course_now st node at_node = ap (λ o. option_map_or (node_does st) o Drops) (node_now st.at.node node at_node)
-
-    counts : (t : Bool) (ports k entry : ℕ) → cond t Drops (entry_course ports k entry) ≡ entry_course ports k (cond t 255 entry)
-    counts true ports k entry = refl
-    counts false ports k entry = refl
-
     -- a switch goes by the entry that counts now
     switch_now : (st : Standing) (node : Node) → IsNodeAt f st.at.node node → is_switch node.kind ≡ true
         → course now lid st ≡ entry_course node.ports st.at.node (entry_now now lid st.at.node)
-    switch_now st node at_node kind =
-        let k = st.at.node in
-        course_now st node at_node
-        ∙ ap (λ t. cond t (switch_course node.ports k (now.top k) lid (now.entry k lid)) (adapter_course (owns now st.at lid) st)) kind
-        ∙ counts (lid == 0 || nat_lt (now.top k) lid) node.ports k (now.entry k lid)
-
-    adapter_now : (st : Standing) (node : Node) → IsNodeAt f st.at.node node → is_switch node.kind ≡ false
-        → course now lid st ≡ adapter_course (owns now st.at lid) st
-    adapter_now st node at_node kind =
-        let k = st.at.node in
-        course_now st node at_node
-        ∙ ap (λ t. cond t (switch_course node.ports k (now.top k) lid (now.entry k lid)) (adapter_course (owns now st.at lid) st)) kind
+    switch_now st node at_node kind = switch_enters now lid st node (node_now st.at.node node at_node) kind
 
     -- an end port holds the LID where the tables held say so
     owned_now : (q : NodePort) (node : Node) → IsEndPortIn part f q node → owns now q lid ≡ is_owner owners (record { node = node.guid; port = q.port })
@@ -179,16 +154,11 @@ module _ (part : Part) (facts : Facts) (held : HeldPlan) (f : Fabric) (seen : Is
     takes_own : (st : Standing) (node : Node) → IsEndPortIn part f st.at node → is_switch node.kind ≡ false
         → is_owner owners (record { node = node.guid; port = st.at.port }) ≡ true → course now lid st ≡ Delivers st.at
     takes_own st node here kind own =
-        adapter_now st node here.node_there kind
-        ∙ ap (λ t. cond t (Delivers st.at) (cond st.by_wire Drops (LeavesBy st.at))) (owned_now st.at node here ∙ own)
+        adapter_takes now lid st node (node_now st.at.node node here.node_there) kind (owned_now st.at node here ∙ own)
 
   -- from a port of a node -------------------------------------------------------------------
 
   module _ (fabrics : ℕ → Fabric) (are : Meanwhile fabrics) where
-    -- there is no wire, as far as the facts know
-    no_far : (g p : ℕ) → across cells g p ≡ None → far_of cells g p ≡ Nothing
-    no_far g p e = ap (far_to (switches cells)) e
-
     -- at an adapter port
     at_adapter : (st : Standing) (p q : NodePort) (node : Node) → course (fabrics 0) lid st ≡ LeavesBy p → f.across p ≡ Some q → IsEndPortIn part f q node
         → is_switch node.kind ≡ false → (b : Bool) → is_owner owners (record { node = node.guid; port = q.port }) ≡ b
@@ -244,7 +214,7 @@ module _ (part : Part) (facts : Facts) (held : HeldPlan) (f : Fabric) (seen : Is
     leaving cause st p v node here at_node within leaves =
         let g = node.guid in
         elim (across cells g p.port) as (λ o. across cells g p.port ≡ o → Carries fabrics st (over owners g cause (far_of cells g p.port))) [
-          | None ↦ λ e. subst (λ (far : Far). Carries fabrics st (over owners g cause far)) (sym (no_far g p.port e)) tt
+          | None ↦ λ e. subst (λ (far : Far). Carries fabrics st (over owners g cause far)) (sym (no_far cells g p.port e)) tt
           | Some x ↦ λ e.
               let w = told_wire part facts held f seen p v node x.0 x.1 here at_node within e in
               let q = w.to in
@@ -258,44 +228,6 @@ module _ (part : Part) (facts : Facts) (held : HeldPlan) (f : Fabric) (seen : Is
         ] refl
 
     -- from a switch ------------------------------------------------------------------------
-
-    row_at : (h p : ℕ) → p < 255 → slice_index_or (row_of cells h) p Nothing ≡ far_of cells h p
-    row_at h p less = get_or-map-range_with_len (far_of cells h) 0 255 p p Nothing less (omega arith)
-
-    -- a port that the switch lacks leads nowhere
-    no_port : (k : ℕ) (node : Node) (p : ℕ) → IsNodeAt f k node → is_switch node.kind ≡ true → part (port_at k 0) → (p ≡ 255) ⊎ (node.ports < p)
-        → slice_index_or (row_of cells node.guid) p Nothing ≡ Nothing
-    no_port k node p at_node kind within none =
-        elim (cases_lt p 255) [
-          | inr past ↦ get_or_past (row_of cells node.guid) p Nothing (omega (arith, length-map-range_with_len (far_of cells node.guid) 0 255))
-          | inl less ↦ row_at node.guid p less
-              ∙ (elim (across cells node.guid p) as (λ o. across cells node.guid p ≡ o → far_of cells node.guid p ≡ Nothing) [
-                | None ↦ λ e. no_far node.guid p e
-                | Some x ↦ λ e.
-                    let vertex : vertex_of f (port_at k p) ≡ port_at k 0 = switch_vertex f (port_at k p) (type_at f k node at_node ∙ kind) in
-                    let w = told_wire part facts held f seen (port_at k p) (port_at k 0) node x.0 x.1
-                    (switch_end part facts held f seen k node at_node kind within) refl (subst part (sym vertex) within) e in
-                    let (other, at_other, low, high) = seen.is_fabric.cabled (port_at k p) w.to w.wire in
-                    let same : other ≡ node = same_Some other node (sym at_other ∙ at_node) in
-                    let few_enough : p ≤ node.ports = subst (λ (n : Node). p ≤ n.ports) same high in
-                    let few = (seen.is_fabric.counts k node at_node).1 in
-                    elim none [ inl a ↦ absurd (omega arith) | inr b ↦ absurd (omega arith) ]
-              ] refl)
-        ]
-
-    lacks : (p ports : ℕ) → (p == 255 || nat_lt ports p) ≡ true → (p ≡ 255) ⊎ (ports < p)
-    lacks p ports e =
-        elim (p == 255) as (λ t. (p == 255) ≡ t → (t || nat_lt ports p) ≡ true → (p ≡ 255) ⊎ (ports < p)) [
-          | true ↦ λ q k. inl (eqb-true p 255 q)
-          | false ↦ λ q k. inr (ltb-true ports p k)
-        ] refl e
-
-    has : (p ports : ℕ) → (p == 255 || nat_lt ports p) ≡ false → p ≤ ports
-    has p ports e =
-        elim (p == 255) as (λ t. (t || nat_lt ports p) ≡ false → p ≤ ports) [
-          | true ↦ λ k. absurd (cc)
-          | false ↦ λ k. ltb-false ports p k
-        ] e
 
     -- a switch does with the packet what its entry says
     by_an_entry : (st : Standing) (node : Node) (n : ℕ) → IsNodeAt f st.at.node node → is_switch node.kind ≡ true → part (port_at st.at.node 0)
@@ -324,13 +256,13 @@ module _ (part : Part) (facts : Facts) (held : HeldPlan) (f : Fabric) (seen : Is
               → Carries fabrics st (over owners node.guid NoEntry (slice_index_or (row_of cells node.guid) n Nothing))) [
                 | true ↦ λ e.
                     subst (λ (far : Far). Carries fabrics st (over owners node.guid NoEntry far))
-                    (sym (no_port k node n at_node kind within (lacks n node.ports e))) tt
+                    (sym (no_port part facts held f seen k node n at_node kind within (lacks n node.ports e))) tt
                 | false ↦ λ e.
                     let in_row = has n node.ports e in
                     let leaves : course (fabrics 0) lid st ≡ LeavesBy (port_at k n) =
                     goes ∙ ap (λ t. cond t Drops (cond (n == 0) (Delivers (port_at k 0)) (LeavesBy (port_at k n)))) e
                     ∙ ap (λ t. cond t (Delivers (port_at k 0)) (LeavesBy (port_at k n))) z in
-                    subst (λ (far : Far). Carries fabrics st (over owners node.guid NoEntry far)) (sym (row_at node.guid n (omega arith)))
+                    subst (λ (far : Far). Carries fabrics st (over owners node.guid NoEntry far)) (sym (row_at cells node.guid n (omega arith)))
                     (leaving NoEntry st (port_at k n) (port_at k 0) node here refl (subst part (sym vertex) within) leaves)
               ] refl)
         ] refl
@@ -382,7 +314,7 @@ module _ (part : Part) (facts : Facts) (held : HeldPlan) (f : Fabric) (seen : Is
       sends kind false e =
           let other : owns (fabrics 0) source lid ≡ false = owned_now (fabrics 0) (are 0) source node here ∙ e in
           let leaves : course (fabrics 0) lid start ≡ LeavesBy source =
-          adapter_now (fabrics 0) (are 0) start node here.node_there kind ∙ ap (λ t. cond t (Delivers source) (LeavesBy source)) other in
+          adapter_sends (fabrics 0) lid source node (node_now (fabrics 0) (are 0) source.node node here.node_there) kind other in
           as_begun start (over owners node.guid NoLink (far_of cells node.guid source.port))
           (leaving NoLink start source source node here refl
           (subst part (sym (adapter_vertex f source (type_at f source.node node here.node_there ∙ kind))) here.in_part) leaves)
