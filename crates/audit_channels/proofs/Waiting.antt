@@ -3,6 +3,7 @@ use Rattle.std.proofs.Common.{◌≡◌, ◌<◌, ◌≤◌, ◌+◌, ◌*◌, �
 use Rattle.std.specs.Prelude.{Contains, Option, None, Some, map, slice_index_or, ◌↔◌}
 use Rattle.std.specs.Option.{SomeIff}
 use Rattle.std.proofs.lemmas.Bool.{cases_lt}
+use Rattle.std.proofs.lemmas.List.{length-replicate}
 use Rattle.std.proofs.lemmas.Option.{same_Some}
 use Rattle.smp_bytes.proofs.Members.{contains_none}
 use Rattle.port_graph.specs.declared.edge.Edge.{Edge}
@@ -35,14 +36,11 @@ pub record SoFar (count : ℕ) (cells : Cells) (held : HeldPlan) (number : ℕ) 
   pub as_many : length waits ≡ 256 * length (switches cells)
   pub follows : (a b : ℕ) → Follows waits a b ↔ TakesBy count cells held a b
 
-blank : (n i : ℕ) → slice_index_or (replicate {A = List ℕ} n []) i [] ≡ []
+-- nothing follows a channel yet
+pub blank : (n i : ℕ) → slice_index_or (replicate {A = List ℕ} n []) i [] ≡ []
 blank zero i = refl
 blank (suc n) zero = refl
 blank (suc n) (suc i) = blank n i
-
-long : (n : ℕ) → length (replicate {A = List ℕ} n []) ≡ n
-long zero = refl
-long (suc n) = ap suc (long n)
 
 pub none_so_far : (cells : Cells) (held : HeldPlan) (number : ℕ) (rows : List (List ℕ)) (n : ℕ) (waits : List (List ℕ)) → AreBlocks held number rows
     → waits ≡ replicate n [] → n ≡ 256 * length (switches cells) → SoFar 0 cells held number rows waits
@@ -50,7 +48,7 @@ none_so_far cells held number rows n waits blocks e all =
     subst (SoFar 0 cells held number rows) (sym e)
     (record {
       blocks = blocks;
-      as_many = long n ∙ all;
+      as_many = length-replicate n [] ∙ all;
       follows = λ a b. (
         λ f. absurd (contains_none b (subst (λ (xs : List ℕ). Contains xs b) (blank n a) f)),
         λ t. (let low = t.low in let most = t.most in

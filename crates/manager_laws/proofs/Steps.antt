@@ -17,7 +17,8 @@ use Rattle.attr_codec.specs.PortInfo as ids
 use Rattle.attr_codec.specs.PortInfo.{base_lid, master_sm_lid, range_in, port_state, number_of_state}
 use Rattle.attr_codec.specs.SwitchInfo.{linear_fdb_top}
 use Rattle.attr_codec.specs.declared.port_state.PortState.{PortState}
-use Rattle.attr_codec.specs.declared.port_state.PortState.TheVariants.{NoChange, Down, Initialize, Armed, Active}
+use Rattle.attr_codec.specs.declared.port_state.PortState.TheVariants.{NoChange, Armed, Active}
+use Rattle.attr_codec.proofs.PortStates.{state_small}
 use Rattle.fact_store.specs.View.{Facts, cells_of}
 use Rattle.subnet_view.specs.declared.end_port.EndPort.{EndPort}
 use Rattle.subnet_view.specs.Reading.{Cells, is_usable, switches}
@@ -154,13 +155,6 @@ blank_there lid master i from below =
     get_or-with_number master_sm_lid master (with_number base_lid lid (replicate 64 0)) i (omega (arith, blank, one)) (inr (omega (arith, from)))
     ∙ get_or-with_number base_lid lid (replicate 64 0) i (omega (arith, blank)) (inr (omega (arith, from)))
     ∙ get_or-replicate 64 i 0 0 below
-
-state_small : (s : PortState) → number_of_state s < 16
-state_small NoChange = omega arith
-state_small Down = omega arith
-state_small Initialize = omega arith
-state_small Armed = omega arith
-state_small Active = omega arith
 
 -- what is spelled is read
 range-port_data : (range : ℕ × ℕ) (master : ℕ) (state : PortState) → range.0 < 2 ^ 16 → range.1 < 8 → range_in (port_data range master state) ≡ range

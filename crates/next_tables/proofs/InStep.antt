@@ -1,7 +1,8 @@
 -- The channels that wait for each other in a step, LID by LID up to the greatest top of both tables.
-use Rattle.std.proofs.Common.{◌≡◌, ◌<◌, ◌≤◌, ◌+◌, ◌*◌, ℕ, zero, suc, List, [], ◌∷◌, length, replicate, refl, sym, ap, ◌∙◌, subst, arith, max, inl, inr, ◌⊎◌}
+use Rattle.std.proofs.Common.{◌≡◌, ◌<◌, ◌≤◌, ◌+◌, ◌*◌, ℕ, List, [], ◌∷◌, length, replicate, sym, ap, ◌∙◌, subst, arith, max, inl, inr, ◌⊎◌}
 use Rattle.std.specs.Prelude.{Contains, Option, None, slice_index_or, ◌↔◌}
 use Rattle.std.proofs.lemmas.Bool.{cases_lt}
+use Rattle.std.proofs.lemmas.List.{length-replicate}
 use Rattle.smp_bytes.proofs.Members.{contains_none}
 use Rattle.port_graph.specs.declared.edge.Edge.{Edge}
 use Rattle.subnet_view.specs.Reading.{Cells, switches}
@@ -9,6 +10,7 @@ use Rattle.plan_file.specs.Held.{HeldPlan}
 use Rattle.audit.specs.Edges.{edges_of, greatest_top}
 use Rattle.audit.specs.NextHops.{AreBlocks}
 use Rattle.audit.proofs.Tops.{none_above}
+use Rattle.audit_channels.proofs.Waiting.{blank}
 use Rattle.audit_channels.specs.Orders.{Follows, GoesOn, IsCycle, IsOrder, IsShortest}
 use Rattle.audit_channels.specs.declared.order.ChannelOrder.{ChannelOrder}
 use Rattle.audit_channels.specs.declared.order.ChannelOrder.TheVariants.{Rises, Cycle}
@@ -30,15 +32,6 @@ pub record SoFar (count : ℕ) (cells : Cells) (held next : HeldPlan) (held_numb
   pub as_many : length waits ≡ 256 * length (switches cells)
   pub follows : (a b : ℕ) → Follows waits a b ↔ WaitsUpTo count cells held next a b
 
-blank : (n i : ℕ) → slice_index_or (replicate {A = List ℕ} n []) i [] ≡ []
-blank zero i = refl
-blank (suc n) zero = refl
-blank (suc n) (suc i) = blank n i
-
-long : (n : ℕ) → length (replicate {A = List ℕ} n []) ≡ n
-long zero = refl
-long (suc n) = ap suc (long n)
-
 moved : (x y z w : List (Option Edge)) (a b : ℕ) → x ≡ z → y ≡ w → TakesInStep x y a b → TakesInStep z w a b
 moved x y z w a b e h t =
     subst (λ (c : List (Option Edge)). TakesInStep z c a b) h (subst (λ (c : List (Option Edge)). TakesInStep c y a b) e t)
@@ -52,7 +45,7 @@ module _ (cells : Cells) (held next : HeldPlan) where
       (record {
         held_blocks = h;
         next_blocks = k;
-        as_many = long n ∙ all;
+        as_many = length-replicate n [] ∙ all;
         follows = λ a b. (
           λ f. absurd (contains_none b (subst (λ (xs : List ℕ). Contains xs b) (blank n a) f)),
           λ t. (let low = t.low in let most = t.most in

@@ -17,6 +17,7 @@ use Rattle.attr_codec.specs.SwitchInfo.{linear_fdb_top}
 use Rattle.attr_codec.specs.PortInfo.{base_lid, lmc, range_in, port_state, number_of_state, state_of_number}
 use Rattle.attr_codec.specs.declared.port_state.PortState.{PortState}
 use Rattle.attr_codec.specs.declared.port_state.PortState.TheVariants.{NoChange, Down, Initialize, Armed, Active}
+use Rattle.attr_codec.proofs.PortStates.{state_small}
 use Rattle.node_agents.specs.declared.port.Port.{Port}
 use Rattle.node_agents.specs.Agent.{Agent, IsAgent, is_switch, port_in, port_at, range_at, with_port}
 use Rattle.node_agents.specs.SwitchInfo.{get_switch_info}
@@ -230,13 +231,6 @@ module _ (port : Port) (arrival : ℕ) where
       get_or-with_number (record { at = 23; len = 1 }) _ (image (port_entries port arrival)) i (omega arith) (inr (omega arith))
       ∙ get_or-with_numbers_behind 29 (port_entries port arrival) (replicate 64 0) i (omega arith) refl (omega arith)
       ∙ get_or-replicate 64 i 0 0 below
-
-  state_small : (s : PortState) → number_of_state s < 16
-  state_small NoChange = omega arith
-  state_small Down = omega arith
-  state_small Initialize = omega arith
-  state_small Armed = omega arith
-  state_small Active = omega arith
 
   -- and the state not before the LMC
   below_lmc : get_or (port_ranged port arrival) 32 0 ≡ get_or (port_marked port arrival) 32 0

@@ -12,15 +12,15 @@ use Rattle.port_graph.proofs.WalkLemmas.{shortest_is, test_from_walk}
 use Rattle.port_graph.proofs.Paths.{bounded_walk, keeps_to, has_least_from}
 
 -- the numbers below n
-abbrev numbers : ℕ → List ℕ
+abbrev pub numbers : ℕ → List ℕ
 numbers zero = []
 numbers (suc n) = n ∷ numbers n
 
-all_numbers : (n : ℕ) → length (numbers n) ≡ n
+pub all_numbers : (n : ℕ) → length (numbers n) ≡ n
 all_numbers zero = refl
 all_numbers (suc n) = ap suc (all_numbers n)
 
-among_numbers : (n k : ℕ) → k < n → Contains (numbers n) k
+pub among_numbers : (n k : ℕ) → k < n → Contains (numbers n) k
 among_numbers zero k h = absurd (omega arith)
 among_numbers (suc n) k h =
     elim (cases_eq n k) [

@@ -1,28 +1,11 @@
 -- Costs are less than the number of vertices: below each cost stand all lesser ones, each at a vertex of its own.
-use Rattle.std.proofs.Common.{◌≡◌, ◌<◌, ℕ, zero, suc, List, [], ◌∷◌, inl, inr, refl, ap, ◌∙◌, subst, arith, Bool, true, false, length}
-use Rattle.std.proofs.lemmas.Bool.{cases_eq, ltb-true, lt-ltb, le-ltb}
-use Rattle.std.specs.Prelude.{Option, None, Some, filter, nat_lt, Contains}
-use Rattle.smp_bytes.proofs.Members.{contains_here, contains_later}
+use Rattle.std.proofs.Common.{◌≡◌, ◌<◌, ℕ, zero, suc, refl, ap, ◌∙◌, arith, Bool, true, false, length}
+use Rattle.std.proofs.lemmas.Bool.{ltb-true, lt-ltb, le-ltb}
+use Rattle.std.specs.Prelude.{Option, None, Some, filter, nat_lt}
 use Rattle.port_graph.proofs.Counts.{filtered_less, filtered_all}
+use Rattle.port_graph.proofs.DistanceLaws.{all_numbers, among_numbers, numbers}
 use Rattle.spread_labels.specs.declared.label.Mark.{Mark}
 use Rattle.spread_labels.specs.Labels.{Marks}
-
--- the numbers below n
-abbrev numbers : ℕ → List ℕ
-numbers zero = []
-numbers (suc n) = n ∷ numbers n
-
-all_numbers : (n : ℕ) → length (numbers n) ≡ n
-all_numbers zero = refl
-all_numbers (suc n) = ap suc (all_numbers n)
-
-among_numbers : (n k : ℕ) → k < n → Contains (numbers n) k
-among_numbers zero k h = absurd (omega arith)
-among_numbers (suc n) k h =
-    elim (cases_eq n k) [
-      | inl same ↦ subst (λ (m : ℕ). Contains (n ∷ numbers n) m) same (contains_here n (numbers n))
-      | inr other ↦ let below : k < n = grind arith in contains_later n k (numbers n) (among_numbers n k below)
-    ]
 
 abbrev is_below : ℕ → Option Mark → Bool
 is_below k None = false
