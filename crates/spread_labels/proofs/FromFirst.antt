@@ -23,7 +23,7 @@ use Rattle.spread_labels.specs.Stages.{earliest_of}
 use Rattle.spread_labels.proofs.Growing.{earliest_there, numbers_below, numbers_there}
 use Rattle.spread_labels.proofs.Nearer.{alike}
 use Rattle.spread_labels.proofs.Numbers.{made_at}
-use Rattle.spread_labels.proofs.RoundSteps.{same_filter}
+use Rattle.spread_labels.proofs.Tests.{same_filter}
 
 -- of some numbers one is the earliest
 some_earliest : (before : ℕ → ℕ → Bool) (xs : List ℕ) (x : ℕ) → Contains xs x → (f : ℕ) × (earliest_of before xs ≡ Some f) × Contains xs f

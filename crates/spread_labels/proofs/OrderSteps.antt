@@ -17,7 +17,7 @@ use Rattle.spread_labels.specs.LabelLaws.{IsSymmetric}
 use Rattle.spread_labels.specs.Orders.{choose, grown_behind, is_beside, next_placed, numbers_from, order, without}
 use Rattle.spread_labels.specs.Stages.{beside, beside_all, earliest_of, first_of, is_stage, next_at, after_add_vertex, stage_at}
 use Rattle.spread_labels.proofs.Growing.{numbers_below}
-use Rattle.spread_labels.proofs.RoundSteps.{same_filter}
+use Rattle.spread_labels.proofs.Tests.{same_filter}
 
 filter_twice : {X : Type 0} (p q : X → Bool) (xs : List X) → filter p (filter q xs) ≡ filter (λ x. q x && p x) xs
 filter_twice p q [] = refl

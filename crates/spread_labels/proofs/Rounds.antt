@@ -119,9 +119,6 @@ module _ (edges : List (List Edge)) (t : ℕ) where
             absurd (omega (arith, b.0))
       ] refl
 
-  pub not_later : (r s : ℕ) (m : Mark) → after r s ≡ Some m → m.cost ≤ r
-  not_later r s m h = (made r s m h).0
-
   -- labelled by the edges that give in its round
   pub born : (n s : ℕ) (m : Mark) (r : ℕ) → after n s ≡ Some m → m.cost ≡ suc r → mark_by (suc r) s (givers edges (after r) s) ≡ Some m
   born n s m r e c =
