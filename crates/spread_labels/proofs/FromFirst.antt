@@ -100,9 +100,6 @@ module _ (edges : List (List Edge)) (lead : LeadToVertices edges) (symmetric : I
         let below : f.0 < length edges = omega (arith, long, numbers_below (length keys) 0 f.0 c.0) in
         (f.0, f.1, below, ap is_some (sym (told a f.0 below)) ∙ c.1)
 
-    first_below : (a : ℕ) → a < length edges → first_at edges keys a < length edges
-    first_below a h = let f = a_first a h in subst (λ (o : Option ℕ). unwrap_or o a < length edges) (sym f.1) f.2
-
     -- the distance from the first of a vertex's component is that from the first of one's own
     pub tells : (a s d : ℕ) → a < length edges → s < length edges → distance edges (first_at edges keys a) s ≡ Some d → from_first keys (distances_from edges s)
         ≡ d
