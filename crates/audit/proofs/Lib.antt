@@ -1,9 +1,9 @@
 pub mod Arrivals
 pub mod Brought
 pub mod Chained
+pub mod Elsewhere
 pub mod Ended
 pub mod FabricParts
-pub mod FabricsJudged
 pub mod FarRows
 pub mod Fars
 pub mod Further
@@ -14,9 +14,8 @@ pub mod InTime
 pub mod Judged
 pub mod Mapped
 pub mod Owned
+pub mod OwnerLines
 pub mod PlanPackets
 pub mod PlanSteps
-pub mod PlansPass
-pub mod SameRanges
 pub mod Told
 pub mod Tops

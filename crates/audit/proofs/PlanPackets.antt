@@ -45,7 +45,7 @@ use Rattle.audit.specs.NextHops.{at_port, over, cause_of, by_entry, next_hops_of
 use Rattle.audit.specs.Tables.{entry_for, is_owner, owners_of}
 use Rattle.audit.specs.WalkEnds.{after, onward}
 use Rattle.audit.proofs.FabricParts.{index_there}
-use Rattle.audit.proofs.FabricsJudged.{owner_line, line_owner}
+use Rattle.audit.proofs.OwnerLines.{owner_line, line_owner}
 use Rattle.plan_file.proofs.OwnedLids.{line_owned}
 use Rattle.audit.proofs.HeldPlans.{made, entry_counts}
 use Rattle.audit.proofs.HeldTables.{get_mapped}

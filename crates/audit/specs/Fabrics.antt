@@ -1,7 +1,7 @@
 -- When a fabric is as the facts say and holds the tables, and what then becomes of packets there. InfiniBand
 -- Architecture Specification, Volume 1: subnet management, PortInfo (LID), SwitchInfo (LinearFDBTop) and
 -- LinearForwardingTable; switches, unicast forwarding by the linear forwarding table.
-use Rattle.std.specs.Prelude.{◌≡◌, ◌≤◌, ℕ, List, Contains, Option, None, Some, IsTrue}
+use Rattle.std.specs.Prelude.{◌≡◌, ◌≤◌, ℕ, List, Option, None, Some, IsTrue}
 use Rattle.fabric_model.specs.declared.cable.NodePort.{NodePort}
 use Rattle.smp_bytes.specs.NodeType.{is_switch}
 use Rattle.fabric_model.specs.Fabric.{Node, Fabric, IsFabric, IsNodeAt, IsEndPort, owns}
@@ -9,17 +9,11 @@ use Rattle.fabric_model.specs.Forwarding.{Hop, IsDelivered, IsLost}
 use Rattle.fact_store.specs.View.{Facts, cells_of}
 use Rattle.subnet_view.specs.Reading.{Cells}
 use Rattle.subnet_view.specs.Agreement.{Part, WholeFabric, IsEndPortIn, IsPortNamed, AgreesOn, Covers}
-use Rattle.fabric_model.specs.FabricWalks.{IsConnected, IsJoinedTo}
-use Rattle.lid_assign.specs.Lids.{IsNoRoom}
-use Rattle.lft_blocks.specs.Rules.{RuleValue}
-use Rattle.lft_blocks.specs.Plan.{plan_of}
-use Rattle.plan_file.specs.Printed.{held_plan}
+use Rattle.fabric_model.specs.FabricWalks.{IsJoinedTo}
 use Rattle.plan_file.specs.Held.{HeldPlan}
 use Rattle.audit.specs.declared.end.End.{End}
-use Rattle.audit.specs.declared.end.Failure.{Failure}
 use Rattle.audit.specs.declared.end.End.TheVariants.{Taken, Lost}
-use Rattle.plan_file.specs.declared.held.HeldLid.{HeldLid}
-use Rattle.audit.specs.NextHops.{IsBrought, AllArrive, IsHeldFailure}
+use Rattle.audit.specs.NextHops.{IsBrought}
 use Rattle.audit.specs.Tables.{owners_of, is_owner, top_of, entry_of}
 
 -- an end port owns a LID where a line says that it holds it; a switch has the top and the entries of its lines, a top
@@ -82,41 +76,3 @@ PacketsEndAsToldInParts = (facts : Facts) (held : HeldPlan) (f : Fabric) (origin
 pub record ArrivesAt (f : Fabric) (source target : NodePort) (lid : ℕ) : Type 0 where
   pub hops : List Hop
   pub delivered : IsDelivered f lid source hops target
-
--- from each end port to each LID of each
-abbrev pub EachArrives : Fabric → Type 0
-EachArrives f = (source target : NodePort) (lid : ℕ) → IsEndPort f source → IsEndPort f target → 1 ≤ lid
-    → IsTrue (owns f target lid)
-    → ArrivesAt f source target lid
-
--- from some end port to a LID of some it is not
-pub record SomeMisses (f : Fabric) : Type 0 where
-  pub source : NodePort
-  pub target : NodePort
-  pub is_source : IsEndPort f source
-  pub is_target : IsEndPort f target
-  pub lid : ℕ
-  pub is_lid : 1 ≤ lid
-  pub owned : IsTrue (owns f target lid)
-  pub misses : ¬ (ArrivesAt f source target lid)
-
--- no line tells of LID 0
-abbrev pub HoldsLids : HeldPlan → Type 0
-HoldsLids held = (line : HeldLid) → Contains held.lids line → 1 ≤ line.lid
-
--- where all packets arrive by the facts and the tables, they do in each such fabric; and where one fails, one misses
-pub record JudgesFabrics (facts : Facts) (held : HeldPlan) (f : Fabric) : Type 0 where
-  pub arrive : AllArrive (cells_of facts) held → EachArrives f
-  pub miss : (failure : Failure) → IsHeldFailure (cells_of facts) held failure → SomeMisses f
-
-abbrev pub FabricsAreJudged : Type 0
-FabricsAreJudged = (facts : Facts) (held : HeldPlan) (f : Fabric) → HoldsLids held → IsSeen (cells_of facts) held f
-    → JudgesFabrics facts held f
-
--- where a connected fabric is as a view with room says, and holds the text of the view's plan by a rule, no packet
--- fails
-abbrev pub PlansPass : Type 0
-PlansPass =
-    (rule : RuleValue) (lmc : ℕ) (facts : Facts) → ¬ (IsNoRoom lmc (cells_of facts)) → (f : Fabric) → IsConnected f
-    → IsSeen (cells_of facts) (held_plan (plan_of rule lmc (cells_of facts))) f
-    → (failure : Failure) → ¬ (IsHeldFailure (cells_of facts) (held_plan (plan_of rule lmc (cells_of facts))) failure)

@@ -1,16 +1,14 @@
 -- What becomes of a packet for a LID at each switch, and at the port that sends it.
-use Rattle.std.specs.Prelude.{◌≡◌, ◌≢◌, ◌↔◌, Bool, false, Contains, ℕ, ◌<◌, ◌%◌, ◌==◌, List, [], Option, None, Some, length, map, nat_lt, slice_get, slice_index_or, slice_set, if◌then◌else◌}
+use Rattle.std.specs.Prelude.{◌≡◌, ◌↔◌, Bool, false, ℕ, ◌<◌, ◌%◌, ◌==◌, List, [], Option, None, Some, length, map, nat_lt, slice_get, slice_index_or, slice_set, if◌then◌else◌}
 use Rattle.std.specs.Option.{option_map_or}
 use Rattle.subnet_view.specs.declared.end_port.EndPort.{EndPort}
 use Rattle.subnet_view.specs.Reading.{Cells, is_usable, port_count_of, switches}
 use Rattle.plan_file.specs.declared.held.HeldBlock.{HeldBlock}
-use Rattle.plan_file.specs.declared.held.HeldLid.{HeldLid}
 use Rattle.plan_file.specs.Held.{HeldPlan}
 use Rattle.subnet_view.specs.EndPorts.{end_ports}
 use Rattle.audit.specs.declared.end.Cause.{Cause}
 use Rattle.audit.specs.declared.end.Cause.TheVariants.{AboveTop, NoEntry, NoPort, NoLink, Foreign}
 use Rattle.audit.specs.declared.end.End.{End}
-use Rattle.audit.specs.declared.end.Failure.{Failure}
 use Rattle.audit.specs.declared.end.End.TheVariants.{Taken, Lost}
 use Rattle.audit.specs.declared.far_end.Far.{Far}
 use Rattle.audit.specs.declared.far_end.Far.TheVariants.{Nothing, Switch, Port}
@@ -138,38 +136,8 @@ with_row rows block = slice_set rows block.switch block.entries
 abbrev pub with_block : List (List ℕ) → Option HeldBlock → List (List ℕ)
 with_block rows block = option_map_or (with_row rows) block rows
 
--- the packets of every end port for a LID come to an end port that holds it
-abbrev pub LineArrives : Cells → HeldPlan → HeldLid → Type 0
-LineArrives cells held line =
-    (e : EndPort) → Contains (end_ports cells) e → IsBrought cells held line.lid e (Some (Taken line.port))
-
 -- a packet ends at the port
 abbrev pub is_at : EndPort → Option End → Bool
 is_at e None = false
 is_at e (Some (Lost g cause)) = false
 is_at e (Some (Taken x)) = is_same_end e x
-
--- those of an end port do not: they end elsewhere, or go round for ever
-pub record IsFailure (cells : Cells) (held : HeldPlan) (failure : Failure) : Type 0 where
-  pub is_source : Contains (end_ports cells) failure.source
-  pub is_end_port : Contains (end_ports cells) failure.line.port
-  pub brought : IsBrought cells held failure.line.lid failure.source failure.end
-  pub elsewhere : failure.end ≢ Some (Taken failure.line.port)
-
--- a failure of the line
-pub record IsFailureOf (cells : Cells) (held : HeldPlan) (line : HeldLid) (failure : Failure) : Type 0 where
-  pub line_is : failure.line ≡ line
-  pub fails : IsFailure cells held failure
-
--- they do, where the view has that end port
-abbrev pub LineIsRight : Cells → HeldPlan → HeldLid → Type 0
-LineIsRight cells held line = Contains (end_ports cells) line.port → LineArrives cells held line
-
--- the packets of every end port for every LID that an end port holds come there
-abbrev pub AllArrive : Cells → HeldPlan → Type 0
-AllArrive cells held = (line : HeldLid) → Contains held.lids line → LineIsRight cells held line
-
--- a failure of a line that is held
-pub record IsHeldFailure (cells : Cells) (held : HeldPlan) (failure : Failure) : Type 0 where
-  pub is_held : Contains held.lids failure.line
-  pub fails : IsFailure cells held failure

@@ -1,4 +1,3 @@
-use plan_file::HeldLid;
 use smp_bytes::Guid;
 use subnet_view::EndPort;
 
@@ -24,15 +23,4 @@ pub enum Cause {
     NoLink,
     /// The packet came over a wire to a port that does not hold the LID.
     Foreign,
-}
-
-/// A packet for a LID that an end port holds, which does not come there.
-#[derive(Clone, Copy, Debug, PartialEq, Eq)]
-pub struct Failure {
-    /// The LID, and an end port that holds it.
-    pub line: HeldLid,
-    /// The end port that sends the packet.
-    pub source: EndPort,
-    /// Where it ends; None is that it goes round for ever.
-    pub end: Option<End>,
 }

@@ -1,5 +1,5 @@
 //! The laws of what tables do.
-ghost use Rattle.audit.specs.Fabrics.{FabricsAreJudged, PacketsEndAsTold, PacketsEndAsToldInParts, PlansPass};
+ghost use Rattle.audit.specs.Fabrics.{PacketsEndAsTold, PacketsEndAsToldInParts};
 ghost use Rattle.audit.specs.NextHops.{EndsAreFound};
 
 /// After as many steps as there are usable switches a packet has ended, or goes round for ever: it has one end, and
@@ -18,16 +18,4 @@ pub fn packets_end_as_told()
 /// tables, whatever the rest of the fabric is.
 pub fn packets_end_as_told_in_parts()
     ensures law { PacketsEndAsToldInParts }
-{}
-
-/// Where `first_failure` answers None, a packet from each end port of each such fabric for the LID of each is delivered
-/// there; and where it answers a failure, there are two end ports of which that is not so.
-pub fn fabrics_are_judged()
-    ensures law { FabricsAreJudged }
-{}
-
-/// Where a connected fabric is as a view with room says, and holds the text of the view's plan, by whichever rule and
-/// under whichever LMC, no packet fails: then `first_failure` answers None.
-pub fn plans_pass()
-    ensures law { PlansPass }
 {}

@@ -1,7 +1,6 @@
 //! Where packets come to by the forwarding tables that a subnet's switches hold, whoever wrote them.
 #![tactic(auto)]
 
-mod arrival;
 mod audited_switch;
 mod blocks;
 mod chains;
@@ -18,8 +17,7 @@ mod owners;
 mod switch_step;
 pub mod walk_ends;
 
-pub use arrival::first_failure;
-pub use end::{Cause, End, Failure};
+pub use end::{Cause, End};
 pub use ends::{Ends, is_at, is_same_end};
 pub use far_end::Far;
 pub use network::{Blocks, Network};
@@ -28,5 +26,3 @@ pub use senders::Sender;
 pub use switch_step::SwitchStep;
 
 mod senders;
-#[cfg(test)]
-mod tests;

@@ -7,7 +7,7 @@ ghost use Rattle.audit.specs.Edges.{edges_of, greatest_top};
 ghost use Rattle.audit.specs.Network.{far_by, sender_of};
 ghost use Rattle.audit.specs.NextHops.{AreBlocks, AreBrought, entry_by, switch_step};
 ghost use Rattle.audit.specs.Ends.{is_sole};
-ghost use Rattle.audit.specs.Tables.{is_owner, owners_of, top_of};
+ghost use Rattle.audit.specs.Tables.{owners_of, top_of};
 
 use crate::audited_switch::{AuditedSwitch, greatest_top, nodes};
 use crate::blocks::{block_chains, blocks};
@@ -26,7 +26,7 @@ use port_graph::Edge;
 use smp_bytes::{Guid, Lid};
 use std::alloc::{AllocError, Global};
 use std::marker::Model;
-use subnet_view::{EndPort, Wires, end_ports, is_end_port, is_usable, switches};
+use subnet_view::{EndPort, Wires, end_ports, is_usable, switches};
 
 /// What a view says of a subnet, with the forwarding tables that its switches hold.
 #[derive(Drop)]
@@ -265,20 +265,5 @@ impl<'a> Network<'a> {
             return None;
         }
         Some(entry_for(self.held, node, lid))
-    }
-
-    /// The end port at an index, in their order. Takes one step.
-    pub(crate) fn end_port(&self, index: usize) -> EndPort
-        requires { index < length (end_ports (cells_of self.now.facts)) }
-        ensures { slice_get (end_ports (cells_of self.now.facts)) index ≡ Some result }
-    {
-        self.sources[index].port
-    }
-
-    /// Whether the port is an end port of the view. Takes two searches.
-    pub fn has_end_port(&self, port: &EndPort) -> bool
-        ensures { result ≡ is_owner (end_ports (cells_of self.now.facts)) port.now }
-    {
-        is_end_port(self.store, port.node, port.port)
     }
 }

@@ -32,12 +32,16 @@ use Rattle.subnet_view.proofs.PartWires.{IsTold, known_type, switch_at_index, sw
 use Rattle.subnet_view.proofs.GraphSwitches.{usable_switch}
 use Rattle.lft_blocks.specs.Entries.{attachment_of}
 use Rattle.audit.specs.declared.end.End.TheVariants.{Taken}
-use Rattle.audit.specs.Fabrics.{IsSeenIn}
-use Rattle.audit.proofs.FabricsJudged.{owner_line}
+use Rattle.audit.specs.Fabrics.{EndsAs, IsSeenIn}
+use Rattle.audit.specs.NextHops.{IsBrought, is_at}
+use Rattle.audit.proofs.Elsewhere.{not_there}
 use Rattle.audit.proofs.Judged.{same_itself}
+use Rattle.audit.proofs.OwnerLines.{owner_line}
 use Rattle.audit.proofs.Told.{IsClosed, joined_closed, packets_end_as_told_in_parts}
 use Rattle.audit.specs.Tables.{is_same_end}
-use Rattle.audit_report.specs.Laws.{PassingAuditsDeliver}
+use Rattle.audit_report.specs.Laws.{MissedPacketsMiss, PassingAuditsDeliver}
+use Rattle.audit_report.proofs.Judged.{brought}
+use Rattle.audit_counts.specs.Packets.{arrives}
 use Rattle.audit_counts.specs.Sites.{in_one_component, is_one_root, leads_to, root_at}
 
 -- what is delivered stays within what is joined -----------------------------------------------
@@ -251,12 +255,12 @@ passing_audits_deliver facts held f origin is_end seen passes source target a b 
     let owner : l.line.port ≡ x = l.port_is in
     let joined : in_one_component cells e x ≡ true =
     of_meeting told source target a b from into (joined_meet told is_end source target from.in_part into.in_part) in
-    let brought = passes.sound.arrive l.line l.is_held e
+    let comes = passes.sound.arrive l.line l.is_held e
     (subst (λ (y : EndPort). Contains (end_ports cells) y) (sym owner) (listed part facts held f seen target b into))
     (listed part facts held f seen source a from) (subst (λ (y : EndPort). in_one_component cells e y ≡ true) (sym owner) joined) in
     let some_there : 1 ≤ l.line.lid = subst (λ (n : ℕ). 1 ≤ n) (sym l.lid_is) some in
     let (hops, found, its, delivered) =
-    packets_end_as_told_in_parts facts held f origin is_end seen source a l.line.lid (Some (Taken l.line.port)) from some_there brought in
+    packets_end_as_told_in_parts facts held f origin is_end seen source a l.line.lid (Some (Taken l.line.port)) from some_there comes in
     let start : vertex_of f source ≡ source = end_vertex f source from.end_port in
     let within = goes_within part f seen.is_fabric closed l.line.lid hops (sent_from source) delivered.0 found
     (subst part (sym start) from.in_part, subst (IsEndPort f) (sym start) from.end_port) delivered.1 delivered.2 in
@@ -270,3 +274,14 @@ passing_audits_deliver facts held f origin is_end seen passes source target a b 
       hops = hops;
       delivered = subst (λ (n : ℕ). IsDelivered f n source hops target) l.lid_is (subst (IsDelivered f l.line.lid source hops) is delivered);
     }
+
+pub missed_packets_miss : MissedPacketsMiss
+missed_packets_miss facts held f origin is_end seen packet sent misses some source target from here source_is named a =
+    let lid = packet.line.lid in
+    let comes : IsBrought (cells_of facts) held lid (name source from) packet.end =
+    subst (λ (e : EndPort). IsBrought (cells_of facts) held lid e packet.end) source_is (brought (cells_of facts) held packet sent) in
+    let ends : EndsAs f lid source packet.end =
+    packets_end_as_told_in_parts facts held f origin is_end seen source from lid packet.end here some comes in
+    let apart : packet.end ≢ Some (Taken packet.line.port) =
+    λ e. (let yes : arrives packet ≡ true = ap (is_at packet.line.port) e ∙ same_itself packet.line.port in cc) in
+    not_there f source target lid packet.line.port packet.end named ends apart a.hops a.delivered

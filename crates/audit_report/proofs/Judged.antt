@@ -96,6 +96,12 @@ module _ (cells : Cells) (held : HeldPlan) where
   from_packets : (p : SentPacket) → Contains (packets_of cells held) p → IsSent p
   from_packets p h = let i = from_lists (packets_for cells held) held.lids p h in of_line i.0 p i.1 i.2
 
+  -- a packet comes to where it ends
+  pub brought : (p : SentPacket) → Contains (packets_of cells held) p → IsBrought cells held p.line.lid p.source p.end
+  brought p h =
+      let i = from_packets p h in
+      subst (λ (x : SentPacket). IsBrought cells held x.line.lid x.source x.end) (sym i.is) (end_is cells held i.line.lid i.source)
+
   -- all arrive exactly where as many arrive as there are
   arrive_all : count_by arrives (packets_of cells held) ≡ length (packets_of cells held) → EachArrives cells held
   arrive_all h line is_held e there is_end joined =

@@ -1,17 +1,19 @@
 -- The laws of audits.
-use Rattle.std.specs.Prelude.{◌≤◌, ℕ, IsTrue}
+use Rattle.std.specs.Prelude.{◌≡◌, ◌≤◌, ℕ, false, Contains, IsTrue}
 use Rattle.fabric_model.specs.declared.cable.NodePort.{NodePort}
 use Rattle.fabric_model.specs.Fabric.{Node, Fabric, IsEndPort, owns}
 use Rattle.fabric_model.specs.FabricWalks.{IsJoinedTo}
 use Rattle.fact_store.specs.Sighting.{AreInRange}
 use Rattle.fact_store.specs.View.{Facts, cells_of}
-use Rattle.subnet_view.specs.Agreement.{Part, IsEndPortIn}
+use Rattle.subnet_view.specs.Agreement.{Part, IsEndPortIn, IsPortNamed}
 use Rattle.lid_assign.specs.Lids.{IsNoRoom}
 use Rattle.lft_blocks.specs.Rules.{RuleValue}
 use Rattle.lft_blocks.specs.Plan.{plan_of}
 use Rattle.plan_file.specs.Held.{HeldPlan}
 use Rattle.plan_file.specs.Printed.{held_plan}
 use Rattle.audit.specs.Fabrics.{ArrivesAt, IsSeenIn}
+use Rattle.audit_counts.specs.declared.sent_packet.SentPacket.{SentPacket}
+use Rattle.audit_counts.specs.Packets.{arrives, packets_of}
 use Rattle.audit_report.specs.Passing.{Passes}
 
 -- the tables that the text of a view's plan tells pass by that view, by each rule and under each LMC, where its facts
@@ -34,3 +36,16 @@ PassingAuditsDeliver =
     (facts : Facts) (held : HeldPlan) (f : Fabric) (origin : NodePort) → IsEndPort f origin
     → IsSeenIn (IsJoinedTo f origin) (cells_of facts) held f
     → Passes (cells_of facts) held → EachArrivesIn (IsJoinedTo f origin) f
+
+-- and where a packet that is counted does not arrive by them, it is not delivered there in such a fabric: it is lost, or
+-- comes to another port
+abbrev pub MissedPacketsMiss : Type 0
+MissedPacketsMiss =
+    (facts : Facts) (held : HeldPlan) (f : Fabric) (origin : NodePort) → IsEndPort f origin
+    → IsSeenIn (IsJoinedTo f origin) (cells_of facts) held f
+    → (packet : SentPacket) → Contains (packets_of (cells_of facts) held) packet → arrives packet ≡ false
+    → 1 ≤ packet.line.lid
+    → (source target : NodePort) (from : Node) → IsEndPortIn (IsJoinedTo f origin) f source from
+    → packet.source ≡ record { node = from.guid; port = source.port }
+    → IsPortNamed f packet.line.port.node packet.line.port.port target
+    → ¬ (ArrivesAt f source target packet.line.lid)

@@ -15,6 +15,3 @@ pub use fault::StepFault;
 pub use lids_in_loop::loop_lids;
 pub use order::step_order;
 pub use step::next_tables;
-
-#[cfg(test)]
-mod tests;
