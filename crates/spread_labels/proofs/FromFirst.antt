@@ -23,7 +23,7 @@ use Rattle.spread_labels.specs.Stages.{earliest_of}
 use Rattle.spread_labels.proofs.Growing.{earliest_there, numbers_below, numbers_there}
 use Rattle.spread_labels.proofs.Nearer.{alike}
 use Rattle.spread_labels.proofs.Numbers.{made_at}
-use Rattle.spread_labels.proofs.RoundSteps.{same_filter}
+use Rattle.spread_labels.proofs.Tests.{same_filter}
 
 -- of some numbers one is the earliest
 some_earliest : (before : ℕ → ℕ → Bool) (xs : List ℕ) (x : ℕ) → Contains xs x → (f : ℕ) × (earliest_of before xs ≡ Some f) × Contains xs f
@@ -99,9 +99,6 @@ module _ (edges : List (List Edge)) (lead : LeadToVertices edges) (symmetric : I
         let c = contains-from_filter (has_distance a) all f.0 f.2 in
         let below : f.0 < length edges = omega (arith, long, numbers_below (length keys) 0 f.0 c.0) in
         (f.0, f.1, below, ap is_some (sym (told a f.0 below)) ∙ c.1)
-
-    first_below : (a : ℕ) → a < length edges → first_at edges keys a < length edges
-    first_below a h = let f = a_first a h in subst (λ (o : Option ℕ). unwrap_or o a < length edges) (sym f.1) f.2
 
     -- the distance from the first of a vertex's component is that from the first of one's own
     pub tells : (a s d : ℕ) → a < length edges → s < length edges → distance edges (first_at edges keys a) s ≡ Some d → from_first keys (distances_from edges s)

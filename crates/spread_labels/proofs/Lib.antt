@@ -2,10 +2,8 @@ pub mod Bounds
 pub mod Marking
 pub mod Rounds
 pub mod DistanceSums
-pub mod RoundSteps
-pub mod Giving
+pub mod Tests
 pub mod Nearer
-pub mod Listed
 pub mod Unique
 pub mod Reach
 pub mod Steps

@@ -14,7 +14,7 @@ use Rattle.spread_labels.specs.LabelLaws.{Gives}
 use Rattle.spread_labels.specs.RoundMarks.{AreMarksAfter}
 use Rattle.spread_labels.specs.Candidates.{CandidatesAreNearer, is_nearer, is_nearer_by}
 use Rattle.spread_labels.proofs.Rounds.{gave, gave_all, given_known, known_gives}
-use Rattle.spread_labels.proofs.RoundSteps.{same_filter}
+use Rattle.spread_labels.proofs.Tests.{same_filter}
 
 -- tests that pass alike are one
 pub alike : (a b : Bool) → (a ≡ true → b ≡ true) → (b ≡ true → a ≡ true) → a ≡ b

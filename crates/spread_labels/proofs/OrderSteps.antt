@@ -1,6 +1,6 @@
 -- Vertex by vertex, as the code grows the order.
 use Rattle.std.proofs.Common.{◌≡◌, ◌<◌, ◌&&◌, ◌||◌, ◌==◌, not, ℕ, zero, suc, List, [], ◌∷◌, ◌++◌}
-use Rattle.std.proofs.Common.{refl, sym, ap, ◌∙◌, subst, arith, inl, inr, true, false, Bool, cond, length, append_assoc, append-nil, replicate}
+use Rattle.std.proofs.Common.{refl, sym, ap, ◌∙◌, subst, arith, inl, inr, true, false, Bool, cond, length, append_assoc, replicate}
 use Rattle.std.proofs.lemmas.Bool.{cases_eq, eqb-true, eq-eqb}
 use Rattle.std.proofs.lemmas.Option.{same_Some}
 use Rattle.std.proofs.lemmas.List.{get_or-replicate, get_or-set_same, get_or-set_other, length-replicate, length-set}
@@ -17,7 +17,7 @@ use Rattle.spread_labels.specs.LabelLaws.{IsSymmetric}
 use Rattle.spread_labels.specs.Orders.{choose, grown_behind, is_beside, next_placed, numbers_from, order, without}
 use Rattle.spread_labels.specs.Stages.{beside, beside_all, earliest_of, first_of, is_stage, next_at, after_add_vertex, stage_at}
 use Rattle.spread_labels.proofs.Growing.{numbers_below}
-use Rattle.spread_labels.proofs.RoundSteps.{same_filter}
+use Rattle.spread_labels.proofs.Tests.{same_filter}
 
 filter_twice : {X : Type 0} (p q : X → Bool) (xs : List X) → filter p (filter q xs) ≡ filter (λ x. q x && p x) xs
 filter_twice p q [] = refl
@@ -345,8 +345,3 @@ begins edges before n stages count is =
     beside_nothing : (es : List Edge) → list_any (λ e. list_any (λ p. p == e.to) []) es ≡ false
     beside_nothing [] = refl
     beside_nothing (e ∷ es) = beside_nothing es
-
--- the end
-pub grown_up : (edges : List (List Edge)) (before : ℕ → ℕ → Bool) (done : List ℕ) (stages : List Stage) → IsGrowing edges before 0 done stages → done
-    ≡ order edges before
-grown_up edges before done stages g = sym (g.so_far ∙ append-nil done)

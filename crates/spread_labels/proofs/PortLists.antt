@@ -4,7 +4,7 @@ use Rattle.std.proofs.lemmas.Bool.{cases_eq, eq-eqb}
 use Rattle.std.proofs.lemmas.List.{get_or-map, get_or-set_other, get_or-set_same, length-map, map-set}
 use Rattle.std.specs.Prelude.{slice_index_or, slice_set}
 use Rattle.port_graph.specs.declared.edge.Edge.{Edge}
-use Rattle.spread_labels.proofs.RoundSteps.{other_test}
+use Rattle.spread_labels.proofs.Tests.{other_test}
 use Rattle.spread_labels.specs.declared.target_set.TargetSet.{TargetSet}
 use Rattle.spread_labels.specs.TargetSets.{has}
 use Rattle.spread_labels.specs.MarkSets.{edge_at, picked, set_at}

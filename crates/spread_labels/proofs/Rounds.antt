@@ -119,9 +119,6 @@ module _ (edges : List (List Edge)) (t : ℕ) where
             absurd (omega (arith, b.0))
       ] refl
 
-  pub not_later : (r s : ℕ) (m : Mark) → after r s ≡ Some m → m.cost ≤ r
-  not_later r s m h = (made r s m h).0
-
   -- labelled by the edges that give in its round
   pub born : (n s : ℕ) (m : Mark) (r : ℕ) → after n s ≡ Some m → m.cost ≡ suc r → mark_by (suc r) s (givers edges (after r) s) ≡ Some m
   born n s m r e c =
@@ -138,21 +135,6 @@ module _ (edges : List (List Edge)) (t : ℕ) where
       some_mark : (es : List Edge) → Contains es e → (m : Mark) × (mark_by (suc r) s es ≡ Some m)
       some_mark [] h = absurd (contains_none e h)
       some_mark (x ∷ es) h = (_, refl)
-
-  -- an edge gives a label to a vertex without one only from the last round
-  pub newest : (r s : ℕ) (e : Edge) → after r s ≡ None → Contains (edges_at edges s) e → gives (after r) s e ≡ true → (m : Mark) × (after r e.to ≡ Some m)
-      × (m.cost ≡ r)
-  newest r s e none h g =
-      let k = given_known s e (after r e.to) g in
-      let a = made r e.to k.0 k.1 in
-      let same : k.0.cost ≡ r = elim (cases_lt k.0.cost r) [
-        | inr above ↦ omega (arith, a.0)
-        | inl less ↦
-            let c = k.0.cost in
-            let x = next_has c s e (contains_filter (gives (after c) s) (edges_at edges s) e h (ap (gives_from s e) a.1 ∙ known_gives s e k.0 k.2)) in
-            absurd (none-some x.0 (sym none ∙ later (suc c) r s x.0 (omega arith) x.1))
-      ] in
-      (k.0, k.1, same)
 
   -- an edge that gives in words gives by the labels of its round and later
   gives_after : (n s : ℕ) (e : Edge) (c r : ℕ) → Gives edges (after n) s e c → c ≤ r → Contains (givers edges (after r) s) e

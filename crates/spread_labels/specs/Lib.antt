@@ -1,8 +1,6 @@
 pub mod Labels
 pub mod RoundMarks
-pub mod Giving
 pub mod Candidates
-pub mod Listed
 pub mod LabelLaws
 pub mod Ways
 pub mod Orders

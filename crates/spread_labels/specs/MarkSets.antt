@@ -6,8 +6,7 @@ use Rattle.port_graph.specs.declared.edge.Edge.{Edge}
 use Rattle.port_graph.specs.Heads.{edges_at}
 use Rattle.spread_labels.specs.declared.label.Mark.{Mark}
 use Rattle.spread_labels.specs.declared.target_set.TargetSet.{TargetSet}
-use Rattle.spread_labels.specs.Labels.{candidates, gives, marks_after}
-use Rattle.spread_labels.specs.Listed.{down_of}
+use Rattle.spread_labels.specs.Labels.{candidates, gives, is_down, marks_after}
 use Rattle.spread_labels.specs.TargetSets.{EachTarget, has, no_targets}
 
 -- the set of a vertex or an edge
@@ -71,6 +70,11 @@ gave_by edges t s e (Some m) = gave_before edges t s e m.cost
 
 abbrev pub gave : List (List Edge) → ℕ → ℕ → ℕ → Edge → Bool
 gave edges t round s e = gave_by edges t s e (marks_after edges t round s)
+
+-- whether a mark is Down
+abbrev pub down_of : Option Mark → Bool
+down_of None = false
+down_of (Some m) = is_down m.label
 
 -- what target k of the sets is known of, after so many rounds
 pub record AreSetsTowards (edges : List (List Edge)) (t k round : ℕ) (marked downs : List TargetSet)

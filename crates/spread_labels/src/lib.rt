@@ -1,14 +1,11 @@
 //! Routes by labels: how far from the target each vertex gets its label, in rounds, and which edges gave it.
 #![tactic(auto)]
 
-mod candidate_edges;
 mod candidate_lists;
 mod candidate_sets;
 mod distance_class;
 mod growth;
 mod label;
-mod label_lists;
-mod labels;
 pub mod laws;
 mod level;
 mod mark_sets;
@@ -17,14 +14,11 @@ mod vertex_key;
 mod vertex_keys;
 mod vertex_positions;
 
-pub use candidate_edges::{candidates, chosen};
 pub use candidate_lists::CandidateLists;
 pub use candidate_sets::CandidateSets;
 pub use distance_class::{Grades, grade};
 pub use growth::grown_order;
 pub use label::{Label, Mark};
-pub use label_lists::MarkLists;
-pub use labels::marks;
 pub use level::digit_weights;
 pub use target_set::{TARGETS, TargetSet};
 pub use vertex_key::VertexKey;

@@ -1,22 +1,16 @@
--- The ports of all switches towards one, by what is held.
-use Rattle.std.proofs.Common.{◌≡◌, ◌<◌, ℕ, suc, zero, List, [], ◌∷◌, inl, inr, refl, sym, ap, ◌∙◌, subst, arith, length, map, true, false, Bool, ◌||◌}
-use Rattle.std.proofs.lemmas.Bool.{cases_eq}
-use Rattle.std.proofs.lemmas.List.{ext_get_or, get_or-map, get_or-set_other, get_or-set_same, length-set}
-use Rattle.std.specs.Prelude.{All, Contains, Option, filter, nat_lt, option_map, slice_index, slice_index_or, slice_set, min, ◌*◌, ◌+◌, ◌==◌}
+-- The port of a switch towards another, by what is held.
+use Rattle.std.proofs.Common.{◌≡◌, ◌<◌, ℕ, suc, zero, List, [], ◌∷◌, refl, sym, ap, ◌∙◌, subst, arith, length, map, true, false, Bool, ◌||◌}
+use Rattle.std.specs.Prelude.{All, Contains, filter, nat_lt, option_map, slice_index, slice_index_or, min, ◌*◌, ◌+◌, ◌==◌}
 use Rattle.std.specs.List.{list_any, range_with_len}
-use Rattle.smp_bytes.proofs.Members.{contains-from_filter, contains_here, contains_later}
+use Rattle.smp_bytes.proofs.Members.{contains_here, contains_later}
 use Rattle.port_graph.specs.declared.edge.Edge.{Edge}
 use Rattle.port_graph.specs.Heads.{edges_at, LeadToVertices}
 use Rattle.port_graph.proofs.Counts.{length_map}
 use Rattle.port_graph.proofs.SearchSteps.{all_from_contained}
-use Rattle.spread_labels.specs.declared.label.Mark.{Mark}
-use Rattle.spread_labels.specs.Candidates.{chosen, is_nearer}
+use Rattle.spread_labels.specs.Candidates.{chosen}
 use Rattle.spread_labels.specs.Labels.{candidates}
-use Rattle.spread_labels.specs.LabelLaws.{IsSymmetric}
 use Rattle.spread_labels.specs.Levels.{rises_at, digit_weight_of, width_of}
 use Rattle.spread_labels.specs.Orders.{numbers_from, position_of}
-use Rattle.spread_labels.specs.RoundMarks.{AreMarksAfter}
-use Rattle.spread_labels.proofs.Nearer.{candidates_are_nearer}
 use Rattle.spread_labels.proofs.ByPositions.{position_less}
 use Rattle.spread_labels.proofs.Widths.{greatest_from}
 use Rattle.subnet_view.specs.SwitchEdges.{SwitchEdges}
@@ -26,32 +20,9 @@ use Rattle.subnet_view.specs.SwitchGraph.{switch_at}
 use Rattle.spread_routes.specs.declared.lid_digit.LidDigit.{LidDigit}
 use Rattle.spread_routes.specs.Rule.{Spreading, by_index, by_positions, order_by_keys, position, edge_to}
 use Rattle.spread_routes.specs.Spread.{Grading, goes_higher, number_there, spread_at, lid_digit_there}
-use Rattle.spread_routes.specs.Tables.{no_lid_digit, ports_among, ports_between, ports_towards}
+use Rattle.spread_routes.specs.Tables.{no_lid_digit}
 use Rattle.spread_routes.proofs.Indices.{index_of_switch}
 use Rattle.spread_routes.proofs.Names.{all_positioned, grows, is_grown_graph}
-
--- the ports of the switch at a position, by marks
-abbrev pub row_at : Grading → List ℕ → List (Option Mark) → ℕ → List (Option ℕ)
-row_at by lids marks p = ports_among by lids p (filter (is_nearer p marks) (edges_at (by_positions by.graph by.keys) p))
-
--- the rows of so many switches are there
-pub record AreSoFar (by : Grading) (lids : List ℕ) (marks : List (Option Mark)) (positions : List ℕ) (count : ℕ) (rows : List (List (Option ℕ))) : Type 0 where
-  pub all : length rows ≡ length by.graph
-  pub each : (i : ℕ) → i < count → slice_index_or rows i [] ≡ row_at by lids marks (slice_index positions i)
-
--- one more is
-pub row_more : (by : Grading) (lids : List ℕ) (marks : List (Option Mark)) (positions : List ℕ) (i : ℕ) (row : List (Option ℕ))
-    (old new : List (List (Option ℕ)))
-    → i < length by.graph → new ≡ slice_set old i row → row ≡ row_at by lids marks (slice_index positions i)
-    → AreSoFar by lids marks positions i old → AreSoFar by lids marks positions (i + 1) new
-row_more by lids marks positions i row old new h is are so = subst (AreSoFar by lids marks positions (i + 1)) (sym is) (record {
-  all = length-set old i row ∙ so.all;
-  each = λ k l. elim (cases_eq k i) [
-    | inl same ↦ subst (λ (x : ℕ). slice_index_or (slice_set old i row) x [] ≡ row_at by lids marks (slice_index positions x)) (sym same)
-        (get_or-set_same old i row [] (omega (arith, so.all)) ∙ are)
-    | inr other ↦ let below : k < i = grind arith in get_or-set_other old i k row [] other ∙ so.each k below
-  ];
-})
 
 module _ (by : Grading) (good : IsGraph by.graph) where
   abbrev edges : List (List Edge)
@@ -72,9 +43,6 @@ module _ (by : Grading) (good : IsGraph by.graph) where
   pub lead : LeadToVertices edges
   lead = (is_grown_graph by.graph by.keys good).lead
 
-  pub symmetric : IsSymmetric edges
-  symmetric = (is_grown_graph by.graph by.keys good).symmetric
-
   -- by the index of a switch
   position_of_switch : (i : ℕ) → i < length by.graph → position_of order i ≡ position by.graph by.keys (switch_at by.graph i)
   position_of_switch i h =
@@ -90,49 +58,10 @@ module _ (by : Grading) (good : IsGraph by.graph) where
       let sp : Spreading = record { keys = by.keys; number = number_there by } in
       (λ j. option_map (λ (e : Edge). e.port) (edge_to by.graph sp lid (position_of_switch i h j) (position_of_switch target t j)))
 
-  -- the ports of a switch to another, where these are the marks
-  pub ports_are : (lids : List ℕ) (target i : ℕ) (marks : List (Option Mark)) → target < length by.graph → i < length by.graph
-      → AreMarksAfter edges (position_of order target) (length edges) marks
-      → ports_among by lids (position_of order i) (filter (is_nearer (position_of order i) marks) (edges_at edges (position_of order i)))
-      ≡ ports_between (spread_at by) lids (switch_at by.graph target) (switch_at by.graph i)
-  ports_are lids target i marks t h are =
-      let sp : Spreading = record { keys = by.keys; number = number_there by } in
-      let nearer : filter (is_nearer (position_of order i) marks) (edges_at edges (position_of order i))
-      ≡ candidates edges (position_of order target) (position_of order i) =
-      candidates_are_nearer edges (position_of order target) marks lead (position_there target t) are (position_of order i) (position_there i h) in
-      ap (ports_among by lids (position_of order i)) nearer
-      ∙ (λ j. map (λ lid. option_map (λ (e : Edge). e.port) (edge_to by.graph sp lid (position_of_switch i h j) (position_of_switch target t j))) lids)
-
-  -- of all switches
-  pub rows_are : (lids : List ℕ) (target : ℕ) (marks : List (Option Mark)) (positions : List ℕ) → target < length by.graph → length positions ≡ length by.graph
-      → ((i : ℕ) → i < length by.graph → slice_index positions i ≡ position_of order i) → AreMarksAfter edges (position_of order target) (length edges) marks
-      → map (row_at by lids marks) positions ≡ ports_towards by lids target
-  rows_are lids target marks positions t all each are =
-      let f : ℕ → List (Option ℕ) = row_at by lids marks in
-      let g : ℕ → List (Option ℕ) = ports_between (spread_at by) lids (switch_at by.graph target) in
-      let guids = length_map (λ (c : SwitchEdges). c.guid) by.graph in
-      ext_get_or [] (map f positions) (map g (guids_of by.graph)) (length_map f positions ∙ all ∙ sym guids ∙ sym (length_map g (guids_of by.graph)))
-      (λ i h. let l : i < length by.graph = omega (arith, length_map f positions) in
-      get_or-map f positions i 0 [] (omega arith) ∙ ap f (each i l) ∙ ports_are lids target i marks t l are
-      ∙ sym (get_or-map g (guids_of by.graph) i 0 [] (omega (arith, guids))))
-
-  -- once all rows are there, they are the ports towards the target
-  pub rows_are_there : (lids : List ℕ) (target : ℕ) (marks : List (Option Mark)) (positions : List ℕ) (rows : List (List (Option ℕ))) → target < length by.graph
-      → length positions ≡ length by.graph → ((i : ℕ) → i < length by.graph → slice_index positions i ≡ position_of order i)
-      → AreMarksAfter edges (position_of order target) (length edges) marks → AreSoFar by lids marks positions (length by.graph) rows → rows
-      ≡ ports_towards by lids target
-  rows_are_there lids target marks positions rows t all each are so =
-      ext_get_or [] rows (map (row_at by lids marks) positions) (so.all ∙ sym all ∙ sym (length_map (row_at by lids marks) positions))
-      (λ i h. so.each i (omega (arith, so.all)) ∙ sym (get_or-map (row_at by lids marks) positions i 0 [] (omega (arith, so.all, all))))
-      ∙ rows_are lids target marks positions t all each are
-
-  -- the edges at a position lead to positions, and so do those of them that pass a test
+  -- the edges at a position lead to positions
   pub row_leads : (n p : ℕ) (es : List Edge) → n ≡ length edges → es ≡ edges_at edges p → All (λ e. e.to < n) es
   row_leads n p es long are =
       all_from_contained (λ (e : Edge). e.to < n) es (λ e h. omega (arith, long, lead p e (subst (λ (xs : List Edge). Contains xs e) are h)))
-
-  pub passing_lead : (p : ℕ) (test : Edge → Bool) (e : Edge) → Contains (filter test (edges_at edges p)) e → e.to < length edges
-  passing_lead p test e h = lead p e (contains-from_filter test (edges_at edges p) e h).0
 
   -- whether an edge leads to a higher switch, by what is held
   pub higher_is : (lid_digits : List LidDigit) (p : ℕ) (lid_digit : LidDigit) (es : List Edge) → lid_digit ≡ lid_digit_there by p

@@ -1,20 +1,17 @@
 -- What is held of the rule, and the ports that it gives.
-use Rattle.std.specs.Prelude.{◌≡◌, ◌<◌, ◌≤◌, ◌+◌, ◌%◌, ℕ, List, [], ◌∷◌, map, length, Option, None, option_map, slice_get, slice_index, slice_index_or, slice_set}
+use Rattle.std.specs.Prelude.{◌≡◌, ◌<◌, ◌≤◌, ◌+◌, ◌%◌, ℕ, List, [], ◌∷◌, length, Option, None, slice_get, slice_index, slice_index_or, slice_set}
 use Rattle.port_graph.specs.declared.edge.Edge.{Edge}
 use Rattle.port_graph.specs.Heads.{edges_at}
 use Rattle.spread_labels.specs.declared.target_set.TargetSet.{TargetSet}
-use Rattle.spread_labels.specs.Candidates.{chosen}
 use Rattle.spread_labels.specs.Labels.{candidates}
 use Rattle.spread_labels.specs.MarkSets.{AreRowsOf, picked, sets_at}
 use Rattle.spread_labels.specs.TargetSets.{has}
 use Rattle.spread_labels.specs.Orders.{position_of}
-use Rattle.subnet_view.specs.Graph.{guids_of}
 use Rattle.subnet_view.specs.GraphLaws.{IsGraph}
-use Rattle.subnet_view.specs.Routing.{Routing}
 use Rattle.subnet_view.specs.SwitchGraph.{switch_at}
 use Rattle.spread_routes.specs.declared.lid_digit.LidDigit.{LidDigit}
 use Rattle.spread_routes.specs.Rule.{by_positions, order_by_keys}
-use Rattle.spread_routes.specs.Spread.{Grading, number_by, number_there, lid_digit_there, spread_at}
+use Rattle.spread_routes.specs.Spread.{Grading, number_by, lid_digit_there, spread_at}
 
 -- the LID digit of no switch
 abbrev pub no_lid_digit : LidDigit
@@ -30,18 +27,6 @@ pub record IsByPositions (by : Grading) (edges : List (List Edge)) (positions : 
       ≡ position_of (order_by_keys by.graph by.keys) i
   pub all_lid_digits : length lid_digits ≡ length edges
   pub lid_digit : (p : ℕ) → p < length edges → slice_index_or lid_digits p no_lid_digit ≡ lid_digit_there by p
-
--- the ports that LIDs take at the switch at a position, of these edges
-abbrev pub ports_among : Grading → List ℕ → ℕ → List Edge → List (Option ℕ)
-ports_among by lids p edges = map (λ lid. option_map (λ e. e.port) (chosen edges (number_there by lid p edges))) lids
-
--- the ports by which packets for these LIDs leave a switch for another
-abbrev pub ports_between : Routing → List ℕ → ℕ → ℕ → List (Option ℕ)
-ports_between rule lids t s = map (λ lid. rule.next lid s t) lids
-
--- of each switch, by rising GUID, to the one at an index
-abbrev pub ports_towards : Grading → List ℕ → ℕ → List (List (Option ℕ))
-ports_towards by lids target = map (ports_between (spread_at by) lids (switch_at by.graph target)) (guids_of by.graph)
 
 -- the candidates of all vertices towards the switches at the indices from one up to another: of each edge those of them
 -- towards which it is one

@@ -5,13 +5,12 @@ ghost use Rattle.port_graph.specs.Heads.{LeadToVertices};
 ghost use Rattle.spread_labels.specs.TargetSets.{EachTarget, has};
 ghost use Rattle.spread_labels.specs.MarkSets.{picked};
 ghost use Rattle.spread_routes.specs.Rule.{by_index};
-ghost use Rattle.spread_routes.specs.Spread.{number_by, lid_digit_at};
+ghost use Rattle.spread_routes.specs.Spread.{lid_digit_at};
 ghost use Rattle.spread_routes.specs.Tables.{no_lid_digit};
 ghost use Rattle.spread_routes.specs.RoundRobins.{IsTurn};
 
 use crate::round_robin::RoundRobin;
 use port_graph::{Adjacency, Edge};
-use smp_bytes::Lid;
 use spread_labels::{TargetSet, digit_weights};
 use std::alloc::{AllocError, Global};
 use subnet_view::SwitchGraph;
@@ -28,20 +27,6 @@ pub(crate) struct LidDigit {
 }
 
 impl LidDigit {
-    /// The number of a LID where an edge leads to a higher switch, or where none does.
-    pub(crate) fn number(&self, is_higher: bool, lid: Lid) -> usize
-        requires { 0 < self.now.digit_weight }
-        ensures { result ≡ number_by self.now is_higher lid }
-    {
-        let lid = usize::from(lid.number());
-        let digit = if is_higher {
-            lid / self.digit_weight
-        } else {
-            lid
-        };
-        digit + usize::from(self.offset)
-    }
-
     /// The turns of LIDs among so many ports, where one of them leads to a higher switch, or where none does.
     pub(crate) fn turn(&self, is_higher: bool, count: usize) -> RoundRobin
         requires weight { 0 < self.now.digit_weight }
@@ -104,17 +89,6 @@ pub(crate) fn higher_targets(
         }
     }
     higher
-}
-
-/// Whether one of some edges leads to a switch higher than this one.
-pub(crate) fn is_higher(lid_digits: &[LidDigit], lid_digit: &LidDigit, edges: &[Edge]) -> bool
-    requires { All (λ edge. edge.to < length lid_digits.now) edges.now }
-    ensures { result ≡ list_any (λ edge. nat_lt lid_digit.now.level
-        (slice_index_or lid_digits.now edge.to no_lid_digit).level) edges.now }
-{
-    edges
-        .iter()
-        .any(|edge| lid_digit.level < level_at(lid_digits, edge.to))
 }
 
 /// The level at a position.

@@ -1,18 +1,14 @@
-ghost use Rattle.std.specs.Prelude.{◌≡◌, ◌<◌, ◌+◌, IfOk, OnOk, filter, length, map, min, option_map};
-ghost use Rattle.port_graph.specs.Heads.{edges_at};
-ghost use Rattle.spread_labels.specs.Candidates.{chosen, is_nearer};
-ghost use Rattle.spread_routes.specs.Rule.{by_positions};
-ghost use Rattle.spread_routes.specs.Spread.{grading_of, number_by};
-ghost use Rattle.spread_routes.specs.Tables.{AreExits, AreTowards, ports_among, ports_towards};
+ghost use Rattle.std.specs.Prelude.{◌≡◌, ◌<◌, ◌+◌, IfOk, OnOk, length, min};
+ghost use Rattle.spread_routes.specs.Spread.{grading_of};
+ghost use Rattle.spread_routes.specs.Tables.{AreExits, AreTowards};
 
 use crate::exits::Exits;
 use crate::index::indices;
-use crate::lid_digit::{LidDigit, higher_targets, is_higher, lid_digits};
-use port_graph::{Adjacency, Edge};
-use smp_bytes::{Guid, Lid, PortNum};
+use crate::lid_digit::{LidDigit, higher_targets, lid_digits};
+use port_graph::Adjacency;
+use smp_bytes::Guid;
 use spread_labels::{
-    CandidateSets, Grades, MarkLists, TARGETS, VertexKey, by_positions, candidates, chosen, grade,
-    grown_order, keys, marks, positions,
+    CandidateSets, Grades, TARGETS, VertexKey, by_positions, grade, grown_order, keys, positions,
 };
 use std::alloc::{AllocError, Global};
 use std::marker::Model;
@@ -166,80 +162,4 @@ impl<'g> Spread<'g> {
         let higher = higher_targets(&self.lid_digits, &lid_digit, edges, sets);
         exits.find(lid_digit, higher, edges, sets)
     }
-
-    /// The ports by which packets for these LIDs leave each switch, by rising GUID, for the one at an index: they
-    /// replace what the rows held. None at that one, and where no way leads there. It is the plain form of what
-    /// `towards` and `exits_from` do for many targets together: takes a step for each edge, and for each switch in each
-    /// of as many rounds as the greatest cost; and then one for each edge and for each LID at each switch.
-    pub fn ports_to(
-        &self,
-        alloc: Global,
-        target: usize,
-        lids: &[Lid],
-        rows: &mut [Vec<Option<PortNum>>],
-    ) -> Result<(), AllocError>
-        requires target { target < length self.now.graph }
-        requires rows { length rows.old ≡ length self.now.graph }
-        ensures { OnOk result
-            (map (λ row. row.items) rows.new ≡ ports_towards self.now lids.now target) }
-    {
-        let marks = marks(alloc, &self.edges, self.positions[target])?;
-        let mut edges = Vec::new(alloc);
-        let positions = self.positions.as_slice();
-        for (index, position) in positions.iter().enumerate() {
-            self.ports_at(&marks, *position, lids, &mut edges, &mut rows[index])?;
-        }
-        Ok(())
-    }
-
-    /// The ports that LIDs take at the switch at a position, by these marks, instead of what the row held. The edges
-    /// that gave its mark replace those that were found before.
-    fn ports_at(
-        &self,
-        marks: &MarkLists,
-        position: usize,
-        lids: &[Lid],
-        edges: &mut Vec<Edge>,
-        row: &mut Vec<Option<PortNum>>,
-    ) -> Result<(), AllocError>
-        requires position { position < length (by_positions self.now.graph self.now.keys) }
-        requires marks { length marks.now ≡ length (by_positions self.now.graph self.now.keys) }
-        ensures { OnOk result (row.new.items ≡ ports_among self.now lids.now position
-            (filter (is_nearer position marks.now)
-            (edges_at (by_positions self.now.graph self.now.keys) position))) }
-    {
-        candidates(edges, self.edges.at(position), position, marks)?;
-        let lid_digit = self.lid_digits[position];
-        let is_higher = is_higher(&self.lid_digits, &lid_digit, edges);
-        ports_of(row, edges, &lid_digit, is_higher, lids)
-    }
-}
-
-/// The ports of the edges that LIDs take, instead of what the row held.
-fn ports_of(
-    row: &mut Vec<Option<PortNum>>,
-    edges: &[Edge],
-    lid_digit: &LidDigit,
-    is_higher: bool,
-    lids: &[Lid],
-) -> Result<(), AllocError>
-    requires { 0 < lid_digit.now.digit_weight }
-    ensures { OnOk result (row.new.items ≡ map (λ lid. option_map (λ edge. edge.port)
-        (chosen edges.now (number_by lid_digit.now is_higher lid))) lids.now) }
-{
-    row.clear();
-    for lid in lids {
-        row.push(port_of(edges, lid_digit, is_higher, *lid))?;
-    }
-    Ok(())
-}
-
-/// The port of the edge that a LID takes.
-fn port_of(edges: &[Edge], lid_digit: &LidDigit, is_higher: bool, lid: Lid) -> Option<PortNum>
-    requires { 0 < lid_digit.now.digit_weight }
-    ensures { result ≡ option_map (λ edge. edge.port)
-        (chosen edges.now (number_by lid_digit.now is_higher lid)) }
-{
-    let edge = chosen(edges, lid_digit.number(is_higher, lid))?;
-    Some(edge.port)
 }
