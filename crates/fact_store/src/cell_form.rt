@@ -1,6 +1,6 @@
 //! Of which kind a key is, and what its cell says, as far as that is one of a few things.
 ghost use Rattle.std.specs.Prelude.{◌≡◌};
-ghost use Rattle.fact_store.specs.CellForms.{disputed_form, form_of, known_form};
+ghost use Rattle.fact_store.specs.CellForms.{disputed_form, form_kind, form_of, known_form};
 
 use crate::key::Key;
 use crate::value::Value;
@@ -28,9 +28,6 @@ pub(crate) enum CellForm {
 }
 
 impl CellForm {
-    ghost use Rattle.std.specs.Prelude.{◌≡◌};
-    ghost use Rattle.fact_store.specs.CellForms.{form_kind};
-
     /// The number of the key's kind.
     pub(crate) fn kind(self) -> u8
         ensures { result ≡ form_kind self }
