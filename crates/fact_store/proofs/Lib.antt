@@ -1,3 +1,4 @@
+pub mod CellForms
 pub mod CellOrder
 pub mod CellViews
 pub mod Entries

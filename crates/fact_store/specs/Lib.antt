@@ -1,3 +1,4 @@
+pub mod CellForms
 pub mod Cells
 pub mod Coded
 pub mod Comparisons

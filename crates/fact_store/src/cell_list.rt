@@ -27,7 +27,7 @@ fn join_cells(first: &Sighting, second: &Sighting) -> Sighting
     Sighting::new(first.key(), first.cell().join(&second.cell())).unwrap()
 }
 
-/// Puts in a cell where its key has none, and else joins the two. The finger of its kind goes there.
+/// Puts in a cell where its key has none, and else joins the two. The fingers of its kind and of its GUID go there.
 pub(crate) fn put(cells: &mut PageList<Sighting>, fingers: &mut Fingers, sighting: Sighting)
     requires cells { AreCells cells.old.items }
     requires room { 0 < cells.old.room }
@@ -36,7 +36,7 @@ pub(crate) fn put(cells: &mut PageList<Sighting>, fingers: &mut Fingers, sightin
     ensures room { cells.old.room ≤ cells.new.room + 1 }
 {
     let key = sighting.key();
-    let found = index_of(cells, &key, fingers.of(&key));
+    let found = index_of(cells, &key, fingers);
     let slot = put_found(cells, found, sighting);
     fingers.put(&key, slot);
 }
@@ -101,7 +101,7 @@ pub(crate) fn merge_cells(
     let mut a = left.next();
     let mut b = right.next();
     while let (Some(x), Some(y)) = (a, b) {
-        match compare(&x.key(), &y.key(), steps) {
+        match compare(&x, &y.key(), steps) {
             Ordering::Less => {
                 cells.push(x)?;
                 a = left.next();

@@ -24,7 +24,7 @@ impl Key {
     ghost use Rattle.fact_store.specs.Key.{key_guid, key_kind, key_numbers, key_port, kind_word};
 
     /// The number of its kind, the GUID and the port.
-    fn sort_key(&self) -> [u64; 3]
+    pub(crate) fn sort_key(&self) -> [u64; 3]
         ensures { result ≡ key_numbers self.now }
     {
         [

@@ -1,6 +1,7 @@
 //! Facts about a subnet: what replies tell, and the view that all of them together give.
 #![tactic(auto)]
 
+mod cell_form;
 mod cell_list;
 mod cells;
 mod fingers;

@@ -5,19 +5,20 @@ ghost use Rattle.fact_store.specs.Cells.{AreCells, IsSearched};
 ghost use Rattle.fact_store.specs.Comparisons.{CountsSearch, HasDigits, IsBudget};
 ghost use Rattle.fact_store.specs.Key.{key_cmp};
 
+use crate::fingers::Fingers;
 use crate::key::Key;
 use crate::sighting::Sighting;
 use page_list::{PageList, Slot};
 use std::cmp::Ordering;
 
-/// How one key stands to another, which is one step. A store compares keys by this alone.
-pub(crate) fn compare(key: &Key, other: &Key, steps: &mut u128) -> Ordering
+/// How the key of a cell stands to another, which is one step. A store compares keys by this alone.
+pub(crate) fn compare(held: &Sighting, key: &Key, steps: &mut u128) -> Ordering
     requires { steps.old < 2 ^ 127 }
-    ensures order { result ≡ key_cmp key.now other.now }
+    ensures order { result ≡ key_cmp held.now.0 key.now }
     ensures counted { steps.new ≡ steps.old + 1 }
 {
     *steps += 1;
-    key.cmp(other)
+    held.key_cmp(key)
 }
 
 /// Where a key has its cell, or would.
@@ -28,31 +29,52 @@ pub(crate) struct Found {
     pub near: Slot,
 }
 
-/// Where a key has its cell, or would, to put one in there: at the finger, behind the last cell, or where a search
-/// finds it.
-pub(crate) fn index_of(cells: &PageList<Sighting>, key: &Key, finger: Slot) -> Found
+/// Where a key has its cell, or would, to put one in there: at a finger, behind the last cell, or where a search finds
+/// it.
+pub(crate) fn index_of(cells: &PageList<Sighting>, key: &Key, fingers: &Fingers) -> Found
     requires { AreCells cells.now.items }
     ensures { IsSearched key.now cells.now.items result.index }
 {
-    if let Some(index) = index_at_finger(cells, key, finger) {
-        return Found {
-            index,
-            near: finger,
-        };
+    if let Some(found) = found_by_fingers(cells, key, fingers) {
+        return found;
     }
+    let near = fingers.by_kind(key);
     let len = cells.len();
     if len > 0 {
-        if let Ordering::Less = order_at(cells, len - 1, finger, key) {
+        if let Ordering::Less = order_at(cells, len - 1, near, key) {
             return Found {
                 index: Err(len),
-                near: finger,
+                near,
             };
         }
     }
     find(cells, key).found
 }
 
-/// The same, if the key is that of the cell at the finger or comes right behind it, as two steps tell.
+/// The same, if the key is at the finger of its kind or of its GUID.
+fn found_by_fingers(cells: &PageList<Sighting>, key: &Key, fingers: &Fingers) -> Option<Found>
+    requires { AreCells cells.now.items }
+    ensures { IfSome result (λ found. IsSearched key.now cells.now.items found.index) }
+{
+    match found_at_finger(cells, key, fingers.by_kind(key)) {
+        Some(found) => Some(found),
+        None => found_at_finger(cells, key, fingers.by_guid(key)?),
+    }
+}
+
+/// The same, at a finger.
+fn found_at_finger(cells: &PageList<Sighting>, key: &Key, finger: Slot) -> Option<Found>
+    requires { AreCells cells.now.items }
+    ensures { IfSome result (λ found. IsSearched key.now cells.now.items found.index) }
+{
+    let index = index_at_finger(cells, key, finger)?;
+    Some(Found {
+        index,
+        near: finger,
+    })
+}
+
+/// Its index, if the key is that of the cell at the finger or comes right behind it, as two steps tell.
 fn index_at_finger(
     cells: &PageList<Sighting>,
     key: &Key,
@@ -80,7 +102,7 @@ fn order_at(cells: &PageList<Sighting>, i: usize, near: Slot, key: &Key) -> Orde
     ensures { result ≡ option_map_or (λ s. key_cmp s.0 key.now) (slice_get cells.now.items i) Greater }
 {
     match cells.get_near(i, near) {
-        Some(held) => compare(&held.key(), key, &mut 0),
+        Some(held) => compare(held, key, &mut 0),
         None => Ordering::Greater,
     }
 }
@@ -110,7 +132,7 @@ pub(crate) fn find(cells: &PageList<Sighting>, key: &Key) -> SearchResult
         most /= 2;
         let split = cells.split(low, high, most, pages);
         near = split.slot;
-        match compare(&split.item.key(), key, &mut steps) {
+        match compare(&split.item, key, &mut steps) {
             Ordering::Less => {
                 low = split.index + 1;
                 pages = split.after;

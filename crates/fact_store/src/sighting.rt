@@ -1,32 +1,65 @@
 ghost use Rattle.std.specs.Prelude.{◌≡◌, ◌↔◌, IsTrue, IsSome, IfSome};
 ghost use Rattle.fact_join.specs.declared.cell.Cell.TheVariants.{Known, Disputed};
+ghost use Rattle.fact_store.specs.CellForms.{number_of, other_of, value_in};
+ghost use Rattle.fact_store.specs.Key.{key_cmp};
 
+use crate::cell_form::{CellForm, form_of};
 use crate::key::Key;
 use crate::value::Value;
 use fact_join::Cell;
-use smp_bytes::{Generation, Guid, PortNum};
+use smp_bytes::{Generation, Guid, Lid, NodeType, PortNum};
+use std::cmp::Ordering;
 use std::marker::Model;
 
-/// A fact as it was told once, or that it was told in different ways.
+/// A fact as it was told once, or that it was told in different ways. Takes 24 bytes, which a list of many holds and
+/// moves.
 #[derive(Clone, Copy, Debug)]
 pub struct Sighting {
-    key: Key,
-    cell: Cell<Value>,
+    /// That of the key.
+    guid: Guid,
+    /// That of the value, or 0.
+    other: Guid,
+    generation: Generation,
+    /// How many ports, the port, the LID or the count that the value has, or 0.
+    number: u16,
+    /// That of the key, or 0.
+    port: PortNum,
+    form: CellForm,
 }
 
 impl Model for Sighting {
     ghost use Rattle.fact_join.specs.declared.cell.Cell.{Cell};
+    ghost use Rattle.fact_join.specs.Cell.{generation_of};
     ghost use Rattle.fact_store.specs.declared.key.Key.{Key};
     ghost use Rattle.fact_store.specs.declared.value.Value.{Value as FactValue};
+    ghost use Rattle.fact_store.specs.CellForms.{IsSpelled, cell_in, form_of, key_in, number_of, other_of, same_form, same_generation, same_guid};
+    ghost use Rattle.fact_store.specs.Key.{key_guid, key_port};
     ghost use Rattle.fact_store.specs.Sighting.{IsSighting};
 
     ghost Value = { Key × Cell FactValue };
 
-    ghost view = { λ s. (s.key, s.cell) };
+    ghost view = { λ s. (key_in s.form s.guid s.port, cell_in s.form s.generation s.other s.number) };
 
-    ghost invariant = { λ s. IsSighting (s.key, s.cell) };
+    ghost invariant = { λ s. IsSighting (key_in s.form s.guid s.port, cell_in s.form s.generation s.other s.number)
+        × IsSpelled s.form s.guid s.other s.generation s.number s.port };
 
-    ghost inverse = { λ p. record { key = p.0; cell = p.1 } };
+    ghost inverse = { λ p. record {
+      guid = key_guid p.0;
+      other = other_of p.1;
+      generation = generation_of p.1;
+      number = number_of p.1;
+      port = key_port p.0;
+      form = form_of p.0 p.1;
+    } };
+
+    ghost inverse_ok = { λ s h i. record {
+      guid = same_guid s.form s.guid s.port i;
+      other = h.1.other_is i;
+      generation = same_generation s.form s.generation s.other s.number i;
+      number = h.1.number_is i;
+      port = h.1.port_is i;
+      form = same_form s.form s.guid s.generation s.other s.number s.port i;
+    } };
 }
 
 impl Sighting {
@@ -39,7 +72,7 @@ impl Sighting {
         ensures value { IfSome result (λ s. s ≡ (key, cell)) }
     {
         if is_sighting(&key, &cell) {
-            Some(Sighting { key, cell })
+            Some(Sighting::of(&key, &cell))
         } else {
             None
         }
@@ -50,9 +83,21 @@ impl Sighting {
         requires { IsSighting (key, Known generation value) }
         ensures { result ≡ (key, Known generation value) }
     {
+        Sighting::of(&key, &Cell::Known(generation, value))
+    }
+
+    /// A key and a cell that are one.
+    fn of(key: &Key, cell: &Cell<Value>) -> Self
+        requires { IsSighting (key.now, cell.now) }
+        ensures { result ≡ (key.now, cell.now) }
+    {
         Sighting {
-            key,
-            cell: Cell::Known(generation, value),
+            guid: key.guid(),
+            other: other_of(cell),
+            generation: cell.generation(),
+            number: number_of(cell),
+            port: key.port(),
+            form: form_of(key, cell),
         }
     }
 
@@ -61,7 +106,31 @@ impl Sighting {
         ensures value { result ≡ self.now.0 }
         ensures in_range { IsSighting self.now }
     {
-        self.key
+        match self.form {
+            CellForm::SwitchNode
+            | CellForm::AdapterNode
+            | CellForm::RouterNode
+            | CellForm::DisputedNode => Key::Node(self.guid),
+            CellForm::GuidOfPort | CellForm::DisputedGuid => Key::PortGuid(self.guid, self.port),
+            CellForm::LinkEnd | CellForm::DisputedLink => Key::Link(self.guid, self.port),
+            CellForm::UpPort | CellForm::DownPort | CellForm::DisputedPort => {
+                Key::Port(self.guid, self.port)
+            }
+            CellForm::ClaimedLid | CellForm::DisputedClaim => Key::Claim(self.guid, self.port),
+            CellForm::RoomOfTable | CellForm::DisputedRoom => Key::Cap(self.guid),
+        }
+    }
+
+    /// How its key stands to another.
+    pub(crate) fn key_cmp(&self, other: &Key) -> Ordering
+        ensures { result ≡ key_cmp self.now.0 other.now }
+    {
+        let sort_key = [
+            u64::from(self.form.kind()),
+            self.guid.number(),
+            u64::from(self.port.number()),
+        ];
+        sort_key.cmp(&other.sort_key())
     }
 
     /// What was told of it, and at which generation.
@@ -69,7 +138,56 @@ impl Sighting {
         ensures value { result ≡ self.now.1 }
         ensures in_range { IsSighting self.now }
     {
-        self.cell
+        match self.value() {
+            Some(value) => Cell::Known(self.generation, value),
+            None => Cell::Disputed(self.generation),
+        }
+    }
+
+    /// What was told, unless it is disputed.
+    fn value(&self) -> Option<Value>
+        ensures { result ≡ value_in self.now.1 }
+    {
+        match self.form {
+            CellForm::SwitchNode => Some(Value::Kind(NodeType::Switch, self.number as u8)),
+            CellForm::AdapterNode => Some(Value::Kind(NodeType::ChannelAdapter, self.number as u8)),
+            CellForm::RouterNode => Some(Value::Kind(NodeType::Router, self.number as u8)),
+            CellForm::GuidOfPort => Some(Value::Guid(self.other)),
+            CellForm::LinkEnd => Some(Value::Peer(self.other, PortNum::new(self.number as u8))),
+            CellForm::UpPort => Some(Value::Up(true)),
+            CellForm::DownPort => Some(Value::Up(false)),
+            CellForm::ClaimedLid => Some(Value::Lid(Lid::new(self.number))),
+            CellForm::RoomOfTable => Some(Value::Count(self.number)),
+            CellForm::DisputedNode
+            | CellForm::DisputedGuid
+            | CellForm::DisputedLink
+            | CellForm::DisputedPort
+            | CellForm::DisputedClaim
+            | CellForm::DisputedRoom => None,
+        }
+    }
+}
+
+/// The GUID that a value has, or 0.
+fn other_of(cell: &Cell<Value>) -> Guid
+    ensures { result ≡ other_of cell.now }
+{
+    match cell {
+        Cell::Known(_, Value::Guid(guid) | Value::Peer(guid, _)) => *guid,
+        _ => Guid::new(0),
+    }
+}
+
+/// How many ports, the port, the LID or the count that a value has, or 0.
+fn number_of(cell: &Cell<Value>) -> u16
+    ensures { result ≡ number_of cell.now }
+{
+    match cell {
+        Cell::Known(_, Value::Kind(_, ports)) => u16::from(*ports),
+        Cell::Known(_, Value::Peer(_, port)) => u16::from(port.number()),
+        Cell::Known(_, Value::Lid(lid)) => lid.number(),
+        Cell::Known(_, Value::Count(count)) => *count,
+        _ => 0,
     }
 }
 
@@ -80,10 +198,10 @@ impl Default for Sighting {
     ghost is_default = { λ s. s ≡ (Node 0, Disputed 1) };
 
     fn default() -> Self {
-        Sighting {
-            key: Key::Node(Guid::new(0)),
-            cell: Cell::Disputed(Generation::new(1).unwrap()),
-        }
+        Sighting::of(
+            &Key::Node(Guid::new(0)),
+            &Cell::Disputed(Generation::new(1).unwrap()),
+        )
     }
 }
 

@@ -4,6 +4,7 @@ ghost use Rattle.byte_io.specs.Writes.{Writes};
 ghost use Rattle.fact_store.specs.Sighting.{AreInRange};
 ghost use Rattle.record_file.specs.FactsText.{subject_text, key_text, value_text, cell_text, fact_text, line_text, floor_line, facts_text};
 
+use crate::line::Line;
 use byte_io::{Sink, WriteFault, write_guid, write_number, write_port};
 use fact_join::Cell;
 use fact_store::{Key, Sighting, Store, Value};
@@ -71,12 +72,24 @@ fn write_fact<W: Sink>(sink: &mut W, cell: &Sighting) -> Result<(), WriteFault>
     write_state(sink, &cell.cell())
 }
 
-/// Writes the line of a cell: its key, its value or `disputed`, and `@` with its generation.
-pub fn write_cell<W: Sink>(sink: &mut W, cell: &Sighting) -> Result<(), WriteFault>
+/// Writes a key, what is said of it, and the end of a line.
+fn write_line<W: Sink>(sink: &mut W, cell: &Sighting) -> Result<(), WriteFault>
     ensures writes { Writes W.written W.has_failed result sink.old sink.new (line_text cell.now) }
 {
     write_fact(sink, cell)?;
     sink.write(b"\n")
+}
+
+/// Writes the line of a cell: its key, its value or `disputed`, and `@` with its generation. It goes out in one piece
+/// where it has 64 bytes at most.
+pub fn write_cell<W: Sink>(sink: &mut W, cell: &Sighting) -> Result<(), WriteFault>
+    ensures writes { Writes W.written W.has_failed result sink.old sink.new (line_text cell.now) }
+{
+    let mut line = Line::new();
+    match write_line(&mut line, cell) {
+        Ok(()) => sink.write(line.bytes()),
+        Err(_) => write_line(sink, cell),
+    }
 }
 
 /// Writes the line of a floor over 1: `floor`, and its generation.

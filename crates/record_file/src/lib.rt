@@ -9,6 +9,7 @@ mod file_fault;
 mod format;
 mod head;
 pub mod laws;
+mod line;
 mod numbers;
 mod record;
 mod report_record;

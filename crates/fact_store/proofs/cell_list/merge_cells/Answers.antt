@@ -31,8 +31,7 @@ loop-a-preserved-in_ok-push-in-Less c =
     (subst (λ (o : Option (Key × Cell Value)). IsWalked c.args.first.now.items c.args.second.now.items c.loop-a.cells.items (option_to_list o
     ++ rest_of c.loop-a.left) (option_to_list c.loop-a.b ++ rest_of c.loop-a.right) c.loop-a.steps) c.in-Some-Some.is-0 c.loop-a.invariant.0) in
     let order : key_cmp c.in-Some-Some.x.0 c.in-Some-Some.y.0 ≡ Less =
-    sym (c.in-Less.ensures.order ∙ ap (λ (k : Key). key_cmp k c.key-in-Some-Some.result) c.key.ensures.value
-    ∙ ap (key_cmp c.in-Some-Some.x.0) c.key-in-Some-Some.ensures.value) in (
+    sym (c.in-Less.ensures.order ∙ ap (key_cmp c.in-Some-Some.x.0) c.key.ensures.value) in (
       walked_to c.args.first.now.items c.args.second.now.items (c.loop-a.cells.items ++ c.in-Some-Some.x ∷ []) _ (rest_of c.loop-a.left) _ (c.in-Some-Some.y
           ∷ rest_of c.loop-a.right) _ (c.loop-a.steps + 1) _
           (walked_first c.args.first.now.items c.args.second.now.items c.loop-a.cells.items (rest_of c.loop-a.left) (rest_of c.loop-a.right) c.in-Some-Some.x
@@ -52,8 +51,7 @@ loop-a-preserved-in_ok-push-in-Greater c =
     (subst (λ (o : Option (Key × Cell Value)). IsWalked c.args.first.now.items c.args.second.now.items c.loop-a.cells.items (option_to_list o
     ++ rest_of c.loop-a.left) (option_to_list c.loop-a.b ++ rest_of c.loop-a.right) c.loop-a.steps) c.in-Some-Some.is-0 c.loop-a.invariant.0) in
     let order : key_cmp c.in-Some-Some.x.0 c.in-Some-Some.y.0 ≡ Greater =
-    sym (c.in-Greater.ensures.order ∙ ap (λ (k : Key). key_cmp k c.key-in-Some-Some.result) c.key.ensures.value
-    ∙ ap (key_cmp c.in-Some-Some.x.0) c.key-in-Some-Some.ensures.value) in (
+    sym (c.in-Greater.ensures.order ∙ ap (key_cmp c.in-Some-Some.x.0) c.key.ensures.value) in (
       walked_to c.args.first.now.items c.args.second.now.items (c.loop-a.cells.items ++ c.in-Some-Some.y ∷ []) _ (c.in-Some-Some.x
           ∷ rest_of c.loop-a.left) _ (rest_of c.loop-a.right) _ (c.loop-a.steps + 1) _
           (walked_second c.args.first.now.items c.args.second.now.items c.loop-a.cells.items (rest_of c.loop-a.left) (rest_of c.loop-a.right) c.in-Some-Some.x
@@ -73,8 +71,7 @@ loop-a-preserved c =
     (subst (λ (o : Option (Key × Cell Value)). IsWalked c.args.first.now.items c.args.second.now.items c.loop-a.cells.items (option_to_list o
     ++ rest_of c.loop-a.left) (option_to_list c.loop-a.b ++ rest_of c.loop-a.right) c.loop-a.steps) c.in-Some-Some.is-0 c.loop-a.invariant.0) in
     let order : key_cmp c.in-Some-Some.x.0 c.in-Some-Some.y.0 ≡ Equal =
-    sym (c.in-Equal.ensures.order ∙ ap (λ (k : Key). key_cmp k c.key-in-Some-Some.result) c.key.ensures.value
-    ∙ ap (key_cmp c.in-Some-Some.x.0) c.key-in-Some-Some.ensures.value) in
+    sym (c.in-Equal.ensures.order ∙ ap (key_cmp c.in-Some-Some.x.0) c.key.ensures.value) in
     let same : c.in-Some-Some.x.0 ≡ c.in-Some-Some.y.0 = key_exact c.in-Some-Some.x.0 c.in-Some-Some.y.0 order in (
       walked_to c.args.first.now.items c.args.second.now.items (c.loop-a.cells.items ++ (c.in-Some-Some.x.0, join c.in-Some-Some.x.1 c.in-Some-Some.y.1)
           ∷ []) _ (rest_of c.loop-a.left) _ (rest_of c.loop-a.right) _ (c.loop-a.steps + 1) _

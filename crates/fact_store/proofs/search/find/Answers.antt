@@ -1,8 +1,7 @@
 -- Each step leaves half of the indices at most.
-use Rattle.std.proofs.Common.{◌≡◌, ℕ, ◌+◌, ◌/◌, length, sym, ap, ◌∙◌, subst, arith}
+use Rattle.std.proofs.Common.{◌≡◌, ℕ, ◌+◌, ◌/◌, length, sym, ◌∙◌, subst, arith}
 use Rattle.std.specs.Prelude.{Some}
 use Rattle.std.specs.declared.cmp.Ordering.TheVariants.{Less, Equal, Greater}
-use Rattle.fact_store.specs.declared.key.Key.{Key}
 use Rattle.fact_store.specs.Comparisons.{CountsSearch, HasDigits, IsBudget}
 use Rattle.fact_store.specs.Key.{key_cmp}
 use Rattle.fact_store.proofs.CellOrder.{held, ends_at}
@@ -36,7 +35,7 @@ compare-requires c =
 pub loop-low-preserved-in-Less : goal.loop-low-preserved-in-Less
 loop-low-preserved-in-Less c =
     let less : key_cmp c.split-split.result.item.0 c.args.key.now ≡ Less =
-    sym (c.in-Less.ensures.order ∙ ap (λ (k : Key). key_cmp k c.args.key.now) c.key.ensures.value) in
+    sym c.in-Less.ensures.order in
     let half = halved (length c.args.cells.now.items) c.loop-low.steps c.loop-low.most c.loop-low.invariant.budget
     (omega (arith, c.loop-low-test.true, c.loop-low.invariant.enough)) in
     record {
@@ -52,7 +51,7 @@ loop-low-preserved-in-Less c =
 pub loop-low-preserved : goal.loop-low-preserved
 loop-low-preserved c =
     let greater : key_cmp c.split-split.result.item.0 c.args.key.now ≡ Greater =
-    sym (c.in-Greater.ensures.order ∙ ap (λ (k : Key). key_cmp k c.args.key.now) c.key.ensures.value) in
+    sym c.in-Greater.ensures.order in
     let half = halved (length c.args.cells.now.items) c.loop-low.steps c.loop-low.most c.loop-low.invariant.budget
     (omega (arith, c.loop-low-test.true, c.loop-low.invariant.enough)) in
     record {
@@ -74,14 +73,14 @@ overflow_cast-result c =
 pub returns-in-Equal-clause-index : goal.returns-in-Equal-clause-index
 returns-in-Equal-clause-index c =
     let same : c.split-split.result.item.0 ≡ c.args.key.now =
-    key_exact c.split-split.result.item.0 c.args.key.now (sym (c.in-Equal.ensures.order ∙ ap (λ (k : Key). key_cmp k c.args.key.now) c.key.ensures.value))
+    key_exact c.split-split.result.item.0 c.args.key.now (sym c.in-Equal.ensures.order)
     in
     (c.split-split.result.item.1, c.split-split.ensures.item ∙ (λ i. Some (same i, c.split-split.result.item.1)))
 
 pub returns-in-Equal-clause-counted : goal.returns-in-Equal-clause-counted
 returns-in-Equal-clause-counted c =
     let equal : key_cmp c.split-split.result.item.0 c.args.key.now ≡ Equal =
-    sym (c.in-Equal.ensures.order ∙ ap (λ (k : Key). key_cmp k c.args.key.now) c.key.ensures.value) in
+    sym c.in-Equal.ensures.order in
     subst (CountsSearch c.args.key.now c.args.cells.now.items) (sym c.compare.ensures.counted)
     (ends_with c.args.key.now c.args.cells.now.items c.requires c.loop-low.low c.loop-low.high c.loop-low.steps c.split-split.result.index
     c.loop-low.invariant.narrowed c.split-split.ensures.index.from c.split-split.ensures.index.until c.split-split.result.item c.split-split.ensures.item
