@@ -62,7 +62,7 @@ at_is e (Some (Taken x)) h = ap (λ y. Some (Taken y)) (same_ends e x h)
 at_index : {X : Type 0} (xs : List X) (k : ℕ) (d : X) → k < length xs → slice_get xs k ≡ Some (get_or xs k d)
 at_index xs k d h = slice_get-get_or xs k d h
 
-at_contains : (xs : List EndPort) (k : ℕ) (x : EndPort) → slice_get xs k ≡ Some x → Contains xs x
+pub at_contains : (xs : List EndPort) (k : ℕ) (x : EndPort) → slice_get xs k ≡ Some x → Contains xs x
 at_contains [] k x e = cc
 at_contains (y ∷ xs) zero x e = subst (λ (z : EndPort). Contains (y ∷ xs) z) (same_Some y x e) (contains_here y xs)
 at_contains (y ∷ xs) (suc k) x e = contains_later y x xs (at_contains xs k x e)

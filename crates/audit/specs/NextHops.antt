@@ -61,11 +61,15 @@ next_hops_of cells held lid =
 abbrev pub entry_among : List (List ℕ) → Option ℕ → ℕ → ℕ
 entry_among rows index lid = option_map_or (λ k. slice_index_or (slice_index_or rows k []) (lid % 64) 255) index 255
 
+-- the entry that counts of it
+abbrev pub node_entry : List (List ℕ) → ℕ → AuditedSwitch → ℕ
+node_entry rows lid node = counted lid node.top (entry_among rows node.index lid)
+
 abbrev pub next_hop_by : List EndPort → ℕ → AuditedSwitch → ℕ → NextHop
 next_hop_by owners lid node entry = by_entry owners node.guid (cause_by node.ports node.top lid entry) node.row entry
 
 abbrev pub next_hop_of : List EndPort → List (List ℕ) → ℕ → AuditedSwitch → NextHop
-next_hop_of owners rows lid node = next_hop_by owners lid node (counted lid node.top (entry_among rows node.index lid))
+next_hop_of owners rows lid node = next_hop_by owners lid node (node_entry rows lid node)
 
 -- a usable switch with its entry for the LID, and what it does by that
 abbrev pub switch_step : Cells → HeldPlan → ℕ → ℕ → SwitchStep
@@ -81,8 +85,7 @@ switch_step_by owners lid node entry =
     record { switch = node.guid; entry = entry; hop = next_hop_by owners lid node entry }
 
 abbrev pub switch_step_of : List EndPort → List (List ℕ) → ℕ → AuditedSwitch → SwitchStep
-switch_step_of owners rows lid node =
-    switch_step_by owners lid node (counted lid node.top (entry_among rows node.index lid))
+switch_step_of owners rows lid node = switch_step_by owners lid node (node_entry rows lid node)
 
 -- a switch's own packet begins there; an adapter port takes its own LID, and sends any other out by its own port
 abbrev pub sent : List EndPort → EndPort → Option ℕ → Far → NextHop
