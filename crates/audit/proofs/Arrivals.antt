@@ -32,7 +32,7 @@ none_there f (y ∷ xs) zero past = absurd (omega arith)
 none_there f (y ∷ xs) (suc k) past = none_there f xs k (omega arith)
 
 -- one of end ports of which none is another than the port
-sole_owner : (port e : EndPort) (owners : List EndPort) → is_sole port owners ≡ true → is_owner owners e ≡ true → is_same_end port e ≡ true
+pub sole_owner : (port e : EndPort) (owners : List EndPort) → is_sole port owners ≡ true → is_owner owners e ≡ true → is_same_end port e ≡ true
 sole_owner port e [] sole is = absurd (cc)
 sole_owner port e (x ∷ owners) sole is =
     let parts = and_parts (is_same_end port x) (is_sole port owners) sole in

@@ -15,7 +15,7 @@ use Rattle.audit.specs.declared.next_hop.NextHop.{NextHop}
 use Rattle.audit.specs.Edges.{edge_by, edge_of}
 use Rattle.audit.specs.declared.owners.Owner.{Owner}
 use Rattle.audit.specs.Network.{row_of, node_of, sender_of, IsNetwork}
-use Rattle.audit.specs.NextHops.{by_entry, cause_of, next_hops_of, entry_among, next_hop_by, next_hop_of, first_hop, switch_step, switch_step_by, switch_step_of, AreBrought, AreBlocks}
+use Rattle.audit.specs.NextHops.{by_entry, cause_of, next_hops_of, entry_among, next_hop_by, next_hop_of, node_entry, first_hop, switch_step, switch_step_by, switch_step_of, AreBrought, AreBlocks}
 use Rattle.audit.specs.Tables.{owners_of, index_of, top_of, block_at, entry_in, entry_at, entry_for, counted}
 use Rattle.audit.specs.WalkEnds.{onward, end_of, IsEndOf, HaveEnded}
 
@@ -36,7 +36,7 @@ module _ (cells : Cells) (held : HeldPlan) (lid number : ℕ) (rows : List (List
       ≡ by_entry (owners_of held lid) g (cause_of cells held lid g) (row_of cells g) (counted lid (top_of held g) (entry_at held (index_of held g) lid))
   step_is g = ap (λ e. next_hop_by (owners_of held lid) lid (node_of cells held g) (counted lid (top_of held g) e)) (entry_is g (index_of held g) refl)
 
-  steps_are : (guids : List ℕ) → map (next_hop_of (owners_of held lid) rows lid) (map (node_of cells held) guids)
+  pub steps_are : (guids : List ℕ) → map (next_hop_of (owners_of held lid) rows lid) (map (node_of cells held) guids)
       ≡ map (λ g. by_entry (owners_of held lid) g (cause_of cells held lid g) (row_of cells g)
       (counted lid (top_of held g) (entry_at held (index_of held g) lid))) guids
   steps_are [] = refl
@@ -86,6 +86,15 @@ module _ (cells : Cells) (held : HeldPlan) (lid number : ℕ) (rows : List (List
       each_edge : (gs : List ℕ) → map (edge_of rows lid) (map (node_of cells held) gs) ≡ map (λ g. edge_by (row_of cells g) (entry_for held lid g)) gs
       each_edge [] = refl
       each_edge (g ∷ gs) = λ i. edge_by (row_of cells g) (counted lid (top_of held g) (entry_is g (index_of held g) refl i)) ∷ each_edge gs i
+
+  -- and so are the entries
+  pub entries_are : (nodes : List AuditedSwitch) (guids : List ℕ) → nodes ≡ map (node_of cells held) guids
+      → map (node_entry rows lid) nodes ≡ map (entry_for held lid) guids
+  entries_are nodes guids e = ap (map (node_entry rows lid)) e ∙ each_entry guids
+    where
+      each_entry : (gs : List ℕ) → map (node_entry rows lid) (map (node_of cells held) gs) ≡ map (entry_for held lid) gs
+      each_entry [] = refl
+      each_entry (g ∷ gs) = λ i. counted lid (top_of held g) (entry_is g (index_of held g) refl i) ∷ each_entry gs i
 
   -- and what the switches do by their entries
   pub switch_steps_are : (nodes : List AuditedSwitch) (guids : List ℕ) → nodes ≡ map (node_of cells held) guids

@@ -1,13 +1,14 @@
 -- When an end port is one of some, and when a packet ends at it.
-use Rattle.std.proofs.Common.{◌≡◌, true, List, Option, None, Some, refl, ap, subst}
-use Rattle.std.specs.Prelude.{Contains, IsTrue, ◌==◌, ◌↔◌}
+use Rattle.std.proofs.Common.{◌≡◌, ℕ, zero, suc, true, List, [], ◌∷◌, Option, None, Some, refl, ap, subst}
+use Rattle.std.specs.Prelude.{slice_get, Contains, IsTrue, ◌==◌, ◌↔◌}
 use Rattle.std.proofs.lemmas.Bool.{and_parts, eqb-true, eq-eqb}
+use Rattle.std.proofs.lemmas.Option.{same_Some}
 use Rattle.subnet_view.specs.declared.end_port.EndPort.{EndPort}
 use Rattle.fact_store.specs.View.{Facts, cells_of}
 use Rattle.subnet_view.specs.EndPorts.{end_ports, is_end_port}
 use Rattle.subnet_view.proofs.EndPortList.{end_ports_law}
 use Rattle.subnet_view.proofs.WireLaws.{end_port_law}
-use Rattle.subnet_view.proofs.Members.{list_any_true, list_any_at}
+use Rattle.subnet_view.proofs.Members.{contains_here, contains_later, list_any_true, list_any_at}
 use Rattle.audit.specs.declared.end.End.{End}
 use Rattle.audit.specs.declared.end.End.TheVariants.{Taken, Lost}
 use Rattle.subnet_view.proofs.Components.{same_tests}
@@ -48,3 +49,8 @@ pub at_is : (e : EndPort) (end : Option End) → is_at e end ≡ true → end �
 at_is e None h = cc
 at_is e (Some (Lost g cause)) h = cc
 at_is e (Some (Taken x)) h = ap (λ y. Some (Taken y)) (same_ends e x h)
+
+pub at_contains : (xs : List EndPort) (k : ℕ) (x : EndPort) → slice_get xs k ≡ Some x → Contains xs x
+at_contains [] k x e = cc
+at_contains (y ∷ xs) zero x e = subst (λ (z : EndPort). Contains (y ∷ xs) z) (same_Some y x e) (contains_here y xs)
+at_contains (y ∷ xs) (suc k) x e = contains_later y x xs (at_contains xs k x e)

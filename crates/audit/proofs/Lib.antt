@@ -8,14 +8,17 @@ pub mod FarRows
 pub mod Fars
 pub mod Further
 pub mod Gathered
+pub mod GoneBack
 pub mod HeldPlans
 pub mod HeldTables
 pub mod InTime
 pub mod Judged
+pub mod LidBits
 pub mod Mapped
 pub mod Owned
 pub mod OwnerLines
 pub mod PlanPackets
 pub mod PlanSteps
+pub mod ToOwners
 pub mod Told
 pub mod Tops

@@ -8,8 +8,8 @@ use Rattle.audit.specs.declared.far_end.Far.{Far}
 use Rattle.audit.specs.declared.far_end.Far.TheVariants.{Nothing, Switch, Port}
 use Rattle.audit.specs.declared.audited_switch.AuditedSwitch.{AuditedSwitch}
 use Rattle.audit.specs.Network.{row_of}
-use Rattle.audit.specs.NextHops.{entry_among}
-use Rattle.audit.specs.Tables.{counted, entry_for, top_of}
+use Rattle.audit.specs.NextHops.{node_entry}
+use Rattle.audit.specs.Tables.{entry_for, top_of}
 
 -- by a port whose wire leads to a usable switch
 abbrev pub edge_to : ℕ → Far → Option Edge
@@ -31,4 +31,4 @@ greatest_top cells held = greatest (map (top_of held) (switches cells))
 
 -- that of a switch with its index, its top and its row, by the blocks of a number
 abbrev pub edge_of : List (List ℕ) → ℕ → AuditedSwitch → Option Edge
-edge_of rows lid node = edge_by node.row (counted lid node.top (entry_among rows node.index lid))
+edge_of rows lid node = edge_by node.row (node_entry rows lid node)

@@ -1,7 +1,10 @@
+pub mod BlockWalks
 pub mod Chains
+pub mod Deliveries
 pub mod Ends
 pub mod Edges
 pub mod Fabrics
+pub mod LidSets
 pub mod Network
 pub mod Owners
 pub mod NextHops

@@ -1,9 +1,10 @@
 -- What becomes of a packet for a LID at each switch, and at the port that sends it.
-use Rattle.std.specs.Prelude.{◌≡◌, ◌↔◌, Bool, false, ℕ, ◌<◌, ◌%◌, ◌==◌, List, [], Option, None, Some, length, map, nat_lt, slice_get, slice_index_or, slice_set, if◌then◌else◌}
+use Rattle.std.specs.Prelude.{◌≡◌, ◌↔◌, Bool, false, ℕ, ◌<◌, ◌%◌, ◌==◌, List, [], Contains, Option, None, Some, length, map, nat_lt, slice_get, slice_index_or, slice_set, if◌then◌else◌}
 use Rattle.std.specs.Option.{option_map_or}
 use Rattle.subnet_view.specs.declared.end_port.EndPort.{EndPort}
 use Rattle.subnet_view.specs.Reading.{Cells, is_usable, port_count_of, switches}
 use Rattle.plan_file.specs.declared.held.HeldBlock.{HeldBlock}
+use Rattle.plan_file.specs.declared.held.HeldLid.{HeldLid}
 use Rattle.plan_file.specs.Held.{HeldPlan}
 use Rattle.subnet_view.specs.EndPorts.{end_ports}
 use Rattle.audit.specs.declared.end.Cause.{Cause}
@@ -59,11 +60,15 @@ next_hops_of cells held lid =
 abbrev pub entry_among : List (List ℕ) → Option ℕ → ℕ → ℕ
 entry_among rows index lid = option_map_or (λ k. slice_index_or (slice_index_or rows k []) (lid % 64) 255) index 255
 
+-- the entry that counts of it
+abbrev pub node_entry : List (List ℕ) → ℕ → AuditedSwitch → ℕ
+node_entry rows lid node = counted lid node.top (entry_among rows node.index lid)
+
 abbrev pub next_hop_by : List EndPort → ℕ → AuditedSwitch → ℕ → NextHop
 next_hop_by owners lid node entry = by_entry owners node.guid (cause_by node.ports node.top lid entry) node.row entry
 
 abbrev pub next_hop_of : List EndPort → List (List ℕ) → ℕ → AuditedSwitch → NextHop
-next_hop_of owners rows lid node = next_hop_by owners lid node (counted lid node.top (entry_among rows node.index lid))
+next_hop_of owners rows lid node = next_hop_by owners lid node (node_entry rows lid node)
 
 -- a usable switch with its entry for the LID, and what it does by that
 abbrev pub switch_step : Cells → HeldPlan → ℕ → ℕ → SwitchStep
@@ -79,8 +84,7 @@ switch_step_by owners lid node entry =
     record { switch = node.guid; entry = entry; hop = next_hop_by owners lid node entry }
 
 abbrev pub switch_step_of : List EndPort → List (List ℕ) → ℕ → AuditedSwitch → SwitchStep
-switch_step_of owners rows lid node =
-    switch_step_by owners lid node (counted lid node.top (entry_among rows node.index lid))
+switch_step_of owners rows lid node = switch_step_by owners lid node (node_entry rows lid node)
 
 -- a switch's own packet begins there; an adapter port takes its own LID, and sends any other out by its own port
 abbrev pub sent : List EndPort → EndPort → Option ℕ → Far → NextHop
@@ -135,6 +139,11 @@ with_row rows block = slice_set rows block.switch block.entries
 -- the same, if there is one
 abbrev pub with_block : List (List ℕ) → Option HeldBlock → List (List ℕ)
 with_block rows block = option_map_or (with_row rows) block rows
+
+-- the packets of every end port for a LID come to an end port that holds it
+abbrev pub LineArrives : Cells → HeldPlan → HeldLid → Type 0
+LineArrives cells held line =
+    (e : EndPort) → Contains (end_ports cells) e → IsBrought cells held line.lid e (Some (Taken line.port))
 
 -- a packet ends at the port
 abbrev pub is_at : EndPort → Option End → Bool

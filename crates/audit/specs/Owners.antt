@@ -1,5 +1,5 @@
 -- Who holds each LID, in one step.
-use Rattle.std.specs.Prelude.{◌≡◌, ◌<◌, ◌==◌, ℕ, List, [], ◌∷◌, filter, length, map, slice_index_or}
+use Rattle.std.specs.Prelude.{◌≡◌, ◌<◌, ◌==◌, ℕ, List, [], ◌∷◌, Option, None, Some, filter, length, map, slice_index_or}
 use Rattle.subnet_view.specs.declared.end_port.EndPort.{EndPort}
 use Rattle.plan_file.specs.declared.held.HeldLid.{HeldLid}
 use Rattle.audit.specs.declared.owners.Owner.{Owner}
@@ -10,6 +10,12 @@ abbrev pub owner_among : List EndPort → Owner
 owner_among [] = Nobody
 owner_among (e ∷ []) = Sole e
 owner_among (e ∷ x ∷ es) = Several
+
+-- the end port that alone holds it
+abbrev pub sole_among : Owner → Option EndPort
+sole_among Nobody = None
+sole_among (Sole e) = Some e
+sole_among Several = None
 
 -- with one more
 abbrev pub owner_more : Owner → EndPort → Owner

@@ -80,11 +80,11 @@ pub(crate) fn top_at(held: &Held, index: Option<usize>) -> Lid
     ensures { result ≡ top_at held.now index }
 {
     let Some(index) = index else {
-        return Lid::new(0);
+        return Lid::NONE;
     };
     match held.switches().get(index) {
         Some(switch) => switch.top,
-        None => Lid::new(0),
+        None => Lid::NONE,
     }
 }
 
@@ -92,7 +92,7 @@ pub(crate) fn top_at(held: &Held, index: Option<usize>) -> Lid
 pub(crate) fn greatest_top(nodes: &[AuditedSwitch]) -> Lid
     ensures { result ≡ greatest (map (λ node. node.top) nodes.now) }
 {
-    let mut greatest = Lid::new(0);
+    let mut greatest = Lid::NONE;
     for node in nodes {
         if greatest < node.top {
             greatest = node.top;

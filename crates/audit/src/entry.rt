@@ -22,8 +22,8 @@ fn entry_at(held: &Held, index: Option<usize>, lid: Lid) -> u8
     let Some(index) = index else {
         return 255;
     };
-    match block_at(held, index, lid.number() / 64) {
-        Some(block) => block.entries[usize::from(lid.number()) % 64],
+    match block_at(held, index, lid.block()) {
+        Some(block) => block.entries[lid.in_block()],
         None => 255,
     }
 }

@@ -2,14 +2,17 @@
 #![tactic(auto)]
 
 mod audited_switch;
+mod block_walks;
 mod blocks;
 mod chains;
+mod deliveries;
 mod end;
 mod ends;
 mod entry;
 mod far_end;
 mod far_ends;
 pub mod laws;
+mod lid_set;
 mod network;
 mod next_hop;
 mod next_hops;
@@ -17,6 +20,7 @@ mod owners;
 mod switch_step;
 pub mod walk_ends;
 
+pub use deliveries::Deliveries;
 pub use end::{Cause, End};
 pub use ends::{Ends, is_at, is_same_end};
 pub use far_end::Far;

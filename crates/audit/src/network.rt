@@ -1,21 +1,24 @@
-ghost use Rattle.std.specs.Prelude.{◌≡◌, ◌<◌, ◌/◌, IfOk, length, map, slice_get};
+ghost use Rattle.std.specs.Prelude.{◌≡◌, ◌<◌, ◌/◌, IfOk, length, map, slice_get, true};
 ghost use Rattle.std.specs.Option.{option_map_or};
 ghost use Rattle.fact_store.specs.View.{cells_of};
 ghost use Rattle.subnet_view.specs.EndPorts.{end_ports};
 ghost use Rattle.subnet_view.specs.Reading.{switches};
+ghost use Rattle.audit.specs.Deliveries.{AreDeliveries};
 ghost use Rattle.audit.specs.Edges.{edges_of, greatest_top};
 ghost use Rattle.audit.specs.Network.{far_by, sender_of};
-ghost use Rattle.audit.specs.NextHops.{AreBlocks, AreBrought, entry_by, switch_step};
+ghost use Rattle.audit.specs.NextHops.{AreBlocks, AreBrought, LineArrives, entry_by, switch_step};
 ghost use Rattle.audit.specs.Ends.{is_sole};
-ghost use Rattle.audit.specs.Tables.{owners_of, top_of};
+ghost use Rattle.audit.specs.Tables.{entry_for, owners_of, top_of};
 
 use crate::audited_switch::{AuditedSwitch, greatest_top, nodes};
+use crate::block_walks::delivered;
 use crate::blocks::{block_chains, blocks};
 use crate::chains::Chains;
+use crate::deliveries::Deliveries;
 use crate::ends::Ends;
 use crate::entry::entry_for;
 use crate::far_end::Far;
-use crate::next_hops::{edges, steps, switch_steps};
+use crate::next_hops::{edges, entries, steps, switch_steps};
 use crate::owners::{Owner, is_sole_owner, owners, owners_of};
 use crate::senders::{Sender, all_begin, firsts, sources};
 use crate::switch_step::SwitchStep;
@@ -113,11 +116,10 @@ impl<'a> Network<'a> {
         ensures { IfOk result (λ blocks. AreBlocks self.now.held blocks.number blocks.rows.items
             × (blocks.number ≡ lid / 64)) }
     {
-        let number = lid.number() / 64;
-        if blocks.number == number {
+        if blocks.number == lid.block() {
             return Ok(blocks);
         }
-        self.blocks(alloc, number)
+        self.blocks(alloc, lid.block())
     }
 
     /// Where forwarding brings a packet for the LID of a line, for each end port that sends it, in their order; None is
@@ -165,6 +167,63 @@ impl<'a> Network<'a> {
         switch_steps(alloc, &self.nodes, &owners, &blocks.rows, lid)
     }
 
+    /// The entry of each usable switch for a LID, by rising GUID; 255 is none. Takes a step for each switch.
+    pub fn entries(&self, alloc: Global, blocks: &Blocks, lid: Lid) -> Result<Vec<u8>, AllocError>
+        requires held { AreBlocks self.now.held blocks.now.number blocks.now.rows.items }
+        requires number { blocks.now.number ≡ lid / 64 }
+        ensures { IfOk result (λ entries. entries.items
+            ≡ map (entry_for self.now.held lid) (switches (cells_of self.now.facts))) }
+    {
+        entries(alloc, &self.nodes, &blocks.rows, lid)
+    }
+
+    /// The LIDs of a block for which packets are seen to come from each usable switch to the one end port that holds
+    /// the LID. Takes a step for each switch and LID, and in each round one for each two switches of which one sends
+    /// some of these packets on to the other: there are no more rounds than the longest way has switches, and at most
+    /// 64.
+    pub fn deliveries(&self, alloc: Global, blocks: &Blocks) -> Result<Deliveries, AllocError>
+        requires { AreBlocks self.now.held blocks.now.number blocks.now.rows.items }
+        ensures { IfOk result (AreDeliveries (cells_of self.now.facts) self.now.held) }
+    {
+        let lids = delivered(
+            alloc,
+            &self.nodes,
+            &self.owners,
+            &blocks.rows,
+            blocks.number,
+        )?;
+        Ok(Deliveries {
+            number: blocks.number,
+            lids,
+        })
+    }
+
+    /// Those of the number of these blocks, by those of another or the same.
+    pub fn deliveries_for(
+        &self,
+        alloc: Global,
+        deliveries: Deliveries,
+        blocks: &Blocks,
+    ) -> Result<Deliveries, AllocError>
+        requires held { AreBlocks self.now.held blocks.now.number blocks.now.rows.items }
+        requires deliveries { AreDeliveries (cells_of self.now.facts) self.now.held deliveries }
+        ensures { IfOk result (AreDeliveries (cells_of self.now.facts) self.now.held) }
+    {
+        if deliveries.number == blocks.number {
+            return Ok(deliveries);
+        }
+        self.deliveries(alloc, blocks)
+    }
+
+    /// Whether it is seen that the packets which end ports send to the LID of a line all come to its port. Takes a step
+    /// or two where the LID has not several end ports.
+    pub fn all_arrive(&self, deliveries: &Deliveries, line: &HeldLid) -> bool
+        requires { AreDeliveries (cells_of self.now.facts) self.now.held deliveries.now }
+        ensures { result ≡ true → LineArrives (cells_of self.now.facts) self.now.held line.now }
+    {
+        self.begin && deliveries.has(line.lid) && self.is_sole_owner(line)
+    }
+
     /// The end ports that hold a LID. Takes a step or two where there are not several, and else a walk over the LIDs
     /// that are held.
     pub fn owners(&self, alloc: Global, lid: Lid) -> Result<Vec<EndPort>, AllocError>
@@ -189,7 +248,7 @@ impl<'a> Network<'a> {
     {
         match self.nodes.get(index) {
             Some(node) => node.top,
-            None => Lid::new(0),
+            None => Lid::NONE,
         }
     }
 

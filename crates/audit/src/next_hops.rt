@@ -1,6 +1,6 @@
 //! What becomes of packets for one LID at each switch.
 ghost use Rattle.std.specs.Prelude.{◌≡◌, IfOk, map};
-ghost use Rattle.audit.specs.NextHops.{at_port, cause_by, entry_among, first_hop, over, next_hop_by, next_hop_of, switch_step_of};
+ghost use Rattle.audit.specs.NextHops.{at_port, cause_by, entry_among, first_hop, next_hop_by, next_hop_of, node_entry, over, switch_step_of};
 ghost use Rattle.audit.specs.Edges.{edge_of, edge_to};
 ghost use Rattle.audit.specs.Tables.{counted, is_owner};
 
@@ -41,11 +41,15 @@ pub(crate) fn steps(
 }
 
 /// What a switch does.
-fn step_at(owners: &[EndPort], rows: &[[u8; 64]], lid: Lid, node: &AuditedSwitch) -> NextHop
+pub(crate) fn step_at(
+    owners: &[EndPort],
+    rows: &[[u8; 64]],
+    lid: Lid,
+    node: &AuditedSwitch,
+) -> NextHop
     ensures { result ≡ next_hop_of owners.now rows.now lid node.now }
 {
-    let entry = counted(lid, node.top, entry_among(rows, node.index, lid));
-    step_by(owners, lid, node, entry)
+    step_by(owners, lid, node, entry_of(rows, lid, node))
 }
 
 /// What a switch does by its entry.
@@ -55,7 +59,7 @@ fn step_by(owners: &[EndPort], lid: Lid, node: &AuditedSwitch, entry: u8) -> Nex
     if entry == 0 {
         return NextHop::Ends(End::Taken(EndPort {
             node: node.guid,
-            port: PortNum::new(0),
+            port: PortNum::MANAGEMENT,
         }));
     }
     match node.row.far(entry) {
@@ -93,7 +97,7 @@ fn switch_step_at(
 ) -> SwitchStep
     ensures { result ≡ switch_step_of owners.now rows.now lid node.now }
 {
-    let entry = counted(lid, node.top, entry_among(rows, node.index, lid));
+    let entry = entry_of(rows, lid, node);
     SwitchStep {
         switch: node.guid,
         entry,
@@ -116,6 +120,28 @@ fn cause_by(ports: u8, top: Lid, lid: Lid, entry: u8) -> Cause
     }
 }
 
+/// The entry of each switch.
+pub(crate) fn entries(
+    alloc: Global,
+    nodes: &[AuditedSwitch],
+    rows: &[[u8; 64]],
+    lid: Lid,
+) -> Result<Vec<u8>, AllocError>
+    ensures { IfOk result (λ entries. entries.items ≡ map (node_entry rows.now lid) nodes.now) }
+{
+    nodes
+        .iter()
+        .map(|node| entry_of(rows, lid, node))
+        .collect(alloc)
+}
+
+/// The entry of a switch.
+fn entry_of(rows: &[[u8; 64]], lid: Lid, node: &AuditedSwitch) -> u8
+    ensures { result ≡ node_entry rows.now lid node.now }
+{
+    counted(lid, node.top, entry_among(rows, node.index, lid))
+}
+
 /// The entry of the switch at an index.
 fn entry_among(rows: &[[u8; 64]], index: Option<usize>, lid: Lid) -> u8
     ensures { result ≡ entry_among rows.now index lid }
@@ -124,7 +150,7 @@ fn entry_among(rows: &[[u8; 64]], index: Option<usize>, lid: Lid) -> u8
         return 255;
     };
     match rows.get(index) {
-        Some(row) => row[usize::from(lid.number()) % 64],
+        Some(row) => row[lid.in_block()],
         None => 255,
     }
 }
@@ -133,7 +159,7 @@ fn entry_among(rows: &[[u8; 64]], index: Option<usize>, lid: Lid) -> u8
 pub(crate) fn counted(lid: Lid, top: Lid, entry: u8) -> u8
     ensures { result ≡ counted lid top entry }
 {
-    if lid.number() == 0 || top < lid {
+    if lid == Lid::NONE || top < lid {
         255
     } else {
         entry
@@ -159,7 +185,7 @@ pub(crate) fn edges(
 fn edge_at(rows: &[[u8; 64]], lid: Lid, node: &AuditedSwitch) -> Option<Edge>
     ensures { result ≡ edge_of rows.now lid node.now }
 {
-    let entry = counted(lid, node.top, entry_among(rows, node.index, lid));
+    let entry = entry_of(rows, lid, node);
     if entry == 0 {
         return None;
     }

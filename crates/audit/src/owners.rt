@@ -2,7 +2,7 @@
 ghost use Rattle.std.specs.Prelude.{◌≡◌, [], ◌∷◌, IfOk, slice_index_or, slice_set};
 ghost use Rattle.audit.specs.declared.owners.Owner.TheVariants.{Several};
 ghost use Rattle.audit.specs.Ends.{is_sole};
-ghost use Rattle.audit.specs.Owners.{AreOwners, owner_more};
+ghost use Rattle.audit.specs.Owners.{AreOwners, owner_more, sole_among};
 ghost use Rattle.audit.specs.Tables.{owners_of};
 
 use crate::ends::is_same_end;
@@ -80,6 +80,16 @@ fn owner_at(owners: &[Owner], lid: Lid) -> Owner
     match owners.get(usize::from(lid.number())) {
         Some(owner) => *owner,
         None => Owner::Several,
+    }
+}
+
+/// The end port that alone holds a LID. Takes one step.
+pub(crate) fn sole_owner(owners: &[Owner], lid: Lid) -> Option<EndPort>
+    ensures { result ≡ sole_among (slice_index_or owners.now lid Several) }
+{
+    match owner_at(owners, lid) {
+        Owner::Sole(port) => Some(port),
+        _ => None,
     }
 }
 

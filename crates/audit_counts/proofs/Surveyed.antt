@@ -1,21 +1,25 @@
 -- The packets of a line, end port by end port, and those of all lines.
 use Rattle.std.proofs.Common.{◌≡◌, ◌<◌, ◌≤◌, ◌+◌, ℕ, suc, List, [], ◌∷◌, ◌++◌, refl, sym, ap, ◌∙◌, subst, arith, Bool, true, false, cond, length, get_or, map, take, append_assoc}
-use Rattle.std.specs.Prelude.{Option, None, count_by, filter, not, ◌&&◌}
+use Rattle.std.specs.Prelude.{Option, None, Some, count_by, filter, not, ◌&&◌}
 use Rattle.std.specs.List.{flat_map, list_all, position}
 use Rattle.std.proofs.lemmas.List.{append-nil, map-append, take_all, take_more}
 use Rattle.std.proofs.lemmas.List.Concat.{flat_map-append}
 use Rattle.std.proofs.lemmas.List.Elements.{filter-append}
 use Rattle.std.proofs.lemmas.List.Sums.{sum_by-cons}
+use Rattle.std.proofs.lemmas.Option.{slice_get-get_or}
 use Rattle.subnet_view.specs.declared.end_port.EndPort.{EndPort}
 use Rattle.subnet_view.specs.EndPorts.{end_ports}
 use Rattle.subnet_view.specs.Reading.{Cells}
 use Rattle.plan_file.specs.declared.held.HeldLid.{HeldLid}
 use Rattle.plan_file.specs.Held.{HeldPlan}
 use Rattle.audit.specs.declared.end.End.{End}
-use Rattle.audit.specs.NextHops.{AreBlocks, AreBrought, end_for, is_at}
+use Rattle.audit.specs.declared.end.End.TheVariants.{Taken}
+use Rattle.audit.specs.NextHops.{AreBlocks, AreBrought, LineArrives, end_for, is_at}
 use Rattle.audit.specs.Tables.{is_owner}
 use Rattle.audit.proofs.Arrivals.{all_there}
-use Rattle.audit.proofs.InTime.{found_at}
+use Rattle.audit.proofs.InTime.{end_found, found_at}
+use Rattle.audit.proofs.Judged.{at_contains, same_itself}
+use Rattle.audit_channels.specs.Ways.{AllComeTo}
 use Rattle.audit_counts.specs.declared.sent_packet.SentPacket.{SentPacket}
 use Rattle.audit_counts.specs.declared.packet_tally.PacketTally.{PacketTally}
 use Rattle.audit_counts.specs.Packets.{arrives, is_between, packet_of, packets_for, packets_of, sent_to}
@@ -101,6 +105,16 @@ module _ (cells : Cells) (held : HeldPlan) (line : HeldLid) where
       let as_many = h.as_many in
       let there = all_there port ends none k (omega arith) in
       ap (is_at line.port) (sym (found_at cells held line.lid ends k line.port h less)) ∙ ap (λ p. is_at p (get_or ends k None)) (sym own) ∙ there))
+
+  -- the same where all are seen to come there
+  pub sent_come : AllComeTo cells held line → list_all arrives (sent_to cells held line) ≡ true
+  sent_come come =
+      each_arrives (end_ports cells)
+      (λ k less. come (get_or (end_ports cells) k line.port)
+      (at_contains (end_ports cells) k (get_or (end_ports cells) k line.port) (slice_get-get_or (end_ports cells) k line.port less)))
+
+  pub come_there : LineArrives cells held line → AllComeTo cells held line
+  come_there h = λ e is. ap (is_at line.port) (sym (end_found cells held line.lid e (Some (Taken line.port)) (h e is))) ∙ same_itself line.port
 
   -- as many as end ports are joined to that of the line
   joined_sent : (owner : Site) (ports : List EndPort) → owner ≡ site_of cells line.port

@@ -1,18 +1,19 @@
 //! The packets for all LIDs that are held.
-ghost use Rattle.std.specs.Prelude.{◌≡◌, ◌/◌, ◌++◌, true, Contains, IfOk, List, OnOk, map};
+ghost use Rattle.std.specs.Prelude.{◌≡◌, ◌/◌, ◌++◌, true, Contains, IfOk, List, OnOk, count_by, map};
 ghost use Rattle.fact_store.specs.View.{cells_of};
 ghost use Rattle.subnet_view.specs.EndPorts.{end_ports};
+ghost use Rattle.audit.specs.Deliveries.{AreDeliveries};
 ghost use Rattle.audit.specs.NextHops.{AreBlocks};
 ghost use Rattle.audit_channels.specs.Ways.{AllComeTo, AreTold};
 ghost use Rattle.audit_counts.specs.declared.sent_packet.SentPacket.{SentPacket as Sent};
 ghost use Rattle.audit_counts.specs.Packets.{packets_of, sent_to};
-ghost use Rattle.audit_counts.specs.Sites.{IsCensus, site_of};
-ghost use Rattle.audit_counts.specs.PacketTally.{IsTally};
+ghost use Rattle.audit_counts.specs.Sites.{IsCensus, are_joined, are_joined_adapters, site_of};
+ghost use Rattle.audit_counts.specs.PacketTally.{IsTally, IsWithArrived};
 
 use crate::packet_tally::PacketTally;
 use crate::sent_packet::SentPacket;
 use crate::site::{Census, Site, census_of, index_of, joined_adapters, joined_count, site_in};
-use audit::{Blocks, Network};
+use audit::{Blocks, Deliveries, Network};
 use plan_file::HeldLid;
 use std::alloc::{AllocError, Global};
 
@@ -24,8 +25,9 @@ pub struct PacketSurvey {
     pub told: Vec<bool>,
 }
 
-/// Counts the packets that end ports send to the LIDs of their components. Takes what `Network::ends` does for each
-/// LID, what `Network::blocks` does for each 64, and a step for each two end ports.
+/// Counts the packets that end ports send to the LIDs of their components. Takes what `Network::blocks` and
+/// `Network::deliveries` do for each 64 LIDs; and for each LID whose packets are not seen to arrive by these what
+/// `Network::ends` does, and a step for each end port where they do not.
 pub fn survey(alloc: Global, network: &Network, sites: &[Site]) -> Result<PacketSurvey, AllocError>
     requires { sites.now ≡ map (site_of (cells_of network.now.facts)) (end_ports (cells_of network.now.facts)) }
     ensures tally { IfOk result (λ survey.
@@ -38,12 +40,22 @@ pub fn survey(alloc: Global, network: &Network, sites: &[Site]) -> Result<Packet
     let mut index = 0;
     let census = census_of(sites);
     let mut blocks = network.blocks(alloc, 0)?;
+    let mut deliveries = network.deliveries(alloc, &blocks)?;
     for line in network.lids() {
         blocks = network.blocks_for(alloc, blocks, line.lid)?;
+        deliveries = network.deliveries_for(alloc, deliveries, &blocks)?;
         index = index_of(sites, index, &line.port);
         let all = match site_in(sites, index) {
             Some(owner) => add_packets(
-                alloc, &mut tally, network, &blocks, sites, census, line, &owner,
+                alloc,
+                &mut tally,
+                network,
+                &blocks,
+                &deliveries,
+                sites,
+                census,
+                line,
+                &owner,
             )?,
             None => false,
         };
@@ -58,6 +70,7 @@ fn add_packets(
     tally: &mut PacketTally,
     network: &Network,
     blocks: &Blocks,
+    deliveries: &Deliveries,
     sites: &[Site],
     census: Census,
     line: &HeldLid,
@@ -65,6 +78,7 @@ fn add_packets(
 ) -> Result<bool, AllocError>
     requires held { AreBlocks network.now.held blocks.now.number blocks.now.rows.items }
     requires number { blocks.now.number ≡ line.now.lid / 64 }
+    requires deliveries { AreDeliveries (cells_of network.now.facts) network.now.held deliveries.now }
     requires sites { sites.now ≡ map (site_of (cells_of network.now.facts)) (end_ports (cells_of network.now.facts)) }
     requires census { IsCensus sites.now census }
     requires listed { Contains sites.now owner.now }
@@ -73,12 +87,14 @@ fn add_packets(
         → IsTally (packets ++ sent_to (cells_of network.now.facts) network.now.held line.now) tally.new) }
     ensures told { IfOk result (λ all. all ≡ true → AllComeTo (cells_of network.now.facts) network.now.held line.now) }
 {
+    if network.all_arrive(deliveries, line) {
+        add_arrived(tally, sites, census, owner)?;
+        return Ok(true);
+    }
     let ends = network.ends(alloc, blocks, line)?;
     match ends.first_elsewhere() {
         None => {
-            let count = joined_count(sites, owner, census) as u64;
-            let between = joined_adapters(sites, owner, census) as u64;
-            tally.add_arrived(count, between)?;
+            add_arrived(tally, sites, census, owner)?;
             return Ok(true);
         }
         Some(_) => {}
@@ -93,4 +109,21 @@ fn add_packets(
         }
     }
     Ok(false)
+}
+
+/// Counts those that the end ports of a component send to one of them, where all arrive.
+fn add_arrived(
+    tally: &mut PacketTally,
+    sites: &[Site],
+    census: Census,
+    owner: &Site,
+) -> Result<(), AllocError>
+    requires census { IsCensus sites.now census }
+    requires listed { Contains sites.now owner.now }
+    ensures { OnOk result (IsWithArrived tally.old (count_by (λ site. are_joined site owner.now) sites.now)
+        (count_by (λ site. are_joined_adapters site owner.now) sites.now) tally.new) }
+{
+    let count = joined_count(sites, owner, census) as u64;
+    let between = joined_adapters(sites, owner, census) as u64;
+    tally.add_arrived(count, between)
 }

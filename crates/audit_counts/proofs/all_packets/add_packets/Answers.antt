@@ -1,5 +1,6 @@
 -- An end port more.
-use Rattle.std.proofs.Common.{◌≡◌, ◌<◌, ◌+◌, ◌∙◌, sym, ap, subst, arith, length, get_or}
+use Rattle.std.proofs.Common.{◌≡◌, ◌<◌, ◌+◌, ◌∙◌, refl, sym, ap, subst, arith, length, get_or}
+use Rattle.std.specs.Prelude.{count_by}
 use Rattle.fact_store.specs.View.{cells_of}
 use Rattle.port_graph.proofs.Counts.{length_map}
 use Rattle.subnet_view.specs.declared.end_port.EndPort.{EndPort}
@@ -7,11 +8,11 @@ use Rattle.subnet_view.specs.EndPorts.{end_ports}
 use Rattle.audit_channels.proofs.Senders.{all_come_to}
 use Rattle.audit_counts.specs.declared.site.Site.{Site}
 use Rattle.audit_counts.specs.declared.packet_tally.PacketTally.{PacketTally}
-use Rattle.audit_counts.specs.Sites.{are_joined, site_of}
+use Rattle.audit_counts.specs.Sites.{are_joined, are_joined_adapters, site_of}
 use Rattle.audit_counts.proofs.Sited.{site_there}
 use Rattle.audit_counts.specs.Packets.{sent_to}
 use Rattle.audit_counts.proofs.Counted.{tally_arrived}
-use Rattle.audit_counts.proofs.Surveyed.{AreCounted, adapters_sent, all_counted, all_sent, one_counted, none_more, end_there, sent_arrive}
+use Rattle.audit_counts.proofs.Surveyed.{AreCounted, adapters_sent, all_counted, all_sent, come_there, one_counted, none_more, end_there, sent_arrive, sent_come}
 use Rattle.audit_counts.proofs.all_packets.add_packets.Goals as goal
 use Rattle.audit_counts.proofs.all_packets.add_packets.Goals.{then-is_joined_to+in_ok-add, else-is_joined_to}
 
@@ -48,21 +49,41 @@ loop-index-preserved c =
           (sym joined ∙ sym w.if-is_joined_to.ensures))
     ]
 
+-- where all are seen to arrive, and where each does
+pub returns-then-all_arrive : goal.returns-then-all_arrive
+returns-then-all_arrive c =
+    let cells = cells_of c.args.network.now.facts in
+    let held = c.args.network.now.held in
+    let line = c.args.line.now in
+    let owner = c.args.owner.now in
+    let sites = c.args.sites.now in
+    let come = come_there cells held line (c.all_arrive.ensures c.if-all_arrive.true) in
+    record {
+      counted = λ packets before.
+          tally_arrived packets (sent_to cells held line) c.args.tally.now c.add_arrived.new.tally (count_by (λ site. are_joined site owner) sites)
+          (count_by (λ site. are_joined_adapters site owner) sites) before (sent_come cells held line come)
+          (all_sent cells held line owner sites (count_by (λ site. are_joined site owner) sites) c.requires.owner c.requires.sites refl)
+          (adapters_sent cells held line owner sites (count_by (λ site. are_joined_adapters site owner) sites) c.requires.owner c.requires.sites refl)
+          c.in_ok-add_arrived.ensures;
+      told = λ e. come;
+    }
+
 pub returns-in-None : goal.returns-in-None
 returns-in-None c =
     let cells = cells_of c.args.network.now.facts in
     let held = c.args.network.now.held in
     let line = c.args.line.now in
-    let count = c.joined_count-count.result in
-    let between = c.joined_adapters-between.result in
+    let owner = c.args.owner.now in
+    let sites = c.args.sites.now in
     let ends = c.in_ok-ends.ends in
     let none = sym c.in-None.ensures in
     record {
       counted = λ packets before.
-          tally_arrived packets (sent_to cells held line) c.args.tally.now c.add_arrived.new.self count between before
+          tally_arrived packets (sent_to cells held line) c.args.tally.now c.add_arrived-in-None.new.tally (count_by (λ site. are_joined site owner) sites)
+          (count_by (λ site. are_joined_adapters site owner) sites) before
           (sent_arrive cells held line ends.port ends.ends c.in_ok-ends.ensures.0 c.in_ok-ends.ensures.1 none)
-          (all_sent cells held line c.args.owner.now c.args.sites.now count c.requires.owner c.requires.sites c.joined_count-count.ensures)
-          (adapters_sent cells held line c.args.owner.now c.args.sites.now between c.requires.owner c.requires.sites c.joined_adapters-between.ensures)
+          (all_sent cells held line owner sites (count_by (λ site. are_joined site owner) sites) c.requires.owner c.requires.sites refl)
+          (adapters_sent cells held line owner sites (count_by (λ site. are_joined_adapters site owner) sites) c.requires.owner c.requires.sites refl)
           c.in_ok-add_arrived-in-None.ensures;
       told = λ e. all_come_to cells held line ends.port ends.ends c.in_ok-ends.ensures.0 c.in_ok-ends.ensures.1 none;
     }

@@ -1,6 +1,6 @@
 -- A LID more.
-use Rattle.std.proofs.Common.{◌≡◌, ◌∙◌, ◌+◌, Bool, true, List, length, get_or, sym, ap, subst}
-use Rattle.std.specs.Prelude.{Option, Some, None, slice_get}
+use Rattle.std.proofs.Common.{◌≡◌, ◌∙◌, ◌+◌, Bool, true, List, sym, subst}
+use Rattle.std.specs.Prelude.{Option}
 use Rattle.fact_store.specs.View.{cells_of}
 use Rattle.subnet_view.specs.EndPorts.{end_ports}
 use Rattle.audit_channels.specs.Ways.{AllComeTo}
@@ -60,6 +60,7 @@ loop-line-preserved c =
             (no_site cells port (end_ports cells) sites c.requires
             (subst (λ (o : Option Site). IsSiteOf sites port o) (sym c.site_in.ensures ∙ w.in-None.is) c.index_of-index.ensures)))
       ];
+      deliveries_are = c.in_ok-deliveries-2.ensures;
       told = subst (λ (ts : List Bool). ToldSoFar cells held lines (n + 1) ts) (sym c.in_ok-push.ensures.items)
           (told_more cells held lines n line c.loop-line.told.items all c.loop-line.invariant.told c.loop-line-test.true c.line-item.is come);
     }

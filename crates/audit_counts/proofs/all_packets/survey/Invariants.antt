@@ -1,4 +1,5 @@
 use Rattle.fact_store.specs.View.{cells_of}
+use Rattle.audit.specs.Deliveries.{AreDeliveries}
 use Rattle.audit_counts.proofs.Surveyed.{AreSurveyed}
 use Rattle.audit_counts.proofs.ToldLines.{ToldSoFar}
 use Rattle.audit_counts.proofs.all_packets.survey.Given as goal
@@ -7,5 +8,6 @@ use Rattle.audit_counts.proofs.all_packets.survey.Given as goal
 abbrev pub invariant-loop-line : goal.invariant-loop-line
 invariant-loop-line l = record {
   surveyed : AreSurveyed (cells_of l.network.facts) l.network.held l.line-items l.blocks.number l.blocks.rows.items l.line-index l.tally;
+  deliveries_are : AreDeliveries (cells_of l.network.facts) l.network.held l.deliveries;
   told : ToldSoFar (cells_of l.network.facts) l.network.held l.line-items l.line-index l.told.items;
 }

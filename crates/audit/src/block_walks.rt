@@ -1,0 +1,260 @@
+//! Walks of the packets for all LIDs of a block at once.
+ghost use Rattle.std.specs.Prelude.{◌≡◌, ◌<◌, ◌+◌, ◌*◌, [], IfOk, IfSome, OnOk, length, replicate, slice_set};
+ghost use Rattle.audit.specs.BlockWalks.{AreAfterRounds, AreDelivered, AreSeenBy, IsExit, IsWithExit, IsWithHop};
+ghost use Rattle.audit.specs.BlockWalks.{arrived_more, back_by, from_each, lids_at};
+ghost use Rattle.audit.specs.LidSets.{no_lids};
+
+use crate::audited_switch::AuditedSwitch;
+use crate::ends::is_at;
+use crate::lid_set::LidSet;
+use crate::next_hop::NextHop;
+use crate::next_hops::step_at;
+use crate::owners::{Owner, sole_owner};
+use smp_bytes::Lid;
+use std::alloc::{AllocError, Global};
+use subnet_view::EndPort;
+
+/// LIDs of a block for which one switch sends packets on to another.
+#[derive(Clone, Copy)]
+pub(crate) struct Exit {
+    pub(crate) from: usize,
+    pub(crate) to: usize,
+    pub(crate) lids: LidSet,
+}
+
+/// What is seen of the packets for those LIDs of a block that one end port alone holds.
+#[derive(Drop)]
+pub(crate) struct BlockWalks {
+    /// For each switch the LIDs whose packets are seen to come from there to their end port.
+    pub(crate) arrived: Vec<LidSet>,
+    /// What switches send on.
+    pub(crate) exits: Vec<Exit>,
+    /// For each switch the index of the last exit that leads there, if one does.
+    slots: Vec<usize>,
+}
+
+/// Blocks from this number on have no LIDs.
+const NUMBERS: u16 = 0x400;
+
+/// In so many rounds walks are followed: those that are longer than this are seen to arrive if not too many of their
+/// switches stand behind those that come after them.
+const MOST_ROUNDS: usize = 64;
+
+/// The LIDs of a number for which packets are seen to come from each switch to the end port that alone holds the LID.
+/// Takes a step for each switch and LID, and in each round one for each two switches of which one sends packets on to
+/// the other: there are no more rounds than the longest walk has switches, nor more than 64.
+pub(crate) fn delivered(
+    alloc: Global,
+    nodes: &[AuditedSwitch],
+    owners: &[Owner],
+    rows: &[[u8; 64]],
+    number: u16,
+) -> Result<LidSet, AllocError>
+    ensures { IfOk result (AreDelivered nodes.now owners.now rows.now number) }
+{
+    if number >= NUMBERS {
+        return Ok(LidSet::none());
+    }
+    let mut walks = BlockWalks::none(alloc, nodes.len())?;
+    for switch in 0..nodes.len() {
+        walks.add_switch(nodes, owners, rows, number, switch)?;
+    }
+    go_back(&mut walks.arrived, &walks.exits);
+    Ok(from_each(&walks.arrived))
+}
+
+impl BlockWalks {
+    /// Nothing, over so many switches.
+    fn none(alloc: Global, count: usize) -> Result<Self, AllocError>
+        ensures arrived { IfOk result (λ walks. walks.arrived.items ≡ replicate count no_lids) }
+        ensures exits { IfOk result (λ walks. walks.exits.items ≡ []) }
+    {
+        Ok(BlockWalks {
+            arrived: vec![in alloc; LidSet::none(); count]?,
+            exits: Vec::new(alloc),
+            slots: vec![in alloc; 0usize; count]?,
+        })
+    }
+
+    /// What the switch at an index does with packets for each LID of a number.
+    fn add_switch(
+        &mut self,
+        nodes: &[AuditedSwitch],
+        owners: &[Owner],
+        rows: &[[u8; 64]],
+        number: u16,
+        switch: usize,
+    ) -> Result<(), AllocError>
+        requires number { number < 1024 }
+        requires switch { switch < length nodes.now }
+        requires seen { AreSeenBy nodes.now owners.now rows.now number self.old.arrived.items self.old.exits.items }
+        ensures { OnOk result
+            (AreSeenBy nodes.now owners.now rows.now number self.new.arrived.items self.new.exits.items) }
+    {
+        for index in 0..64 {
+            let lid = lid_at(number, index);
+            if let Some(port) = sole_owner(owners, lid) {
+                let hop = step_at(&[port], rows, lid, &nodes[switch]);
+                self.add_hop(switch, index, &port, hop)?;
+            }
+        }
+        Ok(())
+    }
+
+    /// What becomes at a switch of packets for the LID at an index, which a port alone holds.
+    fn add_hop(
+        &mut self,
+        switch: usize,
+        index: usize,
+        port: &EndPort,
+        hop: NextHop,
+    ) -> Result<(), AllocError>
+        requires { index < 64 }
+        ensures { OnOk result (IsWithHop self.old.arrived.items self.old.exits.items switch index port.now hop
+            self.new.arrived.items self.new.exits.items) }
+    {
+        match hop {
+            NextHop::To(to) => add_exit(&mut self.exits, &mut self.slots, switch, to, index),
+            NextHop::Ends(end) => {
+                if is_at(port, &Some(end)) {
+                    add_lid(&mut self.arrived, switch, index);
+                }
+                Ok(())
+            }
+        }
+    }
+}
+
+/// The LID at an index of a number.
+fn lid_at(number: u16, index: usize) -> Lid
+    requires number { number < 1024 }
+    requires index { index < 64 }
+    ensures { result ≡ 64 * number + index }
+{
+    Lid::new(64 * number + index as u16)
+}
+
+/// That a switch sends packets for the LID at an index on to another.
+fn add_exit(
+    exits: &mut Vec<Exit>,
+    slots: &mut Vec<usize>,
+    from: usize,
+    to: usize,
+    index: usize,
+) -> Result<(), AllocError>
+    requires { index < 64 }
+    ensures { OnOk result (IsWithExit exits.old.items from to index exits.new.items) }
+{
+    let slot = slot_at(slots, to);
+    if let Some(lids) = lids_of(exits, slot, from, to) {
+        exits[slot] = Exit {
+            from,
+            to,
+            lids: lids.with(index),
+        };
+        return Ok(());
+    }
+    put_slot(slots, to, exits.len());
+    exits.push(Exit {
+        from,
+        to,
+        lids: LidSet::none().with(index),
+    })?;
+    Ok(())
+}
+
+/// The LIDs of the exit at a slot, where it leads from the one switch to the other.
+fn lids_of(exits: &[Exit], slot: usize, from: usize, to: usize) -> Option<LidSet>
+    ensures { IfSome result (IsExit exits.now slot from to) }
+{
+    let exit = exits.get(slot)?;
+    if exit.from == from && exit.to == to {
+        Some(exit.lids)
+    } else {
+        None
+    }
+}
+
+/// The slot of a switch.
+fn slot_at(slots: &[usize], switch: usize) -> usize {
+    match slots.get(switch) {
+        Some(slot) => *slot,
+        None => 0,
+    }
+}
+
+/// Puts the slot of a switch.
+fn put_slot(slots: &mut Vec<usize>, switch: usize, slot: usize) {
+    if switch < slots.len() {
+        slots[switch] = slot;
+    }
+}
+
+/// That packets for the LID at an index come from a switch to the LID's end port.
+fn add_lid(arrived: &mut Vec<LidSet>, switch: usize, index: usize)
+    requires { index < 64 }
+    ensures { arrived.new.items ≡ arrived_more arrived.old.items switch index }
+{
+    let lids = lids_at(arrived, switch).with(index);
+    put_lids(arrived, switch, lids);
+}
+
+/// The LIDs whose packets are seen to arrive from a switch.
+fn lids_at(arrived: &[LidSet], switch: usize) -> LidSet
+    ensures { result ≡ lids_at arrived.now switch }
+{
+    match arrived.get(switch) {
+        Some(lids) => *lids,
+        None => LidSet::none(),
+    }
+}
+
+/// Puts those of a switch.
+fn put_lids(arrived: &mut Vec<LidSet>, switch: usize, lids: LidSet)
+    ensures { arrived.new.items ≡ slice_set arrived.old.items switch lids }
+{
+    if switch < arrived.len() {
+        arrived[switch] = lids;
+    }
+}
+
+/// From a switch that sends packets on to another those arrive that do from there: in some rounds, until no more do.
+fn go_back(arrived: &mut Vec<LidSet>, exits: &[Exit])
+    ensures { AreAfterRounds exits.now arrived.old.items arrived.new.items }
+{
+    for _round in 0..MOST_ROUNDS {
+        if !go_back_once(arrived, exits) {
+            return;
+        }
+    }
+}
+
+/// One round; answers whether more arrive.
+fn go_back_once(arrived: &mut Vec<LidSet>, exits: &[Exit]) -> bool
+    ensures { arrived.new.items ≡ back_by exits.now arrived.old.items }
+{
+    let mut more = false;
+    for exit in exits {
+        let before = lids_at(arrived, exit.from);
+        let after = before.or(lids_at(arrived, exit.to).and(exit.lids));
+        put_lids(arrived, exit.from, after);
+        if after != before {
+            more = true;
+        }
+    }
+    more
+}
+
+/// The LIDs whose packets arrive from each switch; none where there is no switch.
+fn from_each(arrived: &[LidSet]) -> LidSet
+    ensures { result ≡ from_each arrived.now }
+{
+    let Some((first, later)) = arrived.split_first() else {
+        return LidSet::none();
+    };
+    let mut lids = *first;
+    for more in later {
+        lids = lids.and(*more);
+    }
+    lids
+}
