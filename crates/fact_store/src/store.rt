@@ -93,8 +93,9 @@ impl Store {
     }
 
     /// Adds what the sighting says to what is held, which is nothing where it is below the floor. Takes two comparisons
-    /// where its key comes behind the one of its kind that was put in last, or is that key or the next; else a search.
-    /// Moves no more than a page.
+    /// where its key comes behind the one of its kind that was put in last, or is that key or the next; of a node, a
+    /// port's GUID or a link four where it is so of its GUID, as far as a hash tells; else a search. Moves no more than
+    /// a page.
     pub fn add(&mut self, sighting: Sighting) -> Result<(), Refused>
         ensures ok { OnOk result (self.new ≡ merge self.old (view (sighting ∷ []))) }
         ensures err { OnErr result (self.new ≡ self.old) }
