@@ -9,11 +9,14 @@ use Rattle.subnet_view.specs.Reading.{Cells, switches}
 use Rattle.plan_file.specs.declared.held.HeldLid.{HeldLid}
 use Rattle.plan_file.specs.Held.{HeldPlan}
 use Rattle.audit.specs.declared.switch_step.SwitchStep.{SwitchStep}
+use Rattle.audit.specs.declared.deliveries.Deliveries.{Deliveries}
+use Rattle.audit.specs.Deliveries.{AreDeliveries, ComeToOwner}
 use Rattle.audit.specs.NextHops.{AreBlocks, switch_step}
 use Rattle.audit.specs.Tables.{owners_of, entry_for}
 use Rattle.next_tables.specs.SwitchSteps.{next_of}
 use Rattle.next_tables.specs.NextTables.{column_of, if_owned, keeper, next_at, next_for}
-use Rattle.next_tables.proofs.Listed.{listed, twice_mapped}
+use Rattle.next_tables.proofs.Listed.{listed}
+use Rattle.next_tables.proofs.Settled.{settled_entries}
 
 -- so many that are one
 same_each : (x : ℕ) (gs : List ℕ) → map (λ (g : ℕ). x) gs ≡ replicate (length gs) x
@@ -59,18 +62,26 @@ module _ (cells : Cells) (held plan : HeldPlan) (lid : ℕ) where
   owned_each planned [] some = refl
   owned_each planned (x ∷ xs) some = λ i. owned_is planned (entry_for plan lid x) some i ∷ owned_each planned xs some i
 
+  -- the same where the tables held have the plan's entries, and packets arrive by these from each switch
+  pub settled : (entries held_entries : List ℕ) (planned owners : List EndPort) (port : EndPort) → planned ≡ owners_of plan lid → owners ≡ owners_of held lid
+      → Some port ≡ keeper planned owners → held_entries ≡ map (entry_for held lid) gs → entries ≡ map (entry_for plan lid) gs → held_entries ≡ entries
+      → ComeToOwner cells plan lid → entries ≡ column_of cells held plan lid
+  settled entries held_entries planned owners port p h k held_are e same come =
+      e ∙ settled_entries cells held plan lid port planned owners p (sym k) (sym held_are ∙ same ∙ e) come ∙ ap (column_by planned) k
+      ∙ by_owners planned owners p h
+
   -- and any other that the plan has
-  pub others : (entries : List ℕ) (planned owners : List EndPort) (ps : List SwitchStep) → planned ≡ owners_of plan lid → owners ≡ owners_of held lid
-      → (planned ≡ [] → ⊥) → None ≡ keeper planned owners → ps ≡ map (switch_step cells plan lid) gs
-      → entries ≡ map (λ (x : SwitchStep). x.entry) ps → entries ≡ column_of cells held plan lid
-  others entries planned owners ps p h some k ps_are e =
-      e ∙ ap (map (λ (x : SwitchStep). x.entry)) ps_are ∙ twice_mapped (λ (x : SwitchStep). x.entry) (switch_step cells plan lid) gs
-      ∙ sym (owned_each planned gs some) ∙ ap (column_by planned) k ∙ by_owners planned owners p h
+  pub others : (entries : List ℕ) (planned owners : List EndPort) → planned ≡ owners_of plan lid → owners ≡ owners_of held lid
+      → (planned ≡ [] → ⊥) → None ≡ keeper planned owners → entries ≡ map (entry_for plan lid) gs → entries ≡ column_of cells held plan lid
+  others entries planned owners p h some k e =
+      e ∙ sym (owned_each planned gs some) ∙ ap (column_by planned) k ∙ by_owners planned owners p h
 
 -- the columns so far
-pub record SoFar (cells : Cells) (held plan : HeldPlan) (count held_number plan_number : ℕ) (held_rows plan_rows columns : List (List ℕ)) : Type 0 where
+pub record SoFar (cells plan_cells : Cells) (held plan : HeldPlan) (count held_number plan_number : ℕ) (held_rows plan_rows : List (List ℕ)) (deliveries : Deliveries)
+    (columns : List (List ℕ)) : Type 0 where
   pub held_blocks : AreBlocks held held_number held_rows
   pub plan_blocks : AreBlocks plan plan_number plan_rows
+  pub deliveries_are : AreDeliveries plan_cells plan deliveries
   pub columns_are : columns ≡ map (column_of cells held plan) (range_with_len 0 count)
 
 -- a column more

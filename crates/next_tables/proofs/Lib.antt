@@ -10,6 +10,7 @@ pub mod LoopLids
 pub mod NextText
 pub mod Mixtures
 pub mod Plain
+pub mod Settled
 pub mod StepLaws
 pub mod Steps
 pub mod Taken

@@ -1,20 +1,18 @@
 -- The next tables are in their ranges, so their text is read as they are.
-use Rattle.std.proofs.Common.{◌≡◌, ℕ, zero, suc, ◌+◌, ◌*◌, ◌/◌, ◌%◌, ◌<◌, ◌≤◌, ◌^◌, Bool, true, List, [], ◌∷◌, ◌++◌, length, get_or, Option, None, Some, refl, sym, ap, ◌∙◌, subst, arith, inl, inr, max, reverse}
-use Rattle.std.specs.Prelude.{Contains, map, slice_get, slice_index_or, nat_lt, ◌==◌, ◌||◌, option_and_then}
+use Rattle.std.proofs.Common.{◌≡◌, ℕ, zero, suc, ◌+◌, ◌*◌, ◌/◌, ◌%◌, ◌<◌, ◌≤◌, Bool, List, [], ◌∷◌, ◌++◌, length, get_or, Option, None, Some, refl, sym, ap, ◌∙◌, subst, arith, inl, inr, reverse}
+use Rattle.std.specs.Prelude.{Contains, map, slice_get, slice_index_or, nat_lt, ◌==◌, ◌||◌}
 use Rattle.std.specs.Option.{option_map_or}
-use Rattle.std.specs.List.{AllByRecursion, find, range_with_len, enumerate_from}
+use Rattle.std.specs.List.{AllByRecursion, find, range_with_len}
 use Rattle.std.specs.List.Sorted.{IsStrictlyIncreasing}
 use Rattle.std.proofs.lemmas.Bool.{cases_lt, cond_both}
 use Rattle.std.proofs.lemmas.List.{get_or_default, reverse-append}
 use Rattle.std.proofs.lemmas.List.FromFn.{length-map-range_with_len, get_or-map-range_with_len}
 use Rattle.std.proofs.lemmas.Option.{same_Some}
-use Rattle.hex.specs.Hex.{IsBytes}
 use Rattle.fact_store.specs.Sighting.{AreInRange}
 use Rattle.fact_store.specs.View.{Facts, cells_of}
 use Rattle.subnet_view.specs.declared.end_port.EndPort.{EndPort}
 use Rattle.subnet_view.specs.Reading.{Cells, switches}
-use Rattle.subnet_view.proofs.Members.{contains_here, contains_later, contains_cases}
-use Rattle.lid_assign.specs.Lids.{Given}
+use Rattle.subnet_view.proofs.Members.{contains_here, contains_later}
 use Rattle.lft_blocks.specs.Entries.{block_count}
 use Rattle.lft_blocks.specs.Plan.{PlanValue, SwitchTable}
 use Rattle.lft_blocks.proofs.AttachmentTables.{switches_rise}
@@ -28,8 +26,8 @@ use Rattle.plan_file.specs.TablesText.{next_text}
 use Rattle.plan_file.proofs.PlanRanges.{plans_in_range, switch_small}
 use Rattle.plan_file.proofs.Printed.{tables_are_read}
 use Rattle.plan_file.proofs.ReadRanges.{texts_are_in_range}
-use Rattle.audit.specs.Tables.{block_at, counted, entry_at, entry_for, entry_in, entry_of, index_of, is_block_of, top_at, top_of}
-use Rattle.next_tables.specs.Next.{delivers, leads_on, mends, next_entry, patch_entry, step_at}
+use Rattle.audit.specs.Tables.{block_at, entry_at, entry_for, entry_in, entry_of, index_of, is_block_of, top_at, top_of}
+use Rattle.next_tables.specs.Next.{delivers, leads_on, mends, next_entry, step_at}
 use Rattle.next_tables.specs.NextTables.{if_owned, keeper, next_at, next_block, next_for, next_switch, next_table, next_tables, next_top}
 use Rattle.next_tables.specs.NextText.{NextTextsAreRead, StepTextsAreRead}
 use Rattle.audit.specs.Tables.{owners_of}

@@ -1,6 +1,6 @@
 -- What becomes of packets while switches go over from the tables that they hold to the next ones, each block at its own
 -- time.
-use Rattle.std.specs.Prelude.{◌≡◌, ◌≤◌, ◌<◌, ◌⊎◌, ℕ, zero, suc, List, [], ◌∷◌, Contains, Option, None, Some, slice_get, slice_index_or}
+use Rattle.std.specs.Prelude.{◌≡◌, ◌≤◌, ◌<◌, ◌⊎◌, ℕ, zero, suc, List, [], ◌∷◌, Contains, Option, Some, slice_get, slice_index_or}
 use Rattle.port_graph.specs.declared.edge.Edge.{Edge}
 use Rattle.audit_channels.specs.Columns.{TakesAcross}
 use Rattle.subnet_view.specs.declared.end_port.EndPort.{EndPort}

@@ -1,13 +1,14 @@
 //! The next entries, LID by LID.
-ghost use Rattle.std.specs.Prelude.{◌≡◌, ◌==◌, ◌≤◌, ◌*◌, ◌/◌, IfOk, length, map, replicate};
+ghost use Rattle.std.specs.Prelude.{◌≡◌, ◌↔◌, ◌==◌, ◌≤◌, ◌*◌, ◌/◌, IfOk, IsTrue, length, map, replicate};
 ghost use Rattle.std.specs.List.{range_with_len};
 ghost use Rattle.fact_store.specs.View.{cells_of};
 ghost use Rattle.subnet_view.specs.Reading.{switches};
+ghost use Rattle.audit.specs.Deliveries.{AreDeliveries};
 ghost use Rattle.audit.specs.NextHops.{AreBlocks};
 ghost use Rattle.next_tables.specs.NextTables.{column_of, keeper, kept_by};
 
 use crate::next_entries::next_entries;
-use audit::{Blocks, Network, SwitchStep, is_same_end};
+use audit::{Blocks, Deliveries, Network, is_same_end};
 use smp_bytes::Lid;
 use std::alloc::{AllocError, Global};
 use subnet_view::EndPort;
@@ -27,11 +28,21 @@ pub(crate) fn columns(
     let mut columns = Vec::with_capacity(alloc, 64 * count)?;
     let mut held_blocks = held.blocks(alloc, 0)?;
     let mut plan_blocks = plan.blocks(alloc, 0)?;
+    let mut deliveries = plan.deliveries(alloc, &plan_blocks)?;
     for number in 0..64 * count {
         let lid = Lid::new(number as u16);
         held_blocks = held.blocks_for(alloc, held_blocks, lid)?;
         plan_blocks = plan.blocks_for(alloc, plan_blocks, lid)?;
-        let column = column(alloc, held, plan, &held_blocks, &plan_blocks, lid)?;
+        deliveries = plan.deliveries_for(alloc, deliveries, &plan_blocks)?;
+        let column = column(
+            alloc,
+            held,
+            plan,
+            &held_blocks,
+            &plan_blocks,
+            &deliveries,
+            lid,
+        )?;
         columns.push(column)?;
     }
     Ok(columns)
@@ -44,6 +55,7 @@ fn column(
     plan: &Network,
     held_blocks: &Blocks,
     plan_blocks: &Blocks,
+    deliveries: &Deliveries,
     lid: Lid,
 ) -> Result<Vec<u8>, AllocError>
     requires facts { plan.now.facts ≡ held.now.facts }
@@ -51,6 +63,7 @@ fn column(
     requires held_number { held_blocks.now.number ≡ lid / 64 }
     requires plan { AreBlocks plan.now.held plan_blocks.now.number plan_blocks.now.rows.items }
     requires plan_number { plan_blocks.now.number ≡ lid / 64 }
+    requires deliveries { AreDeliveries (cells_of plan.now.facts) plan.now.held deliveries.now }
     ensures { IfOk result (λ column. column.items
         ≡ column_of (cells_of held.now.facts) held.now.held plan.now.held lid) }
 {
@@ -58,15 +71,18 @@ fn column(
     if is_nobodys(&planned) {
         return no_entries(alloc, held.switch_count());
     }
-    let plan_steps = plan.switch_steps(alloc, plan_blocks, lid)?;
+    let entries = plan.entries(alloc, plan_blocks, lid)?;
     let owners = held.owners(alloc, lid)?;
-    match keeper(&planned, &owners) {
-        Some(port) => {
-            let held_steps = held.switch_steps(alloc, held_blocks, lid)?;
-            next_entries(alloc, &port, &held_steps, &plan_steps)
-        }
-        None => entries(alloc, &plan_steps),
+    let Some(port) = keeper(&planned, &owners) else {
+        return Ok(entries);
+    };
+    let before = held.entries(alloc, held_blocks, lid)?;
+    if deliveries.has(lid) && are_same(&before, &entries) {
+        return Ok(entries);
     }
+    let held_steps = held.switch_steps(alloc, held_blocks, lid)?;
+    let plan_steps = plan.switch_steps(alloc, plan_blocks, lid)?;
+    next_entries(alloc, &port, &held_steps, &plan_steps)
 }
 
 /// Whether no end port is one of these.
@@ -83,11 +99,11 @@ fn no_entries(alloc: Global, count: usize) -> Result<Vec<u8>, AllocError>
     vec![in alloc; 255; count]
 }
 
-/// The entries of the switches.
-fn entries(alloc: Global, steps: &[SwitchStep]) -> Result<Vec<u8>, AllocError>
-    ensures { IfOk result (λ entries. entries.items ≡ map (λ step. step.entry) steps.now) }
+/// Whether the entries are the same.
+fn are_same(entries: &[u8], others: &[u8]) -> bool
+    ensures { IsTrue result ↔ (entries.now ≡ others.now) }
 {
-    steps.iter().map(|step| step.entry).collect(alloc)
+    entries == others
 }
 
 /// The end port that alone holds a LID in the plan and in the tables held, by those that hold it in each.

@@ -61,14 +61,14 @@ fn turned(alloc: Global, cycle: &[usize]) -> Result<Vec<usize>, AllocError>
 fn none_known(alloc: Global, count: usize) -> Result<Vec<Lid>, AllocError>
     ensures { IfOk result (λ lids. lids.items ≡ replicate count 0) }
 {
-    vec![in alloc; Lid::new(0); count]
+    vec![in alloc; Lid::NONE; count]
 }
 
 /// Whether none of these is none yet.
 fn are_known(lids: &[Lid]) -> bool
     ensures { result ≡ are_known lids.now }
 {
-    lids.iter().all(|lid| lid.number() != 0)
+    lids.iter().all(|lid| *lid != Lid::NONE)
 }
 
 /// Notes a LID for each channel of a cycle that has none yet, where its packets hold the channel and wait for the one
@@ -102,7 +102,7 @@ fn noted(
 ) -> Lid
     ensures { IsNoted held.now next.now lid channel other known result }
 {
-    if known.number() == 0 && waits(channel, other, held, next) {
+    if known == Lid::NONE && waits(channel, other, held, next) {
         lid
     } else {
         known

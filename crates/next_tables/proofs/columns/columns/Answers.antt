@@ -13,6 +13,7 @@ loop-number-preserved c =
     record {
       held_blocks = c.in_ok-held_blocks-2.ensures.0;
       plan_blocks = c.in_ok-plan_blocks-2.ensures.0;
+      deliveries_are = c.in_ok-deliveries-2.ensures;
       columns_are = column_more (column_of cells held plan) (λ (v : Vec ℕ Global). v.items) c.loop-number.columns.items c.push.new.self.items
           c.in_ok-column.column c.loop-number.number
           c.loop-number.invariant.columns_are c.in_ok-push.ensures.items (c.in_ok-column.ensures ∙ ap (column_of cells held plan) c.new-lid.ensures);

@@ -6,5 +6,5 @@ use Rattle.next_tables.proofs.columns.columns.Given as goal
 
 abbrev pub invariant-loop-number : goal.invariant-loop-number
 invariant-loop-number l =
-    SoFar (cells_of l.held.facts) l.held.held l.plan.held l.number l.held_blocks.number l.plan_blocks.number l.held_blocks.rows.items l.plan_blocks.rows.items
-    (map (λ c. c.items) l.columns.items)
+    SoFar (cells_of l.held.facts) (cells_of l.plan.facts) l.held.held l.plan.held l.number l.held_blocks.number l.plan_blocks.number
+    l.held_blocks.rows.items l.plan_blocks.rows.items l.deliveries (map (λ c. c.items) l.columns.items)
