@@ -20,5 +20,6 @@ pub mod PlanSteps
 pub mod PlansPass
 pub mod SameRanges
 pub mod ToOwners
+pub mod ToSwitches
 pub mod Told
 pub mod Tops

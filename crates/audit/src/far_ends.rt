@@ -1,7 +1,7 @@
 ghost use Rattle.std.specs.Prelude.{◌≡◌, slice_index_or, IfOk};
 ghost use Rattle.fact_store.specs.View.{cells_of};
 ghost use Rattle.subnet_view.specs.Reading.{switches};
-ghost use Rattle.audit.specs.Network.{row_of};
+ghost use Rattle.audit.specs.Network.{row_of, switch_over};
 
 use crate::far_end::{Far, far_of};
 use smp_bytes::{Guid, PortNum};
@@ -32,6 +32,16 @@ impl FarEnds {
         match self.fars.get(usize::from(port)) {
             Some(far) => *far,
             None => Far::Nothing,
+        }
+    }
+
+    /// The index of the usable switch to which the wire in a port leads. Takes one step.
+    pub(crate) fn switch(&self, port: u8) -> Option<usize>
+        ensures { result ≡ switch_over (slice_index_or self.now port Far.Nothing) }
+    {
+        match self.fars.get(usize::from(port)) {
+            Some(Far::Switch(index)) => Some(*index),
+            _ => None,
         }
     }
 }
