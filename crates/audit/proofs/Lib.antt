@@ -23,3 +23,4 @@ pub mod ToOwners
 pub mod ToSwitches
 pub mod Told
 pub mod Tops
+pub mod Wired
