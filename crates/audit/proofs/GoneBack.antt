@@ -144,6 +144,11 @@ module _ (count : ℕ) (hops : ℕ → List NextHop) (target : ℕ → Option En
         absurd (cc);
   }
 
+  pub exit_seen : (arrived : List LidSet) (exits others : List Exit) (switch i to : ℕ) → i < 64 → AreSeen count hops target arrived exits
+      → onward (hops i) (To switch) ≡ To to → IsWithExit exits switch to i others → AreSeen count hops target arrived others
+  exit_seen arrived exits others switch i to less h on w =
+      record { as_many = h.as_many; arrive = h.arrive; lead = exit_more exits others switch to i less h.lead on w }
+
   pub hop_seen : (arrived more : List LidSet) (exits others : List Exit) (switch i : ℕ) (port : EndPort) (hop : NextHop) → i < 64
       → AreSeen count hops target arrived exits → target i ≡ Some port → onward (hops i) (To switch) ≡ hop
       → IsWithHop arrived exits switch i port hop more others → AreSeen count hops target more others

@@ -20,5 +20,7 @@ pub mod OwnerLines
 pub mod PlanPackets
 pub mod PlanSteps
 pub mod ToOwners
+pub mod ToSwitches
 pub mod Told
 pub mod Tops
+pub mod Wired

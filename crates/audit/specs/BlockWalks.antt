@@ -18,10 +18,13 @@ use Rattle.audit.specs.WalkEnds.{IsEndOf, onward}
 abbrev pub target_at : List Owner → ℕ → ℕ → Option EndPort
 target_at owners number index = sole_among (slice_index_or owners (64 * number + index) Several)
 
+abbrev pub owners_in : Option EndPort → List EndPort
+owners_in None = []
+owners_in (Some port) = port ∷ []
+
 -- what each switch does with packets for a LID that an end port alone holds
 abbrev pub hops_for : List AuditedSwitch → List (List ℕ) → ℕ → Option EndPort → List NextHop
-hops_for nodes rows lid None = []
-hops_for nodes rows lid (Some port) = map (next_hop_of (port ∷ []) rows lid) nodes
+hops_for nodes rows lid target = map (next_hop_of (owners_in target) rows lid) nodes
 
 abbrev pub hops_at : List AuditedSwitch → List Owner → List (List ℕ) → ℕ → ℕ → List NextHop
 hops_at nodes owners rows number index = hops_for nodes rows (64 * number + index) (target_at owners number index)

@@ -7,7 +7,7 @@ use Rattle.plan_file.specs.Held.{HeldPlan}
 use Rattle.audit.specs.declared.far_end.Far.{Far}
 use Rattle.audit.specs.declared.far_end.Far.TheVariants.{Nothing, Switch, Port}
 use Rattle.audit.specs.declared.audited_switch.AuditedSwitch.{AuditedSwitch}
-use Rattle.audit.specs.Network.{row_of}
+use Rattle.audit.specs.Network.{row_of, switch_over}
 use Rattle.audit.specs.NextHops.{node_entry}
 use Rattle.audit.specs.Tables.{entry_for, top_of}
 
@@ -16,6 +16,10 @@ abbrev pub edge_to : ℕ → Far → Option Edge
 edge_to port Nothing = None
 edge_to port (Switch index) = Some (record { port = port; to = index })
 edge_to port (Port e) = None
+
+-- the index of that switch, by an entry
+abbrev pub switch_by : List Far → ℕ → Option ℕ
+switch_by row entry = if entry == 0 then None else switch_over (slice_index_or row entry Nothing)
 
 -- by its entry: at 0 the packet stays, and the ports of its row lead on
 abbrev pub edge_by : List Far → ℕ → Option Edge

@@ -8,5 +8,6 @@ pub mod LidSets
 pub mod Network
 pub mod Owners
 pub mod NextHops
+pub mod Rows
 pub mod Tables
 pub mod WalkEnds

@@ -8,7 +8,7 @@ use crate::audited_switch::AuditedSwitch;
 use crate::ends::is_at;
 use crate::lid_set::LidSet;
 use crate::next_hop::NextHop;
-use crate::next_hops::step_at;
+use crate::next_hops::{entry_of, step_at, switch_by};
 use crate::owners::{Owner, sole_owner};
 use smp_bytes::Lid;
 use std::alloc::{AllocError, Global};
@@ -93,10 +93,36 @@ impl BlockWalks {
     {
         for index in 0..64 {
             let lid = lid_at(number, index);
-            if let Some(port) = sole_owner(owners, lid) {
-                let hop = step_at(&[port], rows, lid, &nodes[switch]);
-                self.add_hop(switch, index, &port, hop)?;
+            let node = &nodes[switch];
+            match switch_by(node, entry_of(rows, lid, node)) {
+                Some(to) => add_exit(&mut self.exits, &mut self.slots, switch, to, index)?,
+                None => self.add_last(nodes, owners, rows, number, switch, index)?,
             }
+        }
+        Ok(())
+    }
+
+    /// What it does with packets for the LID at an index, which it sends on to no other.
+    fn add_last(
+        &mut self,
+        nodes: &[AuditedSwitch],
+        owners: &[Owner],
+        rows: &[[u8; 64]],
+        number: u16,
+        switch: usize,
+        index: usize,
+    ) -> Result<(), AllocError>
+        requires number { number < 1024 }
+        requires switch { switch < length nodes.now }
+        requires index { index < 64 }
+        requires seen { AreSeenBy nodes.now owners.now rows.now number self.old.arrived.items self.old.exits.items }
+        ensures { OnOk result
+            (AreSeenBy nodes.now owners.now rows.now number self.new.arrived.items self.new.exits.items) }
+    {
+        let lid = lid_at(number, index);
+        if let Some(port) = sole_owner(owners, lid) {
+            let hop = step_at(&[port], rows, lid, &nodes[switch]);
+            self.add_hop(switch, index, &port, hop)?;
         }
         Ok(())
     }

@@ -1,7 +1,7 @@
 //! What becomes of packets for one LID at each switch.
 ghost use Rattle.std.specs.Prelude.{◌≡◌, IfOk, map};
 ghost use Rattle.audit.specs.NextHops.{at_port, cause_by, entry_among, first_hop, next_hop_by, next_hop_of, node_entry, over, switch_step_of};
-ghost use Rattle.audit.specs.Edges.{edge_of, edge_to};
+ghost use Rattle.audit.specs.Edges.{edge_of, switch_by};
 ghost use Rattle.audit.specs.Tables.{counted, is_owner};
 
 use crate::audited_switch::AuditedSwitch;
@@ -136,7 +136,7 @@ pub(crate) fn entries(
 }
 
 /// The entry of a switch.
-fn entry_of(rows: &[[u8; 64]], lid: Lid, node: &AuditedSwitch) -> u8
+pub(crate) fn entry_of(rows: &[[u8; 64]], lid: Lid, node: &AuditedSwitch) -> u8
     ensures { result ≡ node_entry rows.now lid node.now }
 {
     counted(lid, node.top, entry_among(rows, node.index, lid))
@@ -175,34 +175,28 @@ pub(crate) fn edges(
 ) -> Result<Vec<Option<Edge>>, AllocError>
     ensures { IfOk result (λ edges. edges.items ≡ map (edge_of rows.now lid) nodes.now) }
 {
-    nodes
-        .iter()
-        .map(|node| edge_at(rows, lid, node))
-        .collect(alloc)
+    let mut edges = Vec::with_capacity(alloc, nodes.len())?;
+    for node in nodes {
+        let entry = entry_of(rows, lid, node);
+        match switch_by(node, entry) {
+            Some(to) => edges.push(Some(Edge {
+                port: PortNum::new(entry),
+                to,
+            }))?,
+            None => edges.push(None)?,
+        }
+    }
+    Ok(edges)
 }
 
-/// By which port a switch sends packets on to another usable switch.
-fn edge_at(rows: &[[u8; 64]], lid: Lid, node: &AuditedSwitch) -> Option<Edge>
-    ensures { result ≡ edge_of rows.now lid node.now }
+/// The index of the usable switch to which a switch sends packets on by an entry.
+pub(crate) fn switch_by(node: &AuditedSwitch, entry: u8) -> Option<usize>
+    ensures { result ≡ switch_by node.now.row entry }
 {
-    let entry = entry_of(rows, lid, node);
     if entry == 0 {
         return None;
     }
-    edge_to(entry, node.row.far(entry))
-}
-
-/// The edge by a port whose wire leads to a usable switch.
-fn edge_to(port: u8, far: Far) -> Option<Edge>
-    ensures { result ≡ edge_to port far }
-{
-    match far {
-        Far::Switch(to) => Some(Edge {
-            port: PortNum::new(port),
-            to,
-        }),
-        _ => None,
-    }
+    node.row.switch(entry)
 }
 
 /// What becomes of a packet that leaves a node by a port, where it is lost for a cause if no wire is in the port.

@@ -40,9 +40,10 @@ impl<'a> Model for Audit<'a> {
 impl<'a> Audit<'a> {
     /// Follows the packets that the end ports of the view send to the LIDs which are held, each from every end port of
     /// the component in which the LID's end port lies, by these tables; counts the wires and the channels that those
-    /// between adapter ports take; and orders channels. Takes what `Network::edges` does for each LID twice,
-    /// what `Network::ends` does once, and twice where not all packets for the LID are delivered at its port, and a
-    /// step or two for each two end ports.
+    /// between adapter ports take; and orders channels. Takes what `Network::deliveries` does for each 64 LIDs, and what
+    /// `Network::edges` does for each LID twice; for each LID whose packets are not seen to arrive by the deliveries
+    /// what `Network::ends` does besides, twice where not all are delivered at its port, and then a step or two for each
+    /// end port.
     pub fn of(alloc: Global, store: &'a Store, held: &'a Held) -> Result<Self, Refused>
         ensures facts { IfOk result (λ audit. audit.facts ≡ store.now) }
         ensures held { IfOk result (λ audit. audit.held ≡ held.now) }

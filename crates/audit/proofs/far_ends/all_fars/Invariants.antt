@@ -2,7 +2,7 @@ use Rattle.std.proofs.Common.{◌≡◌, map}
 use Rattle.std.specs.List.{range_with_len}
 use Rattle.fact_store.specs.View.{cells_of}
 use Rattle.audit.specs.Network.{far_of}
-use Rattle.audit.proofs.far_ends.row_of.Given as goal
+use Rattle.audit.proofs.far_ends.all_fars.Given as goal
 
 -- the ports so far
 abbrev pub invariant-loop-port : goal.invariant-loop-port
