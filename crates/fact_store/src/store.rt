@@ -112,11 +112,21 @@ impl Store {
         ensures err { OnErr result (self.new ≡ self.old) }
     {
         if sightings.len() > SIGHTINGS_PER_REPORT {
-            let other = store_of(self.cells.allocator(), self.floor, sightings)?;
-            self.merge(&other)?;
-            return Ok(());
+            self.add_many(sightings)
+        } else {
+            self.add_few(sightings)
         }
-        self.add_few(sightings)
+    }
+
+    /// The same, by a store of them alone. It is a call of its own, since a store is large to lay out, and a report has
+    /// few sightings.
+    fn add_many(&mut self, sightings: &[Sighting]) -> Result<(), Refused>
+        ensures ok { OnOk result (self.new ≡ merge self.old (view sightings.now)) }
+        ensures err { OnErr result (self.new ≡ self.old) }
+    {
+        let other = store_of(self.cells.allocator(), self.floor, sightings)?;
+        self.merge(&other)?;
+        Ok(())
     }
 
     /// The same, with room for a page each before the first goes in.
