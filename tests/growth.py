@@ -212,7 +212,7 @@ GROWING = (
     ("plan by switches, spread from roots", lambda c, n: ("plan", *SPREAD, "--roots", roots(c, n // 10), mesh(c, n)), 150, SQUARED, 743),
     ("audit by adapters", lambda c, n: ("audit", planned(c, 8, n), known(c, 8, n)), 100, LINEAR, 180),
     ("audit by adapters of many switches", lambda c, n: ("audit", planned(c, 40, n), known(c, 40, n)), 25, LINEAR, 355),
-    ("audit by adapters, LMC 3", lambda c, n: ("audit", planned(c, 40, n, 3), known(c, 40, n)), 3, LINEAR, 92),
+    ("audit by adapters, LMC 3", lambda c, n: ("audit", planned(c, 40, n, 3), known(c, 40, n)), 6, LINEAR, 108),
     ("audit by switches", lambda c, n: ("audit", planned(c, n, 4), known(c, n, 4)), 60, SQUARED, 192),
     ("next by adapters", lambda c, n: ("next", planned(c, 8, n), known(c, 8, n)), 100, LINEAR, 200),
     ("next by adapters of many switches", lambda c, n: ("next", planned(c, 40, n), known(c, 40, n)), 25, LINEAR, 400),

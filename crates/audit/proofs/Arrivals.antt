@@ -8,15 +8,16 @@ use Rattle.std.proofs.lemmas.List.Sums.{AllPass-from_list_all, fails_before_firs
 use Rattle.subnet_view.specs.declared.end_port.EndPort.{EndPort}
 use Rattle.audit.specs.declared.end.End.{End}
 use Rattle.audit.specs.declared.end.End.TheVariants.{Taken}
-use Rattle.audit.specs.declared.far_end.Far.{Far}
-use Rattle.audit.specs.declared.far_end.Far.TheVariants.{Nothing, Switch, Port}
-use Rattle.audit.specs.declared.senders.Sender.{Sender}
+use Rattle.held_tables.specs.declared.far_end.Far.{Far}
+use Rattle.held_tables.specs.declared.far_end.Far.TheVariants.{Nothing, Switch, Port}
+use Rattle.held_tables.specs.declared.senders.Sender.{Sender}
 use Rattle.audit.specs.declared.next_hop.NextHop.{NextHop}
 use Rattle.audit.specs.declared.next_hop.NextHop.TheVariants.{To, Ends}
-use Rattle.audit.specs.Ends.{AreEnds, all_come, arrivals, comes_by, end_from, is_sole}
-use Rattle.audit.specs.Network.{all_begin, first_by, first_switch, is_among}
+use Rattle.held_tables.specs.Owners.{is_sole}
+use Rattle.audit.specs.Ends.{AreEnds, all_come, arrivals, comes_by, end_from}
+use Rattle.held_tables.specs.Switches.{all_begin, first_by, first_switch, is_among}
 use Rattle.audit.specs.NextHops.{is_at, sent}
-use Rattle.audit.specs.Tables.{is_owner, is_same_end}
+use Rattle.held_tables.specs.Tables.{is_owner, is_same_end}
 use Rattle.audit.specs.WalkEnds.{end_of, onward}
 use Rattle.audit.proofs.Judged.{same_ends}
 

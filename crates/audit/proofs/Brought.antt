@@ -8,15 +8,17 @@ use Rattle.subnet_view.specs.EndPorts.{end_ports}
 use Rattle.plan_file.specs.declared.held.HeldSwitch.{HeldSwitch}
 use Rattle.plan_file.specs.Held.{HeldPlan}
 use Rattle.audit.specs.declared.end.End.{End}
-use Rattle.audit.specs.declared.chains.Chains.{Chains}
-use Rattle.audit.specs.declared.senders.Sender.{Sender}
-use Rattle.audit.specs.declared.audited_switch.AuditedSwitch.{AuditedSwitch}
+use Rattle.held_tables.specs.declared.chains.Chains.{Chains}
+use Rattle.held_tables.specs.declared.senders.Sender.{Sender}
+use Rattle.held_tables.specs.declared.audited_switch.AuditedSwitch.{AuditedSwitch}
 use Rattle.audit.specs.declared.next_hop.NextHop.{NextHop}
 use Rattle.audit.specs.Edges.{edge_by, edge_of}
-use Rattle.audit.specs.declared.owners.Owner.{Owner}
-use Rattle.audit.specs.Network.{row_of, node_of, sender_of, IsNetwork}
-use Rattle.audit.specs.NextHops.{by_entry, cause_of, next_hops_of, entry_among, next_hop_by, next_hop_of, node_entry, first_hop, switch_step, switch_step_by, switch_step_of, AreBrought, AreBlocks}
-use Rattle.audit.specs.Tables.{owners_of, index_of, top_of, block_at, entry_in, entry_at, entry_for, counted}
+use Rattle.held_tables.specs.declared.owners.Owner.{Owner}
+use Rattle.held_tables.specs.Switches.{row_of, node_of, sender_of}
+use Rattle.audit.specs.Network.{IsNetwork}
+use Rattle.held_tables.specs.Blocks.{AreBlocks}
+use Rattle.audit.specs.NextHops.{by_entry, cause_of, next_hops_of, entry_among, next_hop_by, next_hop_of, node_entry, first_hop, switch_step, switch_step_by, switch_step_of, AreBrought}
+use Rattle.held_tables.specs.Tables.{owners_of, index_of, top_of, block_at, entry_in, entry_at, entry_for, counted}
 use Rattle.audit.specs.WalkEnds.{onward, end_of, IsEndOf, HaveEnded}
 
 pub if_ok : {T E : Type 0} (P Q : T → Type 0) (r : Result T E) → IfOk r P → ((x : T) → P x → Q x) → IfOk r Q

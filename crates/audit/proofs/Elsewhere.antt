@@ -28,8 +28,8 @@ same_target f lid (k ∷ hops) (m ∷ others) st end last p q g d h c =
     same_target f lid hops others (arrived_at m.into) end last p q (subst (λ (x : NodePort). Goes f lid (arrived_at x) hops end) into g.2) d h.2 c
 
 -- a packet that ends elsewhere is not delivered
-pub not_there : (f : Fabric) (source target : NodePort) (lid : ℕ) (e : EndPort) (end : Option End) → IsPortNamed f e.node e.port target → EndsAs f lid source end
-    → end ≢ Some (Taken e) → (hops : List Hop) → IsDelivered f lid source hops target → ⊥
+pub not_there : (f : Fabric) (source target : NodePort) (lid : ℕ) (e : EndPort) (end : Option End) → IsPortNamed f e.node e.port target
+    → EndsAs f lid source end → end ≢ Some (Taken e) → (hops : List Hop) → IsDelivered f lid source hops target → ⊥
 not_there f source target lid e (Some (Taken x)) named (others, found, its, there) apart hops d =
     let same : found ≡ target =
     same_target f lid others hops (sent_from source) there.0 d.0 found target there.1 there.2 d.1 d.2 in

@@ -14,14 +14,15 @@ use Rattle.fabric_model.specs.Fabric.{Node, Fabric, IsNodeAt, IsEndPort}
 use Rattle.fabric_model.specs.FabricWalks.{vertex_of}
 use Rattle.fabric_model.proofs.FabricWalks.{port_at, same_port, EndNumber, vertex_node, vertex_is_end}
 use Rattle.fact_store.specs.View.{Facts, cells_of}
-use Rattle.subnet_view.specs.Reading.{Cells, is_switch_node, is_usable, cap_of, switches}
+use Rattle.reply_facts.specs.Known.{cap_of}
+use Rattle.subnet_view.specs.Reading.{Cells, is_switch_node, is_usable, switches}
 use Rattle.subnet_view.specs.Wires.{across}
 use Rattle.subnet_view.specs.Agreement.{Part, WholeFabric, IsEndPortIn}
 use Rattle.subnet_view.proofs.Covered.{covers}
 use Rattle.subnet_view.proofs.UsableSwitches.{switches_law, usable_law}
 use Rattle.subnet_view.proofs.WireLaws.{wire_law}
 use Rattle.audit.specs.Fabrics.{IsSeen, IsSeenIn}
-use Rattle.audit.specs.Network.{index_in}
+use Rattle.held_tables.specs.Switches.{index_in}
 use Rattle.plan_file.specs.Held.{HeldPlan}
 
 -- a list that contains a number has an index for it

@@ -14,9 +14,9 @@ use Rattle.subnet_view.specs.Reading.{Cells, switches}
 use Rattle.subnet_view.specs.Wires.{across}
 use Rattle.subnet_view.specs.Agreement.{Part}
 use Rattle.plan_file.specs.Held.{HeldPlan}
-use Rattle.audit.specs.declared.far_end.Far.TheVariants.{Nothing}
+use Rattle.held_tables.specs.declared.far_end.Far.TheVariants.{Nothing}
 use Rattle.audit.specs.Fabrics.{IsSeenIn}
-use Rattle.audit.specs.Network.{far_of, far_to, row_of}
+use Rattle.held_tables.specs.Switches.{far_of, far_to, row_of}
 use Rattle.audit.proofs.FabricParts.{switch_end, told_wire}
 
 -- there is no wire, as far as the facts know

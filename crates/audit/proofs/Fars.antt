@@ -4,10 +4,10 @@ use Rattle.std.specs.Prelude.{Option, slice_get, slice_index_or}
 use Rattle.std.specs.Option.{option_map_or}
 use Rattle.subnet_view.specs.Reading.{Cells, switches}
 use Rattle.plan_file.specs.Held.{HeldPlan}
-use Rattle.audit.specs.declared.far_end.Far.{Far}
-use Rattle.audit.specs.declared.far_end.Far.TheVariants.{Nothing}
-use Rattle.audit.specs.declared.audited_switch.AuditedSwitch.{AuditedSwitch}
-use Rattle.audit.specs.Network.{node_of, row_of}
+use Rattle.held_tables.specs.declared.far_end.Far.{Far}
+use Rattle.held_tables.specs.declared.far_end.Far.TheVariants.{Nothing}
+use Rattle.held_tables.specs.declared.audited_switch.AuditedSwitch.{AuditedSwitch}
+use Rattle.held_tables.specs.Switches.{node_of, row_of}
 
 -- what is told of an element that a function gives
 told : {X Y Z : Type 0} (f : X → Y) (p : Y → Z) (d : Z) (xs : List X) (k : ℕ)

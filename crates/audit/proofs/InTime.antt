@@ -10,8 +10,8 @@ use Rattle.plan_file.specs.Held.{HeldPlan}
 use Rattle.audit.specs.declared.end.End.{End}
 use Rattle.audit.specs.declared.next_hop.NextHop.{NextHop}
 use Rattle.audit.specs.declared.next_hop.NextHop.TheVariants.{To, Ends}
-use Rattle.audit.specs.Network.{row_of, sender_of}
-use Rattle.audit.specs.Tables.{owners_of, entry_for}
+use Rattle.held_tables.specs.Switches.{row_of, sender_of}
+use Rattle.held_tables.specs.Tables.{owners_of, entry_for}
 use Rattle.audit.specs.WalkEnds.{onward, after, IsEndOf, is_to, end_of, HaveEnded, AreAfter}
 use Rattle.audit.specs.NextHops.{by_entry, cause_of, next_hops_of, first_hop, AreBrought, IsBrought, end_for, EndsAreFound}
 use Rattle.audit.proofs.Ended.{after_add, after_ended, within, past, long, tos, tos_less, stays_ended, same_left, over_none, have_ended, GoOn}

@@ -13,7 +13,7 @@ use Rattle.audit.specs.declared.end.End.{End}
 use Rattle.audit.specs.declared.end.End.TheVariants.{Taken, Lost}
 use Rattle.subnet_view.proofs.Components.{same_tests}
 use Rattle.audit.specs.NextHops.{is_at}
-use Rattle.audit.specs.Tables.{is_owner, is_same_end}
+use Rattle.held_tables.specs.Tables.{is_owner, is_same_end}
 
 pub same_ends : (e x : EndPort) → is_same_end e x ≡ true → x ≡ e
 same_ends e x h =

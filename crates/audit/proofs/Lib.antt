@@ -1,21 +1,15 @@
 pub mod Arrivals
 pub mod Brought
-pub mod Chained
 pub mod Elsewhere
 pub mod Ended
 pub mod FabricParts
 pub mod FarRows
 pub mod Fars
 pub mod Further
-pub mod Gathered
 pub mod GoneBack
-pub mod HeldPlans
-pub mod HeldTables
 pub mod InTime
 pub mod Judged
 pub mod LidBits
-pub mod Mapped
-pub mod Owned
 pub mod OwnerLines
 pub mod PlanPackets
 pub mod PlanSteps
@@ -23,4 +17,3 @@ pub mod ToOwners
 pub mod ToSwitches
 pub mod Told
 pub mod Tops
-pub mod Wired

@@ -5,7 +5,7 @@ use Rattle.std.proofs.lemmas.Bool.{eqb-true, eq-eqb}
 use Rattle.subnet_view.specs.declared.end_port.EndPort.{EndPort}
 use Rattle.subnet_view.proofs.Members.{contains_here, contains_later, contains_cases, contains_none}
 use Rattle.plan_file.specs.declared.held.HeldLid.{HeldLid}
-use Rattle.audit.specs.Tables.{is_owner, is_same_end}
+use Rattle.held_tables.specs.Tables.{is_owner, is_same_end}
 use Rattle.audit.proofs.Judged.{same_ends, same_itself}
 
 pub record LineOf (lids : List HeldLid) (lid : ℕ) (e : EndPort) : Type 0 where

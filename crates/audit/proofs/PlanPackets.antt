@@ -6,11 +6,11 @@ use Rattle.std.proofs.lemmas.Bool.{and_parts, eqb-true, eqb-false, eq-eqb, ne_eq
 use Rattle.std.proofs.lemmas.List.FromFn.{get_or-map-range_with_len}
 use Rattle.std.proofs.lemmas.Option.{same_Some}
 use Rattle.smp_bytes.specs.NodeType.{is_switch}
-use Rattle.fact_store.specs.Sighting.{AreInRange}
-use Rattle.fact_store.specs.View.{Facts, cells_of}
+use Rattle.fact_store.specs.View.{Facts, cells_of, AreInRange}
 use Rattle.subnet_view.specs.declared.end_port.EndPort.{EndPort}
 use Rattle.subnet_view.specs.EndPorts.{end_ports}
-use Rattle.subnet_view.specs.Reading.{Cells, is_usable, is_switch_node, cap_of, switches}
+use Rattle.reply_facts.specs.Known.{cap_of}
+use Rattle.subnet_view.specs.Reading.{Cells, is_usable, is_switch_node, switches}
 use Rattle.subnet_view.specs.Wires.{across, attached}
 use Rattle.subnet_view.proofs.Attachments.{attached_law}
 use Rattle.subnet_view.proofs.EndPortList.{end_ports_law}
@@ -37,18 +37,18 @@ use Rattle.plan_file.proofs.PlanRanges.{wire_small}
 use Rattle.audit.specs.declared.end.Cause.{Cause}
 use Rattle.audit.specs.declared.end.Cause.TheVariants.{NoLink, Foreign}
 use Rattle.audit.specs.declared.end.End.TheVariants.{Taken, Lost}
-use Rattle.audit.specs.declared.far_end.Far.TheVariants.{Nothing}
+use Rattle.held_tables.specs.declared.far_end.Far.TheVariants.{Nothing}
 use Rattle.audit.specs.declared.next_hop.NextHop.{NextHop}
 use Rattle.audit.specs.declared.next_hop.NextHop.TheVariants.{To, Ends}
-use Rattle.audit.specs.Network.{far_at, far_to, far_of, row_of, index_in}
+use Rattle.held_tables.specs.Switches.{far_at, far_to, far_of, row_of, index_in}
 use Rattle.audit.specs.NextHops.{at_port, over, cause_of, by_entry, next_hops_of, sent, IsBrought}
-use Rattle.audit.specs.Tables.{entry_for, is_owner, owners_of}
+use Rattle.held_tables.specs.Tables.{entry_for, is_owner, owners_of}
 use Rattle.audit.specs.WalkEnds.{after, onward}
 use Rattle.audit.proofs.FabricParts.{index_there}
 use Rattle.audit.proofs.OwnerLines.{owner_line, line_owner}
 use Rattle.plan_file.proofs.OwnedLids.{line_owned}
-use Rattle.audit.proofs.HeldPlans.{made, entry_counts}
-use Rattle.audit.proofs.HeldTables.{get_mapped}
+use Rattle.held_tables.proofs.HeldPlans.{made, entry_counts}
+use Rattle.held_tables.proofs.HeldTables.{get_mapped}
 use Rattle.audit.proofs.PlanSteps.{contains_at, index_is, no_wire_at_0}
 
 -- the switch at which an end port lies, and the root of its component

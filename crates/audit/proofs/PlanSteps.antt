@@ -24,9 +24,9 @@ use Rattle.subnet_view.proofs.GraphSwitches.{switch_usable}
 use Rattle.lft_blocks.specs.Entries.{attachment_of, port_to}
 use Rattle.lft_blocks.proofs.HeldEntries.{entry_of as planned_entry, entry_by_attachment}
 use Rattle.audit.specs.Edges.{edge_to, edge_by}
-use Rattle.audit.specs.Network.{far_at, far_to, far_of, row_of, index_in}
-use Rattle.audit.specs.declared.far_end.Far.{Far}
-use Rattle.audit.specs.declared.far_end.Far.TheVariants.{Nothing, Switch, Port}
+use Rattle.held_tables.specs.Switches.{far_at, far_to, far_of, row_of, index_in}
+use Rattle.held_tables.specs.declared.far_end.Far.{Far}
+use Rattle.held_tables.specs.declared.far_end.Far.TheVariants.{Nothing, Switch, Port}
 
 pub contains_at : {X : Type 0} (xs : List X) (i : ℕ) (x : X) → slice_get xs i ≡ Some x → Contains xs x
 contains_at [] i x e = cc

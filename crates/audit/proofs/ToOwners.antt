@@ -10,24 +10,24 @@ use Rattle.subnet_view.specs.EndPorts.{end_ports}
 use Rattle.subnet_view.specs.Reading.{Cells, switches}
 use Rattle.plan_file.specs.declared.held.HeldLid.{HeldLid}
 use Rattle.plan_file.specs.Held.{HeldPlan}
-use Rattle.audit.specs.declared.audited_switch.AuditedSwitch.{AuditedSwitch}
+use Rattle.held_tables.specs.declared.audited_switch.AuditedSwitch.{AuditedSwitch}
 use Rattle.audit.specs.declared.end.End.TheVariants.{Taken}
-use Rattle.audit.specs.declared.far_end.Far.{Far}
-use Rattle.audit.specs.declared.far_end.Far.TheVariants.{Nothing, Switch, Port}
+use Rattle.held_tables.specs.declared.far_end.Far.{Far}
+use Rattle.held_tables.specs.declared.far_end.Far.TheVariants.{Nothing, Switch, Port}
 use Rattle.audit.specs.declared.lid_set.LidSet.{LidSet}
 use Rattle.audit.specs.declared.next_hop.NextHop.{NextHop}
 use Rattle.audit.specs.declared.next_hop.NextHop.TheVariants.{To, Ends}
-use Rattle.audit.specs.declared.owners.Owner.{Owner}
-use Rattle.audit.specs.declared.owners.Owner.TheVariants.{Several}
-use Rattle.audit.specs.declared.senders.Sender.{Sender}
+use Rattle.held_tables.specs.declared.owners.Owner.{Owner}
+use Rattle.held_tables.specs.declared.owners.Owner.TheVariants.{Several}
+use Rattle.held_tables.specs.declared.senders.Sender.{Sender}
 use Rattle.audit.specs.BlockWalks.{AreDelivered, hops_for, target_at}
 use Rattle.audit.specs.Deliveries.{AreDeliveries, ComeToOwner}
-use Rattle.audit.specs.Ends.{is_sole}
 use Rattle.audit.specs.LidSets.{has}
-use Rattle.audit.specs.Network.{all_begin, first_by, first_switch, is_among, node_of, sender_of}
-use Rattle.audit.specs.NextHops.{AreBlocks, IsBrought, LineArrives, next_hop_of, next_hops_of, sent}
-use Rattle.audit.specs.Owners.{AreOwners, holders, owner_among, sole_among}
-use Rattle.audit.specs.Tables.{is_owner, is_same_end, owners_of}
+use Rattle.held_tables.specs.Switches.{all_begin, first_by, first_switch, is_among, node_of, sender_of}
+use Rattle.held_tables.specs.Blocks.{AreBlocks}
+use Rattle.audit.specs.NextHops.{IsBrought, LineArrives, next_hop_of, next_hops_of, sent}
+use Rattle.held_tables.specs.Owners.{AreOwners, holders, owner_among, sole_among, is_sole}
+use Rattle.held_tables.specs.Tables.{is_owner, is_same_end, owners_of}
 use Rattle.audit.specs.WalkEnds.{IsEndOf}
 use Rattle.audit.proofs.Arrivals.{sole_owner}
 use Rattle.audit.proofs.Brought.{steps_are}
@@ -121,4 +121,5 @@ all_come cells held line count sources firsts sources_are firsts_are long begin 
     from_first (next_hops_of cells held line.lid) count port e source.switch source.far (begin_each cells count (end_ports cells) is.0 e all there)
     (λ s less. come.each s (omega arith)) in
     subst (λ (p : EndPort). IsBrought cells held line.lid e (Some (Taken p))) own
-    (subst (λ (es : List EndPort). IsEndOf (next_hops_of cells held line.lid) (sent es e source.switch source.far) (Some (Taken port))) (sym come.owner_is) ends)
+    (subst (λ (es : List EndPort). IsEndOf (next_hops_of cells held line.lid) (sent es e source.switch source.far) (Some (Taken port)))
+    (sym come.owner_is) ends)

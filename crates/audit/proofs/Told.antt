@@ -24,14 +24,14 @@ use Rattle.audit.specs.declared.end.Cause.{Cause}
 use Rattle.audit.specs.declared.end.Cause.TheVariants.{NoLink, Foreign}
 use Rattle.audit.specs.declared.end.End.{End}
 use Rattle.audit.specs.declared.end.End.TheVariants.{Taken, Lost}
-use Rattle.audit.specs.declared.far_end.Far.{Far}
-use Rattle.audit.specs.declared.far_end.Far.TheVariants.{Nothing}
+use Rattle.held_tables.specs.declared.far_end.Far.{Far}
+use Rattle.held_tables.specs.declared.far_end.Far.TheVariants.{Nothing}
 use Rattle.audit.specs.declared.next_hop.NextHop.{NextHop}
 use Rattle.audit.specs.declared.next_hop.NextHop.TheVariants.{To, Ends}
 use Rattle.audit.specs.Fabrics.{IsSeenIn, EndsAs, PacketsEndAsTold, PacketsEndAsToldInParts}
-use Rattle.audit.specs.Network.{index_in, far_at, far_to, far_of, row_of, sender_of}
+use Rattle.held_tables.specs.Switches.{index_in, far_at, far_to, far_of, row_of, sender_of}
 use Rattle.audit.specs.NextHops.{IsBrought, at_port, over, cause_of, by_entry, next_hops_of, sent, first_hop}
-use Rattle.audit.specs.Tables.{owners_of, is_owner, counted, entry_for, top_of}
+use Rattle.held_tables.specs.Tables.{owners_of, is_owner, counted, entry_for, top_of}
 use Rattle.audit.specs.WalkEnds.{onward, after, IsEndOf}
 use Rattle.audit.proofs.FabricParts.{InFabric, as_part, seen_whole, vertex_part, switch_end, listed, indexed, wire_told, told_wire}
 use Rattle.audit.proofs.FarRows.{has, lacks, no_far, no_port, row_at}
@@ -272,7 +272,8 @@ module _ (part : Part) (facts : Facts) (held : HeldPlan) (f : Fabric) (seen : Is
             → Leads st (over owners node.guid (why node) (slice_index_or (row_of cells node.guid) n Nothing))) [
               | true ↦ λ e.
                   let drops : course f lid st ≡ Drops = goes ∙ ap (λ t. cond t Drops (cond (n == 0) (Delivers (port_at k 0)) (LeavesBy (port_at k n)))) e in
-                  subst (λ (far : Far). Leads st (over owners node.guid (why node) far)) (sym (no_port part facts held f seen k node n a.at a.kind a.within (lacks n node.ports e)))
+                  subst (λ (far : Far). Leads st (over owners node.guid (why node) far))
+                  (sym (no_port part facts held f seen k node n a.at a.kind a.within (lacks n node.ports e)))
                   (never_dropped f lid st drops)
               | false ↦ λ e.
                   let within = has n node.ports e in

@@ -11,12 +11,12 @@ use Rattle.std.proofs.Math.Nat.{le-max_left, le-max_right}
 use Rattle.subnet_view.specs.Reading.{Cells, switches}
 use Rattle.lid_assign.specs.Lids.{greatest}
 use Rattle.plan_file.specs.Held.{HeldPlan}
-use Rattle.audit.specs.declared.far_end.Far.TheVariants.{Nothing}
-use Rattle.audit.specs.declared.audited_switch.AuditedSwitch.{AuditedSwitch}
+use Rattle.held_tables.specs.declared.far_end.Far.TheVariants.{Nothing}
+use Rattle.held_tables.specs.declared.audited_switch.AuditedSwitch.{AuditedSwitch}
 use Rattle.audit.specs.Edges.{edge_by, edge_to, edges_of, greatest_top}
-use Rattle.audit.specs.Network.{far_of, node_of, row_of}
-use Rattle.audit.specs.Tables.{counted, entry_for, entry_of, top_of}
-use Rattle.audit.proofs.Mapped.{mapped_more}
+use Rattle.held_tables.specs.Switches.{far_of, node_of, row_of}
+use Rattle.held_tables.specs.Tables.{counted, entry_for, entry_of, top_of}
+use Rattle.held_tables.proofs.Mapped.{mapped_more}
 
 -- the order of LIDs is that of their numbers
 pub less_is : (a b : ℕ) → is_lt (nat_cmp a b) ≡ nat_lt a b

@@ -1,17 +1,17 @@
 -- What is seen of the packets for all LIDs of a block at once.
 use Rattle.std.specs.Prelude.{◌≡◌, ◌⊎◌, ◌<◌, ◌+◌, ◌*◌, ℕ, zero, suc, Bool, true, List, [], ◌∷◌, ◌++◌, Option, None, Some, length, map, slice_get, slice_index_or, slice_set, if◌then◌else◌}
 use Rattle.subnet_view.specs.declared.end_port.EndPort.{EndPort}
-use Rattle.audit.specs.declared.audited_switch.AuditedSwitch.{AuditedSwitch}
+use Rattle.held_tables.specs.declared.audited_switch.AuditedSwitch.{AuditedSwitch}
 use Rattle.audit.specs.declared.block_walks.Exit.{Exit}
 use Rattle.audit.specs.declared.end.End.TheVariants.{Taken}
 use Rattle.audit.specs.declared.lid_set.LidSet.{LidSet}
 use Rattle.audit.specs.declared.next_hop.NextHop.{NextHop}
 use Rattle.audit.specs.declared.next_hop.NextHop.TheVariants.{To, Ends}
-use Rattle.audit.specs.declared.owners.Owner.{Owner}
-use Rattle.audit.specs.declared.owners.Owner.TheVariants.{Several}
+use Rattle.held_tables.specs.declared.owners.Owner.{Owner}
+use Rattle.held_tables.specs.declared.owners.Owner.TheVariants.{Several}
 use Rattle.audit.specs.LidSets.{both, either, has, no_lids, with_lid}
 use Rattle.audit.specs.NextHops.{is_at, next_hop_of}
-use Rattle.audit.specs.Owners.{sole_among}
+use Rattle.held_tables.specs.Owners.{sole_among}
 use Rattle.audit.specs.WalkEnds.{IsEndOf, onward}
 
 -- the end port that alone holds the LID at an index of a number

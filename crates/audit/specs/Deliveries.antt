@@ -8,7 +8,7 @@ use Rattle.audit.specs.declared.end.End.TheVariants.{Taken}
 use Rattle.audit.specs.declared.next_hop.NextHop.TheVariants.{To}
 use Rattle.audit.specs.LidSets.{has}
 use Rattle.audit.specs.NextHops.{next_hops_of}
-use Rattle.audit.specs.Tables.{owners_of}
+use Rattle.held_tables.specs.Tables.{owners_of}
 use Rattle.audit.specs.WalkEnds.{IsEndOf}
 
 -- a LID is one of these

@@ -4,12 +4,12 @@ use Rattle.port_graph.specs.declared.edge.Edge.{Edge}
 use Rattle.subnet_view.specs.Reading.{Cells, switches}
 use Rattle.lid_assign.specs.Lids.{greatest}
 use Rattle.plan_file.specs.Held.{HeldPlan}
-use Rattle.audit.specs.declared.far_end.Far.{Far}
-use Rattle.audit.specs.declared.far_end.Far.TheVariants.{Nothing, Switch, Port}
-use Rattle.audit.specs.declared.audited_switch.AuditedSwitch.{AuditedSwitch}
-use Rattle.audit.specs.Network.{row_of, switch_over}
+use Rattle.held_tables.specs.declared.far_end.Far.{Far}
+use Rattle.held_tables.specs.declared.far_end.Far.TheVariants.{Nothing, Switch, Port}
+use Rattle.held_tables.specs.declared.audited_switch.AuditedSwitch.{AuditedSwitch}
+use Rattle.held_tables.specs.Switches.{row_of, switch_over}
 use Rattle.audit.specs.NextHops.{node_entry}
-use Rattle.audit.specs.Tables.{entry_for, top_of}
+use Rattle.held_tables.specs.Tables.{entry_for, top_of}
 
 -- by a port whose wire leads to a usable switch
 abbrev pub edge_to : ℕ → Far → Option Edge

@@ -3,11 +3,11 @@ use Rattle.std.specs.Prelude.{◌≡◌, ℕ, Bool, false, ◌&&◌, List, Optio
 use Rattle.std.specs.List.{list_all}
 use Rattle.subnet_view.specs.declared.end_port.EndPort.{EndPort}
 use Rattle.audit.specs.declared.end.End.{End}
-use Rattle.audit.specs.declared.senders.Sender.{Sender}
+use Rattle.held_tables.specs.declared.senders.Sender.{Sender}
 use Rattle.audit.specs.declared.next_hop.NextHop.{NextHop}
-use Rattle.audit.specs.Network.{all_begin, first_switch}
+use Rattle.held_tables.specs.Switches.{all_begin, first_switch}
 use Rattle.audit.specs.NextHops.{first_hop, is_at}
-use Rattle.audit.specs.Tables.{is_same_end}
+use Rattle.held_tables.specs.Owners.{is_sole}
 use Rattle.audit.specs.WalkEnds.{end_of, onward}
 
 -- where they end, for each end port that sends one, in their order; None is that it goes round for ever
@@ -27,10 +27,6 @@ arrivals port walks = map (λ walk. is_at port (end_of walk)) walks
 abbrev pub comes_by : Option ℕ → List Bool → Bool
 comes_by None arrive = false
 comes_by (Some index) arrive = slice_index_or arrive index false
-
--- no other end port is one of these
-abbrev pub is_sole : EndPort → List EndPort → Bool
-is_sole port owners = list_all (is_same_end port) owners
 
 -- all packets come first to a switch, each walk comes to the port, and no other end port holds the LID
 abbrev pub all_come : Bool → List Bool → Bool → Bool

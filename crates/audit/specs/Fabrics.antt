@@ -14,7 +14,7 @@ use Rattle.plan_file.specs.Held.{HeldPlan}
 use Rattle.audit.specs.declared.end.End.{End}
 use Rattle.audit.specs.declared.end.End.TheVariants.{Taken, Lost}
 use Rattle.audit.specs.NextHops.{IsBrought}
-use Rattle.audit.specs.Tables.{owners_of, is_owner, top_of, entry_of}
+use Rattle.held_tables.specs.Tables.{owners_of, is_owner, top_of, entry_of}
 
 -- an end port owns a LID where a line says that it holds it; a switch has the top and the entries of its lines, a top
 -- of 0 where it has none, and 255 at each LID of a block that it has no line for

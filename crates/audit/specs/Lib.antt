@@ -1,13 +1,9 @@
 pub mod BlockWalks
-pub mod Chains
 pub mod Deliveries
 pub mod Ends
 pub mod Edges
 pub mod Fabrics
 pub mod LidSets
 pub mod Network
-pub mod Owners
 pub mod NextHops
-pub mod Rows
-pub mod Tables
 pub mod WalkEnds

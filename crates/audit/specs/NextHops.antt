@@ -1,9 +1,8 @@
 -- What becomes of a packet for a LID at each switch, and at the port that sends it.
-use Rattle.std.specs.Prelude.{◌≡◌, ◌↔◌, Bool, false, ℕ, ◌<◌, ◌%◌, ◌==◌, List, [], Contains, Option, None, Some, length, map, nat_lt, slice_get, slice_index_or, slice_set, if◌then◌else◌}
+use Rattle.std.specs.Prelude.{◌≡◌, ◌↔◌, Bool, false, ℕ, ◌%◌, ◌==◌, List, [], Contains, Option, None, Some, length, map, nat_lt, slice_get, slice_index_or, if◌then◌else◌}
 use Rattle.std.specs.Option.{option_map_or}
 use Rattle.subnet_view.specs.declared.end_port.EndPort.{EndPort}
 use Rattle.subnet_view.specs.Reading.{Cells, is_usable, port_count_of, switches}
-use Rattle.plan_file.specs.declared.held.HeldBlock.{HeldBlock}
 use Rattle.plan_file.specs.declared.held.HeldLid.{HeldLid}
 use Rattle.plan_file.specs.Held.{HeldPlan}
 use Rattle.subnet_view.specs.EndPorts.{end_ports}
@@ -11,15 +10,15 @@ use Rattle.audit.specs.declared.end.Cause.{Cause}
 use Rattle.audit.specs.declared.end.Cause.TheVariants.{AboveTop, NoEntry, NoPort, NoLink, Foreign}
 use Rattle.audit.specs.declared.end.End.{End}
 use Rattle.audit.specs.declared.end.End.TheVariants.{Taken, Lost}
-use Rattle.audit.specs.declared.far_end.Far.{Far}
-use Rattle.audit.specs.declared.far_end.Far.TheVariants.{Nothing, Switch, Port}
-use Rattle.audit.specs.declared.senders.Sender.{Sender}
-use Rattle.audit.specs.declared.audited_switch.AuditedSwitch.{AuditedSwitch}
+use Rattle.held_tables.specs.declared.far_end.Far.{Far}
+use Rattle.held_tables.specs.declared.far_end.Far.TheVariants.{Nothing, Switch, Port}
+use Rattle.held_tables.specs.declared.senders.Sender.{Sender}
+use Rattle.held_tables.specs.declared.audited_switch.AuditedSwitch.{AuditedSwitch}
 use Rattle.audit.specs.declared.next_hop.NextHop.{NextHop}
 use Rattle.audit.specs.declared.next_hop.NextHop.TheVariants.{To, Ends}
 use Rattle.audit.specs.declared.switch_step.SwitchStep.{SwitchStep}
-use Rattle.audit.specs.Network.{row_of, sender_of}
-use Rattle.audit.specs.Tables.{owners_of, is_owner, is_same_end, counted, entry_for, entry_in, block_at, top_of}
+use Rattle.held_tables.specs.Switches.{row_of, sender_of}
+use Rattle.held_tables.specs.Tables.{owners_of, is_owner, is_same_end, counted, entry_for, top_of}
 use Rattle.audit.specs.WalkEnds.{IsEndOf, after, end_of}
 
 -- an adapter port takes a packet for a LID that it holds
@@ -120,25 +119,6 @@ pub record AreBrought (cells : Cells) (held : HeldPlan) (lid : ℕ) (ends : List
   pub as_many : length ends ≡ length (end_ports cells)
   pub brought : (k : ℕ) (e : EndPort) (end : Option End) → slice_get (end_ports cells) k ≡ Some e → slice_get ends k
       ≡ Some end → IsBrought cells held lid e end
-
--- so many blocks with no entry
-pub record AreBlank (count : ℕ) (rows : List (List ℕ)) : Type 0 where
-  pub as_many : length rows ≡ count
-  pub entry : (index i : ℕ) → slice_index_or (slice_index_or rows index []) i 255 ≡ 255
-
--- the blocks of a number, by the indices of their switches
-pub record AreBlocks (held : HeldPlan) (number : ℕ) (rows : List (List ℕ)) : Type 0 where
-  pub as_many : length rows ≡ length held.switches
-  pub entry : (index i : ℕ) → index < length rows → slice_index_or (slice_index_or rows index []) i 255
-      ≡ entry_in (block_at held index number) i
-
--- with a block where that of its switch is
-abbrev pub with_row : List (List ℕ) → HeldBlock → List (List ℕ)
-with_row rows block = slice_set rows block.switch block.entries
-
--- the same, if there is one
-abbrev pub with_block : List (List ℕ) → Option HeldBlock → List (List ℕ)
-with_block rows block = option_map_or (with_row rows) block rows
 
 -- the packets of every end port for a LID come to an end port that holds it
 abbrev pub LineArrives : Cells → HeldPlan → HeldLid → Type 0

@@ -4,12 +4,11 @@ ghost use Rattle.audit.specs.BlockWalks.{AreAfterRounds, AreDelivered, AreSeenBy
 ghost use Rattle.audit.specs.BlockWalks.{arrived_more, back_by, from_each, lids_at};
 ghost use Rattle.audit.specs.LidSets.{no_lids};
 
-use crate::audited_switch::AuditedSwitch;
 use crate::ends::is_at;
 use crate::lid_set::LidSet;
 use crate::next_hop::NextHop;
 use crate::next_hops::{entry_of, step_at, switch_by};
-use crate::owners::{Owner, sole_owner};
+use held_tables::{AuditedSwitch, Owner, sole_owner};
 use smp_bytes::Lid;
 use std::alloc::{AllocError, Global};
 use subnet_view::EndPort;

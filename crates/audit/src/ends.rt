@@ -1,16 +1,16 @@
 //! Where packets for the LID of an end port end.
 ghost use Rattle.std.specs.Prelude.{◌≡◌, ◌&&◌, IfOk, None, length, map, not, position, slice_index_or};
 ghost use Rattle.std.specs.List.{list_all};
-ghost use Rattle.audit.specs.Ends.{all_come, arrivals, comes_by, end_from, is_sole};
-ghost use Rattle.audit.specs.Network.{all_begin, first_switch};
+ghost use Rattle.held_tables.specs.Owners.{is_sole};
+ghost use Rattle.audit.specs.Ends.{all_come, arrivals, comes_by, end_from};
+ghost use Rattle.held_tables.specs.Switches.{all_begin, first_switch};
 ghost use Rattle.audit.specs.NextHops.{is_at};
-ghost use Rattle.audit.specs.Tables.{is_same_end};
 
 use crate::end::End;
 use crate::next_hop::NextHop;
 use crate::next_hops::first_hop;
-use crate::senders::Sender;
 use crate::walk_ends::{end_of, onward};
+use held_tables::{Sender, is_same_end};
 use std::alloc::{AllocError, Global};
 use std::marker::Model;
 use subnet_view::EndPort;
@@ -209,11 +209,4 @@ pub fn is_at(port: &EndPort, end: &Option<End>) -> bool
         Some(End::Taken(at)) => is_same_end(port, at),
         _ => false,
     }
-}
-
-/// Whether two end ports are one. Takes one step.
-pub fn is_same_end(port: &EndPort, other: &EndPort) -> bool
-    ensures { result ≡ is_same_end port.now other.now }
-{
-    other.node == port.node && other.port == port.port
 }

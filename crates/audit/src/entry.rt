@@ -1,9 +1,9 @@
 //! The entry of a switch for one LID.
 ghost use Rattle.std.specs.Prelude.{◌≡◌};
-ghost use Rattle.audit.specs.Tables.{block_at, entry_at, entry_for, is_block_of};
+ghost use Rattle.held_tables.specs.Tables.{block_at, entry_at, entry_for, is_block_of};
 
-use crate::audited_switch::{index_of, top_at};
 use crate::next_hops::counted;
+use held_tables::{index_of, top_at};
 use plan_file::{Held, HeldBlock};
 use smp_bytes::{Guid, Lid};
 

@@ -2,28 +2,28 @@ ghost use Rattle.std.specs.Prelude.{◌≡◌, ◌<◌, ◌/◌, IfOk, length, m
 ghost use Rattle.std.specs.Option.{option_map_or};
 ghost use Rattle.fact_store.specs.View.{cells_of};
 ghost use Rattle.subnet_view.specs.EndPorts.{end_ports};
+ghost use Rattle.lid_assign.specs.Lids.{greatest};
 ghost use Rattle.subnet_view.specs.Reading.{switches};
 ghost use Rattle.audit.specs.Deliveries.{AreDeliveries};
 ghost use Rattle.audit.specs.Edges.{edges_of, greatest_top};
-ghost use Rattle.audit.specs.Network.{far_by, sender_of};
-ghost use Rattle.audit.specs.NextHops.{AreBlocks, AreBrought, LineArrives, entry_by, switch_step};
-ghost use Rattle.audit.specs.Ends.{is_sole};
-ghost use Rattle.audit.specs.Tables.{entry_for, owners_of, top_of};
+ghost use Rattle.held_tables.specs.Switches.{far_by, sender_of};
+ghost use Rattle.held_tables.specs.Blocks.{AreBlocks};
+ghost use Rattle.audit.specs.NextHops.{AreBrought, LineArrives, entry_by, switch_step};
+ghost use Rattle.held_tables.specs.Owners.{is_told_twice, is_sole};
+ghost use Rattle.held_tables.specs.Tables.{entry_for, owners_of, top_of};
 
-use crate::audited_switch::{AuditedSwitch, greatest_top, nodes};
 use crate::block_walks::delivered;
-use crate::blocks::{block_chains, blocks};
-use crate::chains::Chains;
 use crate::deliveries::Deliveries;
 use crate::ends::Ends;
 use crate::entry::entry_for;
-use crate::far_end::Far;
 use crate::next_hops::{edges, entries, steps, switch_steps};
-use crate::owners::{Owner, is_sole_owner, owners, owners_of};
-use crate::senders::{Sender, all_begin, firsts, sources};
 use crate::switch_step::SwitchStep;
 use crate::walk_ends::ends;
 use fact_store::{Refused, Store};
+use held_tables::{
+    AuditedSwitch, Chains, Far, Owner, Sender, all_begin, block_chains, block_rows, firsts,
+    is_sole_owner, is_told_twice, lid_owners, nodes, owners_of, sources,
+};
 use plan_file::{Held, HeldLid};
 use port_graph::Edge;
 use smp_bytes::{Guid, Lid};
@@ -87,7 +87,7 @@ impl<'a> Network<'a> {
         let firsts = firsts(alloc, &sources)?;
         let begin = all_begin(nodes.len(), &firsts);
         let chains = block_chains(alloc, held)?;
-        let owners = owners(alloc, held)?;
+        let owners = lid_owners(alloc, held)?;
         Ok(Network {
             store,
             held,
@@ -106,7 +106,7 @@ impl<'a> Network<'a> {
         ensures { IfOk result (λ blocks. AreBlocks self.now.held blocks.number blocks.rows.items
             × (blocks.number ≡ number)) }
     {
-        let rows = blocks(alloc, self.held, &self.chains, number)?;
+        let rows = block_rows(alloc, self.held, &self.chains, number)?;
         Ok(Blocks { number, rows })
     }
 
@@ -240,6 +240,28 @@ impl<'a> Network<'a> {
         is_sole_owner(self.held, &self.owners, line)
     }
 
+    /// Whether more than one port holds a LID. It takes no memory, and a step or two where there are not several, and
+    /// else a walk over the LIDs that are held.
+    pub fn is_told_twice(&self, lid: Lid) -> bool
+        ensures { result ≡ is_told_twice self.now.held.lids lid }
+    {
+        is_told_twice(self.held, &self.owners, lid)
+    }
+
+    /// What the view says of the subnet.
+    pub fn store(&self) -> &Store
+        ensures { result.now ≡ self.now.facts }
+    {
+        self.store
+    }
+
+    /// The tables that its switches hold.
+    pub fn held(&self) -> &Held
+        ensures { result.now ≡ self.now.held }
+    {
+        self.held
+    }
+
     /// The top of the usable switch at an index, by rising GUID, and 0 where there is none or it is not held. Takes one
     /// step.
     pub fn top(&self, index: usize) -> Lid
@@ -325,4 +347,17 @@ impl<'a> Network<'a> {
         }
         Some(entry_for(self.held, node, lid))
     }
+}
+
+/// The greatest of the switches' tops, and 0 where there is none.
+fn greatest_top(nodes: &[AuditedSwitch]) -> Lid
+    ensures { result ≡ greatest (map (λ node. node.top) nodes.now) }
+{
+    let mut greatest = Lid::NONE;
+    for node in nodes {
+        if greatest < node.top {
+            greatest = node.top;
+        }
+    }
+    greatest
 }

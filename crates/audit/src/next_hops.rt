@@ -2,14 +2,12 @@
 ghost use Rattle.std.specs.Prelude.{◌≡◌, IfOk, map};
 ghost use Rattle.audit.specs.NextHops.{at_port, cause_by, entry_among, first_hop, next_hop_by, next_hop_of, node_entry, over, switch_step_of};
 ghost use Rattle.audit.specs.Edges.{edge_of, switch_by};
-ghost use Rattle.audit.specs.Tables.{counted, is_owner};
+ghost use Rattle.held_tables.specs.Tables.{counted, is_owner};
 
-use crate::audited_switch::AuditedSwitch;
 use crate::end::{Cause, End};
-use crate::far_end::Far;
 use crate::next_hop::NextHop;
-use crate::senders::Sender;
 use crate::switch_step::SwitchStep;
+use held_tables::{AuditedSwitch, Far, Sender};
 use port_graph::Edge;
 use smp_bytes::{Guid, Lid, PortNum};
 use std::alloc::{AllocError, Global};

@@ -13,14 +13,14 @@ use Rattle.subnet_view.specs.Wires.{across}
 use Rattle.plan_file.specs.declared.held.HeldLid.{HeldLid}
 use Rattle.plan_file.specs.Held.{HeldPlan}
 use Rattle.port_graph.specs.declared.edge.Edge.{Edge}
-use Rattle.audit.specs.declared.far_end.Far.{Far}
-use Rattle.audit.specs.declared.far_end.Far.TheVariants.{Nothing, Switch, Port}
+use Rattle.held_tables.specs.declared.far_end.Far.{Far}
+use Rattle.held_tables.specs.declared.far_end.Far.TheVariants.{Nothing, Switch, Port}
 use Rattle.audit.specs.Edges.{edge_by, edges_of}
-use Rattle.audit.specs.Network.{far_at, far_of, far_to, index_in, row_of, sender_of, switch_over}
+use Rattle.held_tables.specs.Switches.{far_at, far_of, far_to, index_in, row_of, sender_of, switch_over}
 use Rattle.audit.specs.declared.end.End.{End}
-use Rattle.audit.specs.declared.senders.Sender.{Sender}
+use Rattle.held_tables.specs.declared.senders.Sender.{Sender}
 use Rattle.audit.specs.NextHops.{AreBrought, end_for, is_at}
-use Rattle.audit.specs.Tables.{entry_for}
+use Rattle.held_tables.specs.Tables.{entry_for}
 use Rattle.audit.proofs.InTime.{found_at}
 use Rattle.port_graph.proofs.Counts.{length_map}
 use Rattle.audit_channels.specs.declared.way_tally.WayTally.{WayTally}

@@ -8,7 +8,7 @@ use Rattle.std.proofs.lemmas.List.Recursion.{max_push}
 use Rattle.std.proofs.lemmas.List.Sums.{sum_by_push}
 use Rattle.subnet_view.specs.Reading.{Cells, switches}
 use Rattle.plan_file.specs.Held.{HeldPlan}
-use Rattle.audit.specs.Network.{far_by}
+use Rattle.held_tables.specs.Switches.{far_by}
 use Rattle.audit_channels.specs.declared.figures.Total.{Total}
 use Rattle.audit_channels.specs.declared.way_tally.WayTally.{WayTally}
 use Rattle.audit_channels.specs.declared.ways.WayFigures.{WayFigures}

@@ -20,10 +20,10 @@ use Rattle.subnet_view.specs.EndPorts.{end_ports}
 use Rattle.subnet_view.specs.Reading.{Cells}
 use Rattle.subnet_view.proofs.Apart.{contains-from_map}
 use Rattle.subnet_view.proofs.Members.{list_any_at, list_any_true}
-use Rattle.audit.specs.declared.far_end.Far.{Far}
-use Rattle.audit.specs.declared.senders.Sender.{Sender}
-use Rattle.audit.specs.Network.{far_of, sender_of}
-use Rattle.audit.specs.Tables.{is_owner, is_same_end}
+use Rattle.held_tables.specs.declared.far_end.Far.{Far}
+use Rattle.held_tables.specs.declared.senders.Sender.{Sender}
+use Rattle.held_tables.specs.Switches.{far_of, sender_of}
+use Rattle.held_tables.specs.Tables.{is_owner, is_same_end}
 use Rattle.audit.proofs.Judged.{same_ends, same_itself}
 use Rattle.audit_channels.specs.Groups.{AreByPort, IsRoster, IsTargetAmong, LeadsTo, port_cmp, port_of}
 use Rattle.audit_channels.specs.Ways.{is_adapter, is_target}

@@ -9,17 +9,18 @@ use Rattle.std.proofs.lemmas.List.Sums.{get_or-le-sum_by}
 use Rattle.fact_store.specs.View.{Facts, cells_of}
 use Rattle.subnet_view.specs.declared.end_port.EndPort.{EndPort}
 use Rattle.subnet_view.specs.EndPorts.{ComesBefore, end_ports}
-use Rattle.subnet_view.specs.Reading.{Cells, port_guid_of}
+use Rattle.reply_facts.specs.Known.{port_guid_of}
+use Rattle.subnet_view.specs.Reading.{Cells}
 use Rattle.subnet_view.proofs.EndPortList.{end_ports_law}
 use Rattle.subnet_view.proofs.EndPortOrder.{port_total}
 use Rattle.subnet_view.proofs.Members.{contains_filter, list_any_at}
 use Rattle.plan_file.specs.declared.held.HeldLid.{HeldLid}
 use Rattle.plan_file.specs.Held.{HeldPlan}
 use Rattle.audit.specs.declared.end.End.{End}
-use Rattle.audit.specs.declared.far_end.Far.{Far}
-use Rattle.audit.specs.Network.{far_of, switch_over}
+use Rattle.held_tables.specs.declared.far_end.Far.{Far}
+use Rattle.held_tables.specs.Switches.{far_of, switch_over}
 use Rattle.audit.specs.NextHops.{AreBrought, end_for, is_at}
-use Rattle.audit.specs.Tables.{is_owner, is_same_end}
+use Rattle.held_tables.specs.Tables.{is_owner, is_same_end}
 use Rattle.audit.proofs.Arrivals.{all_there}
 use Rattle.audit.proofs.InTime.{found_at}
 use Rattle.audit.proofs.Judged.{same_ends, same_itself}

@@ -7,7 +7,7 @@ use Rattle.std.proofs.lemmas.List.Sums.{sum_by-append}
 use Rattle.subnet_view.specs.Reading.{Cells, switches}
 use Rattle.plan_file.specs.declared.held.HeldLid.{HeldLid}
 use Rattle.plan_file.specs.Held.{HeldPlan}
-use Rattle.audit.specs.NextHops.{AreBlocks}
+use Rattle.held_tables.specs.Blocks.{AreBlocks}
 use Rattle.audit_channels.specs.declared.way_tally.WayTally.{WayTally}
 use Rattle.audit_channels.specs.WayTally.{IsCounted, IsCountedMore}
 use Rattle.audit_channels.specs.Ways.{Way, is_target, ways_for, ways_of, ways_to}

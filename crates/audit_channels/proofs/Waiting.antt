@@ -13,7 +13,7 @@ use Rattle.audit_channels.proofs.Columns.{within}
 use Rattle.subnet_view.specs.Reading.{Cells, switches}
 use Rattle.plan_file.specs.Held.{HeldPlan}
 use Rattle.audit.specs.Edges.{edges_of, greatest_top}
-use Rattle.audit.specs.NextHops.{AreBlocks}
+use Rattle.held_tables.specs.Blocks.{AreBlocks}
 use Rattle.audit.proofs.Tops.{none_above}
 use Rattle.audit_channels.specs.Waiting.{WaitsFor, AreWaits, IsAdded}
 

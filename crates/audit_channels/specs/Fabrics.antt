@@ -12,7 +12,7 @@ use Rattle.subnet_view.specs.Reading.{Cells, switches}
 use Rattle.subnet_view.specs.Agreement.{Part, IsEndPortIn}
 use Rattle.plan_file.specs.Held.{HeldPlan}
 use Rattle.audit.specs.Fabrics.{IsSeenIn}
-use Rattle.audit.specs.Network.{index_in}
+use Rattle.held_tables.specs.Switches.{index_in}
 use Rattle.audit_channels.specs.Waiting.{RiseOnWays}
 
 -- a wire from one switch to another, taken that way: its channel is that of the port by which it leaves the usable

@@ -7,11 +7,11 @@ use Rattle.std.specs.declared.cmp.Ordering.{Ordering}
 use Rattle.subnet_view.specs.declared.end_port.EndPort.{EndPort}
 use Rattle.subnet_view.specs.EndPorts.{end_ports}
 use Rattle.subnet_view.specs.Reading.{Cells, switches}
-use Rattle.audit.specs.declared.far_end.Far.{Far}
-use Rattle.audit.specs.declared.far_end.Far.TheVariants.{Switch}
-use Rattle.audit.specs.declared.senders.Sender.{Sender}
-use Rattle.audit.specs.Network.{far_of, sender_of, switch_over}
-use Rattle.audit.specs.Tables.{is_same_end}
+use Rattle.held_tables.specs.declared.far_end.Far.{Far}
+use Rattle.held_tables.specs.declared.far_end.Far.TheVariants.{Switch}
+use Rattle.held_tables.specs.declared.senders.Sender.{Sender}
+use Rattle.held_tables.specs.Switches.{far_of, sender_of, switch_over}
+use Rattle.held_tables.specs.Tables.{is_same_end}
 use Rattle.audit_channels.specs.declared.sender_groups.Groups.{Groups}
 use Rattle.audit_channels.specs.WayTally.{weighed}
 use Rattle.audit_channels.specs.Ways.{is_adapter}

@@ -11,12 +11,12 @@ use Rattle.subnet_view.specs.Reading.{Cells, switches}
 use Rattle.plan_file.specs.declared.held.HeldLid.{HeldLid}
 use Rattle.plan_file.specs.Held.{HeldPlan}
 use Rattle.audit.specs.declared.end.End.{End}
-use Rattle.audit.specs.declared.far_end.Far.{Far}
-use Rattle.audit.specs.declared.far_end.Far.TheVariants.{Nothing, Switch, Port}
+use Rattle.held_tables.specs.declared.far_end.Far.{Far}
+use Rattle.held_tables.specs.declared.far_end.Far.TheVariants.{Nothing, Switch, Port}
 use Rattle.audit.specs.Edges.{edges_of}
-use Rattle.audit.specs.Network.{far_by, far_of}
+use Rattle.held_tables.specs.Switches.{far_by, far_of}
 use Rattle.audit.specs.NextHops.{end_for, is_at}
-use Rattle.audit.specs.Tables.{is_owner, is_same_end}
+use Rattle.held_tables.specs.Tables.{is_owner, is_same_end}
 use Rattle.audit_channels.specs.declared.ways.WayFigures.{WayFigures}
 use Rattle.audit_channels.specs.Figures.{figures_of}
 

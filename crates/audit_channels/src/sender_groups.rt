@@ -3,7 +3,7 @@ ghost use Rattle.std.specs.Prelude.{◌≡◌, ◌<◌, ◌≤◌, ◌+◌, [], 
 ghost use Rattle.fact_store.specs.View.{cells_of};
 ghost use Rattle.subnet_view.specs.EndPorts.{end_ports};
 ghost use Rattle.subnet_view.specs.Reading.{switches};
-ghost use Rattle.audit.specs.Network.{switch_over};
+ghost use Rattle.held_tables.specs.Switches.{switch_over};
 ghost use Rattle.audit.specs.NextHops.{AreBrought};
 ghost use Rattle.audit_channels.specs.Groups.{AreGrouped, IsGroupedWith, IsWithin, adapters, packets_at};
 ghost use Rattle.audit_channels.specs.Ways.{is_adapter, reaches, reaches_if};

@@ -12,7 +12,7 @@ use Rattle.subnet_view.proofs.Members.{contains_in, list_any_true}
 use Rattle.audit.proofs.PlanSteps.{contains_at}
 use Rattle.subnet_view.specs.declared.end_port.EndPort.{EndPort}
 use Rattle.subnet_view.specs.Reading.{Cells}
-use Rattle.audit.specs.Tables.{is_owner, is_same_end}
+use Rattle.held_tables.specs.Tables.{is_owner, is_same_end}
 use Rattle.audit.proofs.Judged.{same_ends}
 use Rattle.audit_counts.specs.declared.site.Site.{Site}
 use Rattle.audit_channels.specs.Ways.{is_adapter}

@@ -14,8 +14,9 @@ use Rattle.plan_file.specs.declared.held.HeldLid.{HeldLid}
 use Rattle.plan_file.specs.Held.{HeldPlan}
 use Rattle.audit.specs.declared.end.End.{End}
 use Rattle.audit.specs.declared.end.End.TheVariants.{Taken}
-use Rattle.audit.specs.NextHops.{AreBlocks, AreBrought, LineArrives, end_for, is_at}
-use Rattle.audit.specs.Tables.{is_owner}
+use Rattle.held_tables.specs.Blocks.{AreBlocks}
+use Rattle.audit.specs.NextHops.{AreBrought, LineArrives, end_for, is_at}
+use Rattle.held_tables.specs.Tables.{is_owner}
 use Rattle.audit.proofs.Arrivals.{all_there}
 use Rattle.audit.proofs.InTime.{end_found, found_at}
 use Rattle.audit.proofs.Judged.{at_contains, same_itself}

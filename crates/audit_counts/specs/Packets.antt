@@ -9,7 +9,7 @@ use Rattle.plan_file.specs.Held.{HeldPlan}
 use Rattle.audit.specs.declared.end.End.{End}
 use Rattle.audit.specs.declared.end.End.TheVariants.{Taken, Lost}
 use Rattle.audit.specs.NextHops.{end_for, is_at}
-use Rattle.audit.specs.Tables.{is_owner}
+use Rattle.held_tables.specs.Tables.{is_owner}
 use Rattle.audit_counts.specs.declared.sent_packet.SentPacket.{SentPacket}
 use Rattle.audit_counts.specs.Sites.{are_adapters, in_one_component}
 

@@ -1,12 +1,13 @@
 -- Where the tables that are held and the facts of the subnet differ.
-use Rattle.std.specs.Prelude.{◌≡◌, ℕ, Bool, not, ◌==◌, List, count_by, map, nat_lt}
+use Rattle.std.specs.Prelude.{◌≡◌, ℕ, Bool, not, ◌==◌, List, map}
 use Rattle.std.specs.List.{list_any}
 use Rattle.subnet_view.specs.declared.end_port.EndPort.{EndPort}
 use Rattle.subnet_view.specs.EndPorts.{end_ports}
 use Rattle.subnet_view.specs.Reading.{Cells, is_usable, switches}
 use Rattle.plan_file.specs.declared.held.HeldLid.{HeldLid}
 use Rattle.plan_file.specs.Held.{HeldPlan}
-use Rattle.audit.specs.Tables.{is_owner, is_same_end}
+use Rattle.held_tables.specs.Owners.{is_told_twice}
+use Rattle.held_tables.specs.Tables.{is_owner, is_same_end}
 use Rattle.audit_counts.specs.declared.unmatched.Unmatched.{Unmatched}
 use Rattle.audit_counts.specs.FirstFew.{Listed, listed_of}
 
@@ -16,7 +17,7 @@ unowned cells held = listed_of (λ line. not (is_owner (end_ports cells) line.po
 
 -- more than one port holds the LID
 abbrev pub is_twice : HeldPlan → HeldLid → Bool
-is_twice held line = nat_lt 1 (count_by (λ (other : HeldLid). other.lid == line.lid) held.lids)
+is_twice held line = is_told_twice held.lids line.lid
 
 -- such LIDs, with each of these ports
 abbrev pub twice : HeldPlan → Listed HeldLid

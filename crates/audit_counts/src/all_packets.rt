@@ -3,7 +3,7 @@ ghost use Rattle.std.specs.Prelude.{◌≡◌, ◌/◌, ◌++◌, true, Contains
 ghost use Rattle.fact_store.specs.View.{cells_of};
 ghost use Rattle.subnet_view.specs.EndPorts.{end_ports};
 ghost use Rattle.audit.specs.Deliveries.{AreDeliveries};
-ghost use Rattle.audit.specs.NextHops.{AreBlocks};
+ghost use Rattle.held_tables.specs.Blocks.{AreBlocks};
 ghost use Rattle.audit_channels.specs.Ways.{AllComeTo, AreTold};
 ghost use Rattle.audit_counts.specs.declared.sent_packet.SentPacket.{SentPacket as Sent};
 ghost use Rattle.audit_counts.specs.Packets.{packets_of, sent_to};

@@ -4,7 +4,7 @@ ghost use Rattle.fact_store.specs.View.{cells_of};
 ghost use Rattle.audit_counts.specs.Unmatched.{IsUnmatched, has_lid, is_held, is_twice, lidless_among, tableless_among, twice, unknown, unowned};
 
 use crate::first_few::FirstFew;
-use audit::is_same_end;
+use audit::{Network, is_same_end};
 use fact_store::{Refused, Store};
 use plan_file::{Held, HeldLid};
 use smp_bytes::Guid;
@@ -27,14 +27,16 @@ pub struct Unmatched {
 }
 
 impl Unmatched {
-    /// Those of each kind. Takes two searches and a walk over the LIDs for each LID that is held, a walk over the
-    /// switches that are held for each switch, and one over the LIDs for each end port.
-    pub fn of(alloc: Global, store: &Store, held: &Held) -> Result<Self, Refused>
-        ensures { IfOk result (IsUnmatched (cells_of store.now) held.now) }
+    /// Those of each kind. Takes two searches for each LID that is held, and a walk over the LIDs where several ports
+    /// hold it; a walk over the switches that are held for each switch; and one over the LIDs for each end port.
+    pub fn of(alloc: Global, network: &Network) -> Result<Self, Refused>
+        ensures { IfOk result (IsUnmatched (cells_of network.now.facts) network.now.held) }
     {
+        let store = network.store();
+        let held = network.held();
         let guids = switches(alloc, store)?;
         let unowned = unowned(alloc, held, store)?;
-        let twice = twice(alloc, held)?;
+        let twice = twice(alloc, network)?;
         let unknown = unknown(alloc, held, store)?;
         let tableless = tableless(alloc, held, &guids)?;
         let ports = end_ports(alloc, store)?;
@@ -63,12 +65,12 @@ fn unowned(alloc: Global, held: &Held, store: &Store) -> Result<FirstFew<HeldLid
 }
 
 /// LIDs that more than one port holds, with each of these.
-fn twice(alloc: Global, held: &Held) -> Result<FirstFew<HeldLid>, AllocError>
-    ensures { IfOk result (λ few. few ≡ twice held.now) }
+fn twice(alloc: Global, network: &Network) -> Result<FirstFew<HeldLid>, AllocError>
+    ensures { IfOk result (λ few. few ≡ twice network.now.held) }
 {
     let mut few = FirstFew::new(alloc);
-    for line in held.lids() {
-        if is_twice(held, line) {
+    for line in network.held().lids() {
+        if is_twice(network, line) {
             few.add(*line)?;
         }
     }
@@ -76,14 +78,10 @@ fn twice(alloc: Global, held: &Held) -> Result<FirstFew<HeldLid>, AllocError>
 }
 
 /// Whether more than one port holds the LID.
-fn is_twice(held: &Held, line: &HeldLid) -> bool
-    ensures { result ≡ is_twice held.now line.now }
+fn is_twice(network: &Network, line: &HeldLid) -> bool
+    ensures { result ≡ is_twice network.now.held line.now }
 {
-    1 < held
-        .lids()
-        .iter()
-        .filter(|other| other.lid == line.lid)
-        .count()
+    network.is_told_twice(line.lid)
 }
 
 /// Switches with tables that are no usable switches of the facts.

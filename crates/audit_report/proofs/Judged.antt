@@ -15,7 +15,7 @@ use Rattle.plan_file.proofs.Lists.{in_lists, from_lists}
 use Rattle.audit.specs.declared.end.End.TheVariants.{Taken}
 use Rattle.audit.specs.Network.{Seen}
 use Rattle.audit.specs.NextHops.{end_for, is_at}
-use Rattle.audit.specs.Tables.{is_owner, is_same_end}
+use Rattle.held_tables.specs.Tables.{is_owner, is_same_end}
 use Rattle.audit.proofs.InTime.{end_found, end_is}
 use Rattle.audit.proofs.Judged.{same_ends, same_itself, at_is}
 use Rattle.audit_channels.specs.Waiting.{NoneShorter}

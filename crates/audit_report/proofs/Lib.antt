@@ -1,8 +1,5 @@
 pub mod Audits
-pub mod Delivers
 pub mod Judged
 pub mod Missing
-pub mod PlansArrive
-pub mod PlansRise
 pub mod TallyText
 pub mod Written

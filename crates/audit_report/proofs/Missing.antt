@@ -21,8 +21,8 @@ use Rattle.plan_file.specs.declared.held.HeldSwitch.{HeldSwitch}
 use Rattle.plan_file.specs.Held.{HeldPlan, nothing_held}
 use Rattle.plan_file.specs.Printed.{held_plan, with_top}
 use Rattle.plan_file.proofs.OwnedLids.{owner_at, owner_listed}
-use Rattle.audit.specs.Tables.{is_same_end}
-use Rattle.audit.proofs.HeldPlans.{made}
+use Rattle.held_tables.specs.Tables.{is_same_end}
+use Rattle.held_tables.proofs.HeldPlans.{made}
 use Rattle.audit.proofs.Judged.{same_ends, same_itself}
 use Rattle.audit_counts.specs.declared.unmatched.Unmatched.{Unmatched}
 use Rattle.audit_report.specs.Passing.{EachHasTables, EachHoldsLid, HoldsLid, HoldsTables, IsWholeFor}

@@ -1,4 +1,3 @@
 pub mod AuditText
-pub mod Laws
 pub mod Passing
 pub mod RunAudit

@@ -4,7 +4,6 @@
 
 mod audit_run;
 mod audit_text;
-pub mod laws;
 mod report;
 
 pub use audit_run::run_audit;

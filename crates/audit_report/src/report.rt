@@ -38,12 +38,12 @@ impl<'a> Model for Audit<'a> {
 }
 
 impl<'a> Audit<'a> {
-    /// Follows the packets that the end ports of the view send to the LIDs which are held, each from every end port of
-    /// the component in which the LID's end port lies, by these tables; counts the wires and the channels that those
-    /// between adapter ports take; and orders channels. Takes what `Network::deliveries` does for each 64 LIDs, and what
-    /// `Network::edges` does for each LID twice; for each LID whose packets are not seen to arrive by the deliveries
-    /// what `Network::ends` does besides, twice where not all are delivered at its port, and then a step or two for each
-    /// end port.
+    /// Follows the packets that the end ports of the view send to the LIDs which are held, each from every end port
+    /// of the component in which the LID's end port lies, by these tables; counts the wires and the channels that
+    /// those between adapter ports take; and orders channels. Takes what `Network::deliveries` does for each 64 LIDs,
+    /// and what `Network::edges` does for each LID twice; for each LID whose packets are not seen to arrive by the
+    /// deliveries what `Network::ends` does besides, twice where not all are delivered at its port, and then a step or
+    /// two for each end port.
     pub fn of(alloc: Global, store: &'a Store, held: &'a Held) -> Result<Self, Refused>
         ensures facts { IfOk result (λ audit. audit.facts ≡ store.now) }
         ensures held { IfOk result (λ audit. audit.held ≡ held.now) }
@@ -53,7 +53,7 @@ impl<'a> Audit<'a> {
         let network = Network::of(alloc, store, held)?;
         let sites = sites(alloc, store)?;
         let survey = survey(alloc, &network, &sites)?;
-        let unmatched = Unmatched::of(alloc, store, held)?;
+        let unmatched = Unmatched::of(alloc, &network)?;
         let disputed = disputed(store);
         let ways = figures_of_ways_told(alloc, &network, &survey.told)?;
         let cycle = cycle_of(alloc, &network)?;

@@ -5,11 +5,11 @@ use Rattle.std.proofs.lemmas.Option.{slice_get_within}
 use Rattle.std.specs.Prelude.{None, Some, slice_get, insert}
 use Rattle.std.specs.FinMap.{get, same_map}
 use Rattle.fact_join.specs.declared.cell.Cell.{Cell}
-use Rattle.fact_store.specs.declared.key.Key.{Key}
-use Rattle.fact_store.specs.declared.value.Value.{Value}
+use Rattle.reply_facts.specs.declared.key.Key.{Key}
+use Rattle.reply_facts.specs.declared.value.Value.{Value}
 use Rattle.fact_store.specs.Merge.{join, merge_maps}
 use Rattle.fact_store.specs.Seen.{CellMap, is_of, seen}
-use Rattle.fact_store.proofs.Keys.{key_total, key_exact}
+use Rattle.reply_facts.proofs.Keys.{key_total, key_exact}
 use Rattle.fact_store.proofs.MapMerges.{joined_there, merge_maps_is_commutative, merge_maps_is_associative}
 use Rattle.fact_store.proofs.SightingRanges.{get-seen_of_one, get-seen_of_more}
 use Rattle.fact_store.proofs.Seen.{seen_of_both}

@@ -7,13 +7,14 @@ use Rattle.std.specs.FinMap.{entries, entries_sorted, from_entries, entries-inse
 use Rattle.std.specs.FinMap.Entries.{find, is_sorted, put}
 use Rattle.std.proofs.Common.{length, map}
 use Rattle.fact_join.specs.declared.cell.Cell.{Cell}
-use Rattle.fact_store.specs.declared.key.Key.{Key}
-use Rattle.fact_store.specs.declared.value.Value.{Value}
-use Rattle.fact_store.specs.Key.{key_cmp}
+use Rattle.reply_facts.specs.declared.key.Key.{Key}
+use Rattle.reply_facts.specs.declared.value.Value.{Value}
+use Rattle.reply_facts.specs.Key.{key_cmp}
 use Rattle.fact_store.specs.Floor.{entries-dropped, kept}
+use Rattle.reply_facts.specs.Known.{known_in, value_in}
 use Rattle.fact_store.specs.Seen.{cell_at, seen}
 use Rattle.fact_store.specs.View.{Facts, cell_for, cells_of, view}
-use Rattle.fact_store.proofs.Keys.{key_total}
+use Rattle.reply_facts.proofs.Keys.{key_total}
 
 -- each entry put in at its index, the last one first
 abbrev pub put_all : List (Key × Cell Value) → List (Key × Cell Value)
@@ -51,6 +52,10 @@ entries-view sightings = entries-dropped 1 (seen sightings) ∙ kept_all (entrie
 -- a key's cell is found in the list
 pub cell_is_found : (facts : Facts) (key : Key) → cell_for facts key ≡ find key_cmp key (cells_of facts)
 cell_is_found facts key = get-entries facts.found key
+
+-- so is what is known of it
+pub known_by_cells : (facts : Facts) (key : Key) → value_in (cell_for facts key) ≡ known_in (cells_of facts) key
+known_by_cells facts key = ap value_in (cell_is_found facts key)
 
 -- which is in the order of keys
 pub cells_in_order : (facts : Facts) → T (is_sorted key_cmp (cells_of facts))

@@ -10,15 +10,15 @@ use Rattle.fact_join.specs.declared.cell.Cell.{Cell}
 use Rattle.fact_join.specs.declared.cell.Cell.TheVariants.{Known, Disputed}
 use Rattle.fact_join.specs.Cell.{generation_of, IsBelow}
 use Rattle.fact_join.specs.Joins.{below_antisymm, below_itself, below-le, joined_above_first, joined_above_second, joined_least}
-use Rattle.fact_store.specs.declared.key.Key.{Key}
-use Rattle.fact_store.specs.declared.value.Value.{Value}
+use Rattle.reply_facts.specs.declared.key.Key.{Key}
+use Rattle.reply_facts.specs.declared.value.Value.{Value}
 use Rattle.fact_store.specs.Floor.{dropped, entries-dropped, is_kept, kept, kept_there}
-use Rattle.fact_store.specs.Key.{key_cmp}
+use Rattle.reply_facts.specs.Key.{key_cmp}
 use Rattle.fact_store.specs.Merge.{join, merge_maps}
 use Rattle.fact_store.specs.Seen.{CellMap, seen, WasSighted, IsNewest, IsCellIn}
-use Rattle.fact_store.specs.Value.{is_same_value}
-use Rattle.fact_store.specs.Values.{same_value_exact, same_value_itself}
-use Rattle.fact_store.proofs.Keys.{key_total, key_exact, equal_from_test}
+use Rattle.reply_facts.specs.Value.{is_same_value}
+use Rattle.reply_facts.specs.Values.{same_value_exact, same_value_itself}
+use Rattle.reply_facts.proofs.Keys.{key_total, key_exact, equal_from_test}
 use Rattle.fact_store.proofs.MapMerges.{get-merge_maps, joined_there, merge_maps_is_commutative, the_same}
 use Rattle.fact_store.proofs.Orders.{first_true, second_true, is_less}
 use Rattle.fact_store.proofs.SeenLaws.{newest_in, seen_is_unique, seen_law}

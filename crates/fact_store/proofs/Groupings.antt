@@ -4,8 +4,8 @@ use Rattle.std.proofs.lemmas.List.{append-nil, append_assoc}
 use Rattle.std.specs.Prelude.{fold, max}
 use Rattle.std.specs.List.{flat_map}
 use Rattle.fact_join.specs.declared.cell.Cell.{Cell}
-use Rattle.fact_store.specs.declared.key.Key.{Key}
-use Rattle.fact_store.specs.declared.value.Value.{Value}
+use Rattle.reply_facts.specs.declared.key.Key.{Key}
+use Rattle.reply_facts.specs.declared.value.Value.{Value}
 use Rattle.fact_store.specs.View.{Facts, raised, view_at}
 use Rattle.fact_store.specs.Merge.{of_sightings, of_raised, of_two, all_of, floor_of, merged, merge, GroupingIsFree, MergingInTurn}
 use Rattle.fact_store.proofs.Views.{raising_forgets, view_of_both}

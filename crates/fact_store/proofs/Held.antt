@@ -7,17 +7,17 @@ use Rattle.std.specs.Prelude.{All, Contains, IsTrue, Option, None, Some, IsNone,
 use Rattle.std.specs.FinMap.{empty, get, entries}
 use Rattle.fact_join.specs.declared.cell.Cell.{Cell}
 use Rattle.fact_join.specs.Cell.{generation_of}
-use Rattle.fact_store.specs.declared.key.Key.{Key}
-use Rattle.fact_store.specs.declared.value.Value.{Value}
+use Rattle.reply_facts.specs.declared.key.Key.{Key}
+use Rattle.reply_facts.specs.declared.value.Value.{Value}
 use Rattle.fact_store.specs.Cells.{AreCells, AreHeld}
 use Rattle.fact_store.specs.Floor.{dropped, is_kept, kept, rising_kept}
 use Rattle.fact_store.specs.Merge.{IsMerge, join, merge, merge_maps}
 use Rattle.fact_store.specs.Seen.{CellMap, is_of, seen}
-use Rattle.fact_store.specs.Sighting.{IsSighting, AreInRange}
-use Rattle.fact_store.specs.View.{Facts, IsNewestGeneration, at_floor, cell_for, cells_of, no_facts, raised, view, view_at}
+use Rattle.reply_facts.specs.Sighting.{IsSighting}
+use Rattle.fact_store.specs.View.{Facts, IsNewestGeneration, at_floor, cell_for, cells_of, no_facts, raised, view, view_at, AreInRange}
 use Rattle.fact_store.specs.Coded.{same_facts}
-use Rattle.fact_store.specs.Value.{is_same_value}
-use Rattle.fact_store.specs.Values.{same_value_exact, same_value_itself}
+use Rattle.reply_facts.specs.Value.{is_same_value}
+use Rattle.reply_facts.specs.Values.{same_value_exact, same_value_itself}
 use Rattle.fact_join.specs.Joins.{below-le, joined_above_first}
 use Rattle.fact_store.proofs.CellOrder.{held, shown, entries-rising, contains_at}
 use Rattle.fact_store.proofs.Floors.{dropped_none, dropped_twice, kept_from_one, kept_newer, seen_kept}

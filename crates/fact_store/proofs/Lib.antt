@@ -1,11 +1,9 @@
-pub mod CellForms
 pub mod CellOrder
 pub mod CellViews
 pub mod Entries
 pub mod Floors
 pub mod Groupings
 pub mod Held
-pub mod Keys
 pub mod MapMerges
 pub mod Merges
 pub mod Orders

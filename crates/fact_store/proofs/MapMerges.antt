@@ -7,14 +7,14 @@ use Rattle.std.specs.FinMap.{empty, find, get, entries, get-empty, get-from_entr
 use Rattle.fact_join.specs.declared.cell.Cell.{Cell}
 use Rattle.fact_join.specs.Cell.{IsBelow}
 use Rattle.fact_join.specs.Joins.{below_itself, below_antisymm, below_trans, joined_above_first, joined_above_second, joined_least}
-use Rattle.fact_store.specs.declared.key.Key.{Key}
-use Rattle.fact_store.specs.declared.value.Value.{Value}
-use Rattle.fact_store.specs.Key.{key_cmp}
-use Rattle.fact_store.specs.Value.{is_same_value}
+use Rattle.reply_facts.specs.declared.key.Key.{Key}
+use Rattle.reply_facts.specs.declared.value.Value.{Value}
+use Rattle.reply_facts.specs.Key.{key_cmp}
+use Rattle.reply_facts.specs.Value.{is_same_value}
 use Rattle.fact_store.specs.Seen.{CellMap}
 use Rattle.fact_store.specs.Merge.{join, merge_maps}
-use Rattle.fact_store.proofs.Keys.{key_total, key_exact, equal_from_test}
-use Rattle.fact_store.specs.Values.{same_value_exact, same_value_itself}
+use Rattle.reply_facts.proofs.Keys.{key_total, key_exact, equal_from_test}
+use Rattle.reply_facts.specs.Values.{same_value_exact, same_value_itself}
 
 -- the order of maps: -----------------------------------------------------------
 

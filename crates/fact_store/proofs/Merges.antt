@@ -7,8 +7,8 @@ use Rattle.std.specs.List.{list_all}
 use Rattle.fact_join.specs.declared.cell.Cell.{Cell}
 use Rattle.fact_join.specs.Cell.{IsBelow}
 use Rattle.fact_join.specs.Joins.{below-le}
-use Rattle.fact_store.specs.declared.key.Key.{Key}
-use Rattle.fact_store.specs.declared.value.Value.{Value}
+use Rattle.reply_facts.specs.declared.key.Key.{Key}
+use Rattle.reply_facts.specs.declared.value.Value.{Value}
 use Rattle.fact_store.specs.Coded.{same_facts}
 use Rattle.fact_store.specs.Floor.{dropped, is_kept, kept}
 use Rattle.fact_store.specs.Merge.{IsBelowView, merge, merge_maps, MergeLaw, MergeIsUnique, MergeIsCommutative, MergeIsAssociative, MergeIsIdempotent}

@@ -5,12 +5,12 @@ use Rattle.std.specs.Prelude.{All, None, Some, Contains, slice_get, insert}
 use Rattle.std.specs.FinMap.Entries.{is_sorted}
 use Rattle.std.specs.FinMap.{get}
 use Rattle.fact_join.specs.declared.cell.Cell.{Cell}
-use Rattle.fact_store.specs.declared.key.Key.{Key}
-use Rattle.fact_store.specs.declared.value.Value.{Value}
+use Rattle.reply_facts.specs.declared.key.Key.{Key}
+use Rattle.reply_facts.specs.declared.value.Value.{Value}
 use Rattle.fact_store.specs.Cells.{AreCells, IsIndexFor}
-use Rattle.fact_store.specs.Key.{key_cmp}
+use Rattle.reply_facts.specs.Key.{key_cmp}
 use Rattle.fact_store.specs.Merge.{join, merge_maps}
-use Rattle.fact_store.specs.Sighting.{IsSighting}
+use Rattle.reply_facts.specs.Sighting.{IsSighting}
 use Rattle.fact_store.specs.Seen.{CellMap, seen}
 use Rattle.fact_store.proofs.CellOrder.{held, shown, rising-set}
 use Rattle.fact_store.proofs.CellViews.{seen-insert, seen-set, seen_of_two}

@@ -9,12 +9,12 @@ use Rattle.std.specs.Prelude.{Option, None, Some, slice_get}
 use Rattle.std.specs.declared.cmp.Ordering.{Ordering}
 use Rattle.std.specs.declared.cmp.Ordering.TheVariants.{Less, Equal, Greater}
 use Rattle.fact_join.specs.declared.cell.Cell.{Cell}
-use Rattle.fact_store.specs.declared.key.Key.{Key}
-use Rattle.fact_store.specs.declared.value.Value.{Value}
+use Rattle.reply_facts.specs.declared.key.Key.{Key}
+use Rattle.reply_facts.specs.declared.value.Value.{Value}
 use Rattle.fact_store.specs.Cells.{AreCells, IsIndexFor}
 use Rattle.fact_store.specs.Comparisons.{CountsSearch, HasDigits, IsBudget, Leaves, all, later, earlier, with_key, without}
-use Rattle.fact_store.specs.Key.{key_cmp}
-use Rattle.fact_store.proofs.Keys.{key_exact, key_total}
+use Rattle.reply_facts.specs.Key.{key_cmp}
+use Rattle.reply_facts.proofs.Keys.{key_exact, key_total}
 use Rattle.fact_store.proofs.Orders.{greater_back}
 use Rattle.fact_store.proofs.CellOrder.{held, less_back, ends_at, rising_indices}
 

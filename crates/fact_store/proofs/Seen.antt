@@ -11,16 +11,16 @@ use Rattle.fact_join.specs.declared.cell.Cell.{Cell}
 use Rattle.fact_join.specs.declared.cell.Cell.TheVariants.{Known, Disputed}
 use Rattle.fact_join.specs.Cell.{generation_of, IsDisputed, IsBelow}
 use Rattle.fact_join.specs.Joins.{below_trans}
-use Rattle.fact_store.specs.declared.key.Key.{Key}
-use Rattle.fact_store.specs.declared.value.Value.{Value}
-use Rattle.fact_store.specs.Key.{key_cmp}
-use Rattle.fact_store.specs.Value.{is_same_cell}
+use Rattle.reply_facts.specs.declared.key.Key.{Key}
+use Rattle.reply_facts.specs.declared.value.Value.{Value}
+use Rattle.reply_facts.specs.Key.{key_cmp}
+use Rattle.reply_facts.specs.Value.{is_same_cell}
 use Rattle.fact_store.specs.Seen.{CellMap, is_of, cells_sighted, newest_of, agreement, cell_at, seen, HaveSameMembers}
 use Rattle.fact_store.specs.Merge.{merge_maps}
-use Rattle.fact_store.proofs.Keys.{key_total, key_exact, equal_from_test}
+use Rattle.reply_facts.proofs.Keys.{key_total, key_exact, equal_from_test}
 use Rattle.smp_bytes.proofs.Members.{contains_here, contains_later, contains_cases, contains_none, contains_filter, contains-from_filter, list_all_true, list_all_at}
 use Rattle.fact_store.proofs.MapMerges.{IsBelowMap, the_same, maps_antisymm, merge_maps_law}
-use Rattle.fact_store.specs.Values.{same_cell_exact, same_cell_itself}
+use Rattle.reply_facts.specs.Values.{same_cell_exact, same_cell_itself}
 
 -- cells of one generation ----------------------------------------------------------
 

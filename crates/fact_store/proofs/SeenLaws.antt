@@ -7,10 +7,10 @@ use Rattle.fact_join.specs.declared.cell.Cell.{Cell}
 use Rattle.fact_join.specs.declared.cell.Cell.TheVariants.{Known, Disputed}
 use Rattle.fact_join.specs.Cell.{generation_of, IsBelow}
 use Rattle.fact_join.specs.Joins.{below_itself}
-use Rattle.fact_store.specs.declared.key.Key.{Key}
-use Rattle.fact_store.specs.declared.value.Value.{Value}
+use Rattle.reply_facts.specs.declared.key.Key.{Key}
+use Rattle.reply_facts.specs.declared.value.Value.{Value}
 use Rattle.fact_store.specs.Seen.{cells_sighted, newest_of, agreement, cell_at, seen, WasSighted, IsNewest, AllSay, IsCellIn, CellMap, IsSeen}
-use Rattle.fact_store.proofs.Keys.{key_total, key_exact}
+use Rattle.reply_facts.proofs.Keys.{key_total, key_exact}
 use Rattle.smp_bytes.proofs.Members.{contains_here, contains_none}
 use Rattle.fact_store.proofs.MapMerges.{maps_antisymm}
 use Rattle.fact_store.proofs.Orders.{get_contained, contained_get}

@@ -8,9 +8,9 @@ use Rattle.fact_join.specs.declared.cell.Cell.{Cell}
 use Rattle.fact_join.specs.declared.cell.Cell.TheVariants.{Known, Disputed}
 use Rattle.fact_join.specs.Cell.{generation_of}
 use Rattle.fact_join.specs.Joins.{below-le}
-use Rattle.fact_store.specs.declared.key.Key.{Key}
-use Rattle.fact_store.specs.declared.value.Value.{Value}
-use Rattle.fact_store.specs.Sighting.{IsSighting, is_cell_of, is_generation, is_key}
+use Rattle.reply_facts.specs.declared.key.Key.{Key}
+use Rattle.reply_facts.specs.declared.value.Value.{Value}
+use Rattle.reply_facts.specs.Sighting.{IsSighting, is_cell_of, is_generation, is_key}
 use Rattle.fact_store.specs.Seen.{CellMap, is_of, cell_at, seen, WasSighted, IsNewest, IsCellIn}
 use Rattle.fact_store.specs.View.{Facts, IsNewestGeneration}
 use Rattle.smp_bytes.proofs.Members.{contains_here, contains_cases, contains_none}

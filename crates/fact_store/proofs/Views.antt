@@ -4,8 +4,8 @@ use Rattle.std.proofs.lemmas.List.{append-nil}
 use Rattle.std.specs.Prelude.{Some, max}
 use Rattle.std.specs.FinMap.{get}
 use Rattle.fact_join.specs.declared.cell.Cell.{Cell}
-use Rattle.fact_store.specs.declared.key.Key.{Key}
-use Rattle.fact_store.specs.declared.value.Value.{Value}
+use Rattle.reply_facts.specs.declared.key.Key.{Key}
+use Rattle.reply_facts.specs.declared.value.Value.{Value}
 use Rattle.fact_store.specs.Coded.{same_facts}
 use Rattle.fact_store.specs.Floor.{dropped, is_kept, kept}
 use Rattle.fact_store.specs.Merge.{merge, ViewOfBoth}

@@ -9,15 +9,15 @@ use Rattle.std.specs.declared.cmp.Ordering.{Ordering}
 use Rattle.std.specs.declared.cmp.Ordering.TheVariants.{Less, Greater}
 use Rattle.std.specs.FinMap.Entries as sorted
 use Rattle.fact_join.specs.declared.cell.Cell.{Cell}
-use Rattle.fact_store.specs.declared.key.Key.{Key}
-use Rattle.fact_store.specs.declared.value.Value.{Value}
+use Rattle.reply_facts.specs.declared.key.Key.{Key}
+use Rattle.reply_facts.specs.declared.value.Value.{Value}
 use Rattle.fact_store.specs.Cells.{AreCells}
 use Rattle.fact_store.specs.Comparisons.{by_order, compared_by_walk}
-use Rattle.fact_store.specs.Key.{key_cmp}
+use Rattle.reply_facts.specs.Key.{key_cmp}
 use Rattle.fact_store.specs.Merge.{join}
-use Rattle.fact_store.specs.Sighting.{IsSighting}
+use Rattle.reply_facts.specs.Sighting.{IsSighting}
 use Rattle.fact_store.specs.Seen.{seen}
-use Rattle.fact_store.proofs.Keys.{key_total}
+use Rattle.reply_facts.proofs.Keys.{key_total}
 use Rattle.fact_store.proofs.CellOrder.{held, shown, less_back, rising-step, rising-move}
 use Rattle.fact_store.proofs.CellViews.{seen-step_second, seen-step_both}
 

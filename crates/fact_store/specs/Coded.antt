@@ -9,8 +9,8 @@ use Rattle.std.specs.FinMap as map
 use Rattle.fact_store.specs.Floor.{has_floor}
 use Rattle.fact_store.specs.Seen.{CellMap}
 use Rattle.fact_store.specs.View.{Facts}
-use Rattle.fact_store.specs.contracts.key.Key as key
-use Rattle.fact_store.specs.contracts.value.Value as value
+use Rattle.reply_facts.specs.contracts.key.Key as key
+use Rattle.reply_facts.specs.contracts.value.Value as value
 use Rattle.fact_join.specs.contracts.cell.Cell as cell
 
 -- facts with the same floor and the same cells are one

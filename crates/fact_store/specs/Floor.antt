@@ -7,9 +7,9 @@ use Rattle.std.specs.FinMap.{entries, entries_sorted, from_sorted, entries-from_
 use Rattle.std.specs.FinMap.Entries.{below_all, is_sorted}
 use Rattle.fact_join.specs.declared.cell.Cell.{Cell}
 use Rattle.fact_join.specs.Cell.{generation_of}
-use Rattle.fact_store.specs.declared.key.Key.{Key}
-use Rattle.fact_store.specs.declared.value.Value.{Value}
-use Rattle.fact_store.specs.Key.{key_cmp}
+use Rattle.reply_facts.specs.declared.key.Key.{Key}
+use Rattle.reply_facts.specs.declared.value.Value.{Value}
+use Rattle.reply_facts.specs.Key.{key_cmp}
 use Rattle.fact_store.specs.Seen.{CellMap}
 
 -- whether a cell is at the floor or above it; generations begin at 1, and 0 counts as that

@@ -1,9 +1,9 @@
 -- Why a store that is given a report refuses it.
 use Rattle.std.specs.Prelude.{Bool, true, false, Option, option_map}
-use Rattle.fact_store.specs.declared.report.Report.{Report}
+use Rattle.reply_facts.specs.declared.report.Report.{Report}
 use Rattle.fact_store.specs.declared.ingest.IngestFault.{IngestFault}
 use Rattle.fact_store.specs.declared.ingest.IngestFault.TheVariants as refuses
-use Rattle.fact_store.specs.Report.{report_fault}
+use Rattle.reply_facts.specs.Report.{report_fault}
 
 -- the first fault of the report
 abbrev pub ingest_fault : Report → Option IngestFault

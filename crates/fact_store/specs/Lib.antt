@@ -1,17 +1,9 @@
-pub mod CellForms
 pub mod Cells
 pub mod Coded
 pub mod Comparisons
 pub mod Floor
 pub mod Ingest
-pub mod Key
-pub mod Known
 pub mod Merge
-pub mod Report
-pub mod ReportFault
 pub mod Seen
-pub mod Sighting
-pub mod Value
-pub mod Values
 pub mod View
 pub mod Walk

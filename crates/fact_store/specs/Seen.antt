@@ -7,10 +7,10 @@ use Rattle.std.specs.FinMap.{FinMap, get, from_entries}
 use Rattle.fact_join.specs.declared.cell.Cell.{Cell}
 use Rattle.fact_join.specs.declared.cell.Cell.TheVariants.{Known, Disputed}
 use Rattle.fact_join.specs.Cell.{generation_of}
-use Rattle.fact_store.specs.declared.key.Key.{Key}
-use Rattle.fact_store.specs.declared.value.Value.{Value}
-use Rattle.fact_store.specs.Key.{key_cmp}
-use Rattle.fact_store.specs.Value.{is_same_cell}
+use Rattle.reply_facts.specs.declared.key.Key.{Key}
+use Rattle.reply_facts.specs.declared.value.Value.{Value}
+use Rattle.reply_facts.specs.Key.{key_cmp}
+use Rattle.reply_facts.specs.Value.{is_same_cell}
 
 -- a finite map from keys to cells
 abbrev pub CellMap : Type 0

@@ -3,8 +3,9 @@ use Rattle.std.specs.Prelude.{◌≡◌, ◌≤◌, ℕ, List, [], T, max, Optio
 use Rattle.std.specs.FinMap.{get, entries}
 use Rattle.fact_join.specs.declared.cell.Cell.{Cell}
 use Rattle.fact_join.specs.Cell.{generation_of}
-use Rattle.fact_store.specs.declared.key.Key.{Key}
-use Rattle.fact_store.specs.declared.value.Value.{Value}
+use Rattle.reply_facts.specs.declared.key.Key.{Key}
+use Rattle.reply_facts.specs.declared.value.Value.{Value}
+use Rattle.reply_facts.specs.Sighting.{IsSighting}
 use Rattle.fact_store.specs.Floor.{dropped, dropped_has_floor, has_floor, kept}
 use Rattle.fact_store.specs.Seen.{CellMap, HaveSameMembers, IsSeen, seen}
 
@@ -42,6 +43,10 @@ view sightings = view_at 1 sightings
 -- nothing is known, and nothing forgotten
 abbrev pub no_facts : Facts
 no_facts = view []
+
+-- every cell that the facts have at a key is in range there
+abbrev pub AreInRange : Facts → Type 0
+AreInRange facts = (key : Key) (c : Cell Value) → cell_for facts key ≡ Some c → IsSighting (key, c)
 
 -- the greatest generation of a cell of the facts
 pub record IsNewestGeneration (facts : Facts) (generation : ℕ) : Type 0 where

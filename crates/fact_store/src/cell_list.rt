@@ -4,16 +4,16 @@ ghost use Rattle.page_list.specs.Rest.{rest_of};
 ghost use Rattle.fact_store.specs.Cells.{AreCells, AreHeld, IsSearched};
 ghost use Rattle.fact_store.specs.Comparisons.{compared_by_walk};
 ghost use Rattle.fact_store.specs.Merge.{join, merge, merge_maps};
-ghost use Rattle.fact_store.specs.Sighting.{IsSighting};
+ghost use Rattle.reply_facts.specs.Sighting.{IsSighting};
 ghost use Rattle.fact_store.specs.Seen.{seen};
 ghost use Rattle.fact_store.specs.View.{view, view_at};
 ghost use Rattle.fact_store.specs.Floor.{is_kept, kept};
 
 use crate::fingers::Fingers;
 use crate::search::{Found, compare, index_of};
-use crate::sighting::Sighting;
 use fact_join::Join;
 use page_list::{Iter, PageList, Slot};
+use reply_facts::Sighting;
 use smp_bytes::Generation;
 use std::alloc::AllocError;
 use std::cmp::Ordering;

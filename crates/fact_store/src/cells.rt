@@ -1,11 +1,11 @@
 ghost use Rattle.std.specs.Prelude.{◌≡◌};
 ghost use Rattle.std.specs.FinMap.{entries};
 ghost use Rattle.std.specs.Iterator.{YieldsFirst, item_count};
-ghost use Rattle.fact_store.specs.Sighting.{AreInRange};
+ghost use Rattle.fact_store.specs.View.{AreInRange};
 ghost use Rattle.fact_store.specs.Walk.{cells_left};
 
-use crate::sighting::Sighting;
 use page_list::Iter;
+use reply_facts::Sighting;
 
 /// The cells of a store with their keys, in the order of keys.
 #[derive(Drop)]

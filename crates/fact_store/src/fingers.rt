@@ -1,7 +1,7 @@
 ghost use Rattle.std.specs.Prelude.{◌<◌};
 
-use crate::key::Key;
 use page_list::Slot;
+use reply_facts::Key;
 use smp_bytes::Guid;
 
 /// How many GUIDs are told apart at most.

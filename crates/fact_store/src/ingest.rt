@@ -1,12 +1,10 @@
 ghost use Rattle.std.specs.Prelude.{◌≡◌, OnOk, OnErr};
 ghost use Rattle.fact_store.specs.Merge.{merge};
-ghost use Rattle.fact_store.specs.Report.{sightings_of};
+ghost use Rattle.reply_facts.specs.Report.{sightings_of};
 ghost use Rattle.fact_store.specs.View.{view};
 
-use crate::report::Report;
-use crate::report_facts::sightings;
-use crate::report_fault::ReportFault;
 use crate::store::Store;
+use reply_facts::{Report, ReportFault, sightings};
 use thiserror::Error;
 
 /// Why a store did not take a report.

@@ -3,12 +3,11 @@ ghost use Rattle.std.specs.Option.{option_map_or};
 ghost use Rattle.std.specs.declared.cmp.Ordering.TheVariants.{Greater};
 ghost use Rattle.fact_store.specs.Cells.{AreCells, IsSearched};
 ghost use Rattle.fact_store.specs.Comparisons.{CountsSearch, HasDigits, IsBudget};
-ghost use Rattle.fact_store.specs.Key.{key_cmp};
+ghost use Rattle.reply_facts.specs.Key.{key_cmp};
 
 use crate::fingers::Fingers;
-use crate::key::Key;
-use crate::sighting::Sighting;
 use page_list::{PageList, Slot};
+use reply_facts::{Key, Sighting};
 use std::cmp::Ordering;
 
 /// How the key of a cell stands to another, which is one step. A store compares keys by this alone.

@@ -1,19 +1,16 @@
 ghost use Rattle.std.specs.Prelude.{◌≡◌, ◌+◌, ◌*◌, ◌≤◌, [], ◌∷◌, ◌↔◌, OnOk, OnErr, IfOk, IsNone, IfSome, length, max, slice_get, unwrap_or};
 ghost use Rattle.fact_store.specs.Comparisons.{CountsSearch, HasDigits, compared_by_walk};
-ghost use Rattle.fact_store.specs.View.{IsNewestGeneration, cell_for, cells_of, no_facts, raised, view, view_at};
+ghost use Rattle.fact_store.specs.View.{IsNewestGeneration, cell_for, cells_of, no_facts, raised, view, view_at, AreInRange};
 ghost use Rattle.fact_store.specs.Merge.{merge, IsMerge};
-ghost use Rattle.fact_store.specs.Sighting.{AreInRange};
 ghost use Rattle.fact_store.specs.Walk.{cells_left};
 
 use crate::cell_list::{drop_below, merge_cells, put_kept};
 use crate::cells::Cells;
 use crate::fingers::Fingers;
-use crate::key::Key;
 use crate::search::find;
-use crate::sighting::Sighting;
-use crate::value::Value;
 use fact_join::Cell;
 use page_list::PageList;
+use reply_facts::{Key, Sighting, Value};
 use smp_bytes::Generation;
 use std::alloc::{AllocError, Global};
 use std::marker::Model;

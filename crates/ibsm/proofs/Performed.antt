@@ -8,7 +8,7 @@ use Rattle.sm_cli.specs.declared.fault.Fault.TheVariants.{Write}
 use Rattle.ibsm.specs.Ending.{Does, IsFaultOver, IsTaskFault, KeepsOutput, Performs}
 use Rattle.ibsm.specs.Opening.{AreOpened}
 use Rattle.ibsm.specs.declared.opener.OpenFault.{OpenFault}
-use Rattle.ibsm.specs.declared.task.Task.{Task}
+use Rattle.cli_task.specs.declared.task.Task.{Task}
 
 module _ {S : Type 0} (answers : List ℕ → Result S OpenFault → Type 0) (state : S → SourceState) (names : List (Bor (List ℕ)))
     (inputs : List S) (opened : AreOpened answers names inputs) (olds : List S) (same : olds ≡ inputs) (task asked : Task) (is : task ≡ asked) where

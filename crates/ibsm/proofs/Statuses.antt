@@ -11,7 +11,7 @@ use Rattle.sm_cli.specs.declared.exit_status.ExitStatus.{ExitStatus}
 use Rattle.sm_cli.specs.declared.exit_status.ExitStatus.TheVariants.{Done, Failed, Usage, Refused, InputOutput, Memory as NoMemory}
 use Rattle.std.specs.Prelude.{◌≢◌}
 use Rattle.ibsm.specs.Ending.{IsDone, SaysWhy, status_after}
-use Rattle.ibsm.specs.declared.task.Task.{Task}
+use Rattle.cli_task.specs.declared.task.Task.{Task}
 
 -- a status that is none of the three that faults end with
 abbrev IsOther : ExitStatus → Type 0

@@ -12,12 +12,12 @@ use Rattle.sm_cli.specs.declared.asked.Output.{Output}
 use Rattle.sm_cli.specs.declared.asked.Output.TheVariants.{Facts, Join, Plan}
 use Rattle.sm_cli.specs.declared.asked.RuleAsked.{RuleAsked}
 use Rattle.sm_cli.specs.declared.asked.RuleAsked.TheVariants.{UpDown, Spread, SpreadFromRoots}
-use Rattle.ibsm.specs.Asked.{Asks, AsksOutput, AsksStep, AsksTask, IsFloor, IsLmc, IsRule, IsUpDown}
-use Rattle.ibsm.specs.Asked.{files_named, followed_by, names_asked, names_in, roots_asked, rule_of_task, texts_asked, word_named}
+use Rattle.cli_task.specs.Asked.{Asks, AsksOutput, AsksStep, AsksTask, IsFloor, IsLmc, IsRule, IsUpDown}
+use Rattle.cli_task.specs.Asked.{files_named, followed_by, names_asked, names_in, roots_asked, rule_of_task, texts_asked, word_named}
 use Rattle.ibsm.specs.Ending.{HasEnoughNames}
 use Rattle.next_run.specs.declared.run_step.StepAsked.{StepAsked}
-use Rattle.ibsm.specs.declared.task.Task.{Task}
-use Rattle.ibsm.specs.declared.task.Task.TheVariants.{Answer, Audit, Next, Run}
+use Rattle.cli_task.specs.declared.task.Task.{Task}
+use Rattle.cli_task.specs.declared.task.Task.TheVariants.{Answer, Audit, Next, Run}
 
 -- words ----------------------------------------------------------------------------------------
 

@@ -14,10 +14,10 @@ use Rattle.sm_cli.specs.declared.fault.Fault.TheVariants.{Open, File, Text, NoRo
 use Rattle.audit_report.specs.RunAudit.{HasAudited, IsAuditFault}
 use Rattle.next_run.specs.RunNext.{HasStepped, IsSaid, IsStepFault}
 use Rattle.schedule_run.specs.Run.{HasRun, IsRunFault}
-use Rattle.ibsm.specs.Asked.{Asks, names_asked}
+use Rattle.cli_task.specs.Asked.{Asks, names_asked}
 use Rattle.ibsm.specs.declared.opener.OpenFault.{OpenFault}
-use Rattle.ibsm.specs.declared.task.Task.{Task}
-use Rattle.ibsm.specs.declared.task.Task.TheVariants.{Answer, Audit, Next, Run}
+use Rattle.cli_task.specs.declared.task.Task.{Task}
+use Rattle.cli_task.specs.declared.task.Task.TheVariants.{Answer, Audit, Next, Run}
 use Rattle.ibsm.specs.Opening.{AreOpened, IsOpenFault}
 
 -- what is done ----------------------------------------------------------------------------------

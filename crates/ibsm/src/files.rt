@@ -9,9 +9,9 @@ ghost use Rattle.ibsm.specs.Ending.{fault_line, name_of, status_after};
 ghost use Rattle.ibsm.specs.Opening.{AreOpened, IsOpenFault};
 
 use crate::opener::{OpenFault, Opener};
-use crate::task::Task;
 use audit_report::run_audit;
 use byte_io::{Sink, ToWrite};
+use cli_task::Task;
 use next_run::run_next;
 use schedule_run::run_schedule;
 use sm_cli::{ExitStatus, Fault, run_files, write_fault};

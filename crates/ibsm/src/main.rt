@@ -5,7 +5,6 @@ mod arguments;
 mod files;
 mod opener;
 mod run;
-mod task;
 
 use std::process::ExitCode;
 

@@ -1,7 +1,7 @@
 //! One run of the program.
 ghost use Rattle.std.specs.Prelude.{◌≡◌, ◌⊎◌, Bool, IfOk, IsTrue};
 ghost use Rattle.std.specs.Io.KnownBytes.{Appends};
-ghost use Rattle.ibsm.specs.Asked.{LacksInputs};
+ghost use Rattle.cli_task.specs.Asked.{LacksInputs};
 ghost use Rattle.next_run.specs.RunNext.{IsSaid};
 ghost use Rattle.schedule_world.specs.Prints.{PrintsSome};
 ghost use Rattle.ibsm.specs.Ending.{IsDone, PerformsWords, SaysWhyOfWords, status_after};
@@ -9,10 +9,10 @@ ghost use Rattle.ibsm.specs.Ending.{IsDone, PerformsWords, SaysWhyOfWords, statu
 use crate::arguments::{command_line, roots_without_spread};
 use crate::files::{perform_or_explain, say};
 use crate::opener::Opener;
-use crate::task::{has_roots_without_spread, names_of, task_of};
 use byte_io::{Sink, ToWrite};
 use clap::error::ErrorKind;
 use clap::{ArgMatches, Error};
+use cli_task::{has_roots_without_spread, names_of, task_of};
 use sm_cli::{ExitStatus, Fault};
 use std::alloc::AllocError;
 use std::io::{BufWriter, Write};

@@ -9,7 +9,8 @@ use Rattle.fabric_model.specs.FabricWalks.{IsJoinedTo}
 use Rattle.smp_bytes.specs.LidRange.{has_lid}
 use Rattle.fabric_model.proofs.FabricWalks.{same_port, type_at, adapter_vertex}
 use Rattle.subnet_view.specs.declared.end_port.EndPort.{EndPort}
-use Rattle.subnet_view.specs.Reading.{Cells, cap_of, is_switch_node, is_usable}
+use Rattle.reply_facts.specs.Known.{cap_of}
+use Rattle.subnet_view.specs.Reading.{Cells, is_switch_node, is_usable}
 use Rattle.subnet_view.specs.EndPorts.{HasEndPorts, end_ports}
 use Rattle.subnet_view.specs.Wires.{across, attached}
 use Rattle.subnet_view.specs.Agreement.{IsEndPortIn, IsPortNamed, HasEndPort, AgreesOn}

@@ -3,7 +3,7 @@ use Rattle.std.proofs.Common.{◌≡◌, ℕ, sym, false, cond, map}
 use Rattle.std.specs.Prelude.{None, Some, filter, not, option_and_then}
 use Rattle.std.specs.List.{filter_map, list_any, range_with_len}
 use Rattle.std.specs.Option.{option_map_or}
-use Rattle.fact_store.specs.declared.key.Key.{Key}
+use Rattle.reply_facts.specs.declared.key.Key.{Key}
 use Rattle.fact_store.specs.View.{Facts, cell_for, cells_of}
 use Rattle.subnet_view.specs.declared.end_port.EndPort.{EndPort}
 use Rattle.subnet_view.proofs.BesideClaims.{is_claim, switch_same, usable_same, count_same, switches_same, across_same, attached_same}

@@ -8,10 +8,10 @@ use Rattle.fabric_model.specs.Fabric.{Node, Fabric}
 use Rattle.fabric_model.proofs.FabricWalks.{port_at}
 use Rattle.fact_join.specs.declared.cell.Cell.{Cell}
 use Rattle.fact_join.specs.declared.cell.Cell.TheVariants.{Known}
-use Rattle.fact_store.specs.declared.key.Key.{Key}
-use Rattle.fact_store.specs.declared.key.Key.TheVariants as key
-use Rattle.fact_store.specs.declared.value.Value.{Value}
-use Rattle.fact_store.specs.declared.value.Value.TheVariants.{Kind, Guid, Peer, Up, Count}
+use Rattle.reply_facts.specs.declared.key.Key.{Key}
+use Rattle.reply_facts.specs.declared.key.Key.TheVariants as key
+use Rattle.reply_facts.specs.declared.value.Value.{Value}
+use Rattle.reply_facts.specs.declared.value.Value.TheVariants.{Kind, Guid, Peer, Up, Count}
 use Rattle.fact_store.specs.View.{Facts, view, cells_of}
 use Rattle.fact_store.proofs.Entries.{entries-view}
 use Rattle.subnet_view.specs.Reading.{Cells}

@@ -3,7 +3,8 @@ use Rattle.std.proofs.Common.{◌≡◌, ◌≤◌, ℕ, List, [], ◌∷◌, �
 use Rattle.std.proofs.lemmas.Grind.{common_steps}
 use Rattle.std.specs.Prelude.{Option, None, Some}
 use Rattle.std.specs.List.{cons_option, filter_map}
-use Rattle.subnet_view.specs.Reading.{Cells, cap_of, switches, usable_guid}
+use Rattle.reply_facts.specs.Known.{cap_of}
+use Rattle.subnet_view.specs.Reading.{Cells, switches, usable_guid}
 use Rattle.lid_assign.specs.Lids.{least_room, room}
 use Rattle.lid_assign.specs.Rooms.{cap_if, usable_cap}
 

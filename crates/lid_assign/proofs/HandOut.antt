@@ -261,7 +261,8 @@ module _ (room lmc : ℕ) where
               | inr j ↦ turned (numbers_of lmc y) (range_at lmc x m) (j.is_free (range_at lmc x m) (contains_here (range_at lmc x m) taken))
             ]),
         given_apart (range_at lmc x m
-            ∷ taken) ports given h.2 a (λ e d k. contains_later (range_at lmc x m) (range_at lmc e d) taken (s e d (contains_later (x, None) (e, Some d) ports k))),
+            ∷ taken) ports given h.2 a
+            (λ e d k. contains_later (range_at lmc x m) (range_at lmc e d) taken (s e d (contains_later (x, None) (e, Some d) ports k))),
       )
 
   pub same_from_pairs : (given : GivenLids) → PairsApart lmc given → (x y : EndPort × ℕ) → Contains given x → Contains given y

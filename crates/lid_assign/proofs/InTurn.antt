@@ -2,7 +2,8 @@
 use Rattle.std.proofs.Common.{◌≡◌, ℕ, List, [], ◌∷◌, ◌++◌, refl, sym, ap, ◌∙◌, subst, Bool, true, false, map, not, length}
 use Rattle.std.specs.Prelude.{Option, None, Some, is_some, option_map, replicate}
 use Rattle.subnet_view.specs.declared.end_port.EndPort.{EndPort}
-use Rattle.subnet_view.specs.Reading.{Cells, claim_of}
+use Rattle.reply_facts.specs.Known.{claim_of}
+use Rattle.subnet_view.specs.Reading.{Cells}
 use Rattle.subnet_view.specs.EndPorts.{end_ports, ports_after}
 use Rattle.lid_assign.specs.declared.hand_out.Next.{Next}
 use Rattle.lid_assign.specs.Ranges.{width_of}

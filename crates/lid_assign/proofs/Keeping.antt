@@ -7,7 +7,8 @@ use Rattle.std.specs.Prelude.{Option, None, Some, option_map, option_and_then, r
 use Rattle.std.specs.Option.{option_map_or}
 use Rattle.std.specs.List.{list_any, cons_option}
 use Rattle.subnet_view.specs.declared.end_port.EndPort.{EndPort}
-use Rattle.subnet_view.specs.Reading.{Cells, claim_of}
+use Rattle.reply_facts.specs.Known.{claim_of}
+use Rattle.subnet_view.specs.Reading.{Cells}
 use Rattle.subnet_view.specs.EndPorts.{end_ports}
 use Rattle.subnet_view.proofs.Members.{list_any_true, list_any_at}
 use Rattle.lid_assign.specs.Ranges.{width_of, Range, range_at, is_in}

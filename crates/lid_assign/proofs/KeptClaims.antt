@@ -5,7 +5,8 @@ use Rattle.std.specs.Prelude.{Contains, Option, None, Some, option_and_then}
 use Rattle.std.specs.Option.{option_map_or}
 use Rattle.std.specs.List.{list_any}
 use Rattle.subnet_view.specs.declared.end_port.EndPort.{EndPort}
-use Rattle.subnet_view.specs.Reading.{Cells, claim_of}
+use Rattle.reply_facts.specs.Known.{claim_of}
+use Rattle.subnet_view.specs.Reading.{Cells}
 use Rattle.subnet_view.specs.EndPorts.{end_ports}
 use Rattle.subnet_view.proofs.Apart.{Apart, split_once}
 use Rattle.subnet_view.proofs.Members.{contains_here, contains_later, contains_cases, contains_none, list_any_true, list_any_at, contains_first, contains_in}
@@ -62,7 +63,8 @@ module _ (lmc : ℕ) (cells : Cells) where
       → CanKeep lmc cells prior e c) [
         | None ↦ λ p h. absurd (cc)
         | Some d ↦ λ p h.
-            (elim (list_any (claims lmc cells (range_at lmc e d)) prior) as (λ t. list_any (claims lmc cells (range_at lmc e d)) prior ≡ t → cond t None (Some d)
+            (elim (list_any (claims lmc cells (range_at lmc e d)) prior)
+            as (λ t. list_any (claims lmc cells (range_at lmc e d)) prior ≡ t → cond t None (Some d)
             ≡ Some c
             → CanKeep lmc cells prior e c) [
               | true ↦ λ q l. absurd (cc)

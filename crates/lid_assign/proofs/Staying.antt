@@ -4,10 +4,10 @@ use Rattle.std.proofs.lemmas.Bool.{both_ways}
 use Rattle.std.proofs.lemmas.List.Elements.{Contains-append_left}
 use Rattle.std.specs.Prelude.{Contains, None, Some, is_some, unwrap_or}
 use Rattle.std.specs.List.{filter_map}
-use Rattle.fact_store.specs.declared.key.Key.{Key}
+use Rattle.reply_facts.specs.declared.key.Key.{Key}
 use Rattle.fact_store.specs.View.{Facts, cell_for, cells_of}
 use Rattle.subnet_view.specs.declared.end_port.EndPort.{EndPort}
-use Rattle.subnet_view.specs.Reading.{claim_of}
+use Rattle.reply_facts.specs.Known.{claim_of}
 use Rattle.subnet_view.specs.EndPorts.{end_ports}
 use Rattle.subnet_view.proofs.Apart.{Apart, contains_at, contains_map, contains-from_map, before_apart, split_at}
 use Rattle.subnet_view.proofs.BesideClaims.{is_claim, cap_same, switches_same, end_ports_same}

@@ -12,7 +12,7 @@ use Rattle.std.specs.Ordering.{is_eq, nat_cmp, ordering_then}
 use Rattle.std.specs.Cmp.{both_ways, tied_itself}
 use Rattle.std.specs.FinMap.{nat_cmp-IsAntisymmetric}
 use Rattle.std.proofs.lemmas.Cmp.{nat_cmp_total}
-use Rattle.fact_store.proofs.Keys.{equal_from_test}
+use Rattle.reply_facts.proofs.Keys.{equal_from_test}
 use Rattle.std.specs.BTreeMap.{BTreeMap, Updates}
 use Rattle.std.proofs.lemmas.List.Elements.{Contains-append_left}
 use Rattle.subnet_view.proofs.Apart.{contains_at}

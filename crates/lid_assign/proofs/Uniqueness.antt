@@ -170,7 +170,8 @@ lids_are_unique lmc facts given law = ap (λ o. unwrap_or o []) (sym (unique_lid
 pub no_room_law : NoRoomLaw
 no_room_law lmc facts = (
   λ none given law.
-      both_ways (not (is_some (handed_out lmc (cells_of facts)))) (ap (λ o. not (is_some o)) (unique_lids lmc (cells_of facts) (end_ports_apart facts) given law))
+      both_ways (not (is_some (handed_out lmc (cells_of facts))))
+      (ap (λ o. not (is_some o)) (unique_lids lmc (cells_of facts) (end_ports_apart facts) given law))
       none,
   λ nobody. (elim (cases_Bool (is_no_room lmc (cells_of facts))) [
     | inl t ↦ t

@@ -4,7 +4,8 @@ use Rattle.std.specs.Option.{option_map_or}
 use Rattle.std.specs.List.{filter_map, list_any, find, AllPairs}
 use Rattle.subnet_view.specs.declared.end_port.EndPort.{EndPort}
 use Rattle.fact_store.specs.View.{Facts, cells_of}
-use Rattle.subnet_view.specs.Reading.{Cells, cap_of, claim_of, switches}
+use Rattle.reply_facts.specs.Known.{cap_of, claim_of}
+use Rattle.subnet_view.specs.Reading.{Cells, switches}
 use Rattle.subnet_view.specs.EndPorts.{end_ports}
 use Rattle.smp_bytes.specs.LidRange.{has_lid}
 use Rattle.lid_assign.specs.Ranges.{lmc_at, width_of, Range, range_at, is_in, meets, fits, IsIn, IsInBoth, Fits}

@@ -1,9 +1,10 @@
 -- The table rooms of usable switches, as a walk of the cells finds them.
 use Rattle.std.specs.Prelude.{ℕ, Option, None, Some}
 use Rattle.fact_join.specs.declared.cell.Cell.{Cell}
-use Rattle.fact_store.specs.declared.key.Key.{Key}
-use Rattle.fact_store.specs.declared.value.Value.{Value}
-use Rattle.subnet_view.specs.Reading.{Cells, cap_of, usable_guid}
+use Rattle.reply_facts.specs.declared.key.Key.{Key}
+use Rattle.reply_facts.specs.declared.value.Value.{Value}
+use Rattle.reply_facts.specs.Known.{cap_of}
+use Rattle.subnet_view.specs.Reading.{Cells, usable_guid}
 
 abbrev pub cap_if : Cells → Option ℕ → Option ℕ
 cap_if cells None = None

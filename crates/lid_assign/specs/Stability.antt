@@ -1,10 +1,11 @@
 -- When LIDs stay as they are.
 use Rattle.std.specs.Prelude.{◌≡◌, ◌≢◌, ◌<◌, ◌⊎◌, ℕ, Contains, None, Some}
-use Rattle.fact_store.specs.declared.key.Key.{Key}
-use Rattle.fact_store.specs.declared.key.Key.TheVariants.{Claim}
+use Rattle.reply_facts.specs.declared.key.Key.{Key}
+use Rattle.reply_facts.specs.declared.key.Key.TheVariants.{Claim}
 use Rattle.fact_store.specs.View.{Facts, cell_for, cells_of}
 use Rattle.subnet_view.specs.declared.end_port.EndPort.{EndPort}
-use Rattle.subnet_view.specs.Reading.{Cells, claim_of}
+use Rattle.reply_facts.specs.Known.{claim_of}
+use Rattle.subnet_view.specs.Reading.{Cells}
 use Rattle.subnet_view.specs.EndPorts.{end_ports}
 use Rattle.lid_assign.specs.Lids.{IsNoRoom, room, lids, lid_of, top_of}
 

@@ -1,5 +1,6 @@
 ghost use Rattle.std.specs.Prelude.{◌≡◌, ◌≤◌, false, length, option_map, replicate, IfOk, OnOk};
 ghost use Rattle.std.specs.List.{filter_map};
+ghost use Rattle.reply_facts.specs.Known.{claim_of};
 ghost use Rattle.fact_store.specs.View.{cells_of};
 ghost use Rattle.subnet_view.specs.EndPorts.{end_ports};
 ghost use Rattle.lid_assign.specs.Lids.{room, kept, kept_range};
@@ -10,7 +11,7 @@ use attr_codec::Lmc;
 use fact_store::Store;
 use smp_bytes::Lid;
 use std::alloc::{AllocError, Global};
-use subnet_view::{EndPort, claim};
+use subnet_view::EndPort;
 
 /// The end ports in their order, each with the claim that it keeps: its range fits, and meets none that fits
 /// and that an earlier end port claims. Marks what is claimed, and what is taken by those who keep it.
@@ -35,6 +36,13 @@ pub(crate) fn keep_claims(
         keepers.push((*port, lid))?;
     }
     Ok(keepers)
+}
+
+/// The LID that an end port claims. Takes a search.
+pub(crate) fn claim(store: &Store, port: EndPort) -> Option<Lid>
+    ensures { result ≡ claim_of (cells_of store.now) port.node port.port }
+{
+    store.claim(port.node, port.port)
 }
 
 /// The claim, where its range fits and has no mark of a claim yet. Marks it as claimed, and as taken.

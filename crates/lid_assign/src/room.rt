@@ -10,7 +10,7 @@ use crate::without_memory::runs_out;
 use attr_codec::Lmc;
 use fact_store::{Sighting, Store};
 use smp_bytes::Lid;
-use subnet_view::{cap, count_end_ports, usable_guid};
+use subnet_view::{count_end_ports, usable_guid};
 
 /// Whether an end port of the view finds no LID, and how many end ports there are then. Takes no memory. Walks
 /// the cells twice where there are no fewer end ports than the room, or where their ranges have room one beside
@@ -70,5 +70,5 @@ fn usable_cap(store: &Store, sighting: &Sighting) -> Option<u16>
     requires { cell_for store.now sighting.now.0 ≡ Some sighting.now.1 }
     ensures { result ≡ usable_cap (cells_of store.now) sighting.now }
 {
-    cap(store, usable_guid(store, sighting)?)
+    store.cap(usable_guid(store, sighting)?)
 }

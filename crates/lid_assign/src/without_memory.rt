@@ -6,13 +6,13 @@ ghost use Rattle.lid_assign.specs.Lids.{is_no_room, kept, kept_range, room};
 ghost use Rattle.lid_assign.specs.Marks.{AreTaken};
 
 use crate::hand_out::{first, take};
-use crate::keep_claims::{claims_first, keep};
+use crate::keep_claims::{claim, claims_first, keep};
 use crate::lid_marks::width;
 use crate::room::room;
 use attr_codec::Lmc;
 use fact_store::Store;
 use smp_bytes::Lid;
-use subnet_view::{claim, next_end_port};
+use subnet_view::next_end_port;
 
 /// How many numbers are below the first that is no unicast LID.
 const NUMBERS: usize = Lid::UNICAST_END as usize;

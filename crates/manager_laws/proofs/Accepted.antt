@@ -11,11 +11,11 @@ use Rattle.smp_bytes.specs.Field.{number_in}
 use Rattle.smp_bytes.specs.Packet.{fault_of, method, status, is_directed, is_returning, hop_pointer, hop_count, initial_path, attribute_id, attribute_modifier}
 use Rattle.smp_bytes.proofs.BitLaws.{byte-number_in}
 use Rattle.attr_codec.specs.NodeTypeNumber.{number_of_type, type_of_number}
-use Rattle.fact_store.specs.declared.report.Context.{Context}
-use Rattle.fact_store.specs.declared.report.Report.{Report}
-use Rattle.fact_store.specs.declared.report_fault.ReportFault.{ReportFault}
-use Rattle.fact_store.specs.declared.report_fault.ReportFault.TheVariants as fault
-use Rattle.fact_store.specs.Report.{or_else, answer_fault, are_ports_in_range, fits_node_info, kind_fault, node_info_of, node_info_fault, port_info_fault, about_fault, attribute_fault, packet_fault, report_fault}
+use Rattle.reply_facts.specs.declared.report.Context.{Context}
+use Rattle.reply_facts.specs.declared.report.Report.{Report}
+use Rattle.reply_facts.specs.declared.report_fault.ReportFault.{ReportFault}
+use Rattle.reply_facts.specs.declared.report_fault.ReportFault.TheVariants as fault
+use Rattle.reply_facts.specs.Report.{or_else, answer_fault, are_ports_in_range, fits_node_info, kind_fault, node_info_of, node_info_fault, port_info_fault, about_fault, attribute_fault, packet_fault, report_fault}
 use Rattle.fabric_sim.specs.Tells.{path_of}
 use Rattle.sweep.specs.declared.answer.Answer.{Answer}
 use Rattle.sweep.specs.declared.fault.SweepFault.{SweepFault}

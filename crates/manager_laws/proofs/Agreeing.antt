@@ -13,14 +13,14 @@ use Rattle.fabric_model.specs.Fabric.{Fabric, IsFabric, IsNodeAt}
 use Rattle.fabric_model.specs.FabricWalks.{vertex_of, IsJoinedTo, Walk}
 use Rattle.fabric_model.proofs.FabricWalks.{port_at, vertex_node, same_port}
 use Rattle.fact_join.specs.declared.cell.Cell.TheVariants.{Known}
-use Rattle.fact_store.specs.declared.key.Key.{Key}
-use Rattle.fact_store.specs.declared.key.Key.TheVariants.{Node, PortGuid, Link, Port, Cap}
-use Rattle.fact_store.specs.declared.value.Value.{Value}
-use Rattle.fact_store.specs.declared.value.Value.TheVariants.{Kind, Guid, Peer, Up, Count}
-use Rattle.fact_store.specs.Known.{kind_in, guid_in, peer_in, up_in, count_in}
-use Rattle.fact_store.specs.Report.{Sightings, guid_port}
+use Rattle.reply_facts.specs.declared.key.Key.{Key}
+use Rattle.reply_facts.specs.declared.key.Key.TheVariants.{Node, PortGuid, Link, Port, Cap}
+use Rattle.reply_facts.specs.declared.value.Value.{Value}
+use Rattle.reply_facts.specs.declared.value.Value.TheVariants.{Kind, Guid, Peer, Up, Count}
+use Rattle.reply_facts.specs.Known.{kind_in, guid_in, peer_in, up_in, count_in, known_in, node_of, port_guid_of, link_of, up_of, cap_of}
+use Rattle.reply_facts.specs.Report.{Sightings, guid_port}
 use Rattle.fact_store.specs.View.{cells_of, view}
-use Rattle.subnet_view.specs.Reading.{Cells, known_in, node_of, port_guid_of, link_of, up_of, cap_of, IsUsable}
+use Rattle.subnet_view.specs.Reading.{Cells, IsUsable}
 use Rattle.subnet_view.specs.EndPorts as view_ports
 use Rattle.subnet_view.specs.Wires as view_wires
 use Rattle.subnet_view.specs.Wires.{CanHaveWire}

@@ -6,7 +6,7 @@ use Rattle.std.proofs.lemmas.Option.{same_Some}
 use Rattle.std.specs.Prelude.{Some, find, ◌==◌}
 use Rattle.std.specs.List.{AllByRecursion}
 use Rattle.request_table.proofs.Numbers.{rising_least}
-use Rattle.fact_store.specs.declared.report.Context.{Context}
+use Rattle.reply_facts.specs.declared.report.Context.{Context}
 use Rattle.sweep.specs.declared.request.Question.TheVariants as ask
 use Rattle.sweep.specs.declared.request.Request.{Request}
 use Rattle.sweep.specs.Sweep.{Asking, AreRising, numbered, without_number}

@@ -11,10 +11,10 @@ use Rattle.fabric_model.specs.Fabric as fabric
 use Rattle.fabric_model.specs.Fabric.{Fabric, IsFabric, IsNodeAt}
 use Rattle.fabric_model.specs.FabricWalks.{vertex_of}
 use Rattle.fabric_model.proofs.FabricWalks.{port_at, vertex_node}
-use Rattle.fact_store.specs.declared.value.Value.{Value}
-use Rattle.fact_store.specs.declared.value.Value.TheVariants.{Kind, Guid, Peer, Up, Lid, Count}
-use Rattle.fact_store.specs.Known.{kind_in, guid_in, peer_in}
-use Rattle.fact_store.specs.Report.{Sightings, guid_port}
+use Rattle.reply_facts.specs.declared.value.Value.{Value}
+use Rattle.reply_facts.specs.declared.value.Value.TheVariants.{Kind, Guid, Peer, Up, Lid, Count}
+use Rattle.reply_facts.specs.Known.{kind_in, guid_in, peer_in}
+use Rattle.reply_facts.specs.Report.{Sightings, guid_port}
 use Rattle.sweep.specs.declared.request.Question.TheVariants as ask
 use Rattle.sweep.specs.declared.request.Request.{Request}
 use Rattle.sweep.specs.declared.vertex.Vertex.{Vertex}

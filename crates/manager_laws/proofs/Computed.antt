@@ -14,12 +14,12 @@ use Rattle.smp_bytes.specs.Packet.{attribute_id, attribute_modifier, attribute_d
 use Rattle.fabric_model.proofs.Cabled.{same_port-is}
 use Rattle.fact_join.specs.declared.cell.Cell.{Cell}
 use Rattle.fact_join.specs.declared.cell.Cell.TheVariants.{Known}
-use Rattle.fact_store.specs.declared.key.Key.{Key}
-use Rattle.fact_store.specs.declared.key.Key.TheVariants.{Node as NodeKey, PortGuid, Link, Port as PortKey, Cap, Claim}
-use Rattle.fact_store.specs.declared.value.Value.{Value}
-use Rattle.fact_store.specs.declared.value.Value.TheVariants.{Kind, Guid, Peer, Up, Count, Lid}
+use Rattle.reply_facts.specs.declared.key.Key.{Key}
+use Rattle.reply_facts.specs.declared.key.Key.TheVariants.{Node as NodeKey, PortGuid, Link, Port as PortKey, Cap, Claim}
+use Rattle.reply_facts.specs.declared.value.Value.{Value}
+use Rattle.reply_facts.specs.declared.value.Value.TheVariants.{Kind, Guid, Peer, Up, Count, Lid}
 use Rattle.fact_store.specs.Merge.{merge}
-use Rattle.fact_store.specs.Report.{Sightings}
+use Rattle.reply_facts.specs.Report.{Sightings}
 use Rattle.fact_store.specs.View.{Facts, cells_of, view}
 use Rattle.fact_store.proofs.Views.{view_of_both}
 use Rattle.subnet_view.specs.Reading.{Cells}

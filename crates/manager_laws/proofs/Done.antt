@@ -12,8 +12,8 @@ use Rattle.lid_assign.specs.Lids.{IsNoRoom}
 use Rattle.lft_blocks.specs.Rules.{RuleValue}
 use Rattle.lft_blocks.specs.Plan.{plan_of}
 use Rattle.lft_blocks.specs.Arrival.{HoldsPlan}
-use Rattle.fact_store.specs.declared.report.Report.{Report}
-use Rattle.fact_store.specs.Report.{sightings_of}
+use Rattle.reply_facts.specs.declared.report.Report.{Report}
+use Rattle.reply_facts.specs.Report.{sightings_of}
 use Rattle.fact_store.specs.View.{cells_of}
 use Rattle.node_agents.specs.Agent.{Agent, node_of}
 use Rattle.fabric_sim.specs.Simulation.{fabric_of, port_count}

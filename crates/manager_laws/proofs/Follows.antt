@@ -9,7 +9,7 @@ use Rattle.fabric_model.specs.Cables.{is_same_port}
 use Rattle.smp_bytes.specs.Field.{number_in}
 use Rattle.smp_bytes.specs.Packet.{attribute_modifier, fault_of, status}
 use Rattle.fabric_sim.specs.Simulation.{Simulation}
-use Rattle.fact_store.specs.declared.report.Report.{Report}
+use Rattle.reply_facts.specs.declared.report.Report.{Report}
 use Rattle.fact_store.specs.Merge.{merge}
 use Rattle.fact_store.specs.Seen.{seen}
 use Rattle.fact_store.specs.View.{cells_of, view, view_at}

@@ -6,10 +6,10 @@ use Rattle.std.specs.FinMap.{entries}
 use Rattle.std.specs.Prelude.{Contains, Option, Some, None, Ok, All, IsTrue, max, nat_le, nat_lt, ◌==◌, ◌&&◌}
 use Rattle.fact_join.specs.declared.cell.Cell.{Cell}
 use Rattle.fact_join.specs.Cell.{generation_of}
-use Rattle.fact_store.specs.declared.key.Key.{Key}
-use Rattle.fact_store.specs.declared.value.Value.{Value}
-use Rattle.fact_store.specs.declared.report.Context.{Context}
-use Rattle.fact_store.specs.declared.report.Context.TheVariants.{Start, Via, About}
+use Rattle.reply_facts.specs.declared.key.Key.{Key}
+use Rattle.reply_facts.specs.declared.value.Value.{Value}
+use Rattle.reply_facts.specs.declared.report.Context.{Context}
+use Rattle.reply_facts.specs.declared.report.Context.TheVariants.{Start, Via, About}
 use Rattle.attr_codec.specs.declared.node_info.NodeInfo.{NodeInfo}
 use Rattle.attr_codec.specs.NodeTypeNumber.{type_of_number}
 use Rattle.smp_bytes.specs.declared.node_type.NodeType.{NodeType}
@@ -18,10 +18,10 @@ use Rattle.smp_bytes.specs.Field.{number_in}
 use Rattle.smp_bytes.specs.Packet.{attribute_id}
 use Rattle.fact_store.specs.Floor.{kept}
 use Rattle.fact_store.specs.Merge.{merge}
-use Rattle.fact_store.specs.Report.{Sightings, sightings_of_link, sightings_of_kind, sightings_by_port_info, sightings_by_switch_info, node_info_of, sightings_of}
-use Rattle.fact_store.specs.Sighting.{IsSighting, AreInRange, is_key, is_generation, is_cell_of}
+use Rattle.reply_facts.specs.Report.{Sightings, sightings_of_link, sightings_of_kind, sightings_by_port_info, sightings_by_switch_info, node_info_of, sightings_of}
+use Rattle.reply_facts.specs.Sighting.{IsSighting, is_key, is_generation, is_cell_of}
 use Rattle.fact_store.specs.Seen.{newest_of, seen}
-use Rattle.fact_store.specs.View.{Facts, raised, view, view_at, cells_of, no_facts}
+use Rattle.fact_store.specs.View.{Facts, raised, view, view_at, cells_of, no_facts, AreInRange}
 use Rattle.fact_store.proofs.Entries.{entries-view}
 use Rattle.fact_store.proofs.Orders.{contained_get}
 use Rattle.fact_store.proofs.SightingRanges.{newest_at}

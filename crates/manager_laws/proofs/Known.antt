@@ -9,17 +9,16 @@ use Rattle.fabric_model.specs.Fabric.{Fabric, IsNodeAt}
 use Rattle.fact_join.specs.declared.cell.Cell.{Cell}
 use Rattle.fact_join.specs.declared.cell.Cell.TheVariants.{Known, Disputed}
 use Rattle.fact_join.specs.Cell.{generation_of}
-use Rattle.fact_store.specs.declared.key.Key.{Key}
-use Rattle.fact_store.specs.declared.key.Key.TheVariants.{Node, PortGuid, Link, Port, Cap}
-use Rattle.fact_store.specs.declared.value.Value.{Value}
-use Rattle.fact_store.specs.declared.value.Value.TheVariants.{Kind, Guid, Peer, Up, Count}
-use Rattle.fact_store.specs.Known.{value_in}
-use Rattle.fact_store.specs.Report.{Sightings}
+use Rattle.reply_facts.specs.declared.key.Key.{Key}
+use Rattle.reply_facts.specs.declared.key.Key.TheVariants.{Node, PortGuid, Link, Port, Cap}
+use Rattle.reply_facts.specs.declared.value.Value.{Value}
+use Rattle.reply_facts.specs.declared.value.Value.TheVariants.{Kind, Guid, Peer, Up, Count}
+use Rattle.reply_facts.specs.Known.{value_in, known_in}
+use Rattle.reply_facts.specs.Report.{Sightings}
 use Rattle.fact_store.specs.Seen.{IsCellIn, WasSighted}
 use Rattle.fact_store.specs.View.{view, cells_of, cell_for}
 use Rattle.fact_store.proofs.Views.{view_cells}
-use Rattle.subnet_view.specs.Reading.{known_in}
-use Rattle.subnet_view.proofs.Readers.{known_by_cells}
+use Rattle.fact_store.proofs.Entries.{known_by_cells}
 use Rattle.fabric_sim.specs.Tells.{IsUp}
 use Rattle.manager_laws.specs.Truth.{HasNode, IsTrueOf, IsTrueSighting, AreGuidsDistinct}
 use Rattle.manager_laws.proofs.Lists.{Has, contained_has, all_contained}

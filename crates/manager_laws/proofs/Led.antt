@@ -15,10 +15,10 @@ use Rattle.attr_codec.specs.declared.node_info.NodeInfo.{NodeInfo}
 use Rattle.attr_codec.specs.declared.port_state.PortState.{PortState}
 use Rattle.attr_codec.specs.NodeTypeNumber.{type_of_number}
 use Rattle.attr_codec.specs.PortInfo.{port_state, state_of_number}
-use Rattle.fact_store.specs.declared.report.Context.{Context}
-use Rattle.fact_store.specs.declared.report.Context.TheVariants.{Start, Via, About}
-use Rattle.fact_store.specs.Report.{guid_port, may_be_asked_by, node_info_of, payload_of}
-use Rattle.fact_store.specs.Sighting.{is_cabled_port}
+use Rattle.reply_facts.specs.declared.report.Context.{Context}
+use Rattle.reply_facts.specs.declared.report.Context.TheVariants.{Start, Via, About}
+use Rattle.reply_facts.specs.Report.{guid_port, may_be_asked_by, node_info_of, payload_of}
+use Rattle.reply_facts.specs.Sighting.{is_cabled_port}
 use Rattle.fabric_sim.specs.ThereAndBack.{BeginsWith}
 use Rattle.fabric_sim.specs.Tells.{SaysNode, SaysOf}
 use Rattle.sweep.specs.declared.request.Question.{Question}

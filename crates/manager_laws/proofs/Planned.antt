@@ -13,7 +13,7 @@ use Rattle.fabric_model.specs.Fabric as fabrics
 use Rattle.fabric_model.specs.Fabric.{Node, Fabric}
 use Rattle.fact_store.specs.View.{Facts, cells_of}
 use Rattle.subnet_view.specs.declared.end_port.EndPort.{EndPort}
-use Rattle.subnet_view.specs.Reading as reading
+use Rattle.reply_facts.specs.Known as values
 use Rattle.subnet_view.specs.Reading.{switches}
 use Rattle.subnet_view.specs.EndPorts.{IsEndPort}
 use Rattle.subnet_view.specs.Agreement.{Part, AgreesOn, IsEndPortIn, TellsEndPort}
@@ -123,7 +123,7 @@ module _ (rule : RuleValue) (lmc : ℕ) (facts : Facts) (has_room : ¬ (IsNoRoom
 
       usable : Contains (switches (cells_of facts)) node.guid
       usable =
-          let kind : reading.node_of (cells_of facts) node.guid ≡ Some (Switch, node.ports) = tells.kind
+          let kind : values.node_of (cells_of facts) node.guid ≡ Some (Switch, node.ports) = tells.kind
           ∙ ap (λ k. Some (k, node.ports)) (switch_is node.kind switch) in
           ((switches_law facts).0 node.guid).1 (node.ports, kind, ap is_some (tells.cap switch))
 

@@ -9,10 +9,10 @@ use Rattle.fabric_model.specs.Fabric.{Fabric}
 use Rattle.fabric_model.proofs.FabricWalks.{port_at}
 use Rattle.attr_codec.specs.PortInfo.{port_state}
 use Rattle.fact_join.specs.declared.cell.Cell.TheVariants.{Known}
-use Rattle.fact_store.specs.declared.key.Key.TheVariants.{Port, Claim, Cap}
-use Rattle.fact_store.specs.declared.value.Value.TheVariants.{Up, Lid, Count}
-use Rattle.fact_store.specs.declared.report.Context.TheVariants.{About}
-use Rattle.fact_store.specs.Report.{Sightings, is_up_state}
+use Rattle.reply_facts.specs.declared.key.Key.TheVariants.{Port, Claim, Cap}
+use Rattle.reply_facts.specs.declared.value.Value.TheVariants.{Up, Lid, Count}
+use Rattle.reply_facts.specs.declared.report.Context.TheVariants.{About}
+use Rattle.reply_facts.specs.Report.{Sightings, is_up_state}
 use Rattle.sweep.specs.declared.request.Question.TheVariants as ask
 use Rattle.sweep.specs.declared.request.Request.{Request}
 use Rattle.sweep.specs.Sweep.{Sweep, Asking, asking, first_question}

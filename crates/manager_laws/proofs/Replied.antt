@@ -11,10 +11,10 @@ use Rattle.smp_bytes.specs.Packet.{attribute_id}
 use Rattle.fabric_model.specs.Fabric.{Fabric}
 use Rattle.fabric_model.specs.DirectedWalk.{directed_end}
 use Rattle.attr_codec.specs.NodeTypeNumber.{type_of_number}
-use Rattle.fact_store.specs.declared.report.Context.{Context}
-use Rattle.fact_store.specs.declared.report.Context.TheVariants.{Start, Via, About}
-use Rattle.fact_store.specs.Report.{may_be_asked_by, node_info_of, payload_of}
-use Rattle.fact_store.specs.Sighting.{is_cabled_port}
+use Rattle.reply_facts.specs.declared.report.Context.{Context}
+use Rattle.reply_facts.specs.declared.report.Context.TheVariants.{Start, Via, About}
+use Rattle.reply_facts.specs.Report.{may_be_asked_by, node_info_of, payload_of}
+use Rattle.reply_facts.specs.Sighting.{is_cabled_port}
 use Rattle.fabric_sim.specs.Tells.{SaysNode, SaysOf}
 use Rattle.sweep.specs.declared.request.Question.{Question}
 use Rattle.sweep.specs.declared.request.Question.TheVariants as ask

@@ -14,12 +14,12 @@ use Rattle.attr_codec.specs.NodeTypeNumber.{type_of_number}
 use Rattle.attr_codec.specs.PortInfo.{base_lid, port_state}
 use Rattle.attr_codec.specs.SwitchInfo.{linear_fdb_cap}
 use Rattle.fact_join.specs.declared.cell.Cell.TheVariants.{Known}
-use Rattle.fact_store.specs.declared.key.Key.TheVariants.{Port, Claim}
-use Rattle.fact_store.specs.declared.value.Value.TheVariants.{Up, Lid}
-use Rattle.fact_store.specs.declared.report.Context.{Context}
-use Rattle.fact_store.specs.declared.report.Context.TheVariants.{Start, Via, About}
-use Rattle.fact_store.specs.Report.{Sightings, is_up_state, node_info_of, payload_of, sightings_by_node_info, sightings_by_port_info}
-use Rattle.fact_store.specs.Report.{sightings_by_switch_info, sightings_by_packet, sightings_of_kind}
+use Rattle.reply_facts.specs.declared.key.Key.TheVariants.{Port, Claim}
+use Rattle.reply_facts.specs.declared.value.Value.TheVariants.{Up, Lid}
+use Rattle.reply_facts.specs.declared.report.Context.{Context}
+use Rattle.reply_facts.specs.declared.report.Context.TheVariants.{Start, Via, About}
+use Rattle.reply_facts.specs.Report.{Sightings, is_up_state, node_info_of, payload_of, sightings_by_node_info, sightings_by_port_info}
+use Rattle.reply_facts.specs.Report.{sightings_by_switch_info, sightings_by_packet, sightings_of_kind}
 use Rattle.fabric_sim.specs.Tells.{SaysOf, SaysPort, port_asked}
 use Rattle.sweep.specs.declared.request.Question.{Question}
 use Rattle.sweep.specs.declared.request.Question.TheVariants as ask

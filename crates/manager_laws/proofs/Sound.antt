@@ -12,9 +12,9 @@ use Rattle.fabric_model.specs.DirectedWalk.{directed_end}
 use Rattle.smp_bytes.specs.Field.{bits_in}
 use Rattle.attr_codec.specs.declared.node_info.NodeInfo.{NodeInfo}
 use Rattle.attr_codec.specs.PortInfo.{port_state}
-use Rattle.fact_store.specs.declared.report.Context.{Context}
-use Rattle.fact_store.specs.declared.report.Context.TheVariants.{Start, Via, About}
-use Rattle.fact_store.specs.Report.{guid_port, is_up_state}
+use Rattle.reply_facts.specs.declared.report.Context.{Context}
+use Rattle.reply_facts.specs.declared.report.Context.TheVariants.{Start, Via, About}
+use Rattle.reply_facts.specs.Report.{guid_port, is_up_state}
 use Rattle.fabric_sim.specs.ThereAndBack.{BeginsWith}
 use Rattle.fabric_sim.specs.Tells.{port_asked}
 use Rattle.sweep.specs.declared.request.Question.{Question}

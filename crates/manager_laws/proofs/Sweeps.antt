@@ -8,8 +8,8 @@ use Rattle.std.specs.List.{AllByRecursion}
 use Rattle.fabric_model.specs.declared.cable.NodePort.{NodePort}
 use Rattle.fabric_model.specs.Cables.{is_same_port}
 use Rattle.fabric_model.proofs.Cabled.{same_port-is}
-use Rattle.fact_store.specs.declared.report.Report.{Report}
-use Rattle.fact_store.specs.Report.{Sightings, sightings_of}
+use Rattle.reply_facts.specs.declared.report.Report.{Report}
+use Rattle.reply_facts.specs.Report.{Sightings, sightings_of}
 use Rattle.fabric_sim.specs.Simulation.{Simulation, AreCables, fabric_of, port_count}
 use Rattle.fabric_sim.proofs.Courses.{IsForManager}
 use Rattle.sweep.specs.declared.answer.Answer.{Answer}

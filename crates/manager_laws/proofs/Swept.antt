@@ -16,12 +16,12 @@ use Rattle.fabric_model.specs.Fabric.{Node, IsNodeAt}
 use Rattle.smp_bytes.specs.ReadBack.{FitsRequest}
 use Rattle.fabric_model.specs.DirectedWalk.{directed_end}
 use Rattle.fabric_model.proofs.Cabled.{same_port-is}
-use Rattle.fact_store.specs.declared.report.Report.{Report}
-use Rattle.fact_store.specs.Report.{sightings_of}
+use Rattle.reply_facts.specs.declared.report.Report.{Report}
+use Rattle.reply_facts.specs.Report.{sightings_of}
 use Rattle.node_agents.specs.Agent.{Agent, IsAgent, node_of, has_seat}
 use Rattle.node_agents.proofs.Shapes.{is_port_at}
 use Rattle.fabric_sim.specs.Simulation.{Simulation, IsSimulation, AreCables, agent_at, is_seat_at, port_count, fabric_of}
-use Rattle.fact_store.specs.declared.report.Context.TheVariants.{Start, Via, About}
+use Rattle.reply_facts.specs.declared.report.Context.TheVariants.{Start, Via, About}
 use Rattle.fabric_sim.specs.ThereAndBack.{BeginsWith, directed_packet}
 use Rattle.fabric_sim.specs.Tells.{SaysOf, TellsOfEnd}
 use Rattle.fabric_sim.proofs.Courses.{IsForManager, IsOnCourse}

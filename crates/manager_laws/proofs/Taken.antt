@@ -15,8 +15,8 @@ use Rattle.fabric_model.specs.FabricWalks.{vertex_of, IsJoinedTo, IsWire}
 use Rattle.fabric_model.specs.DirectedWalk.{directed_end}
 use Rattle.fabric_model.proofs.Cabled.{same_port-is, same_port-refl}
 use Rattle.fabric_model.proofs.FabricWalks.{port_at, type_at, vertex_node, switch_vertex, adapter_vertex, walk_further}
-use Rattle.fact_store.specs.declared.report.Context.TheVariants.{Via, About}
-use Rattle.fact_store.specs.Report.{Sightings, guid_port}
+use Rattle.reply_facts.specs.declared.report.Context.TheVariants.{Via, About}
+use Rattle.reply_facts.specs.Report.{Sightings, guid_port}
 use Rattle.sweep.specs.declared.request.Question.{Question}
 use Rattle.sweep.specs.declared.request.Question.TheVariants as ask
 use Rattle.sweep.specs.declared.request.Request.{Request}

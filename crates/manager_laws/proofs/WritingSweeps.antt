@@ -6,7 +6,7 @@ use Rattle.std.specs.Prelude.{Option, Some, None, Result, Ok, Err, find, not, â—
 use Rattle.fabric_model.specs.declared.cable.NodePort.{NodePort}
 use Rattle.fact_store.specs.Merge.{merge}
 use Rattle.fact_store.specs.View.{Facts, raised, view_at}
-use Rattle.fact_store.specs.Report.{Sightings}
+use Rattle.reply_facts.specs.Report.{Sightings}
 use Rattle.fabric_sim.specs.Simulation.{Simulation, AreCables, fabric_of, port_count}
 use Rattle.fabric_sim.proofs.Courses.{IsForManager}
 use Rattle.sweep.specs.declared.answer.Answer.{Answer}

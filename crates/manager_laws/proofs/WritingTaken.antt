@@ -17,7 +17,7 @@ use Rattle.fabric_model.specs.DirectedWalk.{directed_end}
 use Rattle.smp_bytes.proofs.OffsetLaws.{bytes_in-alike}
 use Rattle.smp_bytes.proofs.Made.{directed_reads_back}
 use Rattle.dr_forward.proofs.Trips.{field_kept, IsRequestOver, IsOut}
-use Rattle.fact_store.specs.Report.{guid_port}
+use Rattle.reply_facts.specs.Report.{guid_port}
 use Rattle.node_agents.specs.declared.agent_node.AgentNode.{AgentNode}
 use Rattle.node_agents.specs.Agent.{Agent, IsAgent, is_switch, node_of, port_guid}
 use Rattle.node_agents.specs.PortInfo.{port_meant, has_lid}

@@ -7,7 +7,7 @@ use Rattle.fabric_model.specs.declared.cable.NodePort.{NodePort}
 use Rattle.smp_bytes.specs.Header.{port_info}
 use Rattle.fabric_model.specs.Fabric.{Node, IsNodeAt}
 use Rattle.attr_codec.specs.declared.port_state.PortState.{PortState}
-use Rattle.fact_store.specs.Report.{guid_port}
+use Rattle.reply_facts.specs.Report.{guid_port}
 use Rattle.fabric_sim.specs.Simulation.{Simulation, fabric_of}
 use Rattle.fabric_sim.specs.ThereAndBack.{BeginsWith}
 use Rattle.fabric_model.specs.DirectedWalk.{directed_end}

@@ -4,8 +4,8 @@ use Rattle.fabric_model.specs.declared.cable.NodePort.{NodePort}
 use Rattle.fabric_model.specs.Fabric.{Fabric, IsNodeAt, Node}
 use Rattle.fabric_model.specs.FabricWalks.{vertex_of, IsJoinedTo}
 use Rattle.fabric_model.specs.DirectedWalk.{directed_end}
-use Rattle.fact_store.specs.declared.report.Report.{Report}
-use Rattle.fact_store.specs.Report.{sightings_of}
+use Rattle.reply_facts.specs.declared.report.Report.{Report}
+use Rattle.reply_facts.specs.Report.{sightings_of}
 use Rattle.fact_store.specs.View.{Facts, cells_of, view}
 use Rattle.subnet_view.specs.EndPorts.{IsEndPort}
 use Rattle.subnet_view.specs.Agreement.{AgreesOn}

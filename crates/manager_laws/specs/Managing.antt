@@ -4,8 +4,9 @@ use Rattle.std.specs.Option.{unwrap_or}
 use Rattle.fabric_model.specs.declared.cable.NodePort.{NodePort}
 use Rattle.fabric_model.specs.Cables.{is_same_port}
 use Rattle.smp_bytes.specs.Packet.{permissive_lid}
-use Rattle.fact_store.specs.Report.{Sightings}
-use Rattle.fact_store.specs.Sighting.{IsSighting, AreInRange, is_generation}
+use Rattle.reply_facts.specs.Report.{Sightings}
+use Rattle.fact_store.specs.View.{AreInRange}
+use Rattle.reply_facts.specs.Sighting.{IsSighting, is_generation}
 use Rattle.fabric_sim.specs.declared.packet.Packet.{Packet}
 use Rattle.fabric_sim.specs.Simulation.{fabric_of, is_seat_at}
 use Rattle.sm_manager.specs.declared.outgoing.Outgoing.{Outgoing}

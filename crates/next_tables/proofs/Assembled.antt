@@ -15,9 +15,9 @@ use Rattle.plan_file.specs.declared.held.HeldSwitch.{HeldSwitch}
 use Rattle.plan_file.specs.Held.{HeldPlan}
 use Rattle.plan_file.specs.Printed.{blocks_from, blocks_of}
 use Rattle.audit.specs.Edges.{greatest_top}
-use Rattle.audit.specs.Tables.{top_of}
-use Rattle.audit.proofs.HeldTables.{get_mapped, within_length}
-use Rattle.audit.proofs.Mapped.{mapped_more}
+use Rattle.held_tables.specs.Tables.{top_of}
+use Rattle.held_tables.proofs.HeldTables.{get_mapped, within_length}
+use Rattle.held_tables.proofs.Mapped.{mapped_more}
 use Rattle.next_tables.specs.Assembled.{all_blocks, block_in, entry_in, some_blocks}
 use Rattle.next_tables.specs.NextTables.{column_of, next_at, next_block, next_switch, next_table, next_top}
 

@@ -11,8 +11,9 @@ use Rattle.plan_file.specs.Held.{HeldPlan}
 use Rattle.audit.specs.declared.switch_step.SwitchStep.{SwitchStep}
 use Rattle.audit.specs.declared.deliveries.Deliveries.{Deliveries}
 use Rattle.audit.specs.Deliveries.{AreDeliveries, ComeToOwner}
-use Rattle.audit.specs.NextHops.{AreBlocks, switch_step}
-use Rattle.audit.specs.Tables.{owners_of, entry_for}
+use Rattle.held_tables.specs.Blocks.{AreBlocks}
+use Rattle.audit.specs.NextHops.{switch_step}
+use Rattle.held_tables.specs.Tables.{owners_of, entry_for}
 use Rattle.next_tables.specs.SwitchSteps.{next_of}
 use Rattle.next_tables.specs.NextTables.{column_of, if_owned, keeper, next_at, next_for}
 use Rattle.next_tables.proofs.Listed.{listed}
@@ -77,8 +78,8 @@ module _ (cells : Cells) (held plan : HeldPlan) (lid : ℕ) where
       e ∙ sym (owned_each planned gs some) ∙ ap (column_by planned) k ∙ by_owners planned owners p h
 
 -- the columns so far
-pub record SoFar (cells plan_cells : Cells) (held plan : HeldPlan) (count held_number plan_number : ℕ) (held_rows plan_rows : List (List ℕ)) (deliveries : Deliveries)
-    (columns : List (List ℕ)) : Type 0 where
+pub record SoFar (cells plan_cells : Cells) (held plan : HeldPlan) (count held_number plan_number : ℕ) (held_rows plan_rows : List (List ℕ))
+    (deliveries : Deliveries) (columns : List (List ℕ)) : Type 0 where
   pub held_blocks : AreBlocks held held_number held_rows
   pub plan_blocks : AreBlocks plan plan_number plan_rows
   pub deliveries_are : AreDeliveries plan_cells plan deliveries

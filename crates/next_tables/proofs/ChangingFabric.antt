@@ -21,19 +21,19 @@ use Rattle.plan_file.specs.Held.{HeldPlan}
 use Rattle.audit.specs.declared.end.Cause.{Cause}
 use Rattle.audit.specs.declared.end.Cause.TheVariants.{NoEntry, NoLink, Foreign}
 use Rattle.audit.specs.declared.end.End.TheVariants.{Taken, Lost}
-use Rattle.audit.specs.declared.far_end.Far.{Far}
-use Rattle.audit.specs.declared.far_end.Far.TheVariants.{Nothing}
+use Rattle.held_tables.specs.declared.far_end.Far.{Far}
+use Rattle.held_tables.specs.declared.far_end.Far.TheVariants.{Nothing}
 use Rattle.audit.specs.declared.next_hop.NextHop.{NextHop}
 use Rattle.audit.specs.declared.next_hop.NextHop.TheVariants.{To, Ends}
 use Rattle.audit.specs.Fabrics.{IsSeenIn}
-use Rattle.audit.specs.Network.{index_in, far_at, far_to, far_of, row_of, sender_of}
+use Rattle.held_tables.specs.Switches.{index_in, far_at, far_to, far_of, row_of, sender_of}
 use Rattle.audit.specs.NextHops.{IsBrought, at_port, over, cause_of, by_entry, next_hops_of, sent, first_hop}
-use Rattle.audit.specs.Tables.{owners_of, is_owner, entry_for}
+use Rattle.held_tables.specs.Tables.{owners_of, is_owner, entry_for}
 use Rattle.audit.specs.WalkEnds.{after}
 use Rattle.audit.proofs.Ended.{after_ended}
 use Rattle.audit.proofs.FabricParts.{as_part, vertex_part, switch_end, listed, indexed, wire_told, told_wire}
 use Rattle.audit.proofs.FarRows.{has, lacks, no_far, no_port, row_at}
-use Rattle.audit.proofs.HeldTables.{within_length}
+use Rattle.held_tables.proofs.HeldTables.{within_length}
 use Rattle.audit.proofs.Told.{IsClosed, joined_closed}
 use Rattle.next_tables.specs.Next.{step_at, IsNext}
 use Rattle.next_tables.specs.NextTables.{next_tables}

@@ -8,12 +8,12 @@ use Rattle.std.proofs.lemmas.List.FromFn.{length-map-range_with_len}
 use Rattle.port_graph.specs.declared.edge.Edge.{Edge}
 use Rattle.subnet_view.specs.Reading.{Cells, switches}
 use Rattle.plan_file.specs.Held.{HeldPlan}
-use Rattle.audit.specs.declared.far_end.Far.{Far}
-use Rattle.audit.specs.declared.far_end.Far.TheVariants.{Nothing, Switch, Port}
+use Rattle.held_tables.specs.declared.far_end.Far.{Far}
+use Rattle.held_tables.specs.declared.far_end.Far.TheVariants.{Nothing, Switch, Port}
 use Rattle.audit.specs.Edges.{edge_by, edge_to, edges_of, greatest_top}
-use Rattle.audit.specs.Network.{far_of, row_of}
-use Rattle.audit.specs.NextHops.{AreBlocks}
-use Rattle.audit.specs.Tables.{entry_for}
+use Rattle.held_tables.specs.Switches.{far_of, row_of}
+use Rattle.held_tables.specs.Blocks.{AreBlocks}
+use Rattle.held_tables.specs.Tables.{entry_for}
 use Rattle.audit_channels.specs.Columns.{number_of, TakesAcross}
 use Rattle.audit_channels.proofs.Columns.{same_edge}
 use Rattle.next_tables.specs.LoopLids.{AreLoopLids, AreNoted, IsLeastLid, IsNoted, TakesFrom, TakesHere, are_known, turned}

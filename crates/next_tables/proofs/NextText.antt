@@ -8,8 +8,7 @@ use Rattle.std.proofs.lemmas.Bool.{cases_lt, cond_both}
 use Rattle.std.proofs.lemmas.List.{get_or_default, reverse-append}
 use Rattle.std.proofs.lemmas.List.FromFn.{length-map-range_with_len, get_or-map-range_with_len}
 use Rattle.std.proofs.lemmas.Option.{same_Some}
-use Rattle.fact_store.specs.Sighting.{AreInRange}
-use Rattle.fact_store.specs.View.{Facts, cells_of}
+use Rattle.fact_store.specs.View.{Facts, cells_of, AreInRange}
 use Rattle.subnet_view.specs.declared.end_port.EndPort.{EndPort}
 use Rattle.subnet_view.specs.Reading.{Cells, switches}
 use Rattle.subnet_view.proofs.Members.{contains_here, contains_later}
@@ -26,11 +25,11 @@ use Rattle.plan_file.specs.TablesText.{next_text}
 use Rattle.plan_file.proofs.PlanRanges.{plans_in_range, switch_small}
 use Rattle.plan_file.proofs.Printed.{tables_are_read}
 use Rattle.plan_file.proofs.ReadRanges.{texts_are_in_range}
-use Rattle.audit.specs.Tables.{block_at, entry_at, entry_for, entry_in, entry_of, index_of, is_block_of, top_at, top_of}
+use Rattle.held_tables.specs.Tables.{block_at, entry_at, entry_for, entry_in, entry_of, index_of, is_block_of, top_at, top_of}
 use Rattle.next_tables.specs.Next.{delivers, leads_on, mends, next_entry, step_at}
 use Rattle.next_tables.specs.NextTables.{if_owned, keeper, next_at, next_block, next_for, next_switch, next_table, next_tables, next_top}
 use Rattle.next_tables.specs.NextText.{NextTextsAreRead, StepTextsAreRead}
-use Rattle.audit.specs.Tables.{owners_of}
+use Rattle.held_tables.specs.Tables.{owners_of}
 use Rattle.audit.specs.WalkEnds.{is_to}
 
 -- what all have, each has

@@ -12,7 +12,7 @@ use Rattle.audit.specs.declared.next_hop.NextHop.{NextHop}
 use Rattle.audit.specs.declared.next_hop.NextHop.TheVariants.{To, Ends}
 use Rattle.audit.specs.Deliveries.{ComeToOwner}
 use Rattle.audit.specs.NextHops.{is_at, next_hops_of}
-use Rattle.audit.specs.Tables.{entry_for, is_same_end, owners_of}
+use Rattle.held_tables.specs.Tables.{entry_for, is_same_end, owners_of}
 use Rattle.audit.specs.WalkEnds.{after, end_of, onward}
 use Rattle.audit.proofs.InTime.{ends_in_time, one_end}
 use Rattle.audit.proofs.Judged.{same_itself}

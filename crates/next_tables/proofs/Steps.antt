@@ -12,12 +12,12 @@ use Rattle.audit.specs.declared.end.End.{End}
 use Rattle.audit.specs.declared.end.End.TheVariants.{Taken, Lost}
 use Rattle.audit.specs.declared.next_hop.NextHop.{NextHop}
 use Rattle.audit.specs.declared.next_hop.NextHop.TheVariants.{To, Ends}
-use Rattle.audit.specs.Network.{sender_of}
-use Rattle.audit.specs.Tables.{owners_of, entry_for}
+use Rattle.held_tables.specs.Switches.{sender_of}
+use Rattle.held_tables.specs.Tables.{owners_of, entry_for}
 use Rattle.audit.specs.WalkEnds.{after, is_to}
 use Rattle.audit.specs.NextHops.{first_hop, next_hops_of}
 use Rattle.audit.proofs.Ended.{after_ended}
-use Rattle.audit.proofs.HeldTables.{within_length}
+use Rattle.held_tables.proofs.HeldTables.{within_length}
 use Rattle.next_tables.specs.Next.{step_at, agreed_at, agreed, mending, IsNext}
 use Rattle.next_tables.specs.Mixtures.{after_by, IsMixed, IsLoose, NoneIsLost, NoneGoesRound, AreSteps, EndInThePlan, StillIsThePlan, HealInTwo, NextDeliverOrDrop}
 use Rattle.next_tables.proofs.Mixtures.{at, Comes, ComesBy, EndsBy, held_comes, held_ends, mending_next, agreed_stays, delivers_or_drops, plan_mended, led, in_range, clean}

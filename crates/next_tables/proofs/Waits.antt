@@ -6,8 +6,8 @@ use Rattle.port_graph.specs.declared.edge.Edge.{Edge}
 use Rattle.subnet_view.specs.Reading.{Cells, switches}
 use Rattle.plan_file.specs.Held.{HeldPlan}
 use Rattle.audit.specs.Edges.{edge_by, edges_of}
-use Rattle.audit.specs.Network.{row_of}
-use Rattle.audit.specs.Tables.{entry_for}
+use Rattle.held_tables.specs.Switches.{row_of}
+use Rattle.held_tables.specs.Tables.{entry_for}
 use Rattle.next_tables.specs.Mixtures.{IsMixed, WaitsAcross, MixturesWaitSo, RiseInStep, WaitsMixed, WaitOnMixed, NoCycleInStep}
 use Rattle.next_tables.proofs.Entries.{at_mapped, past_mapped, member}
 

@@ -15,10 +15,10 @@ use Rattle.plan_file.specs.declared.held.HeldLid.{HeldLid}
 use Rattle.plan_file.specs.declared.held.HeldSwitch.{HeldSwitch}
 use Rattle.plan_file.specs.Held.{HeldPlan}
 use Rattle.plan_file.specs.Printed.{blocks_of}
-use Rattle.audit.specs.Network.{index_in}
-use Rattle.audit.specs.Tables.{counted, entry_at, entry_for, entry_in, entry_of, index_of, owners_of, top_at, top_of}
+use Rattle.held_tables.specs.Switches.{index_in}
+use Rattle.held_tables.specs.Tables.{counted, entry_at, entry_for, entry_in, entry_of, index_of, owners_of, top_at, top_of}
 use Rattle.audit.proofs.FabricParts.{index_there}
-use Rattle.audit.proofs.HeldTables.{block_found, slice_mapped}
+use Rattle.held_tables.proofs.HeldTables.{block_found, slice_mapped}
 use Rattle.audit.proofs.Judged.{same_itself}
 use Rattle.audit.proofs.PlanSteps.{index_is}
 use Rattle.audit.proofs.Tops.{entry_above}

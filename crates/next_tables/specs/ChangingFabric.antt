@@ -19,7 +19,7 @@ use Rattle.audit.specs.declared.end.End.TheVariants.{Taken, Lost}
 use Rattle.audit.specs.declared.next_hop.NextHop.TheVariants.{Ends}
 use Rattle.audit.specs.Fabrics.{IsSeenIn}
 use Rattle.audit.specs.NextHops.{IsBrought}
-use Rattle.audit.specs.Tables.{counted, entry_for, entry_of, top_of}
+use Rattle.held_tables.specs.Tables.{counted, entry_for, entry_of, top_of}
 use Rattle.next_tables.specs.Next.{step_at}
 use Rattle.next_tables.specs.NextTables.{IsKept, next_tables}
 

@@ -13,8 +13,8 @@ use Rattle.audit.specs.declared.end.End.TheVariants.{Taken, Lost}
 use Rattle.audit.specs.declared.next_hop.NextHop.{NextHop}
 use Rattle.audit.specs.declared.next_hop.NextHop.TheVariants.{To, Ends}
 use Rattle.audit.specs.Edges.{edges_of}
-use Rattle.audit.specs.Network.{sender_of}
-use Rattle.audit.specs.Tables.{owners_of, entry_for}
+use Rattle.held_tables.specs.Switches.{sender_of}
+use Rattle.held_tables.specs.Tables.{owners_of, entry_for}
 use Rattle.audit.specs.WalkEnds.{IsEndOf, after, onward}
 use Rattle.audit.specs.NextHops.{IsBrought, first_hop, next_hops_of}
 use Rattle.next_tables.specs.Next.{step_at, IsNext}

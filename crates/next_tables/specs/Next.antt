@@ -8,8 +8,8 @@ use Rattle.audit.specs.declared.end.Cause.TheVariants.{NoEntry}
 use Rattle.audit.specs.declared.end.End.TheVariants.{Taken, Lost}
 use Rattle.audit.specs.declared.next_hop.NextHop.{NextHop}
 use Rattle.audit.specs.declared.next_hop.NextHop.TheVariants.{Ends}
-use Rattle.audit.specs.Network.{row_of}
-use Rattle.audit.specs.Tables.{owners_of, entry_for}
+use Rattle.held_tables.specs.Switches.{row_of}
+use Rattle.held_tables.specs.Tables.{owners_of, entry_for}
 use Rattle.audit.specs.WalkEnds.{after, end_of, is_to}
 use Rattle.audit.specs.NextHops.{by_entry, cause_of, is_at, next_hops_of}
 

@@ -9,8 +9,8 @@ use Rattle.plan_file.specs.declared.held.HeldLid.{HeldLid}
 use Rattle.plan_file.specs.declared.held.HeldSwitch.{HeldSwitch}
 use Rattle.plan_file.specs.Held.{HeldPlan}
 use Rattle.plan_file.specs.Printed.{blocks_of}
-use Rattle.audit.specs.Ends.{is_sole}
-use Rattle.audit.specs.Tables.{owners_of, is_same_end, entry_for, top_of}
+use Rattle.held_tables.specs.Owners.{is_sole}
+use Rattle.held_tables.specs.Tables.{owners_of, is_same_end, entry_for, top_of}
 use Rattle.next_tables.specs.declared.fault.StepFault.{StepFault}
 use Rattle.next_tables.specs.declared.fault.StepFault.TheVariants.{Moves, Memory}
 use Rattle.next_tables.specs.Next.{next_entry}

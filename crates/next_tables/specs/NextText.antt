@@ -1,7 +1,6 @@
 -- The text of a step, read again.
 use Rattle.std.specs.Prelude.{◌≤◌, ℕ, List}
-use Rattle.fact_store.specs.Sighting.{AreInRange}
-use Rattle.fact_store.specs.View.{Facts, cells_of}
+use Rattle.fact_store.specs.View.{Facts, cells_of, AreInRange}
 use Rattle.lid_assign.specs.Lids.{IsNoRoom}
 use Rattle.lft_blocks.specs.Plan.{PlanValue, plan_of}
 use Rattle.lft_blocks.specs.Rules.{RuleValue}

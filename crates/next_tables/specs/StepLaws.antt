@@ -7,7 +7,7 @@ use Rattle.plan_file.specs.Held.{HeldPlan}
 use Rattle.audit.specs.declared.end.End.{End}
 use Rattle.audit.specs.declared.end.End.TheVariants.{Taken}
 use Rattle.audit.specs.declared.next_hop.NextHop.TheVariants.{To, Ends}
-use Rattle.audit.specs.Tables.{entry_for, owners_of, top_of}
+use Rattle.held_tables.specs.Tables.{entry_for, owners_of, top_of}
 use Rattle.audit.specs.WalkEnds.{after}
 use Rattle.audit.specs.NextHops.{IsBrought, next_hops_of}
 use Rattle.next_tables.specs.Mixtures.{IsBroughtBy, IsLoose, IsMixed}

@@ -4,7 +4,7 @@ ghost use Rattle.std.specs.List.{range_with_len};
 ghost use Rattle.fact_store.specs.View.{cells_of};
 ghost use Rattle.subnet_view.specs.Reading.{switches};
 ghost use Rattle.audit.specs.Deliveries.{AreDeliveries};
-ghost use Rattle.audit.specs.NextHops.{AreBlocks};
+ghost use Rattle.held_tables.specs.Blocks.{AreBlocks};
 ghost use Rattle.next_tables.specs.NextTables.{column_of, keeper, kept_by};
 
 use crate::next_entries::next_entries;

@@ -9,18 +9,18 @@ use Rattle.std.proofs.lemmas.List.FromFn.{length-map-range_with_len, get_or-map-
 use Rattle.fact_join.specs.declared.cell.Cell.{Cell}
 use Rattle.fact_join.specs.declared.cell.Cell.TheVariants.{Known, Disputed}
 use Rattle.fact_join.specs.Cell.{generation_of}
-use Rattle.fact_store.specs.declared.key.Key.{Key}
-use Rattle.fact_store.specs.declared.key.Key.TheVariants as key
-use Rattle.fact_store.specs.declared.value.Value.{Value}
-use Rattle.fact_store.specs.declared.value.Value.TheVariants.{Kind, Guid, Peer, Up, Lid, Count}
-use Rattle.fact_store.specs.Key.{key_cmp}
-use Rattle.fact_store.specs.Known.{value_in, kind_in}
-use Rattle.fact_store.specs.Sighting.{IsSighting, AreInRange, is_key, is_generation, is_cell_of}
-use Rattle.fact_store.specs.View.{Facts, cells_of}
+use Rattle.reply_facts.specs.declared.key.Key.{Key}
+use Rattle.reply_facts.specs.declared.key.Key.TheVariants as key
+use Rattle.reply_facts.specs.declared.value.Value.{Value}
+use Rattle.reply_facts.specs.declared.value.Value.TheVariants.{Kind, Guid, Peer, Up, Lid, Count}
+use Rattle.reply_facts.specs.Key.{key_cmp}
+use Rattle.reply_facts.specs.Known.{value_in, kind_in, node_of, cap_of}
+use Rattle.reply_facts.specs.Sighting.{IsSighting, is_key, is_generation, is_cell_of}
+use Rattle.fact_store.specs.View.{Facts, cells_of, AreInRange}
 use Rattle.fact_store.proofs.Orders.{contained_get}
 use Rattle.smp_bytes.specs.NodeType.{is_switch}
 use Rattle.subnet_view.specs.declared.end_port.EndPort.{EndPort}
-use Rattle.subnet_view.specs.Reading.{Cells, node_of, port_count_of, switches}
+use Rattle.subnet_view.specs.Reading.{Cells, port_count_of, switches}
 use Rattle.subnet_view.specs.Wires.{across, attached}
 use Rattle.subnet_view.proofs.Members.{contains_here, contains_later}
 use Rattle.subnet_view.proofs.Taken.{found_in}
@@ -37,7 +37,6 @@ use Rattle.lid_assign.proofs.LidLaws.{lids_law}
 use Rattle.lid_assign.proofs.Owners.{given-from_owner}
 use Rattle.lid_assign.proofs.RisingLids.{rising_lids_law}
 use Rattle.lid_assign.proofs.Tops.{top_below}
-use Rattle.subnet_view.specs.Reading.{cap_of}
 use Rattle.subnet_view.proofs.Apart.{contains_map}
 use Rattle.subnet_view.proofs.EndPortList.{end_ports_law}
 use Rattle.subnet_view.proofs.UsableSwitches.{switches_law}

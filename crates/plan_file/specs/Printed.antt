@@ -6,8 +6,7 @@ use Rattle.std.specs.List.Sorted.{IsStrictlyIncreasing}
 use Rattle.std.specs.Prelude.{option_map}
 use Rattle.hex.specs.Hex.{IsBytes}
 use Rattle.subnet_view.specs.declared.end_port.EndPort.{EndPort}
-use Rattle.fact_store.specs.Sighting.{AreInRange}
-use Rattle.fact_store.specs.View.{Facts, cells_of}
+use Rattle.fact_store.specs.View.{Facts, cells_of, AreInRange}
 use Rattle.lid_assign.specs.Lids.{Given, IsNoRoom, lmc_of, owner_of, top_of, rising_lids}
 use Rattle.lft_blocks.specs.Rules.{RuleValue}
 use Rattle.lft_blocks.specs.Plan.{SwitchTable, PlanValue, plan_of}

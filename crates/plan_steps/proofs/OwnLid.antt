@@ -8,7 +8,8 @@ use Rattle.std.specs.declared.cmp.Ordering.TheVariants.{Less, Equal, Greater}
 use Rattle.std.specs.Ordering.{is_lt, ordering_then}
 use Rattle.fact_store.specs.View.{cells_of}
 use Rattle.subnet_view.specs.declared.end_port.EndPort.{EndPort}
-use Rattle.subnet_view.specs.Reading.{Cells, port_guid_of}
+use Rattle.reply_facts.specs.Known.{port_guid_of}
+use Rattle.subnet_view.specs.Reading.{Cells}
 use Rattle.subnet_view.specs.EndPorts.{comes_before, ComesBefore}
 use Rattle.subnet_view.proofs.EndPortList.{end_ports_law}
 use Rattle.subnet_view.proofs.Members.{contains_here, contains_later, contains_cases, contains_none}

@@ -10,7 +10,8 @@ use Rattle.attr_codec.specs.declared.port_state.PortState.{PortState}
 use Rattle.attr_codec.specs.declared.port_state.PortState.TheVariants.{NoChange}
 use Rattle.fact_store.specs.View.{Facts, cells_of}
 use Rattle.subnet_view.specs.declared.end_port.EndPort.{EndPort}
-use Rattle.subnet_view.specs.Reading.{Cells, port_guid_of}
+use Rattle.reply_facts.specs.Known.{port_guid_of}
+use Rattle.subnet_view.specs.Reading.{Cells}
 use Rattle.lid_assign.specs.Lids.{Given, owner_of, lmc_of, rising_lids, lids, IsNoRoom}
 use Rattle.sweep.specs.Sweep.{Sweep}
 use Rattle.plan_steps.specs.declared.step.Step.{Step}

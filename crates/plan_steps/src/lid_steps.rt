@@ -9,7 +9,7 @@ use fact_store::Store;
 use lid_assign::LidMap;
 use smp_bytes::{AttributeId, Guid, Lid, PortNum};
 use std::alloc::{AllocError, Global};
-use subnet_view::{EndPort, port_guid};
+use subnet_view::EndPort;
 use sweep::Sweep;
 
 /// The LID of the manager at the port of a GUID and a number: that of the first such end port, by
@@ -29,7 +29,7 @@ pub(crate) fn own_lid(store: &Store, lids: &LidMap, own_guid: Guid, port: PortNu
 fn is_own_port(store: &Store, end: EndPort, own_guid: Guid, port: PortNum) -> bool
     ensures { result ≡ is_own_port (cells_of store.now) own_guid port end }
 {
-    end.port == port && port_guid(store, end.node, end.port) == Some(own_guid)
+    end.port == port && store.port_guid(end.node, end.port) == Some(own_guid)
 }
 
 /// The LID and the LMC of each end port that was reached, by rising LIDs. Takes a search for each.

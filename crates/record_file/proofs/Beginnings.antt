@@ -8,7 +8,7 @@ use Rattle.std.proofs.lemmas.Bool.Decides.{nat_tests}
 use Rattle.std.proofs.lemmas.Bool.{cases_lt}
 use Rattle.std.proofs.Math.Nat.{div-add-mod}
 use Rattle.fact_store.specs.View.{Facts}
-use Rattle.fact_store.specs.declared.key.Key.{Key}
+use Rattle.reply_facts.specs.declared.key.Key.{Key}
 use Rattle.record_file.specs.declared.file_fault.FileFault.{FileFault}
 use Rattle.record_file.specs.declared.file_fault.FileFault.TheVariants.{Magic, Truncated, BadReport, BadCell, CellOrder, Memory, Read, TooLong, BadFloor}
 use Rattle.record_file.specs.declared.format.Format.{Format}

@@ -12,13 +12,13 @@ use Rattle.smp_bytes.specs.declared.node_type.NodeType.TheVariants.{ChannelAdapt
 use Rattle.fact_join.specs.declared.cell.Cell.{Cell}
 use Rattle.fact_join.specs.declared.cell.Cell.TheVariants.{Known, Disputed}
 use Rattle.fact_join.specs.Cell.{generation_of}
-use Rattle.fact_store.specs.declared.key.Key.{Key}
-use Rattle.fact_store.specs.declared.key.Key.TheVariants.{Node, PortGuid, Link, Port, Claim, Cap}
-use Rattle.fact_store.specs.declared.value.Value.{Value}
-use Rattle.fact_store.specs.declared.value.Value.TheVariants.{Kind, Guid, Peer, Up, Lid, Count}
+use Rattle.reply_facts.specs.declared.key.Key.{Key}
+use Rattle.reply_facts.specs.declared.key.Key.TheVariants.{Node, PortGuid, Link, Port, Claim, Cap}
+use Rattle.reply_facts.specs.declared.value.Value.{Value}
+use Rattle.reply_facts.specs.declared.value.Value.TheVariants.{Kind, Guid, Peer, Up, Lid, Count}
 use Rattle.attr_codec.specs.NodeTypeNumber.{number_of_type, type_of_number}
-use Rattle.fact_store.specs.Sighting.{IsSighting, is_any_port, is_cabled_port, is_cell_of, is_generation, is_guid, is_key, is_sighting, is_value_of}
-use Rattle.fact_store.specs.Key.{key_guid, key_kind, key_port}
+use Rattle.reply_facts.specs.Sighting.{IsSighting, is_any_port, is_cabled_port, is_cell_of, is_generation, is_guid, is_key, is_sighting, is_value_of}
+use Rattle.reply_facts.specs.Key.{key_guid, key_kind, key_port}
 use Rattle.record_file.specs.CellRecord.{candidate, cell_of, filled_up, flag_byte, if_sighting, if_spelled, key_of}
 use Rattle.record_file.specs.CellRecord.{record_bytes, value_bytes, value_of}
 

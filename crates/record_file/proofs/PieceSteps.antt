@@ -6,7 +6,7 @@ use Rattle.std.proofs.lemmas.List.{length-take-le, take_all, take_rest}
 use Rattle.std.proofs.lemmas.Bool.Decides.{nat_tests}
 use Rattle.fact_store.specs.View.{Facts, view, view_at}
 use Rattle.fact_store.specs.Merge.{merge}
-use Rattle.fact_store.specs.declared.key.Key.{Key}
+use Rattle.reply_facts.specs.declared.key.Key.{Key}
 use Rattle.fact_store.proofs.Views.{raised_is_merge}
 use Rattle.record_file.specs.declared.awaited.Awaited.{Awaited}
 use Rattle.record_file.specs.declared.awaited.Awaited.TheVariants as awaited

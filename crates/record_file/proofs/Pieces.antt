@@ -6,7 +6,7 @@ use Rattle.std.proofs.lemmas.List.{take_all}
 use Rattle.std.proofs.lemmas.Bool.Decides.{nat_tests}
 use Rattle.fact_store.specs.View.{Facts, view_at}
 use Rattle.fact_store.specs.Merge.{merge}
-use Rattle.fact_store.specs.declared.key.Key.{Key}
+use Rattle.reply_facts.specs.declared.key.Key.{Key}
 use Rattle.record_file.specs.declared.awaited.Awaited.{Awaited}
 use Rattle.record_file.specs.declared.awaited.Awaited.TheVariants as awaited
 use Rattle.record_file.specs.declared.file_fault.FileFault.{FileFault}

@@ -2,21 +2,21 @@
 use Rattle.std.proofs.Common.{◌≡◌, ℕ, List, Option, None, Some, Ok, Err, take, drop, slice_index, refl, sym, ap, ◌∙◌}
 use Rattle.std.specs.Int.{from_be_bytes, w32, w64}
 use Rattle.std.specs.Option.{option_map}
-use Rattle.fact_store.specs.declared.report.Context.{Context}
-use Rattle.fact_store.specs.declared.report.Report.{Report}
-use Rattle.fact_store.specs.declared.key.Key.{Key}
+use Rattle.reply_facts.specs.declared.report.Context.{Context}
+use Rattle.reply_facts.specs.declared.report.Report.{Report}
+use Rattle.reply_facts.specs.declared.key.Key.{Key}
 use Rattle.fact_store.specs.Merge.{merge}
 use Rattle.fact_store.specs.View.{Facts, view}
 use Rattle.record_file.specs.Absorbs.{AbsorbsJudged}
 use Rattle.record_file.specs.declared.file_fault.FileFault.TheVariants.{BadReport, Memory}
 use Rattle.record_file.specs.declared.format.Format.TheVariants.{Reports}
 use Rattle.record_file.specs.RecordFile.{judged}
-use Rattle.fact_store.specs.declared.report_fault.ReportFault.{ReportFault}
-use Rattle.fact_store.specs.declared.report_fault.ReportFault.TheVariants.{Context as NoContext}
+use Rattle.reply_facts.specs.declared.report_fault.ReportFault.{ReportFault}
+use Rattle.reply_facts.specs.declared.report_fault.ReportFault.TheVariants.{Context as NoContext}
 use Rattle.fact_store.specs.declared.ingest.IngestFault.{IngestFault}
 use Rattle.fact_store.specs.declared.ingest.IngestFault.TheVariants as refuses
 use Rattle.fact_store.specs.Ingest.{ingest_fault}
-use Rattle.fact_store.specs.Report.{report_fault, sightings_of}
+use Rattle.reply_facts.specs.Report.{report_fault, sightings_of}
 use Rattle.record_file.specs.ReportRecord.{context_of, report_judged, report_of, report_sightings, unless_fault}
 
 pub report_of-spelled : (bytes : List ℕ) (generation : ℕ) (context : Context) (reply : List ℕ)

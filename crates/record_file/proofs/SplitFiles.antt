@@ -6,7 +6,7 @@ use Rattle.std.specs.List.{AllByRecursion, concat, flat_map}
 use Rattle.std.proofs.lemmas.List.Concat.{flat_map-append}
 use Rattle.std.proofs.lemmas.List.Folds.{concat-append}
 use Rattle.std.proofs.lemmas.List.{take_all}
-use Rattle.fact_store.specs.declared.key.Key.{Key}
+use Rattle.reply_facts.specs.declared.key.Key.{Key}
 use Rattle.fact_store.specs.View.{Facts, cells_of}
 use Rattle.fact_store.proofs.Entries.{cells_in_order}
 use Rattle.record_file.specs.declared.format.Format.TheVariants.{Cells, Reports}

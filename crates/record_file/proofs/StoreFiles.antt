@@ -11,15 +11,15 @@ use Rattle.std.specs.FinMap.{entries}
 use Rattle.std.specs.FinMap.Entries.{below_all, is_sorted}
 use Rattle.fact_join.specs.declared.cell.Cell.{Cell}
 use Rattle.fact_join.specs.Cell.{generation_of}
-use Rattle.fact_store.specs.declared.key.Key.{Key}
-use Rattle.fact_store.specs.declared.value.Value.{Value}
-use Rattle.fact_store.specs.Key.{is_above, key_cmp}
-use Rattle.fact_store.specs.Sighting.{AreInRange, IsSighting}
+use Rattle.reply_facts.specs.declared.key.Key.{Key}
+use Rattle.reply_facts.specs.declared.value.Value.{Value}
+use Rattle.reply_facts.specs.Key.{is_above, key_cmp}
+use Rattle.reply_facts.specs.Sighting.{IsSighting}
 use Rattle.fact_store.specs.Floor.{dropped, entries-dropped, has_floor, is_kept, kept as kept_cells}
 use Rattle.fact_store.specs.Seen.{seen}
-use Rattle.fact_store.specs.View.{Facts, view_at, cells_of, no_facts}
+use Rattle.fact_store.specs.View.{Facts, view_at, cells_of, no_facts, AreInRange}
 use Rattle.fact_store.proofs.Entries.{cells_in_order}
-use Rattle.fact_store.proofs.Keys.{key_total}
+use Rattle.reply_facts.proofs.Keys.{key_total}
 use Rattle.fact_store.proofs.Merges.{merge_empty}
 use Rattle.smp_bytes.proofs.Members.{contains_cases, contains_here, contains_later, contains_none}
 use Rattle.fact_store.proofs.Orders.{contained_get, get_contained, less_from_test}

@@ -1,8 +1,8 @@
 -- A store that several lists of sightings were merged into, one after the other.
 use Rattle.std.proofs.Common.{◌≡◌, ℕ, max, List, [], ◌++◌, sym, ap, ◌∙◌}
 use Rattle.fact_join.specs.declared.cell.Cell.{Cell}
-use Rattle.fact_store.specs.declared.key.Key.{Key}
-use Rattle.fact_store.specs.declared.value.Value.{Value}
+use Rattle.reply_facts.specs.declared.key.Key.{Key}
+use Rattle.reply_facts.specs.declared.value.Value.{Value}
 use Rattle.fact_store.specs.View.{Facts, no_facts, view, view_at}
 use Rattle.fact_store.specs.Merge.{merge}
 use Rattle.fact_store.proofs.Merges.{merge_empty, merge_is_associative, merge_is_commutative}

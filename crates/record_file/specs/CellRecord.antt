@@ -7,12 +7,12 @@ use Rattle.attr_codec.specs.NodeTypeNumber.{number_of_type, type_of_number}
 use Rattle.fact_join.specs.declared.cell.Cell.{Cell}
 use Rattle.fact_join.specs.declared.cell.Cell.TheVariants.{Known, Disputed}
 use Rattle.fact_join.specs.Cell.{generation_of}
-use Rattle.fact_store.specs.Key.{key_guid, key_kind, key_port}
-use Rattle.fact_store.specs.Sighting.{is_sighting}
-use Rattle.fact_store.specs.declared.key.Key.{Key}
-use Rattle.fact_store.specs.declared.key.Key.TheVariants.{Node, PortGuid, Link, Port, Claim, Cap}
-use Rattle.fact_store.specs.declared.value.Value.{Value}
-use Rattle.fact_store.specs.declared.value.Value.TheVariants.{Kind, Guid, Peer, Up, Lid, Count}
+use Rattle.reply_facts.specs.Key.{key_guid, key_kind, key_port}
+use Rattle.reply_facts.specs.Sighting.{is_sighting}
+use Rattle.reply_facts.specs.declared.key.Key.{Key}
+use Rattle.reply_facts.specs.declared.key.Key.TheVariants.{Node, PortGuid, Link, Port, Claim, Cap}
+use Rattle.reply_facts.specs.declared.value.Value.{Value}
+use Rattle.reply_facts.specs.declared.value.Value.TheVariants.{Kind, Guid, Peer, Up, Lid, Count}
 
 abbrev pub flag_byte : Bool → ℕ
 flag_byte true = 1

@@ -4,7 +4,7 @@ use Rattle.std.specs.Prelude.{take, drop, codes, nat_eq, nat_lt, unwrap_or, ifâ—
 use Rattle.std.specs.Int.{to_be_bytes, from_be_bytes, w32}
 use Rattle.std.specs.List.{starts_with}
 use Rattle.std.specs.Str.{bytes_eq}
-use Rattle.fact_store.specs.Sighting.{is_generation}
+use Rattle.reply_facts.specs.Sighting.{is_generation}
 use Rattle.record_file.specs.declared.file_fault.FileFault.{FileFault}
 use Rattle.record_file.specs.declared.file_fault.FileFault.TheVariants.{Magic, Truncated, BadFloor}
 use Rattle.record_file.specs.declared.format.Format.{Format}

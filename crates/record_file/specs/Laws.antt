@@ -1,7 +1,7 @@
 -- Laws of reading files.
 use Rattle.std.specs.Prelude.{◌≡◌, ◌↔◌, ℕ, ◌+◌, ◌*◌, ◌<◌, ◌≤◌, ◌^◌, List, ◌++◌, None, Some, Ok, Err, IsOk, length, slice_index}
 use Rattle.std.specs.List.{AllByRecursion, concat}
-use Rattle.fact_store.specs.declared.report.Report.{Report}
+use Rattle.reply_facts.specs.declared.report.Report.{Report}
 use Rattle.record_file.specs.declared.file_fault.FileFault.{FileFault}
 use Rattle.record_file.specs.declared.file_fault.FileFault.TheVariants.{Truncated, BadReport, BadCell, CellOrder, BadFloor}
 use Rattle.record_file.specs.declared.format.Format.{Format}

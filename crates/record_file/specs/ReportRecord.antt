@@ -2,14 +2,14 @@
 use Rattle.std.specs.Prelude.{ℕ, List, Option, None, Some, Result, Ok, Err, ◌==◌, ◌&&◌, ◌∷◌, ◌++◌, take, drop, slice_index, option_map, if◌then◌else◌}
 use Rattle.std.specs.Int.{from_be_bytes, to_be_bytes, w32, w64}
 use Rattle.fact_join.specs.declared.cell.Cell.{Cell}
-use Rattle.fact_store.specs.declared.key.Key.{Key}
-use Rattle.fact_store.specs.declared.value.Value.{Value}
-use Rattle.fact_store.specs.declared.report.Context.{Context}
-use Rattle.fact_store.specs.declared.report.Context.TheVariants.{Start, Via, About}
-use Rattle.fact_store.specs.declared.report.Report.{Report}
-use Rattle.fact_store.specs.declared.report_fault.ReportFault.{ReportFault}
-use Rattle.fact_store.specs.declared.report_fault.ReportFault.TheVariants as fault
-use Rattle.fact_store.specs.Report.{report_fault, sightings_of}
+use Rattle.reply_facts.specs.declared.key.Key.{Key}
+use Rattle.reply_facts.specs.declared.value.Value.{Value}
+use Rattle.reply_facts.specs.declared.report.Context.{Context}
+use Rattle.reply_facts.specs.declared.report.Context.TheVariants.{Start, Via, About}
+use Rattle.reply_facts.specs.declared.report.Report.{Report}
+use Rattle.reply_facts.specs.declared.report_fault.ReportFault.{ReportFault}
+use Rattle.reply_facts.specs.declared.report_fault.ReportFault.TheVariants as fault
+use Rattle.reply_facts.specs.Report.{report_fault, sightings_of}
 
 -- the context with this byte, port and GUID
 abbrev pub context_of : ℕ → ℕ → ℕ → Option Context

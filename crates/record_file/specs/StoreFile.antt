@@ -2,8 +2,8 @@
 use Rattle.std.specs.Prelude.{ℕ, List, ◌++◌, Option, Some}
 use Rattle.std.specs.List.{flat_map}
 use Rattle.fact_join.specs.declared.cell.Cell.{Cell}
-use Rattle.fact_store.specs.declared.key.Key.{Key}
-use Rattle.fact_store.specs.declared.value.Value.{Value}
+use Rattle.reply_facts.specs.declared.key.Key.{Key}
+use Rattle.reply_facts.specs.declared.value.Value.{Value}
 use Rattle.record_file.specs.declared.format.Format.TheVariants.{Cells}
 use Rattle.record_file.specs.CellRecord.{record_bytes}
 use Rattle.record_file.specs.Head.{head_bytes}

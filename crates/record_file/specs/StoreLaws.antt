@@ -3,10 +3,10 @@ use Rattle.std.specs.Prelude.{◌≡◌, ◌↔◌, ℕ, ◌<◌, ◌^◌, true,
 use Rattle.std.specs.List.{starts_with}
 use Rattle.byte_io.specs.Source.{SourceState}
 use Rattle.fact_join.specs.declared.cell.Cell.{Cell}
-use Rattle.fact_store.specs.declared.key.Key.{Key}
-use Rattle.fact_store.specs.declared.value.Value.{Value}
-use Rattle.fact_store.specs.Sighting.{AreInRange, IsSighting}
-use Rattle.fact_store.specs.View.{Facts, cells_of, no_facts}
+use Rattle.reply_facts.specs.declared.key.Key.{Key}
+use Rattle.reply_facts.specs.declared.value.Value.{Value}
+use Rattle.reply_facts.specs.Sighting.{IsSighting}
+use Rattle.fact_store.specs.View.{Facts, cells_of, no_facts, AreInRange}
 use Rattle.record_file.specs.declared.format.Format.TheVariants.{Cells}
 use Rattle.record_file.specs.Absorbs.{Absorbs}
 use Rattle.record_file.specs.CellRecord.{cell_of, record_bytes}

@@ -1,7 +1,7 @@
 //! The facts of a store as text: a line for its floor, and one for each cell.
 ghost use Rattle.std.specs.Prelude.{◌≡◌, IsTrue, OnOk};
 ghost use Rattle.byte_io.specs.Writes.{Writes};
-ghost use Rattle.fact_store.specs.Sighting.{AreInRange};
+ghost use Rattle.fact_store.specs.View.{AreInRange};
 ghost use Rattle.record_file.specs.FactsText.{subject_text, key_text, value_text, cell_text, fact_text, line_text, floor_line, facts_text};
 
 use crate::line::Line;

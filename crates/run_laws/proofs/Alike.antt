@@ -10,7 +10,7 @@ use Rattle.topo_file.specs.declared.node.Node.{Node}
 use Rattle.schedule_file.specs.Schedule.{Script, SeatCommand}
 use Rattle.schedule_file.specs.declared.command.Command.TheVariants.{Merge, Show}
 use Rattle.schedule_file.specs.declared.command.Shown.TheVariants.{Plan}
-use Rattle.fact_store.specs.Report.{Sightings}
+use Rattle.reply_facts.specs.Report.{Sightings}
 use Rattle.fact_store.specs.Seen.{HaveSameMembers}
 use Rattle.fact_store.specs.View.{Facts, cells_of, view_at}
 use Rattle.fact_store.proofs.Views.{members_decide_view}

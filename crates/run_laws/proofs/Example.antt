@@ -14,7 +14,7 @@ use Rattle.schedule_file.specs.declared.command.Ask.TheVariants as ask
 use Rattle.schedule_file.specs.declared.command.Command.TheVariants as command
 use Rattle.schedule_file.specs.declared.command.Fate.TheVariants as fate
 use Rattle.schedule_file.specs.declared.command.Which.TheVariants.{Last, Serial}
-use Rattle.fact_store.specs.Report.{Sightings}
+use Rattle.reply_facts.specs.Report.{Sightings}
 use Rattle.fact_store.specs.View.{cells_of, no_facts}
 use Rattle.fact_store.proofs.Entries.{cells_of_view, entries-view}
 use Rattle.subnet_view.specs.Reading.{Cells}

@@ -14,7 +14,7 @@ use Rattle.fabric_sim.specs.declared.delivered.Delivered.{Delivered}
 use Rattle.fabric_sim.specs.declared.delivered.Delivered.TheVariants as delivered_is
 use Rattle.fabric_sim.specs.declared.fault.FabricFault.{FabricFault}
 use Rattle.fabric_sim.specs.declared.packet.Packet.{Packet}
-use Rattle.fact_store.specs.Report.{Sightings}
+use Rattle.reply_facts.specs.Report.{Sightings}
 use Rattle.fact_store.specs.View.{view_at}
 use Rattle.lft_blocks.specs.Planning.{Planning}
 use Rattle.sm_manager.specs.Calls as calls

@@ -1,7 +1,7 @@
 -- What is said of a fault.
 use Rattle.std.specs.Prelude.{ℕ, List, [], ◌++◌, Option, None, Some, codes, decimal, if◌then◌else◌}
-use Rattle.fact_store.specs.declared.report_fault.ReportFault.{ReportFault}
-use Rattle.fact_store.specs.ReportFault.{report_fault_name}
+use Rattle.reply_facts.specs.declared.report_fault.ReportFault.{ReportFault}
+use Rattle.reply_facts.specs.ReportFault.{report_fault_name}
 use Rattle.record_file.specs.declared.file_fault.FileFault.{FileFault}
 use Rattle.record_file.specs.FileFault.{fault_words, fault_number, fault_of_report, is_of_file}
 use Rattle.lid_assign.specs.declared.fault.NoRoom.{NoRoom as Lack}

@@ -2,8 +2,7 @@
 -- can't.
 use Rattle.std.specs.Prelude.{◌≡◌, ◌⊎◌, ℕ, Bool, List, ◌++◌, Option, None, Some, IsTrue}
 use Rattle.byte_io.specs.Source.{SourceState}
-use Rattle.fact_store.specs.Sighting.{AreInRange}
-use Rattle.fact_store.specs.View.{Facts, cells_of}
+use Rattle.fact_store.specs.View.{Facts, cells_of, AreInRange}
 use Rattle.record_file.specs.FactsText.{facts_text}
 use Rattle.record_file.specs.StoreFile.{store_bytes}
 use Rattle.subnet_view.specs.Reading.{is_usable}

@@ -8,3 +8,4 @@ pub mod StepsSent
 pub mod SuccessorLids
 pub mod Begun
 pub mod Answered
+pub mod Messages

@@ -7,7 +7,7 @@ use Rattle.smp_bytes.specs.Field.{number_in}
 use Rattle.smp_bytes.specs.Packet.{fault_of, status, attribute_modifier}
 use Rattle.smp_bytes.specs.declared.smp_fault.SmpFault.{SmpFault}
 use Rattle.fact_store.specs.Merge.{merge}
-use Rattle.fact_store.specs.Report.{Sightings}
+use Rattle.reply_facts.specs.Report.{Sightings}
 use Rattle.fact_store.specs.Seen.{seen}
 use Rattle.fact_store.specs.View.{view, view_at, cells_of, no_facts}
 use Rattle.fact_store.proofs.Merges.{at_same_floor, merge_empty, merge_is_commutative}

@@ -1,6 +1,6 @@
 -- A manager's life: one call after the other.
 use Rattle.std.specs.Prelude.{◌≡◌, ℕ, List, [], ◌∷◌, ◌++◌, Option, Some, None, Result, Ok, Err, if◌then◌else◌, is_none, max}
-use Rattle.fact_store.specs.Report.{Sightings}
+use Rattle.reply_facts.specs.Report.{Sightings}
 use Rattle.fact_store.specs.Seen.{HaveSameMembers}
 use Rattle.fact_store.specs.View.{view_at, cells_of}
 use Rattle.smp_bytes.specs.Packet.{fault_of}

@@ -1,6 +1,6 @@
 -- What a manager sends to other managers: polls, and controls as it hands over or takes over.
 -- InfiniBand Architecture Specification, Volume 1: subnet management, subnet manager (polling, handover); SMInfo.
-use Rattle.std.specs.Prelude.{ℕ, ◌+◌, [], ◌∷◌, ◌++◌, replicate, is_none, if◌then◌else◌, Option, Some, None, option_and_then}
+use Rattle.std.specs.Prelude.{ℕ, ◌+◌, List, [], ◌∷◌, ◌++◌, replicate, is_none, if◌then◌else◌, Option, Some, None, option_and_then}
 use Rattle.smp_bytes.specs.Header.{get, set, sm_info}
 use Rattle.smp_bytes.specs.Requests.{lid_routed}
 use Rattle.attr_codec.specs.SmInfo.{sm_info_bytes}
@@ -67,6 +67,19 @@ abbrev pub message_count : Option ℕ → Option Message → ℕ
 message_count None message = 0
 message_count (Some lid) None = 0
 message_count (Some lid) (Some message) = 1
+
+-- its request, which waits for its answer
+abbrev pub message_pending : ℕ → Option ℕ → Option Message → List Pending
+message_pending counter None message = []
+message_pending counter (Some lid) None = []
+message_pending counter (Some lid) (Some message) =
+    info_pending counter purpose.Control (modifier_of_control (control_of_message message)) ∷ []
+
+-- and its packet
+abbrev pub message_out : Standing → ℕ → Option ℕ → Option Message → List Outgoing
+message_out s counter None message = []
+message_out s counter (Some lid) None = []
+message_out s counter (Some lid) (Some message) = control_out s counter lid (control_of_message message) ∷ []
 
 -- a message goes out as a control
 abbrev pub after_message : Manager → Option ℕ → Option Message → Manager

@@ -9,7 +9,7 @@ use Rattle.smp_bytes.specs.declared.header.Status.{Status}
 use Rattle.smp_bytes.specs.declared.smp_fault.SmpFault.{SmpFault}
 use Rattle.fact_store.specs.Merge.{merge}
 use Rattle.fact_store.specs.View.{view}
-use Rattle.fact_store.specs.declared.report_fault.ReportFault.TheVariants.{Smp}
+use Rattle.reply_facts.specs.declared.report_fault.ReportFault.TheVariants.{Smp}
 use Rattle.sweep.specs.declared.answer.Answer.{Answer}
 use Rattle.sweep.specs.declared.fault.SweepFault.{SweepFault}
 use Rattle.sweep.specs.declared.fault.SweepFault.TheVariants.{Bad}

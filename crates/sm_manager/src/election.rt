@@ -7,6 +7,7 @@ ghost use Rattle.subnet_view.specs.EndPorts.{is_end_port};
 ghost use Rattle.smp_bytes.specs.Judges.{JudgesButFor};
 ghost use Rattle.sm_manager.specs.Election.{after_handover, handover_fault, successor_fault, successor_lid, successor_port, port_seen};
 ghost use Rattle.sm_manager.specs.Election.{control_out, info_pending, poll_fault, poll_out, after_poll};
+ghost use Rattle.sm_manager.specs.Election.{message_count, message_out, message_pending};
 ghost use Rattle.sm_manager.specs.declared.pending.Purpose.TheVariants.{Control as ForControl, Poll as ForPoll};
 ghost use Rattle.sm_state.specs.Controls.{modifier_of_control};
 ghost use Rattle.sm_manager.specs.Fault.{is_memory};
@@ -21,7 +22,7 @@ use crate::write_steps::where_numbered;
 use attr_codec::Attribute;
 use fact_store::Store;
 use lid_assign::{LidFault, LidMap, assign};
-use sm_state::{Control, Event, SeenManager, SmState, Standing, step, successor};
+use sm_state::{Control, Event, Message, SeenManager, SmState, Standing, step, successor};
 use smp_bytes::{Lid, Method};
 use std::collections::VecDeque;
 use subnet_view::{EndPort, is_end_port};
@@ -151,8 +152,34 @@ fn send_poll(to: Lid, requests: &mut ManagerRequests, outgoing: &mut VecDeque<Ou
     });
 }
 
+/// A message goes out as a control to a LID, where there are both. Takes no memory.
+pub(crate) fn send_message(
+    to: &Option<Lid>,
+    message: &Option<Message>,
+    standing: &Standing,
+    requests: &mut ManagerRequests,
+    outgoing: &mut VecDeque<Outgoing>,
+)
+    requires number { requests.old.counter + message_count to.now message.now ≤ 2 ^ 32 }
+    requires room { message_count to.now message.now ≤ requests.old.room }
+    requires outgoing { deque_len outgoing.old + message_count to.now message.now ≤ deque_capacity outgoing.old }
+    ensures counter { requests.new.counter ≡ requests.old.counter + message_count to.now message.now }
+    ensures pending { requests.new.pending ≡ requests.old.pending
+        ++ message_pending requests.old.counter to.now message.now }
+    ensures outgoing { outgoing.new.items ≡ outgoing.old.items
+        ++ message_out standing.now requests.old.counter to.now message.now }
+{
+    match to {
+        None => {}
+        Some(lid) => match message {
+            None => {}
+            Some(message) => send_control(*lid, message.control(), standing, requests, outgoing),
+        },
+    }
+}
+
 /// A control goes out to a LID. Takes no memory.
-pub(crate) fn send_control(
+fn send_control(
     to: Lid,
     control: Control,
     standing: &Standing,

@@ -8,7 +8,7 @@ ghost use Rattle.sm_manager.specs.Served.{answer_data, answer_out, controlled, i
 ghost use Rattle.sm_state.specs.Standing.{moved_to};
 ghost use Rattle.sm_state.specs.Steps.{status_of};
 
-use crate::election::send_control;
+use crate::election::send_message;
 use crate::fault::ManagerFault;
 use crate::manager::Manager;
 use crate::outgoing::Outgoing;
@@ -66,17 +66,13 @@ impl Manager {
         make_room(count, count + 1, &mut self.requests, &mut self.outgoing)?;
         let answer = move_on(&transition, smp, &from, &mut self.standing);
         self.outgoing.push_back_reserved(answer);
-        if let Some(lid) = from {
-            if let Some(message) = message {
-                send_control(
-                    lid,
-                    message.control(),
-                    &self.standing,
-                    &mut self.requests,
-                    &mut self.outgoing,
-                );
-            }
-        }
+        send_message(
+            &from,
+            &message,
+            &self.standing,
+            &mut self.requests,
+            &mut self.outgoing,
+        );
         Ok(())
     }
 }

@@ -6,15 +6,15 @@ use Rattle.std.specs.List.{filter_map, cons_option}
 use Rattle.std.specs.FinMap.Entries.{find, is_sorted-where_key, find-where_key, same_entries}
 use Rattle.smp_bytes.specs.NodeType.{is_switch}
 use Rattle.fact_join.specs.declared.cell.Cell.{Cell}
-use Rattle.fact_store.specs.declared.key.Key.{Key}
-use Rattle.fact_store.specs.declared.key.Key.TheVariants.{Node, PortGuid, Link, Port, Claim, Cap}
-use Rattle.fact_store.specs.declared.value.Value.{Value}
-use Rattle.fact_store.specs.Key.{key_cmp}
-use Rattle.fact_store.specs.Known.{value_in, kind_in, guid_in, peer_in, up_in, count_in}
+use Rattle.reply_facts.specs.declared.key.Key.{Key}
+use Rattle.reply_facts.specs.declared.key.Key.TheVariants.{Node, PortGuid, Link, Port, Claim, Cap}
+use Rattle.reply_facts.specs.declared.value.Value.{Value}
+use Rattle.reply_facts.specs.Key.{key_cmp}
+use Rattle.reply_facts.specs.Known.{value_in, kind_in, guid_in, peer_in, up_in, count_in, known_in, node_of, port_guid_of, link_of, cap_of}
 use Rattle.fact_store.specs.View.{Facts, cell_for, cells_of}
 use Rattle.fact_store.proofs.Entries.{cell_is_found, cells_in_order}
-use Rattle.fact_store.proofs.Keys.{key_total, key_exact}
-use Rattle.subnet_view.specs.Reading.{Cells, known_in, node_of, port_guid_of, link_of, cap_of, is_up}
+use Rattle.reply_facts.proofs.Keys.{key_total, key_exact}
+use Rattle.subnet_view.specs.Reading.{Cells, is_up}
 use Rattle.subnet_view.specs.Reading.{is_switch_node, port_count_of, is_usable, is_port_of, usable_guid, switches}
 use Rattle.subnet_view.specs.EndPorts.{is_end_port_number, is_end_port, guid_and_port, in_order, end_ports}
 use Rattle.subnet_view.specs.Wires.{is_wire_end, is_at, is_wire, across, attached}

@@ -1,5 +1,4 @@
 -- Facts that agree with a part cover it.
-use Rattle.std.proofs.Common.{ℕ}
 use Rattle.fabric_model.specs.Fabric.{Fabric}
 use Rattle.subnet_view.specs.Reading.{Cells}
 use Rattle.subnet_view.specs.Agreement.{Part, AgreesOn, Covers}

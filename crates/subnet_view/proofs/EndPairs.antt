@@ -2,7 +2,8 @@
 use Rattle.std.proofs.Common.{◌≡◌, ℕ, Bool, true, false, cond, not, ◌&&◌, refl, sym, ap, ◌∙◌}
 use Rattle.std.specs.Prelude.{Option, None, Some, option_and_then}
 use Rattle.std.specs.Option.{option_map_or}
-use Rattle.subnet_view.specs.Reading.{Cells, link_of}
+use Rattle.reply_facts.specs.Known.{link_of}
+use Rattle.subnet_view.specs.Reading.{Cells}
 use Rattle.subnet_view.specs.WireEnds.{end_link, is_pair}
 use Rattle.subnet_view.specs.Wires.{across, is_at, is_wire, is_wire_end}
 

@@ -8,13 +8,13 @@ use Rattle.fact_store.specs.View.{cells_of}
 use Rattle.std.specs.FinMap.Entries.{find}
 use Rattle.std.specs.Ordering.{is_lt}
 use Rattle.fact_join.specs.declared.cell.Cell.{Cell}
-use Rattle.fact_store.specs.declared.key.Key.{Key}
-use Rattle.fact_store.specs.declared.key.Key.TheVariants.{Node, PortGuid, Link, Port, Claim, Cap}
-use Rattle.fact_store.specs.declared.value.Value.{Value}
-use Rattle.fact_store.specs.Key.{key_cmp}
-use Rattle.fact_store.specs.Known.{value_in, guid_in}
+use Rattle.reply_facts.specs.declared.key.Key.{Key}
+use Rattle.reply_facts.specs.declared.key.Key.TheVariants.{Node, PortGuid, Link, Port, Claim, Cap}
+use Rattle.reply_facts.specs.declared.value.Value.{Value}
+use Rattle.reply_facts.specs.Key.{key_cmp}
+use Rattle.reply_facts.specs.Known.{value_in, guid_in, port_guid_of}
 use Rattle.subnet_view.specs.declared.end_port.EndPort.{EndPort}
-use Rattle.subnet_view.specs.Reading.{Cells, port_guid_of}
+use Rattle.subnet_view.specs.Reading.{Cells}
 use Rattle.subnet_view.specs.EndPorts.{is_end_port_number, is_end_port, guid_and_port, port_cmp, in_order, end_ports, IsEndPort, ComesBefore, EndPortsLaw}
 use Rattle.subnet_view.proofs.Apart.{contains_map, contains-from_map}
 use Rattle.subnet_view.proofs.EndPortOrder.{Rises, in_order_rises, was_ordered, is_ordered}

@@ -18,15 +18,15 @@ use Rattle.std.specs.declared.result.Result.{Result}
 use Rattle.std.specs.declared.result.Result.TheVariants.{Ok, Err}
 use Rattle.std.specs.Ordering.{is_lt, nat_cmp, ordering_index, ordering_reverse, ordering_then}
 use Rattle.fact_join.specs.declared.cell.Cell.{Cell}
-use Rattle.fact_store.specs.declared.key.Key.{Key}
-use Rattle.fact_store.specs.declared.key.Key.TheVariants.{Node, PortGuid, Link, Port, Claim, Cap}
-use Rattle.fact_store.specs.declared.value.Value.{Value}
-use Rattle.fact_store.specs.Key.{key_cmp}
-use Rattle.fact_store.specs.Known.{peer_in, value_in}
+use Rattle.reply_facts.specs.declared.key.Key.{Key}
+use Rattle.reply_facts.specs.declared.key.Key.TheVariants.{Node, PortGuid, Link, Port, Claim, Cap}
+use Rattle.reply_facts.specs.declared.value.Value.{Value}
+use Rattle.reply_facts.specs.Key.{key_cmp}
+use Rattle.reply_facts.specs.Known.{peer_in, value_in, link_of}
 use Rattle.fact_store.specs.View.{Facts, cells_of}
 use Rattle.fact_store.proofs.Entries.{cells_in_order}
 use Rattle.fact_store.proofs.Orders.{below_at, first_true, second_true}
-use Rattle.subnet_view.specs.Reading.{Cells, link_of}
+use Rattle.subnet_view.specs.Reading.{Cells}
 use Rattle.subnet_view.specs.WireEnds.{end_link, wire_end, wire_ends}
 use Rattle.subnet_view.specs.Wires.{is_wire_end}
 use Rattle.subnet_view.proofs.Taken.{taken_from, is_taken, found_in, all_from}

@@ -9,16 +9,16 @@ use Rattle.std.specs.Option.{option_map_or}
 use Rattle.smp_bytes.specs.declared.node_type.NodeType.{NodeType}
 use Rattle.smp_bytes.specs.Ports.{is_within}
 use Rattle.fact_join.specs.declared.cell.Cell.{Cell}
-use Rattle.fact_store.specs.declared.key.Key.{Key}
-use Rattle.fact_store.specs.declared.key.Key.TheVariants.{Node, PortGuid, Link, Port, Claim, Cap}
-use Rattle.fact_store.specs.declared.value.Value.{Value}
-use Rattle.fact_store.specs.Key.{key_cmp}
-use Rattle.fact_store.specs.Known.{count_in, guid_in, kind_in, peer_in, up_in, value_in}
+use Rattle.reply_facts.specs.declared.key.Key.{Key}
+use Rattle.reply_facts.specs.declared.key.Key.TheVariants.{Node, PortGuid, Link, Port, Claim, Cap}
+use Rattle.reply_facts.specs.declared.value.Value.{Value}
+use Rattle.reply_facts.specs.Key.{key_cmp}
+use Rattle.reply_facts.specs.Known.{count_in, guid_in, kind_in, peer_in, up_in, value_in, port_guid_of, cap_of}
 use Rattle.fact_store.specs.View.{Facts, cell_for, cells_of}
 use Rattle.fact_store.proofs.Entries.{cells_in_order}
 use Rattle.fact_store.proofs.Orders.{below_at, first_true, second_true, greater_back}
 use Rattle.subnet_view.specs.declared.port_reader.PortReader.{PortReader}
-use Rattle.subnet_view.specs.Reading.{Cells, port_guid_of, cap_of, is_up, is_switch_in, is_switch_node, is_port_of}
+use Rattle.subnet_view.specs.Reading.{Cells, is_up, is_switch_in, is_switch_node, is_port_of}
 use Rattle.subnet_view.specs.WireEnds.{count_of, end_read, is_end_read, wire_end, wire_ends, HasNotPassed, PassesNone, ReadsAll}
 use Rattle.subnet_view.specs.Wires.{is_wire_end}
 use Rattle.subnet_view.proofs.Members.{contains_here, contains_later}

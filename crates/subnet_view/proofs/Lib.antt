@@ -1,4 +1,3 @@
-pub mod Readers
 pub mod Members
 pub mod Apart
 pub mod Taken

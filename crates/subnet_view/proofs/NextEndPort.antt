@@ -1,25 +1,23 @@
 -- The next end port is the first of those that come after the last one.
 use Rattle.std.proofs.Common.{◌≡◌, ℕ, List, [], ◌∷◌, ◌++◌, ◌⊎◌, inl, inr, refl, sym, ap, ◌∙◌, subst, Bool, true, false, cond, ◌&&◌}
-use Rattle.std.proofs.lemmas.Bool.{and_parts, and_from, and_cases, both_ways, cases_Bool, false_from_ne_true}
+use Rattle.std.proofs.lemmas.Bool.{both_ways}
 use Rattle.std.proofs.lemmas.List.Elements.{Contains-append_left, Contains-push, Contains-push_cases, filter_map-append}
 use Rattle.std.proofs.lemmas.List.{append-nil}
 use Rattle.std.specs.Prelude.{Contains, Option, None, Some, MatchOption, filter}
 use Rattle.std.specs.List.{filter_map, cons_option}
-use Rattle.std.specs.declared.cmp.Ordering.{Ordering}
-use Rattle.std.specs.declared.cmp.Ordering.TheVariants.{Less, Equal, Greater}
 use Rattle.std.specs.Ordering.{is_lt}
 use Rattle.fact_join.specs.declared.cell.Cell.{Cell}
-use Rattle.fact_store.specs.declared.key.Key.{Key}
-use Rattle.fact_store.specs.declared.value.Value.{Value}
+use Rattle.reply_facts.specs.declared.key.Key.{Key}
+use Rattle.reply_facts.specs.declared.value.Value.{Value}
 use Rattle.fact_store.specs.View.{cells_of, Facts}
 use Rattle.subnet_view.specs.declared.end_port.EndPort.{EndPort}
 use Rattle.subnet_view.specs.Reading.{Cells}
 use Rattle.subnet_view.specs.EndPorts.{comes_before, guid_and_port, in_order, port_cmp, ports_after}
-use Rattle.subnet_view.specs.NextEndPort.{is_after, is_before, nearer}
+use Rattle.subnet_view.specs.NextEndPort.{is_after, nearer}
 use Rattle.subnet_view.proofs.Apart.{Apart, before_apart}
-use Rattle.subnet_view.proofs.EndPortOrder.{Rises, port_total, in_order_rises, was_ordered, is_ordered, rises_once, less_from_test, not_before_itself, one_way, from_not_less}
+use Rattle.subnet_view.proofs.EndPortOrder.{Rises, port_total, in_order_rises, was_ordered, is_ordered, rises_once, less_from_test, from_not_less}
 use Rattle.subnet_view.proofs.EndPorts.{found_end_ports, found_apart}
-use Rattle.subnet_view.proofs.Members.{contains_here, contains_later, contains_cases, contains_none, contains_as, contains_first, contains_in, contains_filter, contains-from_filter}
+use Rattle.subnet_view.proofs.Members.{contains_here, contains_later, contains_cases, contains_as, contains_first, contains_filter, contains-from_filter}
 
 abbrev Ends : Type 0
 Ends = List (ℕ × EndPort)

@@ -9,14 +9,14 @@ use Rattle.std.specs.Ordering.{eq_by_cmp, is_eq, is_ge, is_lt, ordering_reverse}
 use Rattle.std.specs.FinMap.{find, is_sorted}
 use Rattle.std.specs.FinMap.Entries.{below_all}
 use Rattle.fact_join.specs.declared.cell.Cell.{Cell}
-use Rattle.fact_store.specs.declared.key.Key.{Key}
-use Rattle.fact_store.specs.declared.value.Value.{Value}
-use Rattle.fact_store.specs.Key.{key_cmp}
-use Rattle.fact_store.proofs.Keys.{key_exact, key_total, equal_from_test}
+use Rattle.reply_facts.specs.declared.key.Key.{Key}
+use Rattle.reply_facts.specs.declared.value.Value.{Value}
+use Rattle.reply_facts.specs.Key.{key_cmp}
+use Rattle.reply_facts.proofs.Keys.{key_exact, key_total, equal_from_test}
 use Rattle.fact_store.proofs.Orders.{first_true, second_true, is_less}
-use Rattle.fact_store.specs.Known.{value_in}
+use Rattle.reply_facts.specs.Known.{value_in, known_in}
 use Rattle.subnet_view.specs.CellCursor.{AreLeft, IsFrom, KeepsFrom, is_before}
-use Rattle.subnet_view.specs.Reading.{Cells, known_in}
+use Rattle.subnet_view.specs.Reading.{Cells}
 
 -- what is left after the first cell was taken, if there is one
 abbrev pub Takes : Cells → Option (Key × Cell Value) → Cells → Type 0

@@ -13,7 +13,8 @@ use Rattle.std.specs.List.Sorted.{IsStrictlyIncreasing, IsBinarySearchResult}
 use Rattle.std.specs.Ordering.{nat_cmp}
 use Rattle.fact_store.specs.View.{Facts, cells_of}
 use Rattle.port_graph.specs.declared.edge.Edge.{Edge}
-use Rattle.subnet_view.specs.Reading.{Cells, is_switch_node, cap_of, switches}
+use Rattle.reply_facts.specs.Known.{cap_of}
+use Rattle.subnet_view.specs.Reading.{Cells, is_switch_node, switches}
 use Rattle.subnet_view.specs.Wires.{across}
 use Rattle.subnet_view.specs.Graph.{edge_at}
 use Rattle.subnet_view.specs.SwitchGraph.{by_guid, IsIndexOf, IsIndexIn}

@@ -6,10 +6,10 @@ use Rattle.std.specs.List.{filter_map, cons_option}
 use Rattle.std.specs.FinMap.Entries.{find}
 use Rattle.std.specs.Ordering.{eq_by_cmp}
 use Rattle.fact_join.specs.declared.cell.Cell.{Cell}
-use Rattle.fact_store.specs.declared.key.Key.{Key}
-use Rattle.fact_store.specs.declared.value.Value.{Value}
-use Rattle.fact_store.specs.Key.{key_cmp}
-use Rattle.fact_store.proofs.Keys.{key_exact, equal_from_test}
+use Rattle.reply_facts.specs.declared.key.Key.{Key}
+use Rattle.reply_facts.specs.declared.value.Value.{Value}
+use Rattle.reply_facts.specs.Key.{key_cmp}
+use Rattle.reply_facts.proofs.Keys.{key_exact, equal_from_test}
 use Rattle.subnet_view.specs.Reading.{Cells}
 use Rattle.subnet_view.proofs.Members.{contains_here, contains_later, contains_cases, contains_none, contains_first}
 

@@ -16,12 +16,12 @@ use Rattle.smp_bytes.specs.declared.node_type.NodeType.{NodeType}
 use Rattle.smp_bytes.specs.declared.node_type.NodeType.TheVariants.{ChannelAdapter, Switch, Router}
 use Rattle.smp_bytes.specs.NodeType.{is_switch}
 use Rattle.fact_join.specs.declared.cell.Cell.{Cell}
-use Rattle.fact_store.specs.declared.key.Key.{Key}
-use Rattle.fact_store.specs.declared.key.Key.TheVariants.{Node, PortGuid, Link, Port, Claim, Cap}
-use Rattle.fact_store.specs.declared.value.Value.{Value}
-use Rattle.fact_store.specs.Key.{key_cmp}
-use Rattle.fact_store.specs.Known.{value_in, kind_in}
-use Rattle.subnet_view.specs.Reading.{Cells, node_of, cap_of, is_switch_node, is_usable, usable_guid, switches, IsUsable, UsableLaw, SwitchesLaw}
+use Rattle.reply_facts.specs.declared.key.Key.{Key}
+use Rattle.reply_facts.specs.declared.key.Key.TheVariants.{Node, PortGuid, Link, Port, Claim, Cap}
+use Rattle.reply_facts.specs.declared.value.Value.{Value}
+use Rattle.reply_facts.specs.Key.{key_cmp}
+use Rattle.reply_facts.specs.Known.{value_in, kind_in, node_of, cap_of}
+use Rattle.subnet_view.specs.Reading.{Cells, is_switch_node, is_usable, usable_guid, switches, IsUsable, UsableLaw, SwitchesLaw}
 use Rattle.subnet_view.proofs.EndPorts.{true_from}
 use Rattle.subnet_view.proofs.Members.{contains_none, contains_cases}
 use Rattle.subnet_view.proofs.Taken.{taken_from, is_taken, found_in, all_from}

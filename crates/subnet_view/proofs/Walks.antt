@@ -4,14 +4,14 @@ use Rattle.std.proofs.lemmas.List.{append_assoc}
 use Rattle.std.specs.Prelude.{Contains, Option, None, Some, is_some, option_map, if◌then◌else◌}
 use Rattle.smp_bytes.specs.declared.node_type.NodeType.{NodeType}
 use Rattle.fact_join.specs.declared.cell.Cell.{Cell}
-use Rattle.fact_store.specs.declared.key.Key.{Key}
-use Rattle.fact_store.specs.declared.key.Key.TheVariants.{Node, PortGuid}
-use Rattle.fact_store.specs.declared.value.Value.{Value}
-use Rattle.fact_store.specs.Known.{guid_in, kind_in, value_in}
+use Rattle.reply_facts.specs.declared.key.Key.{Key}
+use Rattle.reply_facts.specs.declared.key.Key.TheVariants.{Node, PortGuid}
+use Rattle.reply_facts.specs.declared.value.Value.{Value}
+use Rattle.reply_facts.specs.Known.{guid_in, kind_in, value_in, cap_of, known_in, port_guid_of}
 use Rattle.fact_store.specs.View.{Facts, cell_for, cells_of}
 use Rattle.fact_store.proofs.Entries.{cell_is_found}
 use Rattle.fact_store.proofs.Orders.{contained_get}
-use Rattle.subnet_view.specs.Reading.{Cells, cap_of, is_switch_in, known_in, port_guid_of, usable_guid}
+use Rattle.subnet_view.specs.Reading.{Cells, is_switch_in, usable_guid}
 use Rattle.subnet_view.specs.declared.end_port.EndPort.{EndPort}
 use Rattle.subnet_view.specs.EndPorts.{guid_and_port, is_end_port_number}
 use Rattle.subnet_view.proofs.Members.{contains_here, contains_later, contains_in}

@@ -3,7 +3,8 @@ use Rattle.std.proofs.Common.{◌≡◌, ℕ, refl, sym, ap, ◌∙◌, Bool, tr
 use Rattle.std.proofs.lemmas.Bool.{eqb-true, eq-eqb}
 use Rattle.std.specs.Prelude.{Option, None, Some, option_and_then}
 use Rattle.std.specs.Option.{option_map_or}
-use Rattle.subnet_view.specs.Reading.{Cells, link_of}
+use Rattle.reply_facts.specs.Known.{link_of}
+use Rattle.subnet_view.specs.Reading.{Cells}
 use Rattle.subnet_view.specs.Wires.{is_wire_end, is_at, is_wire, across, WiresGoBothWays}
 
 and_first : (a b : Bool) → (a && b) ≡ true → a ≡ true

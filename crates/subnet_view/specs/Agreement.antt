@@ -7,7 +7,8 @@ use Rattle.fabric_model.specs.Fabric as fabric
 use Rattle.fabric_model.specs.Fabric.{Fabric, IsNodeAt}
 use Rattle.fabric_model.specs.FabricWalks as walks
 use Rattle.fabric_model.specs.FabricWalks.{vertex_of}
-use Rattle.subnet_view.specs.Reading.{Cells, node_of, port_guid_of, cap_of, IsUsable}
+use Rattle.reply_facts.specs.Known.{node_of, port_guid_of, cap_of}
+use Rattle.subnet_view.specs.Reading.{Cells, IsUsable}
 use Rattle.subnet_view.specs.EndPorts.{IsEndPort}
 use Rattle.subnet_view.specs.Wires.{IsWire}
 

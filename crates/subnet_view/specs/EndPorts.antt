@@ -7,12 +7,13 @@ use Rattle.std.specs.Cmp.Lexicographic.{slice_cmp}
 use Rattle.smp_bytes.specs.declared.node_type.NodeType.{NodeType}
 use Rattle.smp_bytes.specs.NodeType.{is_switch}
 use Rattle.fact_join.specs.declared.cell.Cell.{Cell}
-use Rattle.fact_store.specs.declared.key.Key.{Key}
-use Rattle.fact_store.specs.declared.key.Key.TheVariants.{PortGuid}
-use Rattle.fact_store.specs.declared.value.Value.{Value}
+use Rattle.reply_facts.specs.declared.key.Key.{Key}
+use Rattle.reply_facts.specs.declared.key.Key.TheVariants.{PortGuid}
+use Rattle.reply_facts.specs.declared.value.Value.{Value}
 use Rattle.fact_store.specs.View.{Facts, cells_of}
 use Rattle.subnet_view.specs.declared.end_port.EndPort.{EndPort}
-use Rattle.subnet_view.specs.Reading.{Cells, node_of, port_guid_of, is_switch_node, is_port_of}
+use Rattle.reply_facts.specs.Known.{node_of, port_guid_of}
+use Rattle.subnet_view.specs.Reading.{Cells, is_switch_node, is_port_of}
 
 -- port 0 of a switch, or a port from 1 to the count of another node
 abbrev pub is_end_port_number : Cells → ℕ → ℕ → Bool

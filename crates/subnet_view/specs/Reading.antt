@@ -2,50 +2,20 @@
 use Rattle.std.specs.Prelude.{◌≡◌, ◌↔◌, ◌<◌, ℕ, Bool, false, List, Contains, Option, None, Some, IsTrue, IsSome, is_some, ◌&&◌, if◌then◌else◌}
 use Rattle.std.specs.Option.{option_map_or}
 use Rattle.std.specs.List.{filter_map, AllPairs}
-use Rattle.std.specs.FinMap.{find}
 use Rattle.smp_bytes.specs.declared.node_type.NodeType.{NodeType}
 use Rattle.smp_bytes.specs.declared.node_type.NodeType.TheVariants.{Switch}
 use Rattle.smp_bytes.specs.NodeType.{is_switch}
 use Rattle.smp_bytes.specs.Ports.{is_within}
 use Rattle.fact_join.specs.declared.cell.Cell.{Cell}
-use Rattle.fact_store.specs.declared.key.Key.{Key}
-use Rattle.fact_store.specs.declared.key.Key.TheVariants.{Node, PortGuid, Link, Port, Claim, Cap}
-use Rattle.fact_store.specs.declared.value.Value.{Value}
-use Rattle.fact_store.specs.Key.{key_cmp}
-use Rattle.fact_store.specs.Known.{value_in, kind_in, guid_in, peer_in, up_in, lid_in, count_in}
+use Rattle.reply_facts.specs.declared.key.Key.{Key}
+use Rattle.reply_facts.specs.declared.key.Key.TheVariants.{Node}
+use Rattle.reply_facts.specs.declared.value.Value.{Value}
+use Rattle.reply_facts.specs.Known.{cap_of, node_of, up_of}
 use Rattle.fact_store.specs.View.{Facts, cells_of}
 
 -- the cells of facts with their keys, in the order of keys
 abbrev pub Cells : Type 0
 Cells = List (Key × Cell Value)
-
--- the value that the key is known to have
-abbrev pub known_in : Cells → Key → Option Value
-known_in cells key = value_in (find key_cmp key cells)
-
--- the type of a node and the number of its ports
-abbrev pub node_of : Cells → ℕ → Option (NodeType × ℕ)
-node_of cells g = kind_in (known_in cells (Node g))
-
--- the GUID of a port
-abbrev pub port_guid_of : Cells → ℕ → ℕ → Option ℕ
-port_guid_of cells g p = guid_in (known_in cells (PortGuid g p))
-
--- the node and the port at the other end of a link
-abbrev pub link_of : Cells → ℕ → ℕ → Option (ℕ × ℕ)
-link_of cells g p = peer_in (known_in cells (Link g p))
-
--- whether a port is up, as far as is known
-abbrev pub up_of : Cells → ℕ → ℕ → Option Bool
-up_of cells g p = up_in (known_in cells (Port g p))
-
--- the LID that a port claims
-abbrev pub claim_of : Cells → ℕ → ℕ → Option ℕ
-claim_of cells g p = lid_in (known_in cells (Claim g p))
-
--- the room of a switch's linear forwarding table
-abbrev pub cap_of : Cells → ℕ → Option ℕ
-cap_of cells g = count_in (known_in cells (Cap g))
 
 -- a port that is known to be up
 abbrev pub is_up : Cells → ℕ → ℕ → Bool

@@ -6,13 +6,13 @@ use Rattle.std.specs.FinMap.{find}
 use Rattle.smp_bytes.specs.declared.node_type.NodeType.{NodeType}
 use Rattle.smp_bytes.specs.Ports.{is_within}
 use Rattle.fact_join.specs.declared.cell.Cell.{Cell}
-use Rattle.fact_store.specs.declared.key.Key.{Key}
-use Rattle.fact_store.specs.declared.key.Key.TheVariants.{Node, PortGuid, Link, Port, Cap}
-use Rattle.fact_store.specs.declared.value.Value.{Value}
-use Rattle.fact_store.specs.Key.{key_cmp}
-use Rattle.fact_store.specs.Known.{peer_in, value_in}
+use Rattle.reply_facts.specs.declared.key.Key.{Key}
+use Rattle.reply_facts.specs.declared.key.Key.TheVariants.{Node, PortGuid, Link, Port, Cap}
+use Rattle.reply_facts.specs.declared.value.Value.{Value}
+use Rattle.reply_facts.specs.Key.{key_cmp}
+use Rattle.reply_facts.specs.Known.{peer_in, value_in, node_of, port_guid_of, link_of, cap_of}
 use Rattle.subnet_view.specs.declared.port_reader.PortReader.{PortReader}
-use Rattle.subnet_view.specs.Reading.{Cells, node_of, port_guid_of, link_of, cap_of, is_up, is_switch_in}
+use Rattle.subnet_view.specs.Reading.{Cells, is_up, is_switch_in}
 use Rattle.subnet_view.specs.CellCursor.{KeepsFrom, is_before}
 use Rattle.subnet_view.specs.Wires.{is_at, is_wire_end}
 

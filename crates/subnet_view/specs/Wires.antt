@@ -3,7 +3,8 @@ use Rattle.std.specs.Prelude.{◌≡◌, ◌≢◌, ◌↔◌, ◌≤◌, ℕ, B
 use Rattle.std.specs.Option.{option_map_or}
 use Rattle.smp_bytes.specs.declared.node_type.NodeType.{NodeType}
 use Rattle.smp_bytes.specs.NodeType.{is_switch}
-use Rattle.subnet_view.specs.Reading.{Cells, port_guid_of, link_of, cap_of, is_up, is_switch_node, is_usable, is_port_of, IsUsable}
+use Rattle.reply_facts.specs.Known.{port_guid_of, link_of, cap_of}
+use Rattle.subnet_view.specs.Reading.{Cells, is_up, is_switch_node, is_usable, is_port_of, IsUsable}
 use Rattle.subnet_view.specs.EndPorts.{is_end_port, IsNodeWith}
 
 -- a port that can have a wire: up, from 1 to the node's count, and of a usable switch or an end port

@@ -1,10 +1,10 @@
 ghost use Rattle.std.specs.Prelude.{◌≡◌};
 ghost use Rattle.fact_store.specs.View.{cells_of};
 ghost use Rattle.subnet_view.specs.CellCursor.{IsFrom, KeepsFrom};
-ghost use Rattle.subnet_view.specs.Reading.{known_in, node_of, port_guid_of, cap_of, is_up};
-ghost use Rattle.fact_store.specs.declared.key.Key.TheVariants.{Node, PortGuid, Port, Cap};
+ghost use Rattle.reply_facts.specs.Known.{known_in, node_of, port_guid_of, cap_of};
+ghost use Rattle.subnet_view.specs.Reading.{is_up};
+ghost use Rattle.reply_facts.specs.declared.key.Key.TheVariants.{Node, PortGuid, Port, Cap};
 
-use crate::reading::value_said;
 use fact_store::{Cells, Key, Sighting, Store, Value};
 use smp_bytes::{Guid, NodeType, PortNum};
 use std::marker::Model;
@@ -91,7 +91,7 @@ impl<'s> CellCursor<'s> {
         self.pass(key);
         let sighting = self.next?;
         if sighting.key() == key {
-            value_said(&sighting)
+            sighting.value()
         } else {
             None
         }

@@ -4,7 +4,7 @@ ghost use Rattle.std.specs.List.Sorted.{IsPermutation, IsSorted};
 ghost use Rattle.fact_store.specs.View.{cell_for, cells_of};
 ghost use Rattle.subnet_view.specs.EndPorts.{is_end_port, is_end_port_number, guid_and_port, port_numbers, port_cmp, in_order, end_ports};
 
-use crate::reading::{guid_said, node, port_guid};
+use crate::reading::guid_said;
 use fact_store::{Key, Refused, Sighting, Store};
 use smp_bytes::{Guid, NodeType, PortNum};
 use std::alloc::{AllocError, Global};
@@ -23,7 +23,7 @@ pub struct EndPort {
 pub fn is_end_port(store: &Store, node: Guid, port: PortNum) -> bool
     ensures { result ≡ is_end_port (cells_of store.now) node port }
 {
-    is_end_port_number(store, node, port) && port_guid(store, node, port).is_some()
+    is_end_port_number(store, node, port) && store.port_guid(node, port).is_some()
 }
 
 /// The end ports, by port GUID, then node GUID, then port. Walks the cells, and sorts.
@@ -120,7 +120,7 @@ pub(crate) fn guid_and_port(store: &Store, sighting: &Sighting) -> Option<(Guid,
 fn is_end_port_number(store: &Store, node: Guid, port: PortNum) -> bool
     ensures { result ≡ is_end_port_number (cells_of store.now) node port }
 {
-    match self::node(store, node) {
+    match store.node(node) {
         Some((NodeType::Switch, _)) => port.number() == 0,
         Some((_, ports)) => port.is_within(ports),
         None => false,

@@ -15,7 +15,7 @@ mod wires;
 
 pub use end_port::{EndPort, count_end_ports, end_ports, is_end_port};
 pub use end_port_walk::next_end_port;
-pub use reading::{cap, claim, port_count, port_guid};
+pub use reading::port_count;
 pub use switch::{is_usable, switches, usable_guid};
 pub use switch_graph::SwitchGraph;
 pub use wire_ends::{attached, wire};

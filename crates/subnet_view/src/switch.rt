@@ -1,9 +1,9 @@
 ghost use Rattle.std.specs.Prelude.{◌≡◌, ◌&&◌, Some, is_some, IfOk};
-ghost use Rattle.fact_store.specs.Known.{kind_in, value_in};
+ghost use Rattle.reply_facts.specs.Known.{kind_in, value_in, cap_of};
 ghost use Rattle.fact_store.specs.View.{cell_for, cells_of};
-ghost use Rattle.subnet_view.specs.Reading.{cap_of, is_switch_in, is_usable, usable_guid, switches};
+ghost use Rattle.subnet_view.specs.Reading.{is_switch_in, is_usable, usable_guid, switches};
 
-use crate::reading::{cap, is_switch, is_switch_said};
+use crate::reading::{is_switch, is_switch_said};
 use fact_store::{Key, Refused, Sighting, Store};
 use smp_bytes::Guid;
 use std::alloc::{AllocError, Global};
@@ -12,7 +12,7 @@ use std::alloc::{AllocError, Global};
 pub fn is_usable(store: &Store, node: Guid) -> bool
     ensures { result ≡ is_usable (cells_of store.now) node }
 {
-    is_switch(store, node) && cap(store, node).is_some()
+    is_switch(store, node) && store.cap(node).is_some()
 }
 
 /// The usable switches, by rising GUID. Walks the cells.
@@ -58,5 +58,5 @@ fn is_usable_said(store: &Store, node: Guid, sighting: &Sighting) -> bool
     ensures { result ≡ (is_switch_in (kind_in (value_in (Some sighting.now.1)))
         && is_some (cap_of (cells_of store.now) node)) }
 {
-    is_switch_said(sighting) && cap(store, node).is_some()
+    is_switch_said(sighting) && store.cap(node).is_some()
 }

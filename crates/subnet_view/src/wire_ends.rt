@@ -2,7 +2,7 @@ ghost use Rattle.std.specs.Prelude.{◌≡◌};
 ghost use Rattle.fact_store.specs.View.{cells_of};
 ghost use Rattle.subnet_view.specs.Wires.{is_wire_end, is_wire, across, attached};
 
-use crate::reading::{cap, is_switch, is_up, link, node, port_guid};
+use crate::reading::{is_switch, is_up};
 use fact_store::Store;
 use smp_bytes::{Guid, NodeType, PortNum};
 
@@ -12,7 +12,7 @@ use smp_bytes::{Guid, NodeType, PortNum};
 pub fn wire(store: &Store, node: Guid, port: PortNum) -> Option<(Guid, PortNum)>
     ensures { result ≡ across (cells_of store.now) node port }
 {
-    let (far_node, far_port) = link(store, node, port)?;
+    let (far_node, far_port) = store.link(node, port)?;
     if is_wire(store, (node, port), (far_node, far_port)) {
         Some((far_node, far_port))
     } else {
@@ -43,7 +43,7 @@ fn is_wire(store: &Store, near: (Guid, PortNum), far: (Guid, PortNum)) -> bool
     near != far
         && is_wire_end(store, near)
         && is_wire_end(store, far)
-        && link(store, far.0, far.1) == Some(near)
+        && store.link(far.0, far.1) == Some(near)
 }
 
 /// Whether a port can have a wire. Takes three searches.
@@ -51,13 +51,13 @@ fn is_wire_end(store: &Store, end: (Guid, PortNum)) -> bool
     ensures { result ≡ is_wire_end (cells_of store.now) end.0 end.1 }
 {
     let (guid, port) = end;
-    match node(store, guid) {
+    match store.node(guid) {
         Some((kind, ports)) => {
             port.is_within(ports)
                 && is_up(store, guid, port)
                 && match kind {
-                    NodeType::Switch => cap(store, guid).is_some(),
-                    _ => port_guid(store, guid, port).is_some(),
+                    NodeType::Switch => store.cap(guid).is_some(),
+                    _ => store.port_guid(guid, port).is_some(),
                 }
         }
         None => false,

@@ -1,7 +1,7 @@
 -- Questions that come up, one after the other, at the end of the queue.
 use Rattle.std.proofs.Common.{◌≡◌, ℕ, zero, suc, ◌+◌, true, false, List, [], ◌∷◌, ◌++◌, length, take, drop, refl, arith, ap, sym, ◌∙◌, append_assoc, length-append}
-use Rattle.fact_store.specs.declared.report.Context.{Context}
-use Rattle.fact_store.specs.declared.report.Context.TheVariants.{About}
+use Rattle.reply_facts.specs.declared.report.Context.{Context}
+use Rattle.reply_facts.specs.declared.report.Context.TheVariants.{About}
 use Rattle.smp_bytes.specs.NodeType.{is_switch}
 use Rattle.std.proofs.lemmas.Bool.{cond-true, cond-false}
 use Rattle.sweep.specs.declared.request.Question.TheVariants as ask

@@ -5,9 +5,9 @@ use Rattle.std.proofs.lemmas.Bool.{and_parts, cond-true, cond-false, le-ltb, lt-
 use Rattle.smp_bytes.specs.Field.{number_in}
 use Rattle.smp_bytes.specs.Packet.{fault_of, transaction_id}
 use Rattle.smp_bytes.specs.declared.smp_fault.SmpFault.{SmpFault}
-use Rattle.fact_store.specs.declared.report_fault.ReportFault.{ReportFault}
-use Rattle.fact_store.specs.declared.report_fault.ReportFault.TheVariants.{Generation, Smp}
-use Rattle.fact_store.specs.Report.{answer_fault, attribute_fault, or_else, packet_fault, reply_fault, report_fault, sightings_by_packet}
+use Rattle.reply_facts.specs.declared.report_fault.ReportFault.{ReportFault}
+use Rattle.reply_facts.specs.declared.report_fault.ReportFault.TheVariants.{Generation, Smp}
+use Rattle.reply_facts.specs.Report.{answer_fault, attribute_fault, or_else, packet_fault, reply_fault, report_fault, sightings_by_packet}
 use Rattle.sweep.specs.declared.fault.SweepFault.TheVariants.{NotOutstanding, Bad, SequenceSpent}
 use Rattle.sweep.specs.declared.request.Question.{Question}
 use Rattle.sweep.specs.declared.request.Question.TheVariants as ask

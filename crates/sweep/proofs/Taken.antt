@@ -6,7 +6,7 @@ use Rattle.std.proofs.lemmas.Bool.{cond-true, cond-false}
 use Rattle.smp_bytes.specs.declared.smp_fault.SmpFault.{SmpFault}
 use Rattle.smp_bytes.specs.Packet.{fault_of}
 use Rattle.attr_codec.specs.declared.port_state.PortState.{PortState}
-use Rattle.fact_store.specs.declared.report_fault.ReportFault.{ReportFault}
+use Rattle.reply_facts.specs.declared.report_fault.ReportFault.{ReportFault}
 use Rattle.smp_bytes.specs.Judges.{JudgesButFor}
 use Rattle.sweep.specs.declared.answer.Answer.{Answer}
 use Rattle.sweep.specs.Fault.{is_memory}

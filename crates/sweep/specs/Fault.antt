@@ -1,6 +1,6 @@
 -- The names of a sweep's faults, and which of them is out of memory.
 use Rattle.std.specs.Prelude.{ℕ, Bool, true, false, List, codes}
-use Rattle.fact_store.specs.ReportFault.{report_fault_name}
+use Rattle.reply_facts.specs.ReportFault.{report_fault_name}
 use Rattle.sweep.specs.declared.fault.SweepFault.{SweepFault}
 use Rattle.sweep.specs.declared.fault.SweepFault.TheVariants.{NotOutstanding, Bad, SequenceSpent, Memory}
 

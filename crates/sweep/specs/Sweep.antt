@@ -4,8 +4,8 @@ use Rattle.std.specs.Prelude.{ℕ, ◌+◌, ◌*◌, ◌^◌, ◌≤◌, Bool, t
 use Rattle.smp_bytes.specs.Header.{get, node_info, switch_info, port_info, sm_info}
 use Rattle.smp_bytes.specs.Requests.{directed}
 use Rattle.attr_codec.specs.declared.port_state.PortState.{PortState}
-use Rattle.fact_store.specs.declared.report.Context.{Context}
-use Rattle.fact_store.specs.declared.report.Context.TheVariants.{Start}
+use Rattle.reply_facts.specs.declared.report.Context.{Context}
+use Rattle.reply_facts.specs.declared.report.Context.TheVariants.{Start}
 use Rattle.sweep.specs.declared.fault.SweepFault.{SweepFault}
 use Rattle.sweep.specs.declared.fault.SweepFault.TheVariants.{NotOutstanding}
 use Rattle.sweep.specs.declared.request.Question.{Question}

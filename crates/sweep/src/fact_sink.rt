@@ -1,5 +1,5 @@
 ghost use Rattle.std.specs.Prelude.{◌≡◌, OnOk, OnErr};
-ghost use Rattle.fact_store.specs.Report.{Sightings};
+ghost use Rattle.reply_facts.specs.Report.{Sightings};
 
 use fact_store::{Refused, Sighting, Store};
 

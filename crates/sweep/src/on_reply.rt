@@ -1,7 +1,7 @@
 ghost use Rattle.std.specs.Prelude.{◌≡◌, ◌+◌, ◌≤◌, length, IfOk, IfErr, IsTrue, OnOk, OnErr, None, Ok, Err};
 ghost use Rattle.std.specs.Result.{result_err};
 ghost use Rattle.fact_store.specs.Merge.{merge};
-ghost use Rattle.fact_store.specs.Sighting.{is_generation};
+ghost use Rattle.reply_facts.specs.Sighting.{is_generation};
 ghost use Rattle.fact_store.specs.View.{view};
 ghost use Rattle.smp_bytes.specs.Judges.{Judges, JudgesButFor};
 ghost use Rattle.smp_bytes.specs.Packet.{fault_of};

@@ -4,7 +4,8 @@ use Rattle.std.specs.Prelude.{Option, None, Some, Contains, AllPairs, filter, is
 use Rattle.std.specs.List.{filter_map, cons_option}
 use Rattle.fact_store.specs.View.{Facts, cells_of}
 use Rattle.subnet_view.specs.declared.end_port.EndPort.{EndPort}
-use Rattle.subnet_view.specs.Reading.{Cells, port_guid_of, cap_of, is_usable, switches, IsUsable}
+use Rattle.reply_facts.specs.Known.{port_guid_of, cap_of}
+use Rattle.subnet_view.specs.Reading.{Cells, is_usable, switches, IsUsable}
 use Rattle.subnet_view.specs.EndPorts.{end_ports, ComesBefore}
 use Rattle.subnet_view.specs.Wires.{across}
 use Rattle.subnet_view.proofs.EndPortList.{end_ports_law}

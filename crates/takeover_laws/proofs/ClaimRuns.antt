@@ -16,9 +16,9 @@ use Rattle.fabric_model.specs.DirectedWalk.{directed_end}
 use Rattle.fabric_model.proofs.Cabled.{same_port-is}
 use Rattle.attr_codec.specs.declared.node_info.NodeInfo.{NodeInfo}
 use Rattle.attr_codec.specs.PortInfo.{base_lid}
-use Rattle.fact_store.specs.declared.report.Context.{Context}
-use Rattle.fact_store.specs.declared.report.Context.TheVariants.{Start, Via, About}
-use Rattle.fact_store.specs.Report.{sightings_of_link, sightings_of_kind, sightings_by_node_info, sightings_by_port_info, sightings_by_switch_info, node_info_of}
+use Rattle.reply_facts.specs.declared.report.Context.{Context}
+use Rattle.reply_facts.specs.declared.report.Context.TheVariants.{Start, Via, About}
+use Rattle.reply_facts.specs.Report.{sightings_of_link, sightings_of_kind, sightings_by_node_info, sightings_by_port_info, sightings_by_switch_info, node_info_of}
 use Rattle.attr_codec.specs.NodeTypeNumber.{type_of_number}
 use Rattle.fabric_sim.specs.Simulation.{Simulation, AreCables, port_count, fabric_of}
 use Rattle.fabric_sim.specs.Tells.{port_asked}

@@ -19,23 +19,22 @@ use Rattle.attr_codec.specs.NodeTypeNumber.{type_of_number}
 use Rattle.fact_join.specs.declared.cell.Cell.{Cell}
 use Rattle.fact_join.specs.declared.cell.Cell.TheVariants.{Known, Disputed}
 use Rattle.fact_join.specs.Cell.{generation_of}
-use Rattle.fact_store.specs.declared.key.Key.{Key}
-use Rattle.fact_store.specs.declared.key.Key.TheVariants.{Node, PortGuid, Link, Port, Claim, Cap}
-use Rattle.fact_store.specs.declared.value.Value.{Value}
-use Rattle.fact_store.specs.declared.value.Value.TheVariants.{Kind, Guid, Peer, Up, Lid, Count}
-use Rattle.fact_store.specs.declared.report.Context.{Context}
-use Rattle.fact_store.specs.declared.report.Context.TheVariants.{Start, Via, About}
-use Rattle.fact_store.specs.declared.report.Report.{Report}
-use Rattle.fact_store.specs.Known.{value_in, lid_in}
-use Rattle.fact_store.specs.Report.{Sightings, sightings_of_link, sightings_of_kind, sightings_by_port_info, sightings_by_switch_info, node_info_of, sightings_of}
+use Rattle.reply_facts.specs.declared.key.Key.{Key}
+use Rattle.reply_facts.specs.declared.key.Key.TheVariants.{Node, PortGuid, Link, Port, Claim, Cap}
+use Rattle.reply_facts.specs.declared.value.Value.{Value}
+use Rattle.reply_facts.specs.declared.value.Value.TheVariants.{Kind, Guid, Peer, Up, Lid, Count}
+use Rattle.reply_facts.specs.declared.report.Context.{Context}
+use Rattle.reply_facts.specs.declared.report.Context.TheVariants.{Start, Via, About}
+use Rattle.reply_facts.specs.declared.report.Report.{Report}
+use Rattle.reply_facts.specs.Known.{value_in, lid_in, claim_of}
+use Rattle.reply_facts.specs.Report.{Sightings, sightings_of_link, sightings_of_kind, sightings_by_port_info, sightings_by_switch_info, node_info_of, sightings_of}
 use Rattle.fact_store.specs.Seen.{IsCellIn, WasSighted}
 use Rattle.fact_store.specs.View.{view, cells_of, cell_for}
 use Rattle.fact_store.proofs.Views.{view_cells}
 use Rattle.fabric_sim.specs.Simulation.{fabric_of}
 use Rattle.fabric_sim.proofs.SeenFabrics.{simulations_are_fabrics}
-use Rattle.subnet_view.specs.Reading.{claim_of}
 use Rattle.subnet_view.specs.Agreement.{IsEndPortIn}
-use Rattle.subnet_view.proofs.Readers.{known_by_cells}
+use Rattle.fact_store.proofs.Entries.{known_by_cells}
 use Rattle.sweep.specs.Sweep.{Sweep, Asking, started}
 use Rattle.manager_laws.specs.Sweeping.{Sweeping, SweepEvent, CanBe, Begins, after_sweep_events}
 use Rattle.manager_laws.specs.Truth.{HasNode, IsTrueOf, IsTrueSighting, AreGuidsDistinct}

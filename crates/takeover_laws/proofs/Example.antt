@@ -22,9 +22,9 @@ use Rattle.node_agents.specs.declared.port.Port.{Port}
 use Rattle.node_agents.specs.Agent.{Agent, base_lid_at, fresh_agent, node_of, port_in}
 use Rattle.node_agents.specs.Answers.{after_answer, get_of, set_of}
 use Rattle.node_agents.specs.PortInfo.{changed_port}
-use Rattle.fact_store.specs.declared.key.Key.TheVariants.{Node as NodeKey, PortGuid, Link, Port as PortKey, Claim, Cap}
-use Rattle.fact_store.specs.declared.value.Value.TheVariants.{Kind, Guid, Peer, Up, Lid, Count}
-use Rattle.fact_store.specs.Report.{Sightings}
+use Rattle.reply_facts.specs.declared.key.Key.TheVariants.{Node as NodeKey, PortGuid, Link, Port as PortKey, Claim, Cap}
+use Rattle.reply_facts.specs.declared.value.Value.TheVariants.{Kind, Guid, Peer, Up, Lid, Count}
+use Rattle.reply_facts.specs.Report.{Sightings}
 use Rattle.fact_store.specs.View.{cells_of, no_facts, view}
 use Rattle.fact_store.proofs.Entries.{cells_of_view, entries-view}
 use Rattle.subnet_view.specs.Agreement.{AgreesOn}

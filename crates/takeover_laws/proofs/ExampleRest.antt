@@ -8,9 +8,9 @@ use Rattle.fabric_model.specs.Fabric as fabric
 use Rattle.fabric_model.specs.Fabric.{IsNodeAt, IsEndPortNumber, range_at}
 use Rattle.fabric_model.specs.FabricWalks.{IsJoinedTo}
 use Rattle.node_agents.specs.Agent.{fresh_agent, node_of}
-use Rattle.fact_store.specs.declared.key.Key.TheVariants.{Node as NodeKey, PortGuid, Port as PortKey, Claim}
-use Rattle.fact_store.specs.declared.value.Value.TheVariants.{Kind, Guid, Up, Lid}
-use Rattle.fact_store.specs.Report.{Sightings}
+use Rattle.reply_facts.specs.declared.key.Key.TheVariants.{Node as NodeKey, PortGuid, Port as PortKey, Claim}
+use Rattle.reply_facts.specs.declared.value.Value.TheVariants.{Kind, Guid, Up, Lid}
+use Rattle.reply_facts.specs.Report.{Sightings}
 use Rattle.fact_store.specs.View.{cells_of, view}
 use Rattle.fact_store.proofs.Entries.{cells_of_view, entries-view}
 use Rattle.fabric_sim.specs.Simulation.{fabric_of}

@@ -8,7 +8,7 @@ use Rattle.smp_bytes.specs.declared.smp_fault.SmpFault.{SmpFault}
 use Rattle.fabric_model.specs.Cables.{is_same_port}
 use Rattle.smp_bytes.specs.Packet.{fault_of, status}
 use Rattle.fabric_sim.specs.Simulation.{Simulation}
-use Rattle.fact_store.specs.declared.report.Report.{Report}
+use Rattle.reply_facts.specs.declared.report.Report.{Report}
 use Rattle.fact_store.specs.Merge.{merge}
 use Rattle.fact_store.specs.Seen.{seen}
 use Rattle.fact_store.specs.View.{view, view_at}

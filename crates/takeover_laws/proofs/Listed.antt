@@ -4,7 +4,7 @@ use Rattle.std.specs.Prelude.{Some, is_some}
 use Rattle.smp_bytes.specs.declared.node_type.NodeType.TheVariants.{Switch}
 use Rattle.fact_store.specs.View.{Facts, cells_of}
 use Rattle.fabric_sim.specs.Simulation.{Simulation, fabric_of}
-use Rattle.subnet_view.specs.Reading as reading
+use Rattle.reply_facts.specs.Known as values
 use Rattle.subnet_view.specs.Reading.{switches}
 use Rattle.subnet_view.specs.Agreement.{Part, AgreesOn}
 use Rattle.subnet_view.proofs.UsableSwitches.{switches_law}
@@ -17,6 +17,6 @@ pub are_listed : (rule : RuleValue) (lmc : ℕ) (facts : Facts) (start : Simulat
     → AreListed start (plan_of rule lmc (cells_of facts)) part
 are_listed rule lmc facts start part agrees port node end switch =
     let tells = agrees.tells_end_ports port node end in
-    let kind : reading.node_of (cells_of facts) node.guid ≡ Some (Switch, node.ports) =
+    let kind : values.node_of (cells_of facts) node.guid ≡ Some (Switch, node.ports) =
     tells.kind ∙ ap (λ k. Some (k, node.ports)) (switch_is node.kind switch) in
     to_switches rule lmc facts node.guid (((switches_law facts).0 node.guid).1 (node.ports, kind, ap is_some (tells.cap switch)))

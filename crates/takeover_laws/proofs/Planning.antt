@@ -7,7 +7,8 @@ use Rattle.smp_bytes.specs.NodeType.{is_switch}
 use Rattle.fact_store.specs.View.{Facts, cells_of}
 use Rattle.port_graph.specs.declared.edge.Edge.{Edge}
 use Rattle.subnet_view.specs.declared.end_port.EndPort.{EndPort}
-use Rattle.subnet_view.specs.Reading.{Cells, port_guid_of, port_count_of, cap_of, is_switch_in, is_switch_node, is_usable, switches}
+use Rattle.reply_facts.specs.Known.{port_guid_of, cap_of}
+use Rattle.subnet_view.specs.Reading.{Cells, port_count_of, is_switch_in, is_switch_node, is_usable, switches}
 use Rattle.subnet_view.specs.EndPorts.{end_ports}
 use Rattle.subnet_view.specs.Wires.{across, attached, CanHaveWire, IsWire}
 use Rattle.subnet_view.proofs.EndPortList.{end_ports_law}

@@ -18,8 +18,9 @@ use Rattle.fact_store.specs.Seen.{newest_of}
 use Rattle.fact_store.specs.View.{Facts, cells_of, raised}
 use Rattle.fabric_sim.specs.Simulation.{fabric_of}
 use Rattle.subnet_view.specs.declared.end_port.EndPort.{EndPort}
-use Rattle.subnet_view.specs.Reading as reading
-use Rattle.subnet_view.specs.Reading.{Cells, cap_of, claim_of, switches}
+use Rattle.reply_facts.specs.Known as values
+use Rattle.reply_facts.specs.Known.{cap_of, claim_of}
+use Rattle.subnet_view.specs.Reading.{Cells, switches}
 use Rattle.subnet_view.specs.EndPorts.{IsEndPort, end_ports}
 use Rattle.subnet_view.specs.Agreement.{AgreesOn, HasEndPort, IsEndPortIn, Part, TellsEndPort}
 use Rattle.subnet_view.proofs.Apart.{Apart, before_apart, contains-from_map}
@@ -174,14 +175,14 @@ module _ (lmc : ℕ) (x y : Facts) (f : Fabric) (part : Part) (room_for_x : ¬ (
           let tells_now = agrees.tells_end_ports has.port node is in
           let (ports, kind, some_cap) = usable in
           let kind_is : ◌≡◌ {A = NodeType × ℕ} (node.kind, node.ports) (Switch, ports) =
-          same_Some _ _ (sym (ap (λ k. reading.node_of (cells_of y) k) (sym has.named.guid_is) ∙ tells_now.kind) ∙ kind) in
+          same_Some _ _ (sym (ap (λ k. values.node_of (cells_of y) k) (sym has.named.guid_is) ∙ tells_now.kind) ∙ kind) in
           let switch : is_switch node.kind ≡ true = ap (λ (k : NodeType × ℕ). is_switch k.0) kind_is in
           let same_cap : node.cap ≡ cap =
           same_Some _ _ (sym (ap (cap_of (cells_of y)) (sym has.named.guid_is) ∙ tells_now.cap switch) ∙ cap_is) in
           let cap_was : cap_of (cells_of x) g ≡ Some cap =
           ap (cap_of (cells_of x)) (sym has.named.guid_is) ∙ told.cap switch ∙ ap (λ n. Some n) same_cap in
-          let kind_was : reading.node_of (cells_of x) g ≡ Some (Switch, node.ports) =
-          ap (λ k. reading.node_of (cells_of x) k) (sym has.named.guid_is) ∙ told.kind ∙ ap (λ (k : NodeType × ℕ). Some (k.0, node.ports)) kind_is in
+          let kind_was : values.node_of (cells_of x) g ≡ Some (Switch, node.ports) =
+          ap (λ k. values.node_of (cells_of x) k) (sym has.named.guid_is) ∙ told.kind ∙ ap (λ (k : NodeType × ℕ). Some (k.0, node.ports)) kind_is in
           is_taken (cap_of (cells_of x)) (switches (cells_of x)) g cap (((switches_law x).0 g).1 (node.ports, kind_was, ap is_some cap_was)) cap_was
 
 pub rest_is_served : RestIsServed

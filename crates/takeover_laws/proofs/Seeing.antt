@@ -9,11 +9,11 @@ use Rattle.smp_bytes.specs.NodeType.{is_switch}
 use Rattle.fabric_model.specs.Fabric as fabric
 use Rattle.fabric_model.specs.Fabric.{Fabric, IsEndPortNumber, range_at}
 use Rattle.fabric_model.specs.FabricWalks.{IsJoinedTo}
-use Rattle.fact_store.specs.declared.key.Key.{Key}
-use Rattle.fact_store.specs.declared.key.Key.TheVariants.{Node, PortGuid, Link, Port, Claim, Cap}
-use Rattle.fact_store.specs.Known.{kind_in, guid_in, peer_in, up_in, lid_in, count_in}
+use Rattle.reply_facts.specs.declared.key.Key.{Key}
+use Rattle.reply_facts.specs.declared.key.Key.TheVariants.{Node, PortGuid, Link, Port, Claim, Cap}
+use Rattle.reply_facts.specs.Known.{kind_in, guid_in, peer_in, up_in, lid_in, count_in, known_in, node_of, port_guid_of, link_of, cap_of, claim_of}
 use Rattle.fact_store.specs.View.{cells_of}
-use Rattle.subnet_view.specs.Reading.{Cells, known_in, node_of, port_guid_of, link_of, cap_of, claim_of, is_up, port_count_of, IsUsable}
+use Rattle.subnet_view.specs.Reading.{Cells, is_up, port_count_of, IsUsable}
 use Rattle.subnet_view.specs.EndPorts.{IsEndPort}
 use Rattle.subnet_view.specs.Wires.{CanHaveWire, IsWire}
 use Rattle.subnet_view.specs.Agreement.{Part, WholeFabric, IsEndPortIn, HasEndPort, TellsEndPort, AgreesOn}

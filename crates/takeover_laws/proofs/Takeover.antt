@@ -6,7 +6,7 @@ use Rattle.std.specs.Prelude.{Some, All}
 use Rattle.fabric_model.specs.Fabric as fabrics
 use Rattle.fabric_model.specs.FabricWalks.{IsJoinedTo}
 use Rattle.fabric_sim.specs.Simulation.{fabric_of}
-use Rattle.fact_store.specs.declared.report.Report.{Report}
+use Rattle.reply_facts.specs.declared.report.Report.{Report}
 use Rattle.fact_store.specs.Seen.{newest_of}
 use Rattle.fact_store.specs.View.{cells_of, view_at}
 use Rattle.fact_store.proofs.Views.{view_of_its_cells}

@@ -7,7 +7,8 @@ use Rattle.fabric_model.specs.FabricWalks.{IsJoinedTo}
 use Rattle.fact_store.specs.View.{Facts, cells_of, raised}
 use Rattle.fabric_sim.specs.Simulation.{fabric_of}
 use Rattle.subnet_view.specs.declared.end_port.EndPort.{EndPort}
-use Rattle.subnet_view.specs.Reading.{Cells, claim_of}
+use Rattle.reply_facts.specs.Known.{claim_of}
+use Rattle.subnet_view.specs.Reading.{Cells}
 use Rattle.subnet_view.specs.EndPorts.{end_ports}
 use Rattle.subnet_view.specs.Agreement.{IsEndPortIn, TellsEndPort}
 use Rattle.lid_assign.specs.Lids.{IsNoRoom, lids, lid_of, range_of, room, top_of}

@@ -2,7 +2,7 @@
 use Rattle.std.proofs.Common.{◌≡◌, ◌∙◌, ◌+◌, ◌++◌, List, [], ◌∷◌, None, Option, Some, Vec, Global, map, take, sym, ap}
 use Rattle.port_graph.specs.declared.edge.Edge.{Edge}
 use Rattle.audit.specs.Edges.{edge_by, edge_of}
-use Rattle.audit.proofs.Mapped.{mapped_more}
+use Rattle.held_tables.proofs.Mapped.{mapped_more}
 use Rattle.audit.proofs.ToSwitches.{edge_there, none_there}
 use Rattle.audit.proofs.next_hops.edges.Goals as goal
 use Rattle.audit.proofs.next_hops.edges.Goals.{in-Some+in_ok-push-in-Some, in-None+in_ok-push-in-None}

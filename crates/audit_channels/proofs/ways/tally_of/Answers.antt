@@ -2,7 +2,7 @@
 use Rattle.std.proofs.Common.{◌+◌, ◌∙◌, List, ap, get_or, length, sym, subst}
 use Rattle.std.proofs.lemmas.Option.{slice_get_read}
 use Rattle.fact_store.specs.View.{cells_of}
-use Rattle.audit.specs.declared.senders.Sender.{Sender}
+use Rattle.held_tables.specs.declared.senders.Sender.{Sender}
 use Rattle.audit_channels.specs.declared.sender_groups.Groups.{Groups}
 use Rattle.audit_channels.specs.declared.way_tally.WayTally.{WayTally}
 use Rattle.audit_channels.specs.Groups.{AreGrouped, IsRoster, adapters}

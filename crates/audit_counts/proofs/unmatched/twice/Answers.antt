@@ -8,7 +8,7 @@ use Rattle.audit_counts.proofs.unmatched.twice.Goals.{then-is_twice+in_ok-add, e
 pub loop-line-preserved : goal.loop-line-preserved
 loop-line-preserved c =
     let lines = c.lids-line-items.result.now in
-    let p = is_twice c.args.held.now in
+    let p = is_twice c.args.network.now.held in
     let line = c.line-item.result in
     elim c.if-is_twice.branch [
       | then-is_twice+in_ok-add w ↦

@@ -4,7 +4,7 @@ use Rattle.std.specs.Prelude.{not}
 use Rattle.fact_store.specs.View.{cells_of}
 use Rattle.plan_file.specs.declared.held.HeldLid.{HeldLid}
 use Rattle.subnet_view.specs.EndPorts.{end_ports}
-use Rattle.audit.specs.Tables.{is_owner}
+use Rattle.held_tables.specs.Tables.{is_owner}
 use Rattle.audit_counts.specs.FirstFew.{listed_of}
 use Rattle.audit_counts.proofs.Firsts.{told_more, told_same, told_all}
 use Rattle.audit.proofs.Judged.{listed}

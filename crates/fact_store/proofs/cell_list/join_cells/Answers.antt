@@ -1,10 +1,10 @@
 -- What two cells in range say together is in range.
 use Rattle.std.proofs.Common.{◌≡◌, sym, ap, ◌∙◌, subst}
 use Rattle.fact_join.specs.declared.cell.Cell.{Cell}
-use Rattle.fact_store.specs.declared.key.Key.{Key}
-use Rattle.fact_store.specs.declared.value.Value.{Value}
+use Rattle.reply_facts.specs.declared.key.Key.{Key}
+use Rattle.reply_facts.specs.declared.value.Value.{Value}
 use Rattle.fact_store.specs.Merge.{join}
-use Rattle.fact_store.specs.Sighting.{IsSighting}
+use Rattle.reply_facts.specs.Sighting.{IsSighting}
 use Rattle.fact_store.proofs.Puts.{join_in_range}
 use Rattle.fact_store.proofs.cell_list.join_cells.Goals as goal
 

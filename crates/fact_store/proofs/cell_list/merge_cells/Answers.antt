@@ -4,13 +4,13 @@ use Rattle.std.specs.Prelude.{Option}
 use Rattle.std.specs.Option.{option_to_list}
 use Rattle.std.specs.declared.cmp.Ordering.TheVariants.{Less, Equal, Greater}
 use Rattle.fact_join.specs.declared.cell.Cell.{Cell}
-use Rattle.fact_store.specs.declared.key.Key.{Key}
-use Rattle.fact_store.specs.declared.value.Value.{Value}
-use Rattle.fact_store.specs.Key.{key_cmp}
+use Rattle.reply_facts.specs.declared.key.Key.{Key}
+use Rattle.reply_facts.specs.declared.value.Value.{Value}
+use Rattle.reply_facts.specs.Key.{key_cmp}
 use Rattle.fact_store.specs.Merge.{join}
-use Rattle.fact_store.specs.Sighting.{IsSighting}
+use Rattle.reply_facts.specs.Sighting.{IsSighting}
 use Rattle.page_list.specs.Rest.{rest_of}
-use Rattle.fact_store.proofs.Keys.{key_exact}
+use Rattle.reply_facts.proofs.Keys.{key_exact}
 use Rattle.fact_store.proofs.Walks.{IsWalked, walked_first, walked_second, walked_both, walked_to, walked_start, walked_all, compared_all, next_left, nothing_left}
 use Rattle.fact_store.specs.Cells.{AreCells}
 use Rattle.fact_store.specs.Seen.{seen}

@@ -2,8 +2,8 @@
 use Rattle.std.proofs.Common.{◌≡◌, ℕ, sym, ap, ◌∙◌, subst}
 use Rattle.std.specs.Prelude.{Some, Result, option_copied, slice_get}
 use Rattle.fact_join.specs.declared.cell.Cell.{Cell}
-use Rattle.fact_store.specs.declared.key.Key.{Key}
-use Rattle.fact_store.specs.declared.value.Value.{Value}
+use Rattle.reply_facts.specs.declared.key.Key.{Key}
+use Rattle.reply_facts.specs.declared.value.Value.{Value}
 use Rattle.fact_store.specs.Cells.{IsSearched, IsIndexFor}
 use Rattle.fact_store.proofs.Puts.{put_cells, put_seen, joined_cells, joined_seen}
 use Rattle.fact_store.proofs.cell_list.put_found.Goals as goal

@@ -3,9 +3,9 @@ use Rattle.std.proofs.Common.{◌≡◌, ℕ, ◌+◌, ◌/◌, length, sym, ◌
 use Rattle.std.specs.Prelude.{Some}
 use Rattle.std.specs.declared.cmp.Ordering.TheVariants.{Less, Equal, Greater}
 use Rattle.fact_store.specs.Comparisons.{CountsSearch, HasDigits, IsBudget}
-use Rattle.fact_store.specs.Key.{key_cmp}
+use Rattle.reply_facts.specs.Key.{key_cmp}
 use Rattle.fact_store.proofs.CellOrder.{held, ends_at}
-use Rattle.fact_store.proofs.Keys.{key_exact}
+use Rattle.reply_facts.proofs.Keys.{key_exact}
 use Rattle.fact_store.proofs.Searches.{IsNarrowed, halved, few_digits, fewer_digits, one_more_digit, narrowed_up, narrowed_down, not_narrowed, ends_with, ends_without}
 use Rattle.fact_store.proofs.search.find.Goals as goal
 

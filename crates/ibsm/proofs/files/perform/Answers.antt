@@ -1,6 +1,6 @@
 -- All files were opened, and the task over them has ended.
 use Rattle.std.proofs.Common.{true, refl}
-use Rattle.ibsm.specs.declared.task.Task.TheVariants.{Answer, Audit, Next, Run}
+use Rattle.cli_task.specs.declared.task.Task.TheVariants.{Answer, Audit, Next, Run}
 use Rattle.ibsm.proofs.Performed.{done_is, err_is, fault_is, ok_is}
 use Rattle.ibsm.proofs.files.perform.Goals as goal
 

@@ -2,7 +2,7 @@
 use Rattle.std.proofs.Common.{◌≡◌, ◌∙◌, ℕ, List, Option, None, Some, ap, inl, inr, refl, subst, sym}
 use Rattle.std.specs.Borrow.{Bor}
 use Rattle.std.specs.Prelude.{map, option_map}
-use Rattle.ibsm.specs.Asked.{names_asked}
+use Rattle.cli_task.specs.Asked.{names_asked}
 use Rattle.ibsm.proofs.Statuses.{not_usage}
 use Rattle.ibsm.proofs.Tasks.{inputs_suffice, no_names}
 use Rattle.ibsm.proofs.run.dispatch.Goals as goal

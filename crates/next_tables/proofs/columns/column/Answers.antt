@@ -7,7 +7,7 @@ use Rattle.fact_store.specs.View.{Facts, cells_of}
 use Rattle.subnet_view.specs.Reading.{switches}
 use Rattle.audit.specs.Deliveries.{ComeToOwner}
 use Rattle.audit.specs.NextHops.{switch_step}
-use Rattle.audit.specs.Tables.{entry_for}
+use Rattle.held_tables.specs.Tables.{entry_for}
 use Rattle.audit.proofs.Brought.{if_ok}
 use Rattle.next_tables.specs.NextTables.{column_of, keeper}
 use Rattle.next_tables.specs.SwitchSteps.{next_of}

@@ -2,8 +2,8 @@
 use Rattle.std.proofs.Common.{◌≡◌, ℕ, Bool, sym, ap, ◌∙◌}
 use Rattle.std.specs.Prelude.{Option, None, Some, is_some, if◌then◌else◌}
 use Rattle.fact_store.specs.View.{cells_of}
-use Rattle.fact_store.specs.Known.{kind_in, value_in}
-use Rattle.subnet_view.specs.Reading.{cap_of, usable_guid}
+use Rattle.reply_facts.specs.Known.{kind_in, value_in, cap_of}
+use Rattle.subnet_view.specs.Reading.{usable_guid}
 use Rattle.subnet_view.proofs.Walks.{usable_at, usable_said}
 use Rattle.subnet_view.proofs.switch.usable_guid.Goals as goal
 

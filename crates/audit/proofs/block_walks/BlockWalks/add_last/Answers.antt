@@ -3,10 +3,10 @@ use Rattle.std.proofs.Common.{◌≡◌, ◌∙◌, ◌+◌, ◌*◌, ℕ, [], �
 use Rattle.std.specs.Prelude.{slice_index_or}
 use Rattle.std.proofs.lemmas.List.{get_or-map}
 use Rattle.audit.specs.declared.next_hop.NextHop.TheVariants.{To}
-use Rattle.audit.specs.declared.owners.Owner.TheVariants.{Several}
+use Rattle.held_tables.specs.declared.owners.Owner.TheVariants.{Several}
 use Rattle.audit.specs.BlockWalks.{hops_at, hops_for, target_at}
 use Rattle.audit.specs.NextHops.{next_hop_of}
-use Rattle.audit.specs.Owners.{sole_among}
+use Rattle.held_tables.specs.Owners.{sole_among}
 use Rattle.audit.specs.WalkEnds.{onward}
 use Rattle.audit.proofs.GoneBack.{hop_seen}
 use Rattle.audit.proofs.block_walks.BlockWalks.add_last.Goals as goal

@@ -4,10 +4,11 @@ use Rattle.std.proofs.lemmas.List.{length-map}
 use Rattle.fact_store.specs.View.{cells_of}
 use Rattle.subnet_view.specs.Reading.{switches}
 use Rattle.audit.specs.Deliveries.{ComeToOwner, is_delivered}
-use Rattle.audit.specs.Ends.{is_sole}
-use Rattle.audit.specs.Network.{Seen, node_of}
+use Rattle.held_tables.specs.Owners.{is_sole}
+use Rattle.held_tables.specs.Switches.{node_of}
+use Rattle.audit.specs.Network.{Seen}
 use Rattle.audit.specs.NextHops.{LineArrives}
-use Rattle.audit.specs.Tables.{owners_of}
+use Rattle.held_tables.specs.Tables.{owners_of}
 use Rattle.audit.proofs.ToOwners.{all_come}
 use Rattle.audit.proofs.network.Network.all_arrive.Goals as goal
 use Rattle.audit.proofs.network.Network.all_arrive.Goals.{then-self, else-self}

@@ -1,12 +1,12 @@
 -- By the network's switches and who holds each LID, and the blocks.
 use Rattle.std.proofs.Common.{ℕ, List, sym, subst}
 use Rattle.fact_store.specs.View.{cells_of}
-use Rattle.audit.specs.declared.audited_switch.AuditedSwitch.{AuditedSwitch}
-use Rattle.audit.specs.declared.owners.Owner.{Owner}
+use Rattle.held_tables.specs.declared.audited_switch.AuditedSwitch.{AuditedSwitch}
+use Rattle.held_tables.specs.declared.owners.Owner.{Owner}
 use Rattle.audit.specs.BlockWalks.{AreDelivered}
 use Rattle.audit.specs.Deliveries.{AreDeliveries}
 use Rattle.audit.specs.Network.{Seen}
-use Rattle.audit.specs.NextHops.{AreBlocks}
+use Rattle.held_tables.specs.Blocks.{AreBlocks}
 use Rattle.audit.proofs.ToOwners.{are_deliveries}
 use Rattle.audit.proofs.network.Network.deliveries.Goals as goal
 

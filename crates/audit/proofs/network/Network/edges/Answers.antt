@@ -5,7 +5,7 @@ use Rattle.fact_store.specs.View.{cells_of}
 use Rattle.subnet_view.specs.Reading.{switches}
 use Rattle.audit.specs.Edges.{edges_of, edge_of}
 use Rattle.audit.specs.Network.{Seen}
-use Rattle.audit.specs.NextHops.{AreBlocks}
+use Rattle.held_tables.specs.Blocks.{AreBlocks}
 use Rattle.audit.proofs.Brought.{edges_are, if_ok}
 use Rattle.audit.proofs.network.Network.edges.Goals as goal
 

@@ -4,10 +4,12 @@ use Rattle.std.proofs.lemmas.List.{length-map}
 use Rattle.std.specs.Prelude.{IfOk, map}
 use Rattle.fact_store.specs.View.{cells_of}
 use Rattle.audit.specs.Ends.{end_from}
-use Rattle.audit.specs.declared.audited_switch.AuditedSwitch.{AuditedSwitch}
+use Rattle.held_tables.specs.declared.audited_switch.AuditedSwitch.{AuditedSwitch}
 use Rattle.audit.specs.declared.next_hop.NextHop.{NextHop}
-use Rattle.audit.specs.Network.{Seen, all_begin, first_switch}
-use Rattle.audit.specs.NextHops.{AreBlocks, AreBrought, next_hop_of}
+use Rattle.held_tables.specs.Switches.{all_begin, first_switch}
+use Rattle.audit.specs.Network.{Seen}
+use Rattle.held_tables.specs.Blocks.{AreBlocks}
+use Rattle.audit.specs.NextHops.{AreBrought, next_hop_of}
 use Rattle.audit.proofs.Brought.{brought_is, if_ok}
 use Rattle.audit.proofs.network.Network.ends.Goals as goal
 

@@ -4,8 +4,9 @@ use Rattle.std.specs.Prelude.{IfOk, map}
 use Rattle.fact_store.specs.View.{cells_of}
 use Rattle.subnet_view.specs.Reading.{switches}
 use Rattle.audit.specs.Network.{Seen}
-use Rattle.audit.specs.NextHops.{AreBlocks, node_entry}
-use Rattle.audit.specs.Tables.{entry_for}
+use Rattle.held_tables.specs.Blocks.{AreBlocks}
+use Rattle.audit.specs.NextHops.{node_entry}
+use Rattle.held_tables.specs.Tables.{entry_for}
 use Rattle.audit.proofs.Brought.{entries_are, if_ok}
 use Rattle.audit.proofs.network.Network.entries.Goals as goal
 

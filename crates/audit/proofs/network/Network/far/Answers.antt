@@ -4,9 +4,10 @@ use Rattle.std.specs.Prelude.{None, Some, slice_get}
 use Rattle.std.specs.Option.{option_copied}
 use Rattle.fact_store.specs.View.{cells_of}
 use Rattle.subnet_view.proofs.Walked.{copied_item}
-use Rattle.audit.specs.declared.far_end.Far.TheVariants.{Nothing}
-use Rattle.audit.specs.declared.audited_switch.AuditedSwitch.{AuditedSwitch}
-use Rattle.audit.specs.Network.{Seen, far_by}
+use Rattle.held_tables.specs.declared.far_end.Far.TheVariants.{Nothing}
+use Rattle.held_tables.specs.declared.audited_switch.AuditedSwitch.{AuditedSwitch}
+use Rattle.held_tables.specs.Switches.{far_by}
+use Rattle.audit.specs.Network.{Seen}
 use Rattle.audit.proofs.Fars.{far_there}
 use Rattle.audit.proofs.network.Network.far.Goals as goal
 

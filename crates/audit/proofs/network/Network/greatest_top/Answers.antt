@@ -4,7 +4,7 @@ use Rattle.fact_store.specs.View.{cells_of}
 use Rattle.lid_assign.specs.Lids.{greatest}
 use Rattle.audit.specs.Edges.{greatest_top}
 use Rattle.audit.specs.Network.{Seen}
-use Rattle.audit.specs.declared.audited_switch.AuditedSwitch.{AuditedSwitch}
+use Rattle.held_tables.specs.declared.audited_switch.AuditedSwitch.{AuditedSwitch}
 use Rattle.audit.proofs.Tops.{greatest_is}
 use Rattle.audit.proofs.network.Network.greatest_top.Goals as goal
 

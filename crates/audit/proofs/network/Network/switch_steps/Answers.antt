@@ -4,7 +4,8 @@ use Rattle.std.specs.Prelude.{IfOk, map}
 use Rattle.fact_store.specs.View.{cells_of}
 use Rattle.subnet_view.specs.Reading.{switches}
 use Rattle.audit.specs.Network.{Seen}
-use Rattle.audit.specs.NextHops.{AreBlocks, switch_step, switch_step_of}
+use Rattle.held_tables.specs.Blocks.{AreBlocks}
+use Rattle.audit.specs.NextHops.{switch_step, switch_step_of}
 use Rattle.audit.proofs.Brought.{switch_steps_are, if_ok}
 use Rattle.audit.proofs.network.Network.switch_steps.Goals as goal
 

@@ -5,7 +5,7 @@ use Rattle.std.proofs.lemmas.Bool.{eq-eqb, ne_eqb}
 use Rattle.port_graph.proofs.Counts.{length_map}
 use Rattle.fact_store.specs.View.{cells_of}
 use Rattle.subnet_view.specs.EndPorts.{end_ports}
-use Rattle.audit.specs.Network.{sender_of}
+use Rattle.held_tables.specs.Switches.{sender_of}
 use Rattle.audit_report.specs.Passing.{Audited, EachHasTables}
 use Rattle.audit_report.proofs.Missing.{tables_is}
 use Rattle.audit_report.proofs.report.Audit.has_tables.Goals as goal

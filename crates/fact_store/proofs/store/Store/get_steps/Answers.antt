@@ -2,8 +2,8 @@
 use Rattle.std.proofs.Common.{ℕ, List, length, sym, ap, ◌∙◌, subst}
 use Rattle.std.specs.Prelude.{Some, Result, option_copied}
 use Rattle.fact_join.specs.declared.cell.Cell.{Cell}
-use Rattle.fact_store.specs.declared.key.Key.{Key}
-use Rattle.fact_store.specs.declared.value.Value.{Value}
+use Rattle.reply_facts.specs.declared.key.Key.{Key}
+use Rattle.reply_facts.specs.declared.value.Value.{Value}
 use Rattle.fact_store.specs.Cells.{IsSearched}
 use Rattle.fact_store.specs.Comparisons.{CountsSearch, HasDigits}
 use Rattle.fact_store.proofs.Held.{entries_are, are_in_range, found_at, not_found}

@@ -2,12 +2,11 @@
 use Rattle.std.proofs.Common.{◌≡◌, sym, ap, ◌∙◌, cond, Bool}
 use Rattle.std.specs.Prelude.{Option, None, Some}
 use Rattle.std.specs.Ordering.{eq_by_cmp}
-use Rattle.fact_store.specs.declared.key.Key.{Key}
-use Rattle.fact_store.specs.declared.value.Value.{Value}
-use Rattle.fact_store.specs.Key.{key_cmp}
-use Rattle.fact_store.specs.Known.{value_in}
+use Rattle.reply_facts.specs.declared.key.Key.{Key}
+use Rattle.reply_facts.specs.declared.value.Value.{Value}
+use Rattle.reply_facts.specs.Key.{key_cmp}
+use Rattle.reply_facts.specs.Known.{value_in, known_in}
 use Rattle.fact_store.specs.Walk.{cells_left}
-use Rattle.subnet_view.specs.Reading.{known_in}
 use Rattle.subnet_view.proofs.Passing.{read_first}
 use Rattle.subnet_view.proofs.cell_cursor.CellCursor.known.Goals.{then-eq, else-eq}
 use Rattle.subnet_view.proofs.cell_cursor.CellCursor.known.Goals as goal
@@ -23,6 +22,6 @@ returns-clause-value c =
     = ap (λ (k : Key). eq_by_cmp key_cmp k c.args.key) (sym c.key.ensures.value) ∙ sym c.eq.ensures in
     let by : Bool → Option Value = λ t. value_in (cond t (Some s.1) None) in
     elim c.if-eq.branch [
-      | then-eq w ↦ w.result-is ∙ w.value_said.ensures ∙ sym (first ∙ ap by (test ∙ w.if-eq.true))
+      | then-eq w ↦ w.result-is ∙ w.value.ensures ∙ sym (first ∙ ap by (test ∙ w.if-eq.true))
       | else-eq w ↦ w.result-is ∙ sym (first ∙ ap by (test ∙ w.if-eq.false))
     ]

@@ -2,7 +2,7 @@
 use Rattle.std.proofs.Common.{sym, subst}
 use Rattle.std.specs.Prelude.{T}
 use Rattle.std.specs.FinMap.{is_sorted}
-use Rattle.fact_store.specs.Key.{key_cmp}
+use Rattle.reply_facts.specs.Key.{key_cmp}
 use Rattle.fact_store.specs.Walk.{cells_left}
 use Rattle.fact_store.proofs.Entries.{cells_in_order}
 use Rattle.subnet_view.specs.Reading.{Cells}

@@ -1,6 +1,6 @@
 use Rattle.std.proofs.Common.{ℕ, ◌∷◌, [], List, sym, subst, arith}
-use Rattle.fact_store.specs.declared.report.Context.TheVariants.{About}
-use Rattle.fact_store.specs.declared.report.Context.{Context}
+use Rattle.reply_facts.specs.declared.report.Context.TheVariants.{About}
+use Rattle.reply_facts.specs.declared.report.Context.{Context}
 use Rattle.sweep.specs.declared.request.Question.TheVariants as ask
 use Rattle.sweep.specs.Finding.{port_questions}
 use Rattle.sweep.specs.SweepRequests.{HasAsked}

@@ -1,5 +1,5 @@
 -- The ports so far are asked.
-use Rattle.fact_store.specs.declared.report.Context.TheVariants.{About}
+use Rattle.reply_facts.specs.declared.report.Context.TheVariants.{About}
 use Rattle.sweep.specs.Finding.{port_questions}
 use Rattle.sweep.specs.SweepRequests.{HasAsked}
 use Rattle.sweep.proofs.requests.SweepRequests.ask_ports.Given as goal

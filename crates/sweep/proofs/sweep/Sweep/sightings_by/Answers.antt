@@ -1,7 +1,7 @@
 -- The reply to another request than one for SMInfo is judged by packet and context.
 use Rattle.std.proofs.Common.{◌≡◌, ℕ, ◌^◌, ◌<◌, ◌≤◌, List, IfOk, ap, arith, sym, subst, ◌∙◌}
-use Rattle.fact_store.specs.declared.report_fault.ReportFault.{ReportFault}
-use Rattle.fact_store.specs.Report.{Sightings, reply_fault, sightings_by_packet}
+use Rattle.reply_facts.specs.declared.report_fault.ReportFault.{ReportFault}
+use Rattle.reply_facts.specs.Report.{Sightings, reply_fault, sightings_by_packet}
 use Rattle.smp_bytes.specs.Judges.{Judges}
 use Rattle.std.specs.Prelude.{Option, nat_le, nat_lt}
 use Rattle.std.proofs.lemmas.Bool.{and_parts, leb-true}

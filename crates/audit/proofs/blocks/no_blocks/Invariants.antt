@@ -1,6 +1,0 @@
-use Rattle.audit.specs.NextHops.{AreBlank}
-use Rattle.audit.proofs.blocks.no_blocks.Given as goal
-
--- the rows so far
-abbrev pub invariant-loop-row : goal.invariant-loop-row
-invariant-loop-row l = AreBlank l._row l.rows.items

@@ -1,6 +1,0 @@
-use Rattle.audit.proofs.Wired.{AreWired}
-use Rattle.audit.proofs.far_ends.wired.Given as goal
-
--- the ports so far
-abbrev pub invariant-loop-port : goal.invariant-loop-port
-invariant-loop-port l = AreWired l.fars l.port l.count

@@ -1,7 +1,0 @@
-use Rattle.std.proofs.Common.{take}
-use Rattle.audit.specs.Owners.{AreOwners}
-use Rattle.audit.proofs.owners.owners.Given as goal
-
--- the lines so far
-abbrev pub invariant-loop-line : goal.invariant-loop-line
-invariant-loop-line l = AreOwners (take l.line-index l.line-items) l.owners.items

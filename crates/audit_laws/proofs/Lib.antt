@@ -1,0 +1,3 @@
+pub mod Delivers
+pub mod PlansArrive
+pub mod PlansRise

@@ -1,0 +1,50 @@
+-- The laws of audits.
+use Rattle.std.specs.Prelude.{◌≡◌, ◌≤◌, ℕ, false, Contains, IsTrue}
+use Rattle.fabric_model.specs.declared.cable.NodePort.{NodePort}
+use Rattle.fabric_model.specs.Fabric.{Node, Fabric, IsEndPort, owns}
+use Rattle.fabric_model.specs.FabricWalks.{IsJoinedTo}
+use Rattle.fact_store.specs.View.{Facts, cells_of, AreInRange}
+use Rattle.subnet_view.specs.Agreement.{Part, IsEndPortIn, IsPortNamed}
+use Rattle.lid_assign.specs.Lids.{IsNoRoom}
+use Rattle.lft_blocks.specs.Rules.{RuleValue}
+use Rattle.lft_blocks.specs.Plan.{plan_of}
+use Rattle.plan_file.specs.Held.{HeldPlan}
+use Rattle.plan_file.specs.Printed.{held_plan}
+use Rattle.audit.specs.Fabrics.{ArrivesAt, IsSeenIn}
+use Rattle.audit_counts.specs.declared.sent_packet.SentPacket.{SentPacket}
+use Rattle.audit_counts.specs.Packets.{arrives, packets_of}
+use Rattle.audit_report.specs.Passing.{Passes}
+
+-- the tables that the text of a view's plan tells pass by that view, by each rule and under each LMC, where its facts
+-- are in range and there is room
+abbrev pub PlansPass : Type 0
+PlansPass =
+    (rule : RuleValue) (lmc : ℕ) (facts : Facts) → AreInRange facts → ¬ (IsNoRoom lmc (cells_of facts))
+    → Passes (cells_of facts) (held_plan (plan_of rule lmc (cells_of facts)))
+
+-- each packet from an end port of a part of a fabric to a LID of an end port of the part is delivered there
+abbrev pub EachArrivesIn : Part → Fabric → Type 0
+EachArrivesIn part f = (source target : NodePort) (from into : Node) (lid : ℕ) → IsEndPortIn part f source from
+    → IsEndPortIn part f target into → 1 ≤ lid
+    → IsTrue (owns f target lid) → ArrivesAt f source target lid
+
+-- where tables pass by facts, that is so in each fabric of what is joined to an end port, if that is as the facts say
+-- and holds the tables
+abbrev pub PassingAuditsDeliver : Type 0
+PassingAuditsDeliver =
+    (facts : Facts) (held : HeldPlan) (f : Fabric) (origin : NodePort) → IsEndPort f origin
+    → IsSeenIn (IsJoinedTo f origin) (cells_of facts) held f
+    → Passes (cells_of facts) held → EachArrivesIn (IsJoinedTo f origin) f
+
+-- and where a packet that is counted does not arrive by them, it is not delivered there in such a fabric: it is lost,
+-- or comes to another port
+abbrev pub MissedPacketsMiss : Type 0
+MissedPacketsMiss =
+    (facts : Facts) (held : HeldPlan) (f : Fabric) (origin : NodePort) → IsEndPort f origin
+    → IsSeenIn (IsJoinedTo f origin) (cells_of facts) held f
+    → (packet : SentPacket) → Contains (packets_of (cells_of facts) held) packet → arrives packet ≡ false
+    → 1 ≤ packet.line.lid
+    → (source target : NodePort) (from : Node) → IsEndPortIn (IsJoinedTo f origin) f source from
+    → packet.source ≡ record { node = from.guid; port = source.port }
+    → IsPortNamed f packet.line.port.node packet.line.port.port target
+    → ¬ (ArrivesAt f source target packet.line.lid)

@@ -1,0 +1,4 @@
+//! What audits promise of fabrics.
+#![tactic(auto)]
+
+pub mod laws;

@@ -1,0 +1,47 @@
+//! The words of the command line.
+
+/// The subcommand that prints facts.
+pub const FACTS: &str = "facts";
+
+/// The subcommand that writes a store file.
+pub const JOIN: &str = "join";
+
+/// The subcommand that prints the plan.
+pub const PLAN: &str = "plan";
+
+/// The subcommand that audits tables.
+pub const AUDIT: &str = "audit";
+
+/// The subcommand that prints the tables to write next.
+pub const NEXT: &str = "next";
+
+/// The subcommand that runs a schedule.
+pub const RUN: &str = "run";
+
+/// The files of a subcommand.
+pub const FILE: &str = "FILE";
+
+/// The text of tables.
+pub const TABLES: &str = "TABLES";
+
+/// The generation before which nothing counts.
+pub const FLOOR: &str = "floor";
+
+/// The LMC of the plans.
+pub const LMC: &str = "lmc";
+
+/// The rule of routing that a plan goes by.
+pub const ROUTING: &str = "routing";
+
+/// The file of roots.
+pub const ROOTS: &str = "roots";
+
+/// The rule that takes roots, and the other one.
+pub const SPREAD: &str = "spread";
+
+pub const UPDOWN: &str = "updown";
+
+/// The text of a fabric, and the text of what is run in it.
+pub const TOPOLOGY: &str = "TOPOLOGY";
+
+pub const SCHEDULE: &str = "SCHEDULE";

@@ -1,0 +1,7 @@
+pub mod Chained
+pub mod Gathered
+pub mod HeldPlans
+pub mod HeldTables
+pub mod Mapped
+pub mod Owned
+pub mod Wired

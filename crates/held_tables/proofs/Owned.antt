@@ -1,0 +1,85 @@
+-- Who holds each LID: by one line more, and what is told of a LID.
+use Rattle.std.proofs.Common.{◌≡◌, ◌⊎◌, ◌<◌, ℕ, Bool, false, List, [], ◌∷◌, ◌++◌, length, map, cond, nat_lt, replicate, refl, sym, ap, ◌∙◌, arith, inl, inr}
+use Rattle.std.specs.Prelude.{count_by, filter, slice_index_or, slice_set, ◌==◌}
+use Rattle.std.proofs.lemmas.Grind.{get_or-set_at}
+use Rattle.std.proofs.lemmas.List.{append-nil, get_or-replicate, get_or-set_other, get_or_past, length-map, length-replicate, length-set, map-append}
+use Rattle.std.proofs.lemmas.List.Elements.{filter-append}
+use Rattle.std.proofs.lemmas.List.Sums.{length-filter}
+use Rattle.std.proofs.lemmas.Bool.{cases_eq, cases_lt, eq-eqb, ne_eqb}
+use Rattle.subnet_view.specs.declared.end_port.EndPort.{EndPort}
+use Rattle.plan_file.specs.declared.held.HeldLid.{HeldLid}
+use Rattle.held_tables.specs.declared.owners.Owner.{Owner}
+use Rattle.held_tables.specs.declared.owners.Owner.TheVariants.{Nobody, Sole, Several}
+use Rattle.held_tables.specs.Owners.{AreOwners, holders, is_told_twice, owner_among, owner_more}
+
+port_more : (es : List EndPort) (e : EndPort) → owner_among (es ++ e ∷ []) ≡ owner_more (owner_among es) e
+port_more [] e = refl
+port_more (x ∷ []) e = refl
+port_more (x ∷ y ∷ es) e = refl
+
+line_more : (lines : List HeldLid) (x : HeldLid) (lid : ℕ) → holders (lines ++ x ∷ []) lid ≡ holders lines lid ++ holders (x ∷ []) lid
+line_more lines x lid =
+    let held : HeldLid → Bool = λ y. y.lid == lid in
+    ap (map (λ y. y.port)) (filter-append held lines (x ∷ [])) ∙ map-append (λ y. y.port) (filter held lines) (filter held (x ∷ []))
+
+-- no line
+pub no_owners : (owners : List Owner) (n : ℕ) → owners ≡ replicate n Nobody → AreOwners [] owners
+no_owners owners n e =
+    record {
+      each = λ lid less. ap (λ xs. slice_index_or xs lid Several) e
+          ∙ get_or-replicate n lid Nobody Several (omega (arith, ap length e, length-replicate n Nobody));
+    }
+
+holders_here : (x : HeldLid) (lid : ℕ) → lid ≡ x.lid → holders (x ∷ []) lid ≡ x.port ∷ []
+holders_here x lid e = ap (λ b. map (λ y. y.port) (cond b (x ∷ []) [])) (eq-eqb x.lid lid (sym e))
+
+holders_elsewhere : (x : HeldLid) (lid : ℕ) → (lid ≡ x.lid → ⊥) → holders (x ∷ []) lid ≡ []
+holders_elsewhere x lid apart = ap (λ b. map (λ y. y.port) (cond b (x ∷ []) [])) (ne_eqb x.lid lid (λ e. apart (sym e)))
+
+-- a line more
+pub owners_more : (lines : List HeldLid) (owners new : List Owner) (x : HeldLid) → AreOwners lines owners
+    → new ≡ slice_set owners x.lid (owner_more (slice_index_or owners x.lid Several) x.port) → AreOwners (lines ++ x ∷ []) new
+owners_more lines owners new x h e = record { each = each }
+  where
+    each : (lid : ℕ) → lid < length new → slice_index_or new lid Several ≡ owner_among (holders (lines ++ x ∷ []) lid)
+    each lid less =
+        let more : Owner = owner_more (slice_index_or owners x.lid Several) x.port in
+        let long : length new ≡ length owners = ap length e ∙ length-set owners x.lid more in
+        let within : lid < length owners = omega arith in
+        let stands : slice_index_or new lid Several ≡ slice_index_or (slice_set owners x.lid more) lid Several =
+        ap (λ xs. slice_index_or xs lid Several) e in
+        elim (cases_eq lid x.lid) [
+          | inl same ↦ (
+              stands ∙ get_or-set_at owners x.lid lid more Several same (omega arith)
+              ∙ ap (λ owner. owner_more owner x.port) (ap (λ k. slice_index_or owners k Several) (sym same) ∙ h.each lid within)
+              ∙ sym (port_more (holders lines lid) x.port)
+              ∙ ap owner_among (ap (λ es. holders lines lid ++ es) (sym (holders_here x lid same)) ∙ sym (line_more lines x lid)))
+          | inr apart ↦ (
+              stands ∙ get_or-set_other owners x.lid lid more Several apart ∙ h.each lid within
+              ∙ ap owner_among (sym (append-nil (holders lines lid)) ∙ ap (λ es. holders lines lid ++ es) (sym (holders_elsewhere x lid apart))
+              ∙ sym (line_more lines x lid)))
+        ]
+
+-- as many lines tell a LID as end ports hold it
+as_many : (lines : List HeldLid) (lid : ℕ) → count_by (λ (line : HeldLid). line.lid == lid) lines ≡ length (holders lines lid)
+as_many lines lid =
+    let tells : HeldLid → Bool = λ line. line.lid == lid in
+    sym (length-filter tells lines) ∙ sym (length-map (filter tells lines) (λ line. line.port))
+
+one_at_most : (es : List EndPort) → (owner_among es ≡ Several → ⊥) → nat_lt 1 (length es) ≡ false
+one_at_most [] h = refl
+one_at_most (e ∷ []) h = refl
+one_at_most (e ∷ x ∷ es) h = absurd (h refl)
+
+-- nobody is not several, and neither is one end port alone
+pub not_several : (owner : Owner) → (owner ≡ Nobody) ⊎ ((port : EndPort) × (owner ≡ Sole port)) → owner ≡ Several → ⊥
+not_several owner (inl nobody) several = cc
+not_several owner (inr (port, sole)) several = cc
+
+-- a LID of which it is not told that several hold it is told by one line at most
+pub told_once : (lines : List HeldLid) (owners : List Owner) (lid : ℕ) → AreOwners lines owners → (slice_index_or owners lid Several ≡ Several → ⊥)
+    → is_told_twice lines lid ≡ false
+told_once lines owners lid h apart = elim (cases_lt lid (length owners)) [
+  | inl less ↦ (ap (nat_lt 1) (as_many lines lid) ∙ one_at_most (holders lines lid) (λ several. apart (h.each lid less ∙ several)))
+  | inr past ↦ absurd (apart (get_or_past owners lid Several past))
+]

@@ -1,0 +1,42 @@
+-- Who holds each LID, in one step.
+use Rattle.std.specs.Prelude.{◌≡◌, ◌<◌, ◌==◌, ℕ, Bool, List, [], ◌∷◌, Option, None, Some, count_by, filter, length, map, nat_lt, slice_index_or}
+use Rattle.std.specs.List.{list_all}
+use Rattle.subnet_view.specs.declared.end_port.EndPort.{EndPort}
+use Rattle.plan_file.specs.declared.held.HeldLid.{HeldLid}
+use Rattle.held_tables.specs.Tables.{is_same_end}
+use Rattle.held_tables.specs.declared.owners.Owner.{Owner}
+use Rattle.held_tables.specs.declared.owners.Owner.TheVariants.{Nobody, Sole, Several}
+
+-- what is told of the end ports that hold a LID
+abbrev pub owner_among : List EndPort → Owner
+owner_among [] = Nobody
+owner_among (e ∷ []) = Sole e
+owner_among (e ∷ x ∷ es) = Several
+
+-- the end port that alone holds it
+abbrev pub sole_among : Owner → Option EndPort
+sole_among Nobody = None
+sole_among (Sole e) = Some e
+sole_among Several = None
+
+-- with one more
+abbrev pub owner_more : Owner → EndPort → Owner
+owner_more Nobody e = Sole e
+owner_more (Sole x) e = Several
+owner_more Several e = Several
+
+-- of these lines the end ports that hold a LID
+abbrev pub holders : List HeldLid → ℕ → List EndPort
+holders lines lid = map (λ x. x.port) (filter (λ x. x.lid == lid) lines)
+
+-- no other end port is one of these
+abbrev pub is_sole : EndPort → List EndPort → Bool
+is_sole port owners = list_all (is_same_end port) owners
+
+-- more than one of these lines tells the LID
+abbrev pub is_told_twice : List HeldLid → ℕ → Bool
+is_told_twice lines lid = nat_lt 1 (count_by (λ (line : HeldLid). line.lid == lid) lines)
+
+-- who holds each LID, by these lines
+pub record AreOwners (lines : List HeldLid) (owners : List Owner) : Type 0 where
+  pub each : (lid : ℕ) → lid < length owners → slice_index_or owners lid Several ≡ owner_among (holders lines lid)

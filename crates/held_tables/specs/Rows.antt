@@ -1,0 +1,14 @@
+-- Where the wires in the ports of a switch lead, up to the last port that has one.
+use Rattle.std.specs.Prelude.{ℕ, ◌+◌, ◌-◌, List, ◌++◌, length, replicate}
+use Rattle.held_tables.specs.declared.far_end.Far.{Far}
+use Rattle.held_tables.specs.declared.far_end.Far.TheVariants.{Nothing, Switch, Port}
+
+-- there is no wire in those behind it
+abbrev pub padded : ℕ → List Far → List Far
+padded count fars = fars ++ replicate (count - length fars) Nothing
+
+-- how many the first ports are up to the last one that has a wire, by those before a port and its own
+abbrev pub wired_more : Far → ℕ → ℕ → ℕ
+wired_more Nothing port count = count
+wired_more (Switch index) port count = port + 1
+wired_more (Port e) port count = port + 1

@@ -1,0 +1,78 @@
+-- The usable switches of a view and what their ports lead to, by index.
+use Rattle.std.specs.Prelude.{ℕ, ◌/◌, ◌%◌, ◌==◌, Bool, false, List, Option, None, Some, map, nat_lt, slice_get, slice_index_or}
+use Rattle.std.specs.Option.{option_map_or}
+use Rattle.std.specs.List.{list_all, position, range_with_len}
+use Rattle.subnet_view.specs.declared.end_port.EndPort.{EndPort}
+use Rattle.subnet_view.specs.Reading.{Cells, port_count_of, switches}
+use Rattle.subnet_view.specs.Wires.{across}
+use Rattle.plan_file.specs.Held.{HeldPlan}
+use Rattle.held_tables.specs.Tables.{index_of, top_of}
+use Rattle.held_tables.specs.declared.audited_switch.AuditedSwitch.{AuditedSwitch}
+use Rattle.held_tables.specs.declared.far_end.Far.{Far}
+use Rattle.held_tables.specs.declared.far_end.Far.TheVariants.{Nothing, Switch, Port}
+use Rattle.held_tables.specs.declared.senders.Sender.{Sender}
+
+-- the index of a GUID
+abbrev pub index_in : List ℕ → ℕ → Option ℕ
+index_in guids guid = position (λ g. g == guid) guids
+
+abbrev pub far_at : ℕ × ℕ → Option ℕ → Far
+far_at q None = Port (record { node = q.0; port = q.1 })
+far_at q (Some index) = Switch index
+
+abbrev pub far_to : List ℕ → Option (ℕ × ℕ) → Far
+far_to guids None = Nothing
+far_to guids (Some q) = far_at q (index_in guids q.0)
+
+-- where the wire in a port leads: to a usable switch, or to another port
+abbrev pub far_of : Cells → ℕ → ℕ → Far
+far_of cells g p = far_to (switches cells) (across cells g p)
+
+-- where the wires in the ports from 0 to 254 of a node lead: 255 is no port
+abbrev pub row_of : Cells → ℕ → List Far
+row_of cells g = map (far_of cells g) (range_with_len 0 255)
+
+-- where the wire leads in port n % 256 of the usable switch at index n / 256
+abbrev pub far_by : Cells → ℕ → Far
+far_by cells n =
+    option_map_or (λ g. slice_index_or (row_of cells g) (n % 256) Nothing) (slice_get (switches cells) (n / 256))
+    Nothing
+
+-- an end port as a source: the index of its switch, where it is one's, and where its wire leads
+abbrev pub sender_of : Cells → EndPort → Sender
+sender_of cells e = record { port = e; switch = index_in (switches cells) e.node; far = far_of cells e.node e.port }
+
+-- the index of the usable switch to which a wire leads
+abbrev pub switch_over : Far → Option ℕ
+switch_over Nothing = None
+switch_over (Switch index) = Some index
+switch_over (Port e) = None
+
+-- the index of the switch to which a source's packets come first: its own, or that to which its wire leads
+abbrev pub first_by : Option ℕ → Far → Option ℕ
+first_by (Some index) far = Some index
+first_by None far = switch_over far
+
+abbrev pub first_switch : Sender → Option ℕ
+first_switch source = first_by source.switch source.far
+
+-- one of so many switches
+abbrev pub is_among : ℕ → Option ℕ → Bool
+is_among count None = false
+is_among count (Some index) = nat_lt index count
+
+-- the packets of each source come first to one
+abbrev pub all_begin : ℕ → List (Option ℕ) → Bool
+all_begin count firsts = list_all (is_among count) firsts
+
+-- a usable switch: where the wires in its ports lead, its index among the switches that are held, its top, and the
+-- number of its ports
+abbrev pub node_of : Cells → HeldPlan → ℕ → AuditedSwitch
+node_of cells held g = record {
+  guid = g;
+  row = row_of cells g;
+  index = index_of held g;
+  top = top_of held g;
+  ports =
+      port_count_of cells g;
+}

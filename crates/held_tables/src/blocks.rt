@@ -1,0 +1,78 @@
+ghost use Rattle.std.specs.Prelude.{◌≡◌, IfOk, length, map, slice_get};
+ghost use Rattle.held_tables.specs.Chains.{AreChains};
+ghost use Rattle.held_tables.specs.Blocks.{AreBlank, AreBlocks, with_block, with_row};
+ghost use Rattle.held_tables.specs.Tables.{number_of};
+
+use crate::chains::{Chains, chains_of};
+use plan_file::{Held, HeldBlock};
+use std::alloc::{AllocError, Global};
+
+/// The blocks of a number, by the indices of their switches among those that are held; entries that are not held
+/// are 255. Takes a step for each switch and each of these blocks.
+pub fn block_rows(
+    alloc: Global,
+    held: &Held,
+    chains: &Chains,
+    number: u16,
+) -> Result<Vec<[u8; 64]>, AllocError>
+    requires { AreChains (map number_of held.now.blocks) chains.now }
+    ensures { IfOk result (λ rows. AreBlocks held.now number rows.items) }
+{
+    let mut rows = no_blocks(alloc, held)?;
+    let mut index = chains.first(number);
+    while index < held.blocks().len() {
+        put_block(&mut rows, held.blocks(), index);
+        index = chains.next(index);
+    }
+    Ok(rows)
+}
+
+/// Puts the block at an index where that of its switch is.
+fn put_block(rows: &mut Vec<[u8; 64]>, blocks: &[HeldBlock], index: usize)
+    ensures { rows.new.items ≡ with_block rows.old.items (slice_get blocks.now index) }
+{
+    match blocks.get(index) {
+        Some(block) => put_row(rows, block),
+        None => {}
+    }
+}
+
+/// Puts a block where that of its switch is.
+fn put_row(rows: &mut Vec<[u8; 64]>, block: &HeldBlock)
+    ensures { rows.new.items ≡ with_row rows.old.items block.now }
+{
+    if block.switch < rows.len() {
+        rows[block.switch] = block.entries;
+    }
+}
+
+/// The chains of the numbers of the blocks that are held.
+pub fn block_chains(alloc: Global, held: &Held) -> Result<Chains, AllocError>
+    ensures { IfOk result (λ chains. AreChains (map number_of held.now.blocks) chains) }
+{
+    let numbers = numbers(alloc, held)?;
+    chains_of(alloc, &numbers)
+}
+
+/// The numbers of the blocks that are held.
+fn numbers(alloc: Global, held: &Held) -> Result<Vec<u16>, AllocError>
+    ensures { IfOk result (λ numbers. numbers.items ≡ map number_of held.now.blocks) }
+{
+    held.blocks()
+        .iter()
+        .map(|block| block.number)
+        .collect(alloc)
+}
+
+#[tactic(auto, using(crate::proofs::Gathered::no_rows, crate::proofs::Gathered::blank_more))]
+/// A block for each switch that is held, with no entry.
+fn no_blocks(alloc: Global, held: &Held) -> Result<Vec<[u8; 64]>, AllocError>
+    ensures { IfOk result (λ rows. AreBlank (length held.now.switches) rows.items) }
+{
+    let count = held.switches().len();
+    let mut rows = Vec::with_capacity(alloc, count)?;
+    for _row in 0..count {
+        rows.push([255; 64])?;
+    }
+    Ok(rows)
+}

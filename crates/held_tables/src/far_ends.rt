@@ -1,0 +1,127 @@
+ghost use Rattle.std.specs.Prelude.{◌≡◌, ◌<◌, ◌≤◌, ◌-◌, ◌^◌, ◌++◌, slice_index_or, IfOk, length, replicate, take};
+ghost use Rattle.fact_store.specs.View.{cells_of};
+ghost use Rattle.subnet_view.specs.Reading.{switches};
+ghost use Rattle.held_tables.specs.Switches.{row_of, switch_over};
+ghost use Rattle.held_tables.specs.Rows.{padded, wired_more};
+
+use crate::far_end::{Far, far_of};
+use smp_bytes::{Guid, PortNum};
+use std::alloc::{AllocError, Global};
+use std::marker::Model;
+use subnet_view::Wires;
+
+/// Where the wires in a switch's ports lead.
+#[derive(Drop)]
+pub struct FarEnds {
+    /// Up to the last port that has a wire.
+    fars: Vec<Far>,
+}
+
+impl Model for FarEnds {
+    ghost use Rattle.std.specs.Prelude.{List};
+    ghost use Rattle.held_tables.specs.declared.far_end.Far.{Far};
+    ghost use Rattle.held_tables.specs.Rows.{padded};
+
+    ghost Value = { List Far };
+
+    ghost view = { λ a. padded 255 a.fars.items };
+}
+
+impl FarEnds {
+    /// Where the wire in a port leads. Takes one step.
+    pub fn far(&self, port: u8) -> Far
+        ensures { result ≡ slice_index_or self.now port Far.Nothing }
+    {
+        far_at(&self.fars, port)
+    }
+
+    /// The index of the usable switch to which the wire in a port leads. Takes one step.
+    pub fn switch(&self, port: u8) -> Option<usize>
+        ensures { result ≡ switch_over (slice_index_or self.now port Far.Nothing) }
+    {
+        switch_at(&self.fars, port)
+    }
+}
+
+/// Where the wire in a port leads.
+fn far_at(fars: &[Far], port: u8) -> Far
+    ensures { result ≡ slice_index_or fars.now port Far.Nothing }
+{
+    match fars.get(usize::from(port)) {
+        Some(far) => *far,
+        None => Far::Nothing,
+    }
+}
+
+/// The index of the usable switch to which the wire in a port leads.
+fn switch_at(fars: &[Far], port: u8) -> Option<usize>
+    ensures { result ≡ switch_over (slice_index_or fars.now port Far.Nothing) }
+{
+    match fars.get(usize::from(port)) {
+        Some(Far::Switch(index)) => Some(*index),
+        _ => None,
+    }
+}
+
+/// The row of a switch.
+pub(crate) fn row_of(
+    alloc: Global,
+    wires: &Wires,
+    guids: &[Guid],
+    node: Guid,
+) -> Result<FarEnds, AllocError>
+    requires { guids.now ≡ switches (cells_of wires.now) }
+    ensures { IfOk result (λ row. row ≡ row_of (cells_of wires.now) node) }
+{
+    let fars = all_fars(alloc, wires, guids, node)?;
+    let fars = shortened(alloc, &fars)?;
+    Ok(FarEnds { fars })
+}
+
+/// Where the wires in all ports of a switch lead.
+fn all_fars(
+    alloc: Global,
+    wires: &Wires,
+    guids: &[Guid],
+    node: Guid,
+) -> Result<Vec<Far>, AllocError>
+    requires { guids.now ≡ switches (cells_of wires.now) }
+    ensures { IfOk result (λ fars. fars.items ≡ row_of (cells_of wires.now) node) }
+{
+    let mut fars = Vec::with_capacity(alloc, 255)?;
+    for port in 0..255u8 {
+        fars.push(far_of(wires, guids, node, PortNum::new(port)))?;
+    }
+    Ok(fars)
+}
+
+/// Those of the ports up to the last that has a wire.
+fn shortened(alloc: Global, fars: &[Far]) -> Result<Vec<Far>, AllocError>
+    ensures { IfOk result (λ short. padded (length fars.now) short.items ≡ fars.now) }
+{
+    let count = wired(fars);
+    Vec::from_slice(alloc, &fars[..count])
+}
+
+/// How many ports there are up to the last that has a wire.
+fn wired(fars: &[Far]) -> usize
+    ensures within { result ≤ length fars.now }
+    ensures others { fars.now ≡ take result fars.now ++ replicate (length fars.now - result) Far.Nothing }
+{
+    let mut count = 0;
+    for (port, far) in fars.iter().enumerate() {
+        count = wired_more(far, port, count);
+    }
+    count
+}
+
+/// The same by those before a port, and where its own wire leads.
+fn wired_more(far: &Far, port: usize, count: usize) -> usize
+    requires { port < 2 ^ 64 - 1 }
+    ensures { result ≡ wired_more far.now port count }
+{
+    match far {
+        Far::Nothing => count,
+        _ => port + 1,
+    }
+}

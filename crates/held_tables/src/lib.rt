@@ -1,0 +1,21 @@
+//! The forwarding tables that a subnet's switches hold, whoever wrote them, beside the facts of its switches, end ports
+//! and wires.
+#![tactic(auto)]
+
+mod audited_switch;
+mod blocks;
+mod chains;
+mod far_end;
+mod far_ends;
+mod owners;
+mod senders;
+
+pub use audited_switch::{AuditedSwitch, index_of, nodes, top_at};
+pub use blocks::{block_chains, block_rows};
+pub use chains::Chains;
+pub use far_end::Far;
+pub use far_ends::FarEnds;
+pub use owners::{
+    Owner, is_same_end, is_sole_owner, is_told_twice, lid_owners, owners_of, sole_owner,
+};
+pub use senders::{Sender, all_begin, firsts, sources};

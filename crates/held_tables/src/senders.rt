@@ -1,0 +1,80 @@
+ghost use Rattle.std.specs.Prelude.{◌≡◌, IfOk, map};
+ghost use Rattle.fact_store.specs.View.{cells_of};
+ghost use Rattle.subnet_view.specs.Reading.{switches};
+ghost use Rattle.held_tables.specs.Switches.{all_begin, far_of, first_switch, is_among, sender_of, switch_over};
+
+use crate::far_end::{Far, far_of, index, switch_over};
+use smp_bytes::Guid;
+use std::alloc::{AllocError, Global};
+use subnet_view::{EndPort, Wires};
+
+/// An end port that sends packets.
+#[derive(Clone, Copy, Debug, PartialEq, Eq)]
+pub struct Sender {
+    /// The end port.
+    pub port: EndPort,
+    /// The index of its switch, where it is a usable switch's.
+    pub switch: Option<usize>,
+    /// Where its wire leads.
+    pub far: Far,
+}
+
+/// The end ports as sources.
+pub fn sources(
+    alloc: Global,
+    wires: &Wires,
+    guids: &[Guid],
+    ports: &[EndPort],
+) -> Result<Vec<Sender>, AllocError>
+    requires { guids.now ≡ switches (cells_of wires.now) }
+    ensures { IfOk result (λ sources. sources.items ≡ map (sender_of (cells_of wires.now)) ports.now) }
+{
+    let mut sources = Vec::with_capacity(alloc, ports.len())?;
+    for port in ports {
+        let switch = index(guids, port.node);
+        let far = far_of(wires, guids, port.node, port.port);
+        sources.push(Sender {
+            port: *port,
+            switch,
+            far,
+        })?;
+    }
+    Ok(sources)
+}
+
+/// For each source the index of the switch to which its packets come first.
+pub fn firsts(alloc: Global, sources: &[Sender]) -> Result<Vec<Option<usize>>, AllocError>
+    ensures { IfOk result (λ firsts. firsts.items ≡ map first_switch sources.now) }
+{
+    sources
+        .iter()
+        .map(|source| first_switch(source))
+        .collect(alloc)
+}
+
+/// The index of the switch to which a source's packets come first.
+fn first_switch(source: &Sender) -> Option<usize>
+    ensures { result ≡ first_switch source.now }
+{
+    match source.switch {
+        Some(index) => Some(index),
+        None => switch_over(source.far),
+    }
+}
+
+/// Whether the packets of each source come first to one of so many switches.
+pub fn all_begin(count: usize, firsts: &[Option<usize>]) -> bool
+    ensures { result ≡ all_begin count firsts.now }
+{
+    firsts.iter().all(|first| is_among(count, *first))
+}
+
+/// Whether it is one of so many switches.
+fn is_among(count: usize, first: Option<usize>) -> bool
+    ensures { result ≡ is_among count first }
+{
+    match first {
+        Some(index) => index < count,
+        None => false,
+    }
+}

@@ -1,0 +1,2 @@
+pub mod CellForms
+pub mod Keys

@@ -1,0 +1,59 @@
+-- What keys are made of, and their order: by kind, GUID and port.
+use Rattle.std.specs.Prelude.{ℕ, Bool, true, List, [], ◌∷◌, Option, None, Some, codes}
+use Rattle.std.specs.declared.cmp.Ordering.{Ordering}
+use Rattle.std.specs.Ordering.{nat_cmp, is_lt}
+use Rattle.std.specs.Cmp.Lexicographic.{slice_cmp}
+use Rattle.reply_facts.specs.declared.key.Key.{Key}
+use Rattle.reply_facts.specs.declared.key.Key.TheVariants.{Node, PortGuid, Link, Port, Claim, Cap}
+
+-- the number of its kind
+abbrev pub key_kind : Key → ℕ
+key_kind (Node guid) = 1
+key_kind (PortGuid guid port) = 2
+key_kind (Link guid port) = 3
+key_kind (Port guid port) = 4
+key_kind (Claim guid port) = 5
+key_kind (Cap guid) = 6
+
+-- the word for its kind
+abbrev pub kind_word : Key → List ℕ
+kind_word (Node guid) = codes "node"
+kind_word (PortGuid guid port) = codes "portguid"
+kind_word (Link guid port) = codes "link"
+kind_word (Port guid port) = codes "port"
+kind_word (Claim guid port) = codes "claim"
+kind_word (Cap guid) = codes "cap"
+
+abbrev pub key_guid : Key → ℕ
+key_guid (Node guid) = guid
+key_guid (PortGuid guid port) = guid
+key_guid (Link guid port) = guid
+key_guid (Port guid port) = guid
+key_guid (Claim guid port) = guid
+key_guid (Cap guid) = guid
+
+-- the port, and 0 where there is none
+abbrev pub key_port : Key → ℕ
+key_port (Node guid) = 0
+key_port (PortGuid guid port) = port
+key_port (Link guid port) = port
+key_port (Port guid port) = port
+key_port (Claim guid port) = port
+key_port (Cap guid) = 0
+
+abbrev pub key_numbers : Key → List ℕ
+key_numbers key = key_kind key ∷ key_guid key ∷ key_port key ∷ []
+
+-- the first number in which two keys differ decides
+abbrev pub key_cmp : Key → Key → Ordering
+key_cmp a b = slice_cmp nat_cmp (key_numbers a) (key_numbers b)
+
+-- whether a key comes after the given one, if one is given
+abbrev pub is_above : Option Key → Key → Bool
+is_above None key = true
+is_above (Some low) key = is_lt (key_cmp low key)
+
+-- whether a key comes before the given one, if one is given
+abbrev pub is_below : Option Key → Key → Bool
+is_below None key = true
+is_below (Some high) key = is_lt (key_cmp key high)

@@ -1,0 +1,73 @@
+-- What the cells of facts say of a node or a port, where they say one value.
+use Rattle.std.specs.Prelude.{ℕ, Bool, List, Option, None, Some}
+use Rattle.std.specs.FinMap.{find}
+use Rattle.smp_bytes.specs.declared.node_type.NodeType.{NodeType}
+use Rattle.fact_join.specs.declared.cell.Cell.{Cell}
+use Rattle.fact_join.specs.declared.cell.Cell.TheVariants.{Known, Disputed}
+use Rattle.reply_facts.specs.declared.key.Key.{Key}
+use Rattle.reply_facts.specs.declared.key.Key.TheVariants.{Node, PortGuid, Link, Port, Claim, Cap}
+use Rattle.reply_facts.specs.declared.value.Value.{Value}
+use Rattle.reply_facts.specs.declared.value.Value.TheVariants.{Kind, Guid, Peer, Up, Lid, Count}
+use Rattle.reply_facts.specs.Key.{key_cmp}
+
+-- the value of a cell that is there and has one
+abbrev pub value_in : Option (Cell Value) → Option Value
+value_in None = None
+value_in (Some (Known generation value)) = Some value
+value_in (Some (Disputed generation)) = None
+
+-- the value that the key is known to have
+abbrev pub known_in : List (Key × Cell Value) → Key → Option Value
+known_in cells key = value_in (find key_cmp key cells)
+
+-- the parts of a value of each kind: -------------------------------------------------
+
+abbrev pub kind_in : Option Value → Option (NodeType × ℕ)
+kind_in (Some (Kind kind ports)) = Some (kind, ports)
+kind_in _ = None
+
+abbrev pub guid_in : Option Value → Option ℕ
+guid_in (Some (Guid guid)) = Some guid
+guid_in _ = None
+
+abbrev pub peer_in : Option Value → Option (ℕ × ℕ)
+peer_in (Some (Peer guid port)) = Some (guid, port)
+peer_in _ = None
+
+abbrev pub up_in : Option Value → Option Bool
+up_in (Some (Up up)) = Some up
+up_in _ = None
+
+abbrev pub lid_in : Option Value → Option ℕ
+lid_in (Some (Lid lid)) = Some lid
+lid_in _ = None
+
+abbrev pub count_in : Option Value → Option ℕ
+count_in (Some (Count count)) = Some count
+count_in _ = None
+
+-- what is known of a node or a port: --------------------------------------------------
+
+-- the type of a node and the number of its ports
+abbrev pub node_of : List (Key × Cell Value) → ℕ → Option (NodeType × ℕ)
+node_of cells g = kind_in (known_in cells (Node g))
+
+-- the GUID of a port
+abbrev pub port_guid_of : List (Key × Cell Value) → ℕ → ℕ → Option ℕ
+port_guid_of cells g p = guid_in (known_in cells (PortGuid g p))
+
+-- the node and the port at the other end of a link
+abbrev pub link_of : List (Key × Cell Value) → ℕ → ℕ → Option (ℕ × ℕ)
+link_of cells g p = peer_in (known_in cells (Link g p))
+
+-- whether a port is up, as far as is known
+abbrev pub up_of : List (Key × Cell Value) → ℕ → ℕ → Option Bool
+up_of cells g p = up_in (known_in cells (Port g p))
+
+-- the LID that a port claims
+abbrev pub claim_of : List (Key × Cell Value) → ℕ → ℕ → Option ℕ
+claim_of cells g p = lid_in (known_in cells (Claim g p))
+
+-- the room of a switch's linear forwarding table
+abbrev pub cap_of : List (Key × Cell Value) → ℕ → Option ℕ
+cap_of cells g = count_in (known_in cells (Cap g))

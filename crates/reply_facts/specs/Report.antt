@@ -1,0 +1,185 @@
+-- What a report of a reply says: the first fault that it has, or the facts that it tells of the node that answered.
+-- InfiniBand Architecture Specification, Volume 1: subnet management, NodeInfo, PortInfo and SwitchInfo; directed route
+-- SMPs.
+use Rattle.std.specs.Prelude.{ℕ, Bool, false, ◌&&◌, ◌||◌, not, List, [], ◌∷◌, nat_lt, nat_le, ◌==◌, if◌then◌else◌, Option, Some, None, is_some, option_map}
+use Rattle.smp_bytes.specs.declared.node_type.NodeType.{NodeType}
+use Rattle.smp_bytes.specs.NodeType.{is_switch}
+use Rattle.smp_bytes.specs.Header.{get_resp, done, node_info, switch_info, port_info}
+use Rattle.smp_bytes.specs.Field.{number_in, bits_in, bytes_in}
+use Rattle.smp_bytes.specs.Packet.{fault_of, is_directed, is_returning, status, method, hop_pointer, hop_count, attribute_id, attribute_modifier, attribute_data}
+use Rattle.attr_codec.specs.declared.node_info.NodeInfo.{NodeInfo}
+use Rattle.attr_codec.specs.NodeInfo.{node_info_in}
+use Rattle.attr_codec.specs.NodeTypeNumber.{type_of_number}
+use Rattle.attr_codec.specs.PortInfo.{base_lid, port_state}
+use Rattle.attr_codec.specs.SwitchInfo.{linear_fdb_cap}
+use Rattle.fact_join.specs.declared.cell.Cell.{Cell}
+use Rattle.fact_join.specs.declared.cell.Cell.TheVariants.{Known}
+use Rattle.reply_facts.specs.Sighting.{is_cabled_port}
+use Rattle.reply_facts.specs.declared.key.Key.{Key}
+use Rattle.reply_facts.specs.declared.key.Key.TheVariants.{Node, PortGuid, Link, Port, Claim, Cap}
+use Rattle.reply_facts.specs.declared.report.Context.{Context}
+use Rattle.reply_facts.specs.declared.report.Context.TheVariants.{Start, Via, About}
+use Rattle.reply_facts.specs.declared.report.Report.{Report}
+use Rattle.reply_facts.specs.declared.report_fault.ReportFault.{ReportFault}
+use Rattle.reply_facts.specs.declared.report_fault.ReportFault.TheVariants as fault
+use Rattle.reply_facts.specs.declared.value.Value.{Value}
+use Rattle.reply_facts.specs.declared.value.Value.TheVariants.{Kind, Guid, Peer, Up, Lid, Count}
+
+-- faults ------------------------------------------------------------------------------
+
+-- the first of two faults
+abbrev pub or_else : Option ReportFault → Option ReportFault → Option ReportFault
+or_else None next = next
+or_else (Some first) next = Some first
+
+-- the fault of a packet that is no answer, over a directed route, of an agent that did what was asked
+abbrev pub answer_fault : List ℕ → Option ReportFault
+answer_fault packet =
+    if not (is_directed packet) then Some fault.Class
+    else if not (number_in method packet == get_resp) then Some fault.Method
+    else if not (is_returning packet && number_in hop_pointer packet == 0) then Some fault.Direction
+    else if not (status packet == done) then Some fault.Status
+    else None
+
+-- the context of an answer of NodeInfo: the sender's own node over no hop, and another node by the port before it
+abbrev pub fits_node_info : Context → ℕ → Bool
+fits_node_info Start hops = hops == 0
+fits_node_info (Via guid port) hops = nat_lt 0 hops
+fits_node_info (About guid) hops = false
+
+-- only a switch that a manager sits at is asked by its management port, 0
+abbrev pub may_be_asked_by : Context → NodeType → ℕ → Bool
+may_be_asked_by Start kind port = is_switch kind || nat_lt 0 port
+may_be_asked_by (Via guid via) kind port = nat_lt 0 port && is_cabled_port via
+may_be_asked_by (About guid) kind port = nat_lt 0 port
+
+abbrev pub are_ports_in_range : Context → NodeType → NodeInfo → Bool
+are_ports_in_range context kind info =
+    is_cabled_port info.num_ports && nat_le info.local_port_num info.num_ports
+    && may_be_asked_by context kind info.local_port_num
+
+-- the fault of what a node says of itself
+abbrev pub kind_fault : Context → NodeInfo → Option NodeType → Option ReportFault
+kind_fault context info None = Some fault.NodeType
+kind_fault context info (Some kind) = if are_ports_in_range context kind info then None else Some fault.Port
+
+abbrev pub node_info_of : List ℕ → NodeInfo
+node_info_of packet = node_info_in (bytes_in attribute_data packet)
+
+abbrev pub node_info_fault : Context → List ℕ → Option ReportFault
+node_info_fault context packet =
+    if not (fits_node_info context (number_in hop_count packet)) then Some fault.Context
+    else kind_fault context (node_info_of packet) (type_of_number (node_info_of packet).node_type)
+
+-- the node and its port that the request's path leads out of last
+abbrev pub via_of : Context → Option (ℕ × ℕ)
+via_of Start = None
+via_of (Via guid port) = Some (guid, port)
+via_of (About guid) = None
+
+-- the node that the reply speaks of
+abbrev pub about_of : Context → Option ℕ
+about_of Start = None
+about_of (Via guid port) = None
+about_of (About guid) = Some guid
+
+-- PortInfo and SwitchInfo speak of a node that is known already
+abbrev pub about_fault : Context → Option ReportFault
+about_fault context = if is_some (about_of context) then None else Some fault.Context
+
+-- the modifier of PortInfo is the port
+abbrev pub port_info_fault : Context → List ℕ → Option ReportFault
+port_info_fault context packet =
+    or_else (about_fault context) (if nat_lt 254 (number_in attribute_modifier packet) then Some fault.Modifier else
+    None)
+
+-- by the attribute that the packet carries
+abbrev pub attribute_fault : Context → List ℕ → Option ReportFault
+attribute_fault context packet =
+    if number_in attribute_id packet == node_info then node_info_fault context packet
+    else if number_in attribute_id packet == port_info then port_info_fault context packet
+    else if number_in attribute_id packet == switch_info then about_fault context
+    else Some fault.Attribute
+
+-- the first fault of the packet of an answer
+abbrev pub packet_fault : List ℕ → Option ReportFault
+packet_fault packet = or_else (option_map fault.Smp (fault_of packet)) (answer_fault packet)
+
+-- the first fault of a packet that came as a reply
+abbrev pub reply_fault : Context → List ℕ → Option ReportFault
+reply_fault context packet = or_else (answer_fault packet) (attribute_fault context packet)
+
+-- the first fault of a report
+abbrev pub report_fault : Report → Option ReportFault
+report_fault report =
+    if report.generation == 0 then Some fault.Generation
+    else or_else (packet_fault report.bytes) (attribute_fault report.context report.bytes)
+
+-- facts -------------------------------------------------------------------------------
+
+abbrev pub Sightings : Type 0
+Sightings = List (Key × Cell Value)
+
+-- the port that the GUID of the answer is of: a switch has one, for its management port
+abbrev pub guid_port : NodeType → ℕ → ℕ
+guid_port kind local_port = if is_switch kind then 0 else local_port
+
+-- the link between the port that was asked and the port before it, from both ends
+abbrev pub sightings_of_link : ℕ → Context → NodeInfo → Sightings
+sightings_of_link generation (Via peer port) info =
+    (Link info.node_guid info.local_port_num, Known generation (Peer peer port)) ∷
+    (Link peer port, Known generation (Peer info.node_guid info.local_port_num)) ∷ []
+sightings_of_link generation Start info = []
+sightings_of_link generation (About guid) info = []
+
+abbrev pub sightings_of_kind : ℕ → Context → NodeInfo → Option NodeType → Sightings
+sightings_of_kind generation context info None = []
+sightings_of_kind generation context info (Some kind) =
+    (Node info.node_guid, Known generation (Kind kind info.num_ports))
+    ∷ (PortGuid info.node_guid (guid_port kind info.local_port_num), Known generation (Guid info.port_guid))
+    ∷ sightings_of_link generation context info
+
+-- a node's kind and ports, a port's GUID, and the link that led there
+abbrev pub sightings_by_node_info : ℕ → Context → List ℕ → Sightings
+sightings_by_node_info generation context packet =
+    sightings_of_kind generation context (node_info_of packet) (type_of_number (node_info_of packet).node_type)
+
+-- Initialize, Armed and Active are up; Down, and numbers that no state has, are not
+abbrev pub is_up_state : ℕ → Bool
+is_up_state state = nat_le 2 state && nat_le state 4
+
+-- the attribute's bytes
+abbrev pub payload_of : List ℕ → List ℕ
+payload_of packet = bytes_in attribute_data packet
+
+-- whether a port of the node is up, and the LID that it claims
+abbrev pub sightings_by_port_info : ℕ → Context → List ℕ → Sightings
+sightings_by_port_info generation (About node) packet = (
+  Port node (number_in attribute_modifier packet),
+  Known generation
+      (Up (is_up_state (bits_in port_state (payload_of packet)))),
+)
+    ∷ (
+      Claim node (number_in attribute_modifier packet),
+      Known generation
+          (Lid (number_in base_lid (payload_of packet))),
+    ) ∷ []
+sightings_by_port_info generation Start packet = []
+sightings_by_port_info generation (Via guid port) packet = []
+
+-- how many LIDs the switch's forwarding table has room for
+abbrev pub sightings_by_switch_info : ℕ → Context → List ℕ → Sightings
+sightings_by_switch_info generation (About node) packet =
+    (Cap node, Known generation (Count (number_in linear_fdb_cap (payload_of packet)))) ∷ []
+sightings_by_switch_info generation Start packet = []
+sightings_by_switch_info generation (Via guid port) packet = []
+
+abbrev pub sightings_by_packet : ℕ → Context → List ℕ → Sightings
+sightings_by_packet generation context packet =
+    if number_in attribute_id packet == node_info then sightings_by_node_info generation context packet
+    else if number_in attribute_id packet == port_info then sightings_by_port_info generation context packet
+    else sightings_by_switch_info generation context packet
+
+-- the sightings of a report that has no fault
+abbrev pub sightings_of : Report → Sightings
+sightings_of report = sightings_by_packet report.generation report.context report.bytes

@@ -1,0 +1,65 @@
+ghost use Rattle.std.specs.Prelude.{◌≡◌};
+
+use smp_bytes::SmpFault;
+use thiserror::Error;
+
+/// Why a report is not taken, in the order in which it is judged.
+#[derive(Clone, Copy, Debug, PartialEq, Eq, Error)]
+pub enum ReportFault {
+    /// The generation is 0.
+    #[error("Generation")]
+    Generation,
+    /// The bytes are no packet.
+    #[error("{0}")]
+    Smp(SmpFault),
+    /// The packet is not of the directed route class.
+    #[error("Class")]
+    Class,
+    /// The packet is no answer to a Get or a Set.
+    #[error("Method")]
+    Method,
+    /// The packet is not at the end of its way back: its D bit is 0, or its HopPointer is not.
+    #[error("Direction")]
+    Direction,
+    /// The agent refused the request: its status is not 0.
+    #[error("Status")]
+    Status,
+    /// The attribute is none that facts are read from.
+    #[error("Attribute")]
+    Attribute,
+    /// The context does not fit the attribute, or not the number of hops.
+    #[error("Context")]
+    Context,
+    /// The attribute modifier names no port.
+    #[error("Modifier")]
+    Modifier,
+    /// The node type is a reserved number.
+    #[error("NodeType")]
+    NodeType,
+    /// A port or a number of ports is out of range.
+    #[error("Port")]
+    Port,
+}
+
+impl ReportFault {
+    ghost use Rattle.reply_facts.specs.ReportFault.{report_fault_name};
+
+    /// The name that `{}` writes; that of the packet's fault where there is one.
+    pub fn name(self) -> &'static str
+        ensures { result.now ≡ report_fault_name self }
+    {
+        match self {
+            ReportFault::Generation => "Generation",
+            ReportFault::Smp(fault) => fault.name(),
+            ReportFault::Class => "Class",
+            ReportFault::Method => "Method",
+            ReportFault::Direction => "Direction",
+            ReportFault::Status => "Status",
+            ReportFault::Attribute => "Attribute",
+            ReportFault::Context => "Context",
+            ReportFault::Modifier => "Modifier",
+            ReportFault::NodeType => "NodeType",
+            ReportFault::Port => "Port",
+        }
+    }
+}

@@ -1,0 +1,41 @@
+-- What is left is the manager that has moved, answered and told.
+use Rattle.std.proofs.Common.{◌≡◌, ◌+◌, ◌++◌, ◌∷◌, [], sym, ap, ◌∙◌}
+use Rattle.smp_bytes.specs.Field.{number_in}
+use Rattle.smp_bytes.specs.Packet.{attribute_modifier}
+use Rattle.sm_state.specs.declared.event.Event.TheVariants as event
+use Rattle.sm_state.specs.declared.transition.Transition.{Transition}
+use Rattle.sm_state.specs.Standing.{moved_to}
+use Rattle.sm_state.specs.Steps.{status_of, stepped}
+use Rattle.sm_manager.specs.Election.{message_count, message_out, message_pending}
+use Rattle.sm_manager.specs.Manager.{Manager}
+use Rattle.sm_manager.specs.Plans.{number_fault}
+use Rattle.sm_manager.specs.Served.{answer_out, answering, controlled}
+use Rattle.sm_manager.proofs.Messages.{message_sent, unspent}
+use Rattle.sm_manager.proofs.manager.Manager.answer_control.Goals as goal
+
+pub returns-clause-ok : goal.returns-clause-ok
+returns-clause-ok c =
+    let m : Manager = c.args.self.now in
+    let packet = c.args.smp.now in
+    let from = c.args.from in
+    let move : Transition = stepped m.standing.state (event.Control (number_in attribute_modifier packet)) in
+    let said = c.step-transition.result.message in
+    let moves : c.step-transition.result ≡ move =
+    c.step-transition.ensures ∙ (λ i. stepped (c.self.view_is i).standing.state (event.Control (c.attribute_modifier.ensures i))) in
+    let stands : c.move_on-answer.new.standing ≡ moved_to move.state m.standing =
+    c.move_on-answer.ensures.standing ∙ (λ i. moved_to (moves i).state (c.self.view_is i).standing) in
+    let answers : c.move_on-answer.result ≡ answer_out (moved_to move.state m.standing) packet from (status_of move) =
+    c.move_on-answer.ensures.answer ∙ (λ i. answer_out (moved_to (moves i).state (c.self.view_is i).standing) packet from (status_of (moves i))) in
+    let room = c.make_room.ensures in
+    let counter = room.counter ∙ ap (λ (x : Manager). x.counter) c.self.view_is in
+    let pending = room.pending ∙ ap (λ (x : Manager). x.pending) c.self.view_is in
+    let outgoing = room.outgoing ∙ ap (λ (x : Manager). x.outgoing) c.self.view_is in
+    let counts = c.send_message.ensures.counter ∙ (λ i. counter i + message_count from (moves i).message) in
+    let waits = c.send_message.ensures.pending ∙ (λ i. pending i ++ message_pending (counter i) from (moves i).message) in
+    let goes = c.send_message.ensures.outgoing ∙ ap (λ xs. xs ++ message_out c.move_on-answer.new.standing c.make_room.new.requests.counter from said) c.push_back_reserved.ensures.items
+    ∙ (λ i. (outgoing i ++ answers i ∷ []) ++ message_out (stands i) (counter i) from (moves i).message) in
+    let told = sym (message_sent (answering (record m { standing = moved_to move.state m.standing }) packet from (status_of move)) from move.message) in
+    let count = c.message_count-count.ensures ∙ (λ i. message_count from (moves i).message) in
+    let number = ap (λ (x : Manager). x.counter) (sym told) ∙ sym (λ i. (c.self.view_is i).counter + count i) in
+    (λ i. record (c.self.view_is i) { standing = stands i; counter = counts i; pending = waits i; outgoing = goes i }) ∙ told
+    ∙ unspent m (controlled m packet from) (ap number_fault number ∙ c.in_ok-make_room.ensures.judged)
