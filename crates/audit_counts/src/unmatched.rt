@@ -1,7 +1,7 @@
 //! Where the tables that are held and the facts of the subnet differ.
 ghost use Rattle.std.specs.Prelude.{◌≡◌, IfOk};
 ghost use Rattle.fact_store.specs.View.{cells_of};
-ghost use Rattle.audit_counts.specs.Unmatched.{IsUnmatched, has_lid, is_held, is_twice, lidless_among, tableless_among, twice, unknown, unowned};
+ghost use Rattle.audit_counts.specs.Unmatched.{IsUnmatched, has_lid, is_held, lidless_among, tableless_among, twice, unknown, unowned};
 
 use crate::first_few::FirstFew;
 use audit::{Network, is_same_end};
@@ -70,18 +70,11 @@ fn twice(alloc: Global, network: &Network) -> Result<FirstFew<HeldLid>, AllocErr
 {
     let mut few = FirstFew::new(alloc);
     for line in network.held().lids() {
-        if is_twice(network, line) {
+        if network.is_told_twice(line.lid) {
             few.add(*line)?;
         }
     }
     Ok(few)
-}
-
-/// Whether more than one port holds the LID.
-fn is_twice(network: &Network, line: &HeldLid) -> bool
-    ensures { result ≡ is_twice network.now.held line.now }
-{
-    network.is_told_twice(line.lid)
 }
 
 /// Switches with tables that are no usable switches of the facts.

@@ -36,12 +36,14 @@ pub const ROUTING: &str = "routing";
 /// The file of roots.
 pub const ROOTS: &str = "roots";
 
-/// The rule that takes roots, and the other one.
+/// The rule that spreads, and takes roots.
 pub const SPREAD: &str = "spread";
 
+/// The rule that goes up and down, which takes none.
 pub const UPDOWN: &str = "updown";
 
-/// The text of a fabric, and the text of what is run in it.
+/// The text of a fabric.
 pub const TOPOLOGY: &str = "TOPOLOGY";
 
+/// The text of what is run in it.
 pub const SCHEDULE: &str = "SCHEDULE";

@@ -13,6 +13,7 @@ use subnet_view::{Wires, port_count};
 /// A usable switch.
 #[derive(Drop)]
 pub struct AuditedSwitch {
+    /// Its node GUID.
     pub guid: Guid,
     /// Where the wires in its ports lead.
     pub row: FarEnds,

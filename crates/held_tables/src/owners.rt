@@ -12,9 +12,11 @@ use subnet_view::EndPort;
 /// Who holds a LID.
 #[derive(Clone, Copy, Debug, PartialEq, Eq)]
 pub enum Owner {
+    /// No end port.
     Nobody,
     /// This end port alone.
     Sole(EndPort),
+    /// More than one end port.
     Several,
 }
 

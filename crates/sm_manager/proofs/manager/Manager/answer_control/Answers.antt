@@ -32,7 +32,8 @@ returns-clause-ok c =
     let outgoing = room.outgoing ∙ ap (λ (x : Manager). x.outgoing) c.self.view_is in
     let counts = c.send_message.ensures.counter ∙ (λ i. counter i + message_count from (moves i).message) in
     let waits = c.send_message.ensures.pending ∙ (λ i. pending i ++ message_pending (counter i) from (moves i).message) in
-    let goes = c.send_message.ensures.outgoing ∙ ap (λ xs. xs ++ message_out c.move_on-answer.new.standing c.make_room.new.requests.counter from said) c.push_back_reserved.ensures.items
+    let goes = c.send_message.ensures.outgoing
+    ∙ ap (λ xs. xs ++ message_out c.move_on-answer.new.standing c.make_room.new.requests.counter from said) c.push_back_reserved.ensures.items
     ∙ (λ i. (outgoing i ++ answers i ∷ []) ++ message_out (stands i) (counter i) from (moves i).message) in
     let told = sym (message_sent (answering (record m { standing = moved_to move.state m.standing }) packet from (status_of move)) from move.message) in
     let count = c.message_count-count.ensures ∙ (λ i. message_count from (moves i).message) in
