@@ -1,8 +1,9 @@
 -- What a topology is.
-use Rattle.std.specs.Prelude.{◌≡◌, ◌≢◌, ℕ, suc, ◌+◌, ◌<◌, ◌≤◌, ◌^◌, List, [], ◌∷◌, All, Option, None, Some, IsTrue, option_map, length}
+use Rattle.std.specs.Prelude.{◌≡◌, ◌≢◌, ◌&&◌, ◌==◌, ℕ, Bool, suc, ◌+◌, ◌<◌, ◌≤◌, ◌^◌, List, [], ◌∷◌, All, Option, None, Some, IsTrue, option_map, length}
 use Rattle.std.specs.Prelude.{slice_get, if◌then◌else◌}
-use Rattle.std.specs.List.{AllPairs}
+use Rattle.std.specs.List.{AllPairs, list_any}
 use Rattle.std.specs.Str.{bytes_eq}
+use Rattle.smp_bytes.specs.NodeType.{is_switch}
 use Rattle.smp_bytes.specs.declared.node_type.NodeType.{NodeType}
 use Rattle.smp_bytes.specs.declared.node_type.NodeType.TheVariants.{ChannelAdapter, Switch, Router}
 use Rattle.fabric_model.specs.declared.cable.Cable.{Cable}
@@ -24,6 +25,14 @@ id_of (node ∷ nodes) name = if bytes_eq node.name name then Some 0 else option
 abbrev pub IsFound : List Node → List ℕ → Option ℕ → Type 0
 IsFound nodes name None = All (λ node. node.name ≢ name) nodes
 IsFound nodes name (Some id) = (node : Node) × (slice_get nodes id ≡ Some node) × (node.name ≡ name)
+
+-- the node is a switch with this GUID
+abbrev pub is_switch_with : ℕ → Node → Bool
+is_switch_with guid node = is_switch node.kind && (node.guid == guid)
+
+-- one of the nodes is
+abbrev pub has_switch : List Node → ℕ → Bool
+has_switch nodes guid = list_any (is_switch_with guid) nodes
 
 -- the entries that a node's forwarding table may have, and the GUIDs that its ports may need
 abbrev pub IsOfKind : NodeType → ℕ → ℕ → ℕ → Type 0

@@ -1,6 +1,6 @@
 ghost use Rattle.std.specs.Prelude.{◌≡◌, ◌↔◌, Err, None, length, slice_get, IsTrue, IfOk, IfSome, option_copied};
 ghost use Rattle.text_words.specs.Text.{lines};
-ghost use Rattle.topo_file.specs.Topology.{id_of, IsFound, IsNode, IsTopology, GuidsDiffer};
+ghost use Rattle.topo_file.specs.Topology.{has_switch, id_of, IsFound, IsNode, IsTopology, GuidsDiffer};
 ghost use Rattle.topo_file.specs.Reading.{topology_of, topology_in, nodes_of_lines};
 ghost use Rattle.topo_file.specs.ReadingLaws.{IsDraft};
 ghost use Rattle.topo_file.specs.FirstFault.{first_line_fault};
@@ -13,6 +13,7 @@ use crate::links::Links;
 use crate::node::Node;
 use crate::nodes::Nodes;
 use fabric_model::{Cable, NodeId};
+use smp_bytes::Guid;
 use std::alloc::{AllocError, Global};
 use std::collections::BTreeSet;
 use std::marker::Model;
@@ -68,6 +69,16 @@ impl Topology {
         ensures found { IsFound self.now.nodes name.now result }
     {
         self.nodes.id(&NodeName::new(name.as_bytes())?)
+    }
+
+    /// Whether a node is a switch with this GUID. A walk over the nodes.
+    pub fn has_switch(&self, guid: Guid) -> bool
+        ensures { result ≡ has_switch self.now.nodes guid }
+    {
+        self.nodes
+            .as_slice()
+            .iter()
+            .any(|node| node.kind.is_switch() && node.guid == guid)
     }
 
     /// Whether no two nodes have the same GUID. It is held.
