@@ -6,11 +6,12 @@ ghost use Rattle.lid_assign.specs.Lids.{greatest};
 ghost use Rattle.subnet_view.specs.Reading.{switches};
 ghost use Rattle.audit.specs.Deliveries.{AreDeliveries};
 ghost use Rattle.audit.specs.Edges.{edges_of, greatest_top};
-ghost use Rattle.held_tables.specs.Switches.{far_by, sender_of};
+ghost use Rattle.held_tables.specs.Chains.{AreChains};
+ghost use Rattle.held_tables.specs.Switches.{far_by, node_of, sender_of};
 ghost use Rattle.held_tables.specs.Blocks.{AreBlocks};
 ghost use Rattle.audit.specs.NextHops.{AreBrought, LineArrives, entry_by, switch_step};
-ghost use Rattle.held_tables.specs.Owners.{is_told_twice, is_sole};
-ghost use Rattle.held_tables.specs.Tables.{entry_for, owners_of, top_of};
+ghost use Rattle.held_tables.specs.Owners.{AreOwners, is_told_twice, is_sole};
+ghost use Rattle.held_tables.specs.Tables.{entry_for, number_of, owners_of, top_of};
 
 use crate::block_walks::delivered;
 use crate::deliveries::Deliveries;
@@ -79,15 +80,10 @@ impl<'a> Network<'a> {
         ensures facts { IfOk result (λ network. network.facts ≡ store.now) }
         ensures held { IfOk result (λ network. network.held ≡ held.now) }
     {
-        let guids = switches(alloc, store)?;
-        let wires = Wires::of(alloc, store)?;
-        let nodes = nodes(alloc, &wires, &guids, held)?;
-        let ports = end_ports(alloc, store)?;
-        let sources = sources(alloc, &wires, &guids, &ports)?;
+        let (nodes, sources) = nodes_and_sources(alloc, store, held)?;
         let firsts = firsts(alloc, &sources)?;
         let begin = all_begin(nodes.len(), &firsts);
-        let chains = block_chains(alloc, held)?;
-        let owners = lid_owners(alloc, held)?;
+        let (chains, owners) = chains_and_owners(alloc, held)?;
         Ok(Network {
             store,
             held,
@@ -347,6 +343,44 @@ impl<'a> Network<'a> {
         }
         Some(entry_for(self.held, node, lid))
     }
+}
+
+/// The usable switches by rising GUID, and the end ports as sources, in their order.
+fn nodes_and_sources(
+    alloc: Global,
+    store: &Store,
+    held: &Held,
+) -> Result<(Vec<AuditedSwitch>, Vec<Sender>), Refused>
+    ensures nodes { IfOk result (λ both.
+        both.0.items ≡ map (node_of (cells_of store.now) held.now) (switches (cells_of store.now))) }
+    ensures sources { IfOk result (λ both.
+        both.1.items ≡ map (sender_of (cells_of store.now)) (end_ports (cells_of store.now))) }
+{
+    let guids = switches(alloc, store)?;
+    let wires = Wires::of(alloc, store)?;
+    let nodes = nodes(alloc, &wires, &guids, held)?;
+    let sources = sources_of(alloc, &wires, &guids)?;
+    Ok((nodes, sources))
+}
+
+/// The end ports as sources, in their order.
+fn sources_of(alloc: Global, wires: &Wires, guids: &[Guid]) -> Result<Vec<Sender>, Refused>
+    requires { guids.now ≡ switches (cells_of wires.now) }
+    ensures { IfOk result (λ sources.
+        sources.items ≡ map (sender_of (cells_of wires.now)) (end_ports (cells_of wires.now))) }
+{
+    let ports = end_ports(alloc, wires.store())?;
+    Ok(sources(alloc, wires, guids, &ports)?)
+}
+
+/// The chains of the blocks' numbers, and who holds each LID.
+fn chains_and_owners(alloc: Global, held: &Held) -> Result<(Chains, Vec<Owner>), AllocError>
+    ensures chains { IfOk result (λ both. AreChains (map number_of held.now.blocks) both.0) }
+    ensures owners { IfOk result (λ both. AreOwners held.now.lids both.1.items) }
+{
+    let chains = block_chains(alloc, held)?;
+    let owners = lid_owners(alloc, held)?;
+    Ok((chains, owners))
 }
 
 /// The greatest of the switches' tops, and 0 where there is none.
