@@ -1,7 +1,7 @@
 -- Where a writing may begin there are numbers for its first phase.
-use Rattle.std.proofs.Common.{◌≡◌, ◌≤◌, ◌+◌, ◌^◌, ℕ, Bool, true, false, cond, List, [], ◌∷◌, length, refl, sym, ◌∙◌, arith}
-use Rattle.std.proofs.lemmas.Bool.{ltb-false}
-use Rattle.std.specs.Prelude.{Option, Some, None, ◌==◌}
+use Rattle.std.proofs.Common.{◌≡◌, ◌≤◌, ◌+◌, ◌-◌, ◌^◌, ℕ, Bool, true, false, cond, List, [], ◌∷◌, length, refl, sym, ap, ◌∙◌, arith}
+use Rattle.std.proofs.lemmas.Bool.Decides.{nat_tests}
+use Rattle.std.specs.Prelude.{Option, Some, None, min, not, nat_le, ◌==◌, if◌then◌else◌}
 use Rattle.std.specs.List.{AllByRecursion}
 use Rattle.fact_store.specs.View.{cells_of}
 use Rattle.lid_assign.specs.declared.fault.NoRoom.{NoRoom}
@@ -12,11 +12,17 @@ use Rattle.plan_steps.specs.Lids.{own_lid}
 use Rattle.plan_steps.specs.Phases.{Phase}
 use Rattle.plan_steps.proofs.Bounds.{phase_bound_law}
 use Rattle.lft_blocks.specs.Plan.{plan_of}
-use Rattle.sweep.specs.Sweep.{Sweep}
+use Rattle.request_table.proofs.Indices.{some_is}
+use Rattle.sm_state.specs.declared.state.SmState.TheVariants.{Master}
+use Rattle.sm_state.specs.Standing.{is_in}
+use Rattle.sweep.specs.Sweep.{Sweep, is_done}
 use Rattle.sm_manager.specs.declared.fault.ManagerFault.{ManagerFault}
+use Rattle.sm_manager.specs.declared.fault.ManagerFault.TheVariants.{NotMaster, SweepRunning, WritingRunning}
+use Rattle.sm_manager.specs.Fault.{is_memory}
 use Rattle.sm_manager.specs.Manager.{Manager}
-use Rattle.sm_manager.specs.Plans.{number_fault, or_else, plan_fault, room_fault, writing_fault}
-use Rattle.sm_manager.specs.Writing.{next_phase, without_empty_phases, phases_by, write_fault}
+use Rattle.sm_manager.specs.ManagerRequests.{no_step_waits}
+use Rattle.sm_manager.specs.Plans.{number_fault, or_else, plan_fault, room_fault, unless_numbers, writing_fault}
+use Rattle.sm_manager.specs.Writing.{next_phase, without_empty_phases, phases_by, write_fault, write_fault_with}
 use Rattle.sm_manager.proofs.Over.{numbers_there}
 
 pub or_none : (a b : Option ManagerFault) → or_else a b ≡ None → (a ≡ None) × (b ≡ None)
@@ -33,6 +39,46 @@ room_there lmc m h none = absurd (cc (sym none ∙ no_room_there (is_no_room lmc
     no_room_there : (b : Bool) (why : NoRoom) → cond b (Some why) None ≡ None → b ≡ false
     no_room_there true why h = absurd (cc)
     no_room_there false why h = refl
+
+-- numbers are wanting where there are not so many, also where 64 bits do not hold how many
+unless_so_many : (n most : ℕ) → unless_numbers (nat_le (n + min most (2 ^ 64 - 1)) (2 ^ 32)) ≡ number_fault (n + most)
+unless_so_many n most = grind (arith, nat_tests)
+
+-- where nothing forbids a writing, it is refused as its plan is, or numbers are wanting
+pub fault_of_plan : (before m : Manager) (count : ℕ) (are_numbers : Bool) → before ≡ m → count ≡ min (most_steps (cells_of before.store)) (2 ^ 64 - 1)
+    → are_numbers ≡ nat_le (before.counter + count) (2 ^ 32) → write_fault m ≡ None
+    → or_else (plan_fault m.planning.lmc (cells_of m.store)) (unless_numbers are_numbers) ≡ writing_fault m
+fault_of_plan before m count are_numbers same most enough may =
+    let plan = plan_fault m.planning.lmc (cells_of m.store) in
+    let most_then = λ (x : Manager). min (most_steps (cells_of x.store)) (2 ^ 64 - 1) in
+    let needed : before.counter + count ≡ m.counter + most_then m = (λ i. before.counter + most i) ∙ ap (λ (x : Manager). x.counter + most_then x) same in
+    ap (λ (b : Bool). or_else plan (unless_numbers b)) (enough ∙ ap (λ n. nat_le n (2 ^ 32)) needed)
+    ∙ ap (or_else plan) (unless_so_many m.counter (most_steps (cells_of m.store)))
+    ∙ sym (ap (λ w. or_else w (or_else plan (number_fault (m.counter + most_steps (cells_of m.store))))) may)
+
+-- what forbids a writing is no want of memory
+pub fault_first : (m : Manager) (why : ManagerFault) → write_fault m ≡ Some why → writing_fault m ≡ (if is_memory why then None else Some why)
+fault_first m why e =
+    by_sweep m.sweep (or_else (plan_fault m.planning.lmc (cells_of m.store)) (number_fault (m.counter + most_steps (cells_of m.store)))) e
+  where
+    first : (a : ManagerFault) (rest : Option ManagerFault) → is_memory a ≡ false → Some a ≡ Some why
+        → or_else (Some a) rest ≡ cond (is_memory why) None (Some why)
+    first a rest other same =
+        ap (λ b. cond b None (Some a)) (sym other) ∙ ap (λ (x : ManagerFault). cond (is_memory x) None (Some x)) (some_is a why same)
+
+    by_tests : (a b c : Bool) (rest : Option ManagerFault)
+        → cond a (Some NotMaster) (cond b (Some SweepRunning) (cond c (Some WritingRunning) None)) ≡ Some why
+        → or_else (cond a (Some NotMaster) (cond b (Some SweepRunning) (cond c (Some WritingRunning) None))) rest
+        ≡ cond (is_memory why) None (Some why)
+    by_tests true b c rest same = first NotMaster rest refl same
+    by_tests false true c rest same = first SweepRunning rest refl same
+    by_tests false false true rest same = first WritingRunning rest refl same
+    by_tests false false false rest same = absurd (cc)
+
+    by_sweep : (o : Option Sweep) (rest : Option ManagerFault) → write_fault_with m o ≡ Some why
+        → or_else (write_fault_with m o) rest ≡ cond (is_memory why) None (Some why)
+    by_sweep None rest same = first NotMaster rest refl same
+    by_sweep (Some s) rest same = by_tests (not (is_in Master m.standing)) (not (is_done s)) (not (no_step_waits m.pending)) rest same
 
 -- what may begin: nothing forbids it, there are numbers, and there is room
 pub record MayBegin (m : Manager) : Type 0 where

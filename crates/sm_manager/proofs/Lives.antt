@@ -2,7 +2,7 @@
 use Rattle.std.proofs.Common.{◌≡◌, ℕ, Bool, true, false, cond, List, [], ◌∷◌, ◌++◌, refl, sym, ap, ◌∙◌, arith}
 use Rattle.std.proofs.lemmas.Bool.{cond_both}
 use Rattle.std.proofs.lemmas.List.{append_assoc, append-nil}
-use Rattle.std.specs.Prelude.{◌^◌, ◌==◌, max, nat_le, Option, Some, None, Result, Ok, Err, is_none}
+use Rattle.std.specs.Prelude.{◌^◌, max, nat_le, Option, Some, None, Result, Ok, Err, is_none}
 use Rattle.smp_bytes.specs.Field.{number_in}
 use Rattle.smp_bytes.specs.Packet.{fault_of, status, attribute_modifier}
 use Rattle.smp_bytes.specs.declared.smp_fault.SmpFault.{SmpFault}

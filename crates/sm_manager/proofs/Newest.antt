@@ -1,5 +1,5 @@
 -- The greatest generation of the facts that are held.
-use Rattle.std.proofs.Common.{◌≡◌, ◌↔◌, ℕ, ◌≤◌, List, [], ◌∷◌, map, refl, sym, ap, ◌∙◌, arith}
+use Rattle.std.proofs.Common.{◌≡◌, ◌↔◌, ℕ, ◌≤◌, List, [], ◌∷◌, map, refl, sym, ap, arith}
 use Rattle.std.specs.Prelude.{Option, Some, None, Contains, IsNone, IfSome, unwrap_or}
 use Rattle.fact_join.specs.declared.cell.Cell.{Cell}
 use Rattle.fact_join.specs.Cell.{generation_of}
@@ -8,7 +8,6 @@ use Rattle.reply_facts.specs.declared.value.Value.{Value}
 use Rattle.fact_store.specs.Seen.{newest_of}
 use Rattle.fact_store.specs.View.{Facts, IsNewestGeneration, cells_of}
 use Rattle.smp_bytes.proofs.Members.{contains_none}
-use Rattle.fact_store.proofs.Entries.{entries-view}
 use Rattle.fact_store.proofs.Orders.{contained_get, get_contained}
 use Rattle.fact_store.proofs.Seen.{newest_above, newest_there}
 use Rattle.subnet_view.proofs.Apart.{contains_map, contains-from_map}

@@ -8,8 +8,10 @@ use Rattle.smp_bytes.specs.Field.{number_in}
 use Rattle.smp_bytes.specs.Header.{get_resp}
 use Rattle.smp_bytes.specs.Packet.{method, transaction_id}
 use Rattle.sm_manager.specs.declared.pending.Pending.{Pending}
+use Rattle.sm_manager.specs.declared.pending.Purpose.{Purpose}
+use Rattle.sm_manager.specs.declared.pending.Purpose.TheVariants.{Poll, Control, Step}
 use Rattle.sm_manager.specs.Packets.{answers}
-use Rattle.sm_manager.specs.ManagerRequests.{AreCounted, counts, how_many, is_step}
+use Rattle.sm_manager.specs.ManagerRequests.{AreCounted, counts, counts_as, how_many, is_for_step, is_step}
 
 later_false : (a b c : Bool) → b ≡ false → (a && (b && c)) ≡ false
 later_false true b c e = ap (λ x. x && c) e
@@ -82,3 +84,26 @@ less_one n b e = ap (λ x. n - one_if x) (sym e)
 
 pub less_none : (n : ℕ) (b : Bool) → b ≡ false → n ≡ n - one_if b
 less_none n b e = omega arith ∙ ap (λ x. n - one_if x) (sym e)
+
+-- and so with one more
+pub counted_with : (ps after : List Pending) (p : Pending) (steps counting s k : ℕ) → AreCounted ps steps counting → after ≡ ps ++ p ∷ []
+    → s ≡ steps + one_if (is_step p) → k ≡ counting + one_if (counts p) → AreCounted after s k
+counted_with ps after p steps counting s k counted more e f =
+    let steps_more = many_pushed is_step ps p in
+    let counting_more = many_pushed counts ps p in
+    record {
+      steps_are = omega (arith, counted.steps_are, steps_more, e) ∙ sym (ap (how_many is_step) more);
+      counting_are = omega (arith, counted.counting_are, counting_more, f) ∙ sym (ap (how_many counts) more);
+    }
+
+pub one_more : (n : ℕ) (b : Bool) → b ≡ true → n + 1 ≡ n + one_if b
+one_more n b e = ap (λ x. n + one_if x) (sym e)
+
+pub none_more : (n : ℕ) (b : Bool) → b ≡ false → n ≡ n + one_if b
+none_more n b e = omega arith ∙ ap (λ x. n + one_if x) (sym e)
+
+-- what is no step counts for none
+pub counts_for_none : (why : Purpose) → is_for_step why ≡ false → counts_as why ≡ false
+counts_for_none Poll e = refl
+counts_for_none Control e = refl
+counts_for_none (Step counts) e = absurd (cc)

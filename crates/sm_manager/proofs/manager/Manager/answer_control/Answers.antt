@@ -1,5 +1,6 @@
 -- What is left is the manager that has moved, answered and told.
 use Rattle.std.proofs.Common.{◌≡◌, ◌+◌, ◌++◌, ◌∷◌, [], sym, ap, ◌∙◌}
+use Rattle.std.proofs.lemmas.Result.{err_from_is_err_and}
 use Rattle.smp_bytes.specs.Field.{number_in}
 use Rattle.smp_bytes.specs.Packet.{attribute_modifier}
 use Rattle.sm_state.specs.declared.event.Event.TheVariants as event
@@ -10,7 +11,7 @@ use Rattle.sm_manager.specs.Election.{message_count, message_out, message_pendin
 use Rattle.sm_manager.specs.Manager.{Manager}
 use Rattle.sm_manager.specs.Plans.{number_fault}
 use Rattle.sm_manager.specs.Served.{answer_out, answering, controlled}
-use Rattle.sm_manager.proofs.Messages.{message_sent, unspent}
+use Rattle.sm_manager.proofs.Messages.{message_sent, numbers_taken, spent_fault, unspent}
 use Rattle.sm_manager.proofs.manager.Manager.answer_control.Goals as goal
 
 pub returns-clause-ok : goal.returns-clause-ok
@@ -36,7 +37,26 @@ returns-clause-ok c =
     ∙ ap (λ xs. xs ++ message_out c.move_on-answer.new.standing c.make_room.new.requests.counter from said) c.push_back_reserved.ensures.items
     ∙ (λ i. (outgoing i ++ answers i ∷ []) ++ message_out (stands i) (counter i) from (moves i).message) in
     let told = sym (message_sent (answering (record m { standing = moved_to move.state m.standing }) packet from (status_of move)) from move.message) in
-    let count = c.message_count-count.ensures ∙ (λ i. message_count from (moves i).message) in
-    let number = ap (λ (x : Manager). x.counter) (sym told) ∙ sym (λ i. (c.self.view_is i).counter + count i) in
+    let number = numbers_taken _ m packet from c.attribute_modifier.result c.message_count-count.result c.step-transition.result c.self.view_is
+    c.attribute_modifier.ensures c.step-transition.ensures c.message_count-count.ensures in
     (λ i. record (c.self.view_is i) { standing = stands i; counter = counts i; pending = waits i; outgoing = goes i }) ∙ told
     ∙ unspent m (controlled m packet from) (ap number_fault number ∙ c.in_ok-make_room.ensures.judged)
+
+pub returns-clause-judged : goal.returns-clause-judged
+returns-clause-judged c =
+    let m : Manager = c.args.self.now in
+    let packet = c.args.smp.now in
+    let from = c.args.from in
+    spent_fault m (controlled m packet from) _ (numbers_taken _ m packet from c.attribute_modifier.result c.message_count-count.result
+    c.step-transition.result c.self.view_is c.attribute_modifier.ensures c.step-transition.ensures c.message_count-count.ensures)
+    ∙ c.in_ok-make_room.ensures.judged
+
+pub returns-in_err-make_room-clause-judged : goal.returns-in_err-make_room-clause-judged
+returns-in_err-make_room-clause-judged c =
+    let m : Manager = c.args.self.now in
+    let packet = c.args.smp.now in
+    let from = c.args.from in
+    let q = err_from_is_err_and c.from_residual.result c.from_residual.ensures.1 in
+    let spent = spent_fault m (controlled m packet from) _ (numbers_taken _ m packet from c.attribute_modifier.result c.message_count-count.result
+    c.step-transition.result c.self.view_is c.attribute_modifier.ensures c.step-transition.ensures c.message_count-count.ensures) in
+    rw (q.1, q.2, spent) c.in_err-make_room.ensures.judged

@@ -1,11 +1,14 @@
 -- The phases are those of the store's plan, over the last sweep.
 use Rattle.std.proofs.Common.{◌≡◌, List, Result, Ok, false, sym, ap, ◌∙◌, subst}
+use Rattle.std.proofs.lemmas.Result.{err_from_is_err_and}
 use Rattle.std.specs.Prelude.{IfOk}
 use Rattle.lft_blocks.specs.Plan.{plan_of}
 use Rattle.fact_store.specs.View.{cells_of}
 use Rattle.plan_steps.specs.Phases.{Phase, phases_of}
 use Rattle.sm_manager.specs.Manager.{Manager, Writing}
 use Rattle.sm_manager.specs.Writing.{without_empty_phases, phases_by}
+use Rattle.sm_manager.specs.Plans.{plan_fault}
+use Rattle.sm_manager.proofs.Begun.{fault_first, fault_of_plan}
 use Rattle.sm_manager.proofs.manager.Manager.planned.Goals as goal
 
 -- what is so of all that is found is so of this
@@ -30,3 +33,31 @@ returns-clause-writing c =
     (c.in_ok-phases.ensures
     ∙ (λ i. phases_of (plan i) (cells_of (store i)) c.in_ok-sweep.sweep.now (guid i) (port i))
     ∙ ap (phases_by m) (sym c.in_ok-sweep.ensures.sweep))
+
+pub returns-in_err-sweep-clause-judged : goal.returns-in_err-sweep-clause-judged
+returns-in_err-sweep-clause-judged c =
+    let q = err_from_is_err_and c.from_residual.result c.from_residual.ensures.1 in
+    rw (q.1, q.2) (fault_first c.args.self.now c.in_err-sweep.field-0.0 c.in_err-sweep.ensures.judged)
+
+pub returns-in_err-plan-clause-judged : goal.returns-in_err-plan-clause-judged
+returns-in_err-plan-clause-judged c =
+    let m = c.args.self.now in
+    let q = err_from_is_err_and c.from_residual-in_err-plan.result c.from_residual-in_err-plan.ensures.1 in
+    let planned = fault_of_plan _ m c.most_steps.result c.has_numbers-are_numbers.result c.self.view_is c.most_steps.ensures
+    c.has_numbers-are_numbers.ensures.enough c.in_ok-sweep.ensures.judged in
+    rw (q.1, q.2, ← planned) (c.in_err-plan.ensures.judged (plan_fault m.planning.lmc (cells_of m.store)) c.plan.ensures.judged)
+
+pub returns-in_err-phases-clause-judged : goal.returns-in_err-phases-clause-judged
+returns-in_err-phases-clause-judged c =
+    let m = c.args.self.now in
+    let q = err_from_is_err_and c.from_residual-in_err-phases.result c.from_residual-in_err-phases.ensures.1 in
+    let planned = fault_of_plan _ m c.most_steps.result c.has_numbers-are_numbers.result c.self.view_is c.most_steps.ensures
+    c.has_numbers-are_numbers.ensures.enough c.in_ok-sweep.ensures.judged in
+    rw (q.1, q.2) (sym planned ∙ c.in_ok-plan.ensures.judged (plan_fault m.planning.lmc (cells_of m.store)) c.plan.ensures.judged)
+
+pub returns-clause-judged : goal.returns-clause-judged
+returns-clause-judged c =
+    let m = c.args.self.now in
+    let planned = fault_of_plan _ m c.most_steps.result c.has_numbers-are_numbers.result c.self.view_is c.most_steps.ensures
+    c.has_numbers-are_numbers.ensures.enough c.in_ok-sweep.ensures.judged in
+    sym planned ∙ c.in_ok-plan.ensures.judged (plan_fault m.planning.lmc (cells_of m.store)) c.plan.ensures.judged

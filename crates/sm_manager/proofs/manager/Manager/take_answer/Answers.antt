@@ -1,5 +1,5 @@
 -- The request at the index is the one that the packet answers.
-use Rattle.std.proofs.Common.{◌≡◌, ℕ, ◌<◌, sym, ap, ◌∙◌, subst}
+use Rattle.std.proofs.Common.{◌≡◌, ℕ, sym, ap, ◌∙◌, subst}
 use Rattle.std.specs.Prelude.{Some, slice_get, OnOk}
 use Rattle.smp_bytes.specs.Judges.{JudgesButFor}
 use Rattle.sm_manager.specs.Fault.{is_memory}
