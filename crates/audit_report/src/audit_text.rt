@@ -30,11 +30,12 @@ pub fn write_audit<W: Sink>(sink: &mut W, audit: &Audit) -> Result<(), WriteFaul
     ensures writes { Writes W.written W.has_failed result sink.old sink.new (audit_text audit.now) }
     ensures flushed { OnOk result (IsTrue (W.is_flushed sink.new)) }
 {
-    write_tally(sink, &audit.network, &audit.tally)?;
-    write_unmatched(sink, &audit.unmatched)?;
-    write_disputed(sink, audit.disputed)?;
-    write_ways(sink, &audit.ways)?;
-    write_cycle(sink, &audit.network, &audit.cycle)?;
+    let findings = &audit.findings;
+    write_tally(sink, &audit.network, &findings.tally)?;
+    write_unmatched(sink, &findings.unmatched)?;
+    write_disputed(sink, findings.disputed)?;
+    write_ways(sink, &findings.ways)?;
+    write_cycle(sink, &audit.network, &findings.cycle)?;
     sink.flush()
 }
 

@@ -1,11 +1,16 @@
 ghost use Rattle.std.specs.Prelude.{◌≡◌, ◌↔◌, IfOk, IsTrue};
 ghost use Rattle.fact_store.specs.View.{cells_of};
 ghost use Rattle.audit_channels.specs.Waiting.{NoneShorter};
-ghost use Rattle.audit_report.specs.Passing.{EachHasTables, EachHoldsLid, IsCycle, IsSound, IsWholeFor, Passes};
+ghost use Rattle.audit_channels.specs.Ways.{AreTold, IsToldOfWays};
+ghost use Rattle.audit_counts.specs.Packets.{packets_of};
+ghost use Rattle.audit_counts.specs.PacketTally.{IsTally};
+ghost use Rattle.audit_counts.specs.Unmatched.{IsUnmatched};
+ghost use Rattle.audit_report.specs.Passing.{EachHasTables, EachHoldsLid, IsCycle, IsFound, IsSound, IsWholeFor};
+ghost use Rattle.audit_report.specs.Passing.{Passes};
 
 use audit::Network;
 use audit_channels::{ChannelOrder, WayFigures, channel_order, figures_of_ways_told};
-use audit_counts::{PacketTally, Unmatched, disputed, sites, survey};
+use audit_counts::{PacketSurvey, PacketTally, Unmatched, disputed, sites, survey};
 use fact_store::{Refused, Store};
 use plan_file::Held;
 use std::alloc::{AllocError, Global};
@@ -15,6 +20,12 @@ use std::marker::Model;
 #[derive(Drop)]
 pub struct Audit<'a> {
     pub(crate) network: Network<'a>,
+    pub(crate) findings: Findings,
+}
+
+/// What is found of a network.
+#[derive(Drop)]
+pub(crate) struct Findings {
     pub(crate) tally: PacketTally,
     pub(crate) unmatched: Unmatched,
     /// How many facts are disputed.
@@ -32,9 +43,10 @@ impl<'a> Model for Audit<'a> {
 
     ghost coded = { audited_code };
 
-    ghost view = { λ a. record { facts = a.network.facts; held = a.network.held; cycle = a.cycle.items } };
+    ghost view = { λ a. record { facts = a.network.facts; held = a.network.held; cycle = a.findings.cycle.items } };
 
-    ghost invariant = { λ a. IsFound a.network a.tally a.unmatched a.disputed a.ways a.cycle.items };
+    ghost invariant = { λ a. IsFound a.network a.findings.tally a.findings.unmatched a.findings.disputed a.findings.ways
+        a.findings.cycle.items };
 }
 
 impl<'a> Audit<'a> {
@@ -51,20 +63,8 @@ impl<'a> Audit<'a> {
         ensures shortest { IfOk result (λ audit. NoneShorter (cells_of store.now) held.now audit.cycle) }
     {
         let network = Network::of(alloc, store, held)?;
-        let sites = sites(alloc, store)?;
-        let survey = survey(alloc, &network, &sites)?;
-        let unmatched = Unmatched::of(alloc, &network)?;
-        let disputed = disputed(store);
-        let ways = figures_of_ways_told(alloc, &network, &survey.told)?;
-        let cycle = cycle_of(alloc, &network)?;
-        Ok(Audit {
-            network,
-            tally: survey.tally,
-            unmatched,
-            disputed,
-            ways,
-            cycle,
-        })
+        let findings = findings_of(alloc, &network)?;
+        Ok(Audit { network, findings })
     }
 
     /// Whether nothing is missing, each packet arrives, and there is no cycle.
@@ -85,22 +85,71 @@ impl<'a> Audit<'a> {
     fn has_lids(&self) -> bool
         ensures { IsTrue result ↔ EachHoldsLid (cells_of self.now.facts) self.now.held }
     {
-        self.unmatched.lidless.count() == 0
+        self.findings.unmatched.lidless.count() == 0
     }
 
     /// Whether each usable switch of the view has tables, where it has an end port.
     fn has_tables(&self) -> bool
         ensures { IsTrue result ↔ EachHasTables (cells_of self.now.facts) self.now.held }
     {
-        self.unmatched.tableless.count() == 0 || self.network.sources().is_empty()
+        self.findings.unmatched.tableless.count() == 0 || self.network.sources().is_empty()
     }
 
     /// Whether each packet arrives, and there is no cycle.
     fn is_sound(&self) -> bool
         ensures { IsTrue result ↔ IsSound (cells_of self.now.facts) self.now.held }
     {
-        self.tally.all.arrived == self.tally.all.sent && self.cycle.is_empty()
+        self.findings.tally.all.arrived == self.findings.tally.all.sent
+            && self.findings.cycle.is_empty()
     }
+}
+
+/// What is found of a network.
+fn findings_of(alloc: Global, network: &Network) -> Result<Findings, Refused>
+    ensures found { IfOk result (λ f. IsFound network.now f.tally f.unmatched f.disputed f.ways f.cycle.items) }
+    ensures shortest { IfOk result (λ f. NoneShorter (cells_of network.now.facts) network.now.held f.cycle.items) }
+{
+    let (tally, ways) = packets_and_ways(alloc, network)?;
+    let (unmatched, cycle) = unmatched_and_cycle(alloc, network)?;
+    let disputed = disputed(network.store());
+    Ok(Findings {
+        tally,
+        unmatched,
+        disputed,
+        ways,
+        cycle,
+    })
+}
+
+/// What is counted of the packets, and of the wires and the channels that they take.
+fn packets_and_ways(alloc: Global, network: &Network) -> Result<(PacketTally, WayFigures), Refused>
+    ensures tally { IfOk result (λ both. IsTally (packets_of (cells_of network.now.facts) network.now.held) both.0) }
+    ensures ways { IfOk result (λ both. IsToldOfWays (cells_of network.now.facts) network.now.held both.1) }
+{
+    let survey = survey_of(alloc, network)?;
+    let ways = figures_of_ways_told(alloc, network, &survey.told)?;
+    Ok((survey.tally, ways))
+}
+
+/// What is counted of the packets, and for which LIDs it is seen that all arrive.
+fn survey_of(alloc: Global, network: &Network) -> Result<PacketSurvey, Refused>
+    ensures tally { IfOk result (λ survey.
+        IsTally (packets_of (cells_of network.now.facts) network.now.held) survey.tally) }
+    ensures told { IfOk result (λ survey. AreTold (cells_of network.now.facts) network.now.held survey.told.items) }
+{
+    let sites = sites(alloc, network.store())?;
+    Ok(survey(alloc, network, &sites)?)
+}
+
+/// Where tables and facts differ, and channels that wait for each other in a credit loop.
+fn unmatched_and_cycle(alloc: Global, network: &Network) -> Result<(Unmatched, Vec<usize>), Refused>
+    ensures unmatched { IfOk result (λ both. IsUnmatched (cells_of network.now.facts) network.now.held both.0) }
+    ensures cycle { IfOk result (λ both. IsCycle (cells_of network.now.facts) network.now.held both.1.items) }
+    ensures shortest { IfOk result (λ both. NoneShorter (cells_of network.now.facts) network.now.held both.1.items) }
+{
+    let unmatched = Unmatched::of(alloc, network)?;
+    let cycle = cycle_of(alloc, network)?;
+    Ok((unmatched, cycle))
 }
 
 /// Channels that wait for each other in a credit loop, as few as there are; none where there is none.

@@ -14,16 +14,17 @@ pub returns-clause-writes : goal.returns-clause-writes
 unfolding audit_text
 returns-clause-writes g c =
     let a = c.audit.inside in
+    let f = a.findings in
     let found = c.audit.invariant in
     let differ = found.differ in
     let cells = cells_of a.network.facts in
     let held = a.network.held in
     let written = g.W.Sink.written in
-    let tally = tally_text cells held a.tally in
-    let counted = tally_told cells held (packets_of cells held) a.tally found.counted in
-    let unmatched = unmatched_text a.unmatched in
-    let disputed = disputed_line a.disputed in
-    let ways = ways_text a.ways.hops a.ways.load in
+    let tally = tally_text cells held f.tally in
+    let counted = tally_told cells held (packets_of cells held) f.tally found.counted in
+    let unmatched = unmatched_text f.unmatched in
+    let disputed = disputed_line f.disputed in
+    let ways = ways_text f.ways.hops f.ways.load in
     let cycle = cycle_line cells c.deref.result.now in
     let two = appends_then (written c.args.sink.now) (written c.write_tally.new.sink) (written c.write_unmatched.new.sink) tally unmatched
     c.in_ok-write_tally.ensures.ok c.in_ok-write_unmatched.ensures.ok in
@@ -41,7 +42,7 @@ returns-clause-writes g c =
     ++ kind_text switch_line (codes "unknown") (differ.unknown_are i)
     ++ kind_text switch_line (codes "tableless") (differ.tableless_are i)
     ++ kind_text port_line (codes "lidless") (differ.lidless_are i)) in
-    let whole : ((((tally ++ unmatched) ++ disputed) ++ ways) ++ cycle) ≡ text_of cells held a.cycle.items =
+    let whole : ((((tally ++ unmatched) ++ disputed) ++ ways) ++ cycle) ≡ text_of cells held f.cycle.items =
     (λ i. ((((counted i) ++ differs i) ++ disputed_line (found.count_is i))
     ++ ways_text (found.told.hops i) (found.told.load i)) ++ cycle_line cells (c.deref.ensures.value i)) in
     record {

@@ -15,19 +15,21 @@ not_both false b e = refl
 pub returns-then-self : goal.returns-then-self
 returns-then-self c =
     let a = c.self.inside in
+    let f = a.findings in
     let b = c.is_empty.result in
     let Judges = λ (x : Audited). IsTrue b ↔ IsSound (cells_of x.facts) x.held in
-    let long : vec_len a.cycle ≡ length a.cycle.items = omega (arith, a.cycle.ok.0) in
+    let long : vec_len f.cycle ≡ length f.cycle.items = omega (arith, f.cycle.ok.0) in
     subst Judges c.self.view_is
-    (sound_is a.network a.tally a.unmatched a.disputed a.ways a.cycle.items b c.self.invariant
+    (sound_is a.network f.tally f.unmatched f.disputed f.ways f.cycle.items b c.self.invariant
     (c.is_empty.ensures ∙ ap (λ n. n == 0) long
-    ∙ sym (ap (λ t. t && (length a.cycle.items == 0)) (eq-eqb a.tally.all.arrived a.tally.all.sent c.if-self.true))))
+    ∙ sym (ap (λ t. t && (length f.cycle.items == 0)) (eq-eqb f.tally.all.arrived f.tally.all.sent c.if-self.true))))
 
 pub returns-else-self : goal.returns-else-self
 returns-else-self c =
     let a = c.self.inside in
-    let b = (a.tally.all.arrived == a.tally.all.sent) in
+    let f = a.findings in
+    let b = (f.tally.all.arrived == f.tally.all.sent) in
     let Judges = λ (x : Audited). IsTrue b ↔ IsSound (cells_of x.facts) x.held in
     subst Judges c.self.view_is
-    (sound_is a.network a.tally a.unmatched a.disputed a.ways a.cycle.items b c.self.invariant
-    (not_both (a.tally.all.arrived == a.tally.all.sent) (length a.cycle.items == 0) (ne_eqb a.tally.all.arrived a.tally.all.sent c.if-self.false)))
+    (sound_is a.network f.tally f.unmatched f.disputed f.ways f.cycle.items b c.self.invariant
+    (not_both (f.tally.all.arrived == f.tally.all.sent) (length f.cycle.items == 0) (ne_eqb f.tally.all.arrived f.tally.all.sent c.if-self.false)))

@@ -1,0 +1,11 @@
+-- Its kinds in turn.
+use Rattle.record_file.proofs.Writing.{appends_then}
+use Rattle.audit_report.proofs.Written.{part_then}
+use Rattle.audit_report.proofs.audit_text.write_unmatched.Goals as goal
+
+pub returns : goal.returns
+returns g c =
+    let two = appends_then _ _ _ _ _ c.in_ok-write_lids.ensures.ok c.in_ok-write_lids-2.ensures.ok in
+    let three = appends_then _ _ _ _ _ two c.in_ok-write_switches.ensures.ok in
+    let four = appends_then _ _ _ _ _ three c.in_ok-write_switches-2.ensures.ok in
+    part_then _ _ _ _ _ _ _ _ four c.write_ports.ensures
