@@ -1,5 +1,5 @@
 //! The lines that commands print.
-ghost use Rattle.std.specs.Prelude.{◌≡◌, decimal};
+ghost use Rattle.std.specs.Prelude.{◌≡◌, ◌++◌};
 ghost use Rattle.byte_io.specs.Writes.{Writes};
 ghost use Rattle.text_words.specs.Printed.{named_text, quoted_text};
 ghost use Rattle.topo_file.specs.Printed.{name_at};
@@ -33,8 +33,7 @@ pub(crate) fn write_progress<W: Sink>(
     ensures writes { Writes W.written W.has_failed result sink.old sink.new
         (progress_line manager.now progress) }
 {
-    sink.write(b"progress ")?;
-    sink.write(manager.as_bytes())?;
+    write_pair(sink, b"progress ", manager.as_bytes())?;
     write_stage(sink, progress)?;
     sink.write(b"\n")
 }
@@ -70,11 +69,8 @@ pub(crate) fn write_state<W: Sink>(
     ensures writes { Writes W.written W.has_failed result sink.old sink.new
         (state_line manager.now state) }
 {
-    sink.write(b"state ")?;
-    sink.write(manager.as_bytes())?;
-    sink.write(b" ")?;
-    sink.write(state.word().as_bytes())?;
-    sink.write(b"\n")
+    write_between(sink, b"state ", manager.as_bytes(), b" ")?;
+    write_pair(sink, state.word().as_bytes(), b"\n")
 }
 
 /// Prints how many requests were not answered, and how many ports lead too far.
@@ -87,7 +83,7 @@ fn write_counts<W: Sink>(sink: &mut W, unanswered: u64, too_far: u64) -> Result<
     write_count(sink, b" toofar ", too_far)
 }
 
-/// Prints words, and how many.
+/// Prints words, and a number.
 fn write_count<W: Sink>(sink: &mut W, words: &[u8], count: u64) -> Result<(), WriteFault>
     ensures writes { Writes W.written W.has_failed result sink.old sink.new
         (count_text words.now count) }
@@ -125,8 +121,7 @@ fn write_start<W: Sink>(
 {
     sink.write(b"ping ")?;
     write_port(sink, topology, from)?;
-    sink.write(b" ")?;
-    write_number(sink, u64::from(lid.number()))
+    write_count(sink, b" ", u64::from(lid.number()))
 }
 
 /// Prints where the packet comes to.
@@ -139,8 +134,7 @@ fn write_end<W: Sink>(sink: &mut W, topology: &Topology, ping: &Ping) -> Result<
         Ping::Reached(port, hops) => {
             sink.write(b" reached ")?;
             write_port(sink, topology, port)?;
-            sink.write(b" hops ")?;
-            write_number(sink, *hops as u64)
+            write_count(sink, b" hops ", *hops as u64)
         }
         Ping::Lost(node) => {
             sink.write(b" lost ")?;
@@ -155,8 +149,7 @@ fn write_port<W: Sink>(sink: &mut W, topology: &Topology, port: &NodePort) -> Re
         (port_text topology.now.nodes port.now) }
 {
     write_name(sink, name_at(topology, port.node))?;
-    sink.write(b"[")?;
-    write_number(sink, u64::from(port.port.number()))?;
+    write_count(sink, b"[", u64::from(port.port.number()))?;
     sink.write(b"]")
 }
 
@@ -164,9 +157,7 @@ fn write_port<W: Sink>(sink: &mut W, topology: &Topology, port: &NodePort) -> Re
 fn write_name<W: Sink>(sink: &mut W, name: &str) -> Result<(), WriteFault>
     ensures writes { Writes W.written W.has_failed result sink.old sink.new (quoted_text name.now) }
 {
-    sink.write(b"\"")?;
-    sink.write(name.as_bytes())?;
-    sink.write(b"\"")
+    write_between(sink, b"\"", name.as_bytes(), b"\"")
 }
 
 /// Prints a packet in flight: its serial number, and the node where it waits.
@@ -179,9 +170,31 @@ pub(crate) fn write_flight<W: Sink>(
     ensures writes { Writes W.written W.has_failed result sink.old sink.new
         (flight_line topology.now.nodes serial node) }
 {
-    sink.write(b"packet ")?;
-    write_number(sink, serial)?;
+    write_count(sink, b"packet ", serial)?;
     sink.write(b" ")?;
     write_name(sink, name_at(topology, node))?;
     sink.write(b"\n")
+}
+
+/// Prints a text between two others.
+pub(crate) fn write_between<W: Sink>(
+    sink: &mut W,
+    front: &[u8],
+    text: &[u8],
+    back: &[u8],
+) -> Result<(), WriteFault>
+    ensures writes { Writes W.written W.has_failed result sink.old sink.new
+        (front.now ++ text.now ++ back.now) }
+{
+    write_pair(sink, front, text)?;
+    sink.write(back)
+}
+
+/// Prints one text and then another.
+fn write_pair<W: Sink>(sink: &mut W, front: &[u8], back: &[u8]) -> Result<(), WriteFault>
+    ensures writes { Writes W.written W.has_failed result sink.old sink.new
+        (front.now ++ back.now) }
+{
+    sink.write(front)?;
+    sink.write(back)
 }

@@ -6,6 +6,7 @@ ghost use Rattle.sm_manager.specs.Fault.{manager_fault_name};
 ghost use Rattle.schedule_world.specs.Prints.{PrintsUnless};
 ghost use Rattle.schedule_world.specs.Refusals.{refusal_line};
 
+use crate::lines::write_between;
 use crate::run_fault::RunFault;
 use byte_io::{Sink, WriteFault};
 use fabric_sim::FabricFault;
@@ -44,7 +45,5 @@ fn write_refusal<W: Sink>(sink: &mut W, name: &str) -> Result<(), WriteFault>
     ensures writes { Writes W.written W.has_failed result sink.old sink.new
         (refusal_line name.now) }
 {
-    sink.write(b"refused ")?;
-    sink.write(name.as_bytes())?;
-    sink.write(b"\n")
+    write_between(sink, b"refused ", name.as_bytes(), b"\n")
 }
