@@ -70,6 +70,10 @@ pub candidate-disputed : (bytes : List ℕ) (key : Key) (generation : ℕ)
     → from_be_bytes w32 (take 4 (drop 4 bytes)) ≡ generation → candidate bytes ≡ Some (key, Disputed generation)
 candidate-disputed bytes key generation k other g = let no_value : slice_index bytes 1 == 1 ≡ false = grind (arith, nat_tests) in rw (k, no_value, g) refl
 
+pub candidate-no_key : (bytes : List ℕ) → key_of (slice_index bytes 0) (from_be_bytes w64 (take 8 (drop 8 bytes))) (slice_index bytes 2) ≡ None
+    → candidate bytes ≡ None
+candidate-no_key bytes k = rw k refl
+
 -- the spelling of a cell and back ------------------------------------------------------
 
 key_again : (key : Key) (guid : ℕ) → guid ≡ key_guid key → key_of (key_kind key) guid (key_port key) ≡ Some key

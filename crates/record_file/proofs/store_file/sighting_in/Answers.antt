@@ -1,7 +1,7 @@
 use Rattle.std.proofs.Common.{◌≡◌, ◌-◌, Some, option_and_then, ap, sym, ◌∙◌, slice_index, length, drop, arith}
 use Rattle.std.proofs.lemmas.List.{length-drop, take_all}
 use Rattle.record_file.specs.CellRecord.{candidate, if_sighting, key_of, value_of}
-use Rattle.record_file.proofs.Cells.{candidate-known, candidate-disputed, made-sighting}
+use Rattle.record_file.proofs.Cells.{candidate-known, candidate-disputed, candidate-no_key, made-sighting}
 use Rattle.record_file.proofs.store_file.sighting_in.Goals as goal
 use Rattle.record_file.proofs.store_file.sighting_in.Goals.{then-bytes-eq1+in_ok-value_of, else-bytes-eq1}
 
@@ -21,3 +21,9 @@ returns c =
           ∙ ap (λ cell. Some (c.in_ok-key.key, cell)) (sym w.cell-is)
     ] in
     made-sighting c.new-2.result (c.in_ok-key.key, c.if-bytes-eq1.cell) c.new-2.ensures.exact c.new-2.ensures.value ∙ sym (ap (option_and_then if_sighting) is)
+
+pub returns-in_err-key : goal.returns-in_err-key
+returns-in_err-key c =
+    let bytes = c.args.bytes.now in
+    let key = ap (λ n. key_of (slice_index bytes 0) n (slice_index bytes 2)) (sym c.u64_of.ensures) ∙ sym c.key_of.ensures ∙ c.in_err-key.was in
+    c.from_residual.ensures ∙ sym (ap (option_and_then if_sighting) (candidate-no_key bytes key))
