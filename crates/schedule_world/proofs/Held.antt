@@ -47,7 +47,7 @@ holds_none a lid p port before e g none =
     sym (append-nil before) ∙ ap (λ b. before ++ cond b (held_at a port ∷ []) []) (sym is)
 
 -- a list with one element more
-one_more : {X : Type 0} (xs : List X) (i : ℕ) (x : X) → slice_get xs i ≡ Some x → take (i + 1) xs ≡ take i xs ++ x ∷ []
+pub one_more : {X : Type 0} (xs : List X) (i : ℕ) (x : X) → slice_get xs i ≡ Some x → take (i + 1) xs ≡ take i xs ++ x ∷ []
 one_more xs i x e =
     let h = slice_get_within xs i x e in
     take_more xs i x h ∙ ap (λ y. take i xs ++ y ∷ []) (get_or_from_slice_get xs i x x e)

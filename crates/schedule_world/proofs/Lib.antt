@@ -1,3 +1,4 @@
+pub mod Doing
 pub mod Held
 pub mod Merging
 pub mod Order

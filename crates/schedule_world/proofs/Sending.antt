@@ -1,5 +1,5 @@
 -- Packets that are to go out: the first goes, and then the others.
-use Rattle.std.proofs.Common.{◌≡◌, ◌∙◌, List, [], ◌∷◌, None, Some, refl, sym, ap}
+use Rattle.std.proofs.Common.{◌≡◌, ◌∙◌, ◌<◌, List, [], ◌∷◌, None, Some, length, refl, sym, ap, arith}
 use Rattle.fabric_model.specs.declared.cable.NodePort.{NodePort}
 use Rattle.fabric_sim.specs.Changes.{after_inject}
 use Rattle.fabric_sim.specs.Simulation.{Simulation}
@@ -19,6 +19,10 @@ pub first_goes : (m left : Manager) (out : Outgoing) (fabric : Simulation) (at :
     → after_inject_all fabric at m.outgoing ≡ and_then (after_fabric (after_inject fabric at (packet_out out))) (λ now. after_inject_all now at left.outgoing)
 first_goes m left out fabric at e same =
     ap (after_inject_all fabric at) (first_of m m.outgoing out (sym e) ∙ ap (λ m. out ∷ m.outgoing) (sym same))
+
+pub fewer_left : (m left : Manager) (out : Outgoing) → Some out ≡ (after_take_outgoing m).packet → left ≡ (after_take_outgoing m).manager
+    → length left.outgoing < length m.outgoing
+fewer_left m left out e same = let count = ap length (first_of m m.outgoing out (sym e) ∙ ap (λ m. out ∷ m.outgoing) (sym same)) in omega (arith, count)
 
 none_of : (m : Manager) (queue : List Outgoing) → (taken_of m queue).packet ≡ None → queue ≡ []
 none_of m [] e = refl

@@ -1,9 +1,10 @@
 -- What comes first of several turns, and what is left then.
-use Rattle.std.proofs.Common.{◌≡◌, ◌∙◌, [], ◌∷◌, ◌++◌, map, ℕ, zero, suc, ◌+◌, ◌-◌, ◌/◌, ◌<◌, ◌≤◌, List, None, Some, length, get_or, drop, add-one, refl, sym, ap, arith}
+use Rattle.std.proofs.Common.{◌≡◌, ◌∙◌, [], ◌∷◌, ◌++◌, map, ℕ, zero, suc, ◌+◌, ◌-◌, ◌/◌, ◌<◌, ◌≤◌, List, None, Some, length, get_or, drop, take, add-one, refl, sym, ap, arith}
 use Rattle.std.specs.Prelude.{slice_get}
 use Rattle.std.specs.List.{flat_map}
 use Rattle.std.specs.Option.{option_map_or}
 use Rattle.std.proofs.lemmas.Option.{get_or_from_slice_get, slice_get-get_or, slice_get_read, slice_get_within}
+use Rattle.std.proofs.lemmas.List.{length-append}
 use Rattle.std.proofs.lemmas.List.FromFn.{get_or-range_with_len, length-range_with_len}
 use Rattle.topo_file.specs.declared.node.Node.{Node}
 use Rattle.schedule_file.specs.Schedule.{SeatCommand}
@@ -13,6 +14,7 @@ use Rattle.fabric_sim.specs.declared.flight.Flight.{Flight}
 use Rattle.schedule_world.specs.Commands.{after_command, after_commands, after_drain_line, after_give_up, after_giving_up, after_step}
 use Rattle.schedule_world.specs.Tables.{blocks_to}
 use Rattle.schedule_world.specs.World.{Outcome, WorldValue, and_then, quiet, shows}
+use Rattle.schedule_world.proofs.Held.{one_more}
 
 -- requests that are given up ------------------------------------------------------------------------------
 
@@ -24,6 +26,19 @@ given_next w seat items i h =
 
 pub given_none : (w : WorldValue) (seat : ℕ) (items : List ℕ) (i : ℕ) → length items ≤ i → after_giving_up w seat (drop i items) ≡ quiet w
 given_none w seat items i h = ap (after_giving_up w seat) (drop_of_length-le items h)
+
+-- the first of several, and one more
+pub waits_more : (xs items now : List ℕ) (n t : ℕ) → items ≡ take (length items) xs → n ≡ length items → Some t ≡ slice_get xs n → now ≡ items ++ t ∷ []
+    → (now ≡ take (length now) xs) × (length now ≤ length xs) × (length items < length now)
+waits_more xs items now n t so_far same found pushed =
+    let there : slice_get xs (length items) ≡ Some t = ap (slice_get xs) (sym same) ∙ sym found in
+    let within = slice_get_within xs (length items) t there in
+    let counted = ap length pushed in
+    let long : length now ≡ length items + 1 = omega (arith, counted, length-append items (t ∷ [])) in (
+      pushed ∙ ap (λ ys. ys ++ t ∷ []) so_far ∙ sym (one_more xs (length items) t there) ∙ ap (λ k. take k xs) (sym long),
+      omega (arith, within, long),
+      omega (arith, long),
+    )
 
 -- packets that take steps -------------------------------------------------------------------------------------
 

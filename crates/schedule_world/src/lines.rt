@@ -109,7 +109,6 @@ pub(crate) fn write_ping<W: Sink>(
 }
 
 /// Prints from where the packet is sent, and to which LID.
-#[tactic(auto, unfolding(crate::specs::Lines::start_text))]
 fn write_start<W: Sink>(
     sink: &mut W,
     topology: &Topology,

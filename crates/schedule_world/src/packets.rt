@@ -88,7 +88,7 @@ impl World<'_> {
 
     /// The manager at a port takes a packet in, and what it queues then goes out. Where none sits
     /// the packet is dropped.
-    #[tactic(auto, using(crate::proofs::Printing::prints_then, crate::proofs::Printing::ends_in), unfolding(crate::specs::Commands::after_hand_up, crate::specs::Commands::after_take_and_send))]
+    #[tactic(auto, unfolding(crate::specs::Commands::after_hand_up))]
     fn hand_up<W: Sink>(
         &mut self,
         port: &NodePort,

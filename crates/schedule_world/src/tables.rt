@@ -19,7 +19,6 @@ use subnet_view::EndPort;
 
 impl World<'_> {
     /// Prints the LIDs that ports hold, and then the forwarding tables of all switches.
-    #[tactic(auto, using(crate::proofs::Printing::prints_then), unfolding(crate::specs::Tables::tables_text))]
     pub(crate) fn show_tables<W: Sink>(&self, alloc: Global, sink: &mut W) -> Result<(), RunFault>
         ensures prints { PrintsUnless W.written W.has_failed result sink.old sink.new
             (tables_text self.now.fabric) }

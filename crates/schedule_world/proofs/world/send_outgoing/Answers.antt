@@ -4,8 +4,8 @@ use Rattle.fabric_sim.specs.Changes.{after_inject}
 use Rattle.fabric_sim.specs.Simulation.{Simulation}
 use Rattle.schedule_world.specs.Flights.{packet_out}
 use Rattle.schedule_world.specs.World.{Outcome, after_fabric, emptied, after_inject_all}
-use Rattle.schedule_world.proofs.Printing.{IsUnderWay, goes_on, stops_in}
-use Rattle.schedule_world.proofs.Sending.{first_goes, taken_emptied}
+use Rattle.schedule_world.proofs.Printing.{IsUnderWay, goes_on, is_over, stops_in}
+use Rattle.schedule_world.proofs.Sending.{fewer_left, first_goes, none_emptied, none_goes, taken_emptied}
 use Rattle.schedule_world.proofs.world.send_outgoing.Goals as goal
 
 pub loop-outgoing-preserved : goal.loop-outgoing-preserved
@@ -40,3 +40,22 @@ returns-in_err-send_one-clause-prints g c =
     (subst (λ outcome. IsUnderWay g.W.Sink.written g.W.Sink.has_failed c.args.sink.now c.loop-outgoing.sink whole outcome) first
     c.loop-outgoing.invariant.sends)
     c.in_err-send_one.ensures.prints)
+
+pub loop-outgoing-smaller : goal.loop-outgoing-smaller
+loop-outgoing-smaller g c =
+    fewer_left c.loop-outgoing.manager c.take_outgoing.new.self c.in-Some.outgoing c.in-Some.ensures.packet c.in-Some.ensures.manager
+
+pub returns-clause-fabric : goal.returns-clause-fabric
+returns-clause-fabric g c =
+    ap (λ r. r.now) (sym (none_goes c.loop-outgoing.manager c.loop-outgoing.fabric c.args.from.now (sym c.in_default.ensures.packet)))
+    ∙ c.loop-outgoing.invariant.sends.same
+
+pub returns-clause-manager : goal.returns-clause-manager
+returns-clause-manager g c =
+    c.in_default.ensures.manager ∙ none_emptied c.loop-outgoing.manager (sym c.in_default.ensures.packet) ∙ c.loop-outgoing.invariant.keeps
+
+pub returns-clause-prints : goal.returns-clause-prints
+returns-clause-prints g c =
+    is_over g.W.Sink.written g.W.Sink.has_failed c.args.sink.now c.loop-outgoing.sink
+    (after_inject_all c.args.fabric.now c.args.from.now c.args.manager.now.outgoing) _ c.loop-outgoing.invariant.sends
+    (ap (λ r. r.text) (none_goes c.loop-outgoing.manager c.loop-outgoing.fabric c.args.from.now (sym c.in_default.ensures.packet)))

@@ -3,6 +3,7 @@ use Rattle.sm_manager.specs.Manager.{after_raise_floor}
 use Rattle.schedule_world.specs.Commands.{after_command, after_floor_line}
 use Rattle.schedule_world.specs.Prints.{Prints}
 use Rattle.schedule_world.specs.World.{value_of, with_manager}
+use Rattle.schedule_world.proofs.Doing.{does_same, does_show}
 use Rattle.schedule_world.proofs.Printing.{prints_nothing}
 use Rattle.schedule_world.proofs.Seats.{quiet_at}
 use Rattle.schedule_world.proofs.world.World.execute.Goals as goal
@@ -23,3 +24,79 @@ returns-in-Floor g c =
             (prints_nothing g.W.Sink.written g.W.Sink.has_failed c.args.sink.now);
       };
     }
+
+pub returns-in-Manager : goal.returns-in-Manager
+returns-in-Manager g c = record {
+  does = does_same g.W.Sink.written g.W.Sink.has_failed c.args.self.now c.seat.new.self c.seat.result c.args.sink.now c.seat.new.sink _ _
+      (ap (after_command c.args.topology.now.nodes (value_of c.args.self.now)) (sym c.in-Manager.is)) c.seat.ensures.does;
+}
+
+pub returns-in-Ask : goal.returns-in-Ask
+returns-in-Ask g c = record {
+  does = does_same g.W.Sink.written g.W.Sink.has_failed c.args.self.now c.ask.new.self c.ask.result c.args.sink.now c.ask.new.sink _ _
+      (ap (after_command c.args.topology.now.nodes (value_of c.args.self.now)) (sym c.in-Ask.is)) c.ask.ensures.does;
+}
+
+pub returns-in-Timeout : goal.returns-in-Timeout
+returns-in-Timeout g c = record {
+  does = does_same g.W.Sink.written g.W.Sink.has_failed c.args.self.now c.time_out.new.self c.time_out.result c.args.sink.now c.time_out.new.sink _ _
+      (ap (after_command c.args.topology.now.nodes (value_of c.args.self.now)) (sym c.in-Timeout.is)) c.time_out.ensures.does;
+}
+
+pub returns-in-Merge : goal.returns-in-Merge
+returns-in-Merge g c = record {
+  does = does_same g.W.Sink.written g.W.Sink.has_failed c.args.self.now c.merge.new.self c.merge.result c.args.sink.now c.merge.new.sink _ _
+      (ap (after_command c.args.topology.now.nodes (value_of c.args.self.now)) (sym c.in-Merge.is)) c.merge.ensures.does;
+}
+
+pub returns-in-Packet : goal.returns-in-Packet
+returns-in-Packet g c = record {
+  does = does_same g.W.Sink.written g.W.Sink.has_failed c.args.self.now c.handle_packet.new.self c.handle_packet.result c.args.sink.now c.handle_packet.new.sink _ _
+      (ap (after_command c.args.topology.now.nodes (value_of c.args.self.now)) (sym c.in-Packet.is)) c.handle_packet.ensures.does;
+}
+
+pub returns-in-Drain : goal.returns-in-Drain
+returns-in-Drain g c = record {
+  does = does_same g.W.Sink.written g.W.Sink.has_failed c.args.self.now c.drain.new.self c.drain.result c.args.sink.now c.drain.new.sink _ _
+      (ap (after_command c.args.topology.now.nodes (value_of c.args.self.now)) (sym c.in-Drain.is)) c.drain.ensures.does;
+}
+
+pub returns-in-Cut : goal.returns-in-Cut
+returns-in-Cut g c = record {
+  does = does_same g.W.Sink.written g.W.Sink.has_failed c.args.self.now c.cut.new.self c.cut.result c.args.sink.now c.cut.new.sink _ _
+      (ap (after_command c.args.topology.now.nodes (value_of c.args.self.now)) (sym c.in-Cut.is)) c.cut.ensures.does;
+}
+
+pub returns-in-Plug : goal.returns-in-Plug
+returns-in-Plug g c = record {
+  does = does_same g.W.Sink.written g.W.Sink.has_failed c.args.self.now c.plug.new.self c.plug.result c.args.sink.now c.plug.new.sink _ _
+      (ap (after_command c.args.topology.now.nodes (value_of c.args.self.now)) (sym c.in-Plug.is)) c.plug.ensures.does;
+}
+
+pub returns-in-Show : goal.returns-in-Show
+returns-in-Show g c = record {
+  does = does_same g.W.Sink.written g.W.Sink.has_failed c.args.self.now c.args.self.now c.show.result c.args.sink.now c.show.new.sink _ _
+      (ap (after_command c.args.topology.now.nodes (value_of c.args.self.now)) (sym c.in-Show.is))
+      (does_show g.W.Sink.written g.W.Sink.has_failed c.args.self.now c.show.result c.args.sink.now c.show.new.sink _ c.show.ensures.prints);
+}
+
+pub returns-in-Ping : goal.returns-in-Ping
+returns-in-Ping g c = record {
+  does = does_same g.W.Sink.written g.W.Sink.has_failed c.args.self.now c.args.self.now c.show_ping.result c.args.sink.now c.show_ping.new.sink _ _
+      (ap (after_command c.args.topology.now.nodes (value_of c.args.self.now)) (sym c.in-Ping.is))
+      (does_show g.W.Sink.written g.W.Sink.has_failed c.args.self.now c.show_ping.result c.args.sink.now c.show_ping.new.sink _ c.show_ping.ensures.prints);
+}
+
+pub returns-in-Tables : goal.returns-in-Tables
+returns-in-Tables g c = record {
+  does = does_same g.W.Sink.written g.W.Sink.has_failed c.args.self.now c.args.self.now c.show_tables.result c.args.sink.now c.show_tables.new.sink _ _
+      (ap (after_command c.args.topology.now.nodes (value_of c.args.self.now)) (sym c.in-Tables.is))
+      (does_show g.W.Sink.written g.W.Sink.has_failed c.args.self.now c.show_tables.result c.args.sink.now c.show_tables.new.sink _ c.show_tables.ensures.prints);
+}
+
+pub returns-in-Flight : goal.returns-in-Flight
+returns-in-Flight g c = record {
+  does = does_same g.W.Sink.written g.W.Sink.has_failed c.args.self.now c.args.self.now c.show_flight.result c.args.sink.now c.show_flight.new.sink _ _
+      (ap (after_command c.args.topology.now.nodes (value_of c.args.self.now)) (sym c.in-Flight.is))
+      (does_show g.W.Sink.written g.W.Sink.has_failed c.args.self.now c.show_flight.result c.args.sink.now c.show_flight.new.sink _ c.show_flight.ensures.prints);
+}
