@@ -1,9 +1,14 @@
 //! The channels that packets for one LID take in turn while switches go over from one table to another.
-ghost use Rattle.std.specs.Prelude.{◌≡◌, ◌<◌, ◌*◌, ◌^◌, [], OnOk, length};
+ghost use Rattle.std.specs.Prelude.{◌≡◌, ◌<◌, ◌*◌, ◌/◌, ◌^◌, [], IfOk, OnOk, length};
+ghost use Rattle.fact_store.specs.View.{cells_of};
+ghost use Rattle.audit.specs.Edges.{edges_of};
+ghost use Rattle.held_tables.specs.Blocks.{AreBlocks};
 ghost use Rattle.next_tables.specs.StepOrder.{IsAddedInStep, IsWithStep};
 
+use audit::{Blocks, Network};
 use audit_channels::{Waits, add_across, add_column, is_same_column};
 use port_graph::Edge;
+use smp_bytes::Lid;
 use std::alloc::{AllocError, Global};
 
 /// By which edges packets for one LID leave the switches, by the tables held and by the next ones.
@@ -24,6 +29,32 @@ impl Columns {
             next: Vec::new(alloc),
         }
     }
+}
+
+/// Those of a LID, by the blocks of its number. Takes two steps for each switch.
+pub(crate) fn columns_of(
+    alloc: Global,
+    held: &Network,
+    next: &Network,
+    held_blocks: &Blocks,
+    next_blocks: &Blocks,
+    lid: Lid,
+) -> Result<Columns, AllocError>
+    requires held { AreBlocks held.now.held held_blocks.now.number held_blocks.now.rows.items }
+    requires held_number { held_blocks.now.number ≡ lid / 64 }
+    requires next { AreBlocks next.now.held next_blocks.now.number next_blocks.now.rows.items }
+    requires next_number { next_blocks.now.number ≡ lid / 64 }
+    ensures held { IfOk result (λ columns.
+        columns.held.items ≡ edges_of (cells_of held.now.facts) held.now.held lid) }
+    ensures next { IfOk result (λ columns.
+        columns.next.items ≡ edges_of (cells_of next.now.facts) next.now.held lid) }
+{
+    let held_edges = held.edges(alloc, held_blocks, lid)?;
+    let next_edges = next.edges(alloc, next_blocks, lid)?;
+    Ok(Columns {
+        held: held_edges,
+        next: next_edges,
+    })
 }
 
 /// That channels follow each other by which packets for a LID leave a switch by either table, and then the next by

@@ -5,6 +5,7 @@ ghost use Rattle.audit_channels.specs.Columns.{number_of};
 ghost use Rattle.next_tables.specs.LoopLids.{AreLoopLids, AreNoted, IsNoted, TakesFrom, TakesHere, are_known, turned};
 ghost use Rattle.next_tables.specs.StepOrder.{WaitInCycle};
 
+use crate::across::columns_of;
 use crate::step::greater;
 use audit::Network;
 use audit_channels::edge_of;
@@ -38,9 +39,8 @@ pub fn loop_lids(
         let lid = Lid::new(below + 1);
         held_blocks = held.blocks_for(alloc, held_blocks, lid)?;
         next_blocks = next.blocks_for(alloc, next_blocks, lid)?;
-        let before = held.edges(alloc, &held_blocks, lid)?;
-        let now = next.edges(alloc, &next_blocks, lid)?;
-        note_lid(&mut lids, cycle, &after, &before, &now, lid);
+        let columns = columns_of(alloc, held, next, &held_blocks, &next_blocks, lid)?;
+        note_lid(&mut lids, cycle, &after, &columns.held, &columns.next, lid);
     }
     Ok(lids)
 }

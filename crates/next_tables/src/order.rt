@@ -3,7 +3,7 @@ ghost use Rattle.std.specs.Prelude.{◌≡◌, IfOk};
 ghost use Rattle.fact_store.specs.View.{cells_of};
 ghost use Rattle.next_tables.specs.StepOrder.{AreWaits, IsShortestInStep, IsStepOrder};
 
-use crate::across::{Columns, add_step};
+use crate::across::{Columns, add_step, columns_of};
 use crate::step::greater;
 use audit::Network;
 use audit_channels::{ChannelOrder, Waits, order_channels};
@@ -42,12 +42,7 @@ fn waits(alloc: Global, held: &Network, next: &Network) -> Result<Waits, AllocEr
         let lid = Lid::new(below + 1);
         held_blocks = held.blocks_for(alloc, held_blocks, lid)?;
         next_blocks = next.blocks_for(alloc, next_blocks, lid)?;
-        let held_edges = held.edges(alloc, &held_blocks, lid)?;
-        let next_edges = next.edges(alloc, &next_blocks, lid)?;
-        let columns = Columns {
-            held: held_edges,
-            next: next_edges,
-        };
+        let columns = columns_of(alloc, held, next, &held_blocks, &next_blocks, lid)?;
         add_step(&mut waits, &before, &columns)?;
         before = columns;
     }

@@ -25,8 +25,8 @@ loop-below-preserved c =
     let new = c.note_lid.new.lids in
     let rest = drop (length new) was.items in
     let lid = c.new-lid.result in
-    let before = c.in_ok-before.before.items in
-    let now = c.in_ok-now.now.items in
+    let before = c.in_ok-columns.columns.held.items in
+    let now = c.in_ok-columns.columns.next.items in
     let low : 1 ≤ lid = (let is = c.new-lid.ensures in omega arith) in
     let long : was.len ≡ length new = omega (arith, c.note_lid.ensures.as_many, ap length c.deref_mut.ensures.value, was.ok.0) in
     let kept : take was.len (new ++ rest) ≡ new = ap (λ n. take n (new ++ rest)) long ∙ take-append_seam new rest in
@@ -39,8 +39,8 @@ loop-below-preserved c =
     let noted = subst (λ (xs : List ℕ). AreNoted before now lid cycle after xs new) c.deref_mut.ensures.value three in
     subst (LidsUpTo cells held next (c.loop-below.below + 1) c.in_ok-held_blocks-2.held_blocks.number c.in_ok-next_blocks-2.next_blocks.number
     c.in_ok-held_blocks-2.held_blocks.rows.items c.in_ok-next_blocks-2.next_blocks.rows.items cycle after) (sym kept)
-    (more_lids cells held next lid low before now c.in_ok-before.ensures
-    (c.in_ok-now.ensures ∙ ap (λ (f : Facts). edges_of (cells_of f) next lid) c.requires.facts)
+    (more_lids cells held next lid low before now c.in_ok-columns.ensures.held
+    (c.in_ok-columns.ensures.next ∙ ap (λ (f : Facts). edges_of (cells_of f) next lid) c.requires.facts)
     c.loop-below.below c.loop-below.held_blocks.number c.loop-below.next_blocks.number c.in_ok-held_blocks-2.held_blocks.number
     c.in_ok-next_blocks-2.next_blocks.number c.loop-below.held_blocks.rows.items c.loop-below.next_blocks.rows.items
     c.in_ok-held_blocks-2.held_blocks.rows.items c.in_ok-next_blocks-2.next_blocks.rows.items cycle after was.items new c.loop-below.invariant

@@ -5,7 +5,7 @@ use Rattle.port_graph.specs.declared.edge.Edge.{Edge}
 use Rattle.fact_store.specs.View.{Facts, cells_of}
 use Rattle.subnet_view.specs.Reading.{switches}
 use Rattle.audit.specs.Edges.{edges_of, greatest_top}
-use Rattle.audit_channels.proofs.Waiting.{some_is}
+use Rattle.audit_channels.proofs.Waiting.{column_long, some_is}
 use Rattle.next_tables.specs.StepOrder.{IsAddedInStep}
 use Rattle.next_tables.proofs.InStep.{none_so_far, more, all}
 use Rattle.next_tables.proofs.Taken.{is_added, none_added}
@@ -31,8 +31,8 @@ loop-below-preserved c =
     let held = c.args.held.now.held in
     let next = c.args.next.now.held in
     let lid = c.new-lid.result in
-    let before = c.in_ok-held_edges.held_edges.items in
-    let after = c.in_ok-next_edges.next_edges.items in
+    let before = c.in_ok-columns.columns.held.items in
+    let after = c.in_ok-columns.columns.next.items in
     let old = c.loop-below.waits in
     let new = c.add_step.new.waits in
     let with_it = c.in_ok-add_step.ensures in
@@ -40,8 +40,8 @@ loop-below-preserved c =
       so_far = more cells held next c.loop-below.below lid c.loop-below.held_blocks.number c.loop-below.next_blocks.number
           c.in_ok-held_blocks-2.held_blocks.number c.in_ok-next_blocks-2.next_blocks.number c.loop-below.held_blocks.rows.items
           c.loop-below.next_blocks.rows.items c.in_ok-held_blocks-2.held_blocks.rows.items c.in_ok-next_blocks-2.next_blocks.rows.items old new before after
-          c.loop-below.invariant.so_far c.in_ok-held_blocks-2.ensures.0 c.in_ok-next_blocks-2.ensures.0 c.new-lid.ensures c.in_ok-held_edges.ensures
-          (c.in_ok-next_edges.ensures ∙ ap (λ (f : Facts). edges_of (cells_of f) next lid) c.requires.facts) with_it;
+          c.loop-below.invariant.so_far c.in_ok-held_blocks-2.ensures.0 c.in_ok-next_blocks-2.ensures.0 c.new-lid.ensures c.in_ok-columns.ensures.held
+          (c.in_ok-columns.ensures.next ∙ ap (λ (f : Facts). edges_of (cells_of f) next lid) c.requires.facts) with_it;
       added = is_added old new before after with_it;
     }
 
@@ -58,3 +58,17 @@ returns c =
     all cells held next c.loop-below.below c.loop-below.held_blocks.number c.loop-below.next_blocks.number c.loop-below.held_blocks.rows.items
     c.loop-below.next_blocks.rows.items
     c.loop-below.waits c.loop-below.invariant.so_far (omega arith)
+
+pub add_step-requires-clause-added : goal.add_step-requires-clause-added
+add_step-requires-clause-added c = c.loop-below.invariant.added
+
+pub add_step-requires-clause-held : goal.add_step-requires-clause-held
+add_step-requires-clause-held c =
+    let long = ap length c.in_ok-columns.ensures.held ∙ column_long (cells_of c.args.held.now.facts) c.args.held.now.held c.new-lid.result in
+    c.loop-below.invariant.so_far.as_many ∙ ap (λ n. 256 * n) (sym long)
+
+pub add_step-requires-clause-next : goal.add_step-requires-clause-next
+add_step-requires-clause-next c =
+    let long = ap length c.in_ok-columns.ensures.next ∙ column_long (cells_of c.args.next.now.facts) c.args.next.now.held c.new-lid.result
+    ∙ ap (λ (f : Facts). length (switches (cells_of f))) c.requires.facts in
+    c.loop-below.invariant.so_far.as_many ∙ ap (λ n. 256 * n) (sym long)
