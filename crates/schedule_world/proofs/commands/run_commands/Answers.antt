@@ -1,11 +1,13 @@
-use Rattle.std.proofs.Common.{◌∙◌, ◌+◌, List, [], ℕ, drop, length, refl, ap, subst, sym}
+use Rattle.std.proofs.Common.{◌∙◌, ◌+◌, List, [], ℕ, drop, get_or, length, refl, ap, subst, sym}
+use Rattle.std.specs.Prelude.{All}
 use Rattle.std.proofs.lemmas.List.{append-nil, length-map}
 use Rattle.std.proofs.lemmas.Option.{slice_get_read}
 use Rattle.std.proofs.lemmas.Result.{err_from_is_err_and}
+use Rattle.schedule_file.specs.Schedule.{NamesManagers, SeatCommand}
 use Rattle.schedule_world.specs.Commands.{after_command, after_commands, new_seated, script_text, world_of}
 use Rattle.schedule_world.specs.Prints.{Prints}
 use Rattle.schedule_world.specs.World.{Outcome, WorldValue, seated_value, value_of}
-use Rattle.schedule_world.proofs.Printing.{IsUnderWay, begins, failed_with, goes_on, is_over, prints_both, prints_same, stops_in, wrote}
+use Rattle.schedule_world.proofs.Printing.{IsUnderWay, begins, ends_unprinted, failed_with, goes_on, is_over, prints_both, prints_same, stops_in, wrote}
 use Rattle.schedule_world.proofs.Turns.{commands_next, commands_none}
 use Rattle.schedule_world.proofs.commands.run_commands.Goals as goal
 
@@ -78,3 +80,24 @@ returns-clause-prints g c =
     (is_over g.W.Sink.written g.W.Sink.has_failed c.args.sink.now c.loop-command.sink whole _ c.loop-command.invariant.runs
     (ap (λ r. r.text) (commands_none nodes w items c.loop-command.command-index c.loop-command-test.false)))
     (wrote g.W.Sink.written g.W.Sink.has_failed c.in_ok-flush.field-0 c.loop-command.sink c.flush.new.self [] c.in_ok-flush.ensures.writes))
+
+pub execute-requires : goal.execute-requires
+execute-requires g c =
+    let items = c.commands-command-items.result.now in
+    let i = c.loop-command.command-index in
+    let command = c.command-item.result in
+    let count = length c.args.schedule.now.seats in
+    let all : All (NamesManagers count) items = subst (λ (xs : List SeatCommand). All (NamesManagers count) xs) (sym c.commands-command-items.ensures)
+    c.requires.commands in
+    subst (NamesManagers (length c.loop-command.world.managers.items)) (sym c.command-item.is)
+    (subst (λ (n : ℕ). NamesManagers n (get_or items i command)) (sym c.loop-command.invariant.managers) (all i command c.loop-command-test.true))
+
+pub returns-in_err-world-clause-prints : goal.returns-in_err-world-clause-prints
+returns-in_err-world-clause-prints g c =
+    let p = err_from_is_err_and c.from_residual.result c.from_residual.ensures.1 in
+    rw (p.1, p.2) (ends_unprinted g.W.Sink.written g.W.Sink.has_failed c.args.sink.now c.args.sink.now _ refl)
+
+pub returns-in_err-flush-clause-prints : goal.returns-in_err-flush-clause-prints
+returns-in_err-flush-clause-prints g c =
+    let p = err_from_is_err_and c.from_residual-in_err-flush.result c.from_residual-in_err-flush.ensures.1 in
+    rw (p.1, p.2) (c.in_err-flush.ensures.writes.failed.0 refl)
