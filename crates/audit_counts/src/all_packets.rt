@@ -1,5 +1,5 @@
 //! The packets for all LIDs that are held.
-ghost use Rattle.std.specs.Prelude.{◌≡◌, ◌/◌, ◌++◌, true, Contains, IfOk, List, OnOk, count_by, map};
+ghost use Rattle.std.specs.Prelude.{◌≡◌, ◌/◌, ◌++◌, [], true, Contains, IfOk, List, OnOk, count_by, map};
 ghost use Rattle.fact_store.specs.View.{cells_of};
 ghost use Rattle.subnet_view.specs.EndPorts.{end_ports};
 ghost use Rattle.audit.specs.Deliveries.{AreDeliveries};
@@ -37,6 +37,27 @@ pub fn survey(alloc: Global, network: &Network, sites: &[Site]) -> Result<Packet
 {
     let mut tally = PacketTally::new(alloc);
     let mut told = Vec::new(alloc);
+    add_lines(alloc, &mut tally, &mut told, network, sites)?;
+    Ok(PacketSurvey { tally, told })
+}
+
+/// Counts those for the LIDs of all lines, where none is counted yet, and tells of each line whether all packets for
+/// its LID are delivered at its port.
+fn add_lines(
+    alloc: Global,
+    tally: &mut PacketTally,
+    told: &mut Vec<bool>,
+    network: &Network,
+    sites: &[Site],
+) -> Result<(), AllocError>
+    requires tally { IsTally [] tally.old }
+    requires told { told.old.items ≡ [] }
+    requires sites { sites.now
+        ≡ map (site_of (cells_of network.now.facts)) (end_ports (cells_of network.now.facts)) }
+    ensures tally { OnOk result
+        (IsTally (packets_of (cells_of network.now.facts) network.now.held) tally.new) }
+    ensures told { OnOk result (AreTold (cells_of network.now.facts) network.now.held told.new.items) }
+{
     let mut index = 0;
     let census = census_of(sites);
     let mut blocks = network.blocks(alloc, 0)?;
@@ -48,7 +69,7 @@ pub fn survey(alloc: Global, network: &Network, sites: &[Site]) -> Result<Packet
         let all = match site_in(sites, index) {
             Some(owner) => add_packets(
                 alloc,
-                &mut tally,
+                tally,
                 network,
                 &blocks,
                 &deliveries,
@@ -61,7 +82,7 @@ pub fn survey(alloc: Global, network: &Network, sites: &[Site]) -> Result<Packet
         };
         told.push(all)?;
     }
-    Ok(PacketSurvey { tally, told })
+    Ok(())
 }
 
 /// Counts those for the LID of a line; answers whether all are seen to be delivered at its port.

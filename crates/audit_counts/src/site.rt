@@ -153,10 +153,27 @@ pub fn sites(alloc: Global, store: &Store) -> Result<Vec<Site>, Refused>
         ≡ map (site_of (cells_of store.now)) (end_ports (cells_of store.now))) }
 {
     let wires = Wires::of(alloc, store)?;
-    let graph = SwitchGraph::of(alloc, &wires)?;
+    sites_by_wires(alloc, &wires)
+}
+
+/// The same by the wires.
+fn sites_by_wires(alloc: Global, wires: &Wires) -> Result<Vec<Site>, Refused>
+    ensures { IfOk result (λ sites. sites.items
+        ≡ map (site_of (cells_of wires.now)) (end_ports (cells_of wires.now))) }
+{
+    let graph = SwitchGraph::of(alloc, wires)?;
+    sites_by_graph(alloc, wires, &graph)
+}
+
+/// The same by the wires and the graph of the switches.
+fn sites_by_graph(alloc: Global, wires: &Wires, graph: &SwitchGraph) -> Result<Vec<Site>, Refused>
+    requires { graph.now ≡ graph_of (cells_of wires.now) }
+    ensures { IfOk result (λ sites. sites.items
+        ≡ map (site_of (cells_of wires.now)) (end_ports (cells_of wires.now))) }
+{
     let roots = graph.roots(alloc)?;
-    let ports = end_ports(alloc, store)?;
-    Ok(sites_of(alloc, &wires, &graph, &roots, &ports)?)
+    let ports = end_ports(alloc, wires.store())?;
+    Ok(sites_of(alloc, wires, graph, &roots, &ports)?)
 }
 
 /// Where each of these end ports lies.

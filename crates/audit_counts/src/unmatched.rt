@@ -1,7 +1,8 @@
 //! Where the tables that are held and the facts of the subnet differ.
 ghost use Rattle.std.specs.Prelude.{◌≡◌, IfOk};
 ghost use Rattle.fact_store.specs.View.{cells_of};
-ghost use Rattle.audit_counts.specs.Unmatched.{IsUnmatched, has_lid, is_held, lidless_among, tableless_among, twice, unknown, unowned};
+ghost use Rattle.audit_counts.specs.Unmatched.{IsUnmatched, has_lid, is_held, lidless, lidless_among, tableless};
+ghost use Rattle.audit_counts.specs.Unmatched.{tableless_among, twice, unknown, unowned};
 
 use crate::first_few::FirstFew;
 use audit::{Network, is_same_end};
@@ -32,15 +33,9 @@ impl Unmatched {
     pub fn of(alloc: Global, network: &Network) -> Result<Self, Refused>
         ensures { IfOk result (IsUnmatched (cells_of network.now.facts) network.now.held) }
     {
-        let store = network.store();
-        let held = network.held();
-        let guids = switches(alloc, store)?;
-        let unowned = unowned(alloc, held, store)?;
-        let twice = twice(alloc, network)?;
-        let unknown = unknown(alloc, held, store)?;
-        let tableless = tableless(alloc, held, &guids)?;
-        let ports = end_ports(alloc, store)?;
-        let lidless = lidless(alloc, held, &ports)?;
+        let (unowned, twice) = unowned_and_twice(alloc, network)?;
+        let (unknown, tableless) = unknown_and_tableless(alloc, network)?;
+        let lidless = lidless_of(alloc, network)?;
         Ok(Unmatched {
             unowned,
             twice,
@@ -49,6 +44,48 @@ impl Unmatched {
             lidless,
         })
     }
+}
+
+/// LIDs with ports that are no end ports of the facts, and LIDs that more than one port holds.
+fn unowned_and_twice(
+    alloc: Global,
+    network: &Network,
+) -> Result<(FirstFew<HeldLid>, FirstFew<HeldLid>), AllocError>
+    ensures unowned { IfOk result (λ both. both.0 ≡ unowned (cells_of network.now.facts) network.now.held) }
+    ensures twice { IfOk result (λ both. both.1 ≡ twice network.now.held) }
+{
+    let unowned = unowned(alloc, network.held(), network.store())?;
+    let twice = twice(alloc, network)?;
+    Ok((unowned, twice))
+}
+
+/// Switches with tables that are no usable switches of the facts, and usable switches without tables.
+fn unknown_and_tableless(
+    alloc: Global,
+    network: &Network,
+) -> Result<(FirstFew<Guid>, FirstFew<Guid>), Refused>
+    ensures unknown { IfOk result (λ both. both.0 ≡ unknown (cells_of network.now.facts) network.now.held) }
+    ensures tableless { IfOk result (λ both. both.1 ≡ tableless (cells_of network.now.facts) network.now.held) }
+{
+    let unknown = unknown(alloc, network.held(), network.store())?;
+    let tableless = tableless_of(alloc, network)?;
+    Ok((unknown, tableless))
+}
+
+/// Usable switches without tables.
+fn tableless_of(alloc: Global, network: &Network) -> Result<FirstFew<Guid>, Refused>
+    ensures { IfOk result (λ few. few ≡ tableless (cells_of network.now.facts) network.now.held) }
+{
+    let guids = switches(alloc, network.store())?;
+    Ok(tableless(alloc, network.held(), &guids)?)
+}
+
+/// End ports without a LID.
+fn lidless_of(alloc: Global, network: &Network) -> Result<FirstFew<EndPort>, Refused>
+    ensures { IfOk result (λ few. few ≡ lidless (cells_of network.now.facts) network.now.held) }
+{
+    let ports = end_ports(alloc, network.store())?;
+    Ok(lidless(alloc, network.held(), &ports)?)
 }
 
 /// LIDs with ports that are no end ports of the facts.
@@ -90,7 +127,7 @@ fn unknown(alloc: Global, held: &Held, store: &Store) -> Result<FirstFew<Guid>, 
     Ok(few)
 }
 
-/// Usable switches without tables.
+/// Those of some switches that have no tables.
 fn tableless(alloc: Global, held: &Held, guids: &[Guid]) -> Result<FirstFew<Guid>, AllocError>
     ensures { IfOk result (λ few. few ≡ tableless_among guids.now held.now) }
 {
@@ -110,7 +147,7 @@ fn is_held(held: &Held, guid: Guid) -> bool
     held.switches().iter().any(|switch| switch.guid == guid)
 }
 
-/// End ports without a LID.
+/// Those of some end ports that hold no LID.
 fn lidless(alloc: Global, held: &Held, ports: &[EndPort]) -> Result<FirstFew<EndPort>, AllocError>
     ensures { IfOk result (λ few. few ≡ lidless_among ports.now held.now) }
 {

@@ -10,15 +10,15 @@ use Rattle.audit_counts.specs.declared.packet_tally.PacketTally.{PacketTally}
 use Rattle.audit_counts.proofs.Sited.{site_is, no_site}
 use Rattle.audit_counts.proofs.Surveyed.{AreSurveyed, line_surveyed, line_passed}
 use Rattle.audit_counts.proofs.ToldLines.{ToldSoFar, all_told, told_more}
-use Rattle.audit_counts.proofs.all_packets.survey.Goals as goal
-use Rattle.audit_counts.proofs.all_packets.survey.Goals.{in-Some+in_ok-all-in-Some, in-None}
+use Rattle.audit_counts.proofs.all_packets.add_lines.Goals as goal
+use Rattle.audit_counts.proofs.all_packets.add_lines.Goals.{in-Some+in_ok-all-in-Some, in-None}
 
 pub add_packets-requires-clause-owner : goal.add_packets-requires-clause-owner
 add_packets-requires-clause-owner c =
     let cells = cells_of c.args.network.now.facts in
     let sites = c.args.sites.now in
     let port = c.line-item.result.port in
-    (site_is cells port (end_ports cells) sites c.requires c.in-Some.owner
+    (site_is cells port (end_ports cells) sites c.requires.sites c.in-Some.owner
     (subst (λ (o : Option Site). IsSiteOf sites port o) (sym c.site_in.ensures ∙ c.in-Some.is) c.index_of-index.ensures)).0
 
 pub add_packets-requires-clause-listed : goal.add_packets-requires-clause-listed
@@ -50,14 +50,14 @@ loop-line-preserved c =
             subst Surveyed (sym w.tally-is)
             (line_surveyed cells held lines c.loop-line.blocks.number number c.loop-line.blocks.rows.items rows n line c.loop-line.tally
             w.add_packets.new.tally c.loop-line.invariant.surveyed c.in_ok-blocks-2.ensures.0 c.loop-line-test.true c.line-item.is
-            (site_is cells port (end_ports cells) sites c.requires w.in-Some.owner
+            (site_is cells port (end_ports cells) sites c.requires.sites w.in-Some.owner
             (subst (λ (o : Option Site). IsSiteOf sites port o) (sym c.site_in.ensures ∙ w.in-Some.is) c.index_of-index.ensures)).1
             w.in_ok-all-in-Some.ensures.counted)
         | in-None w ↦
             subst Surveyed (sym w.tally-is)
             (line_passed cells held lines c.loop-line.blocks.number number c.loop-line.blocks.rows.items rows n line c.loop-line.tally
             c.loop-line.invariant.surveyed c.in_ok-blocks-2.ensures.0 c.loop-line-test.true c.line-item.is
-            (no_site cells port (end_ports cells) sites c.requires
+            (no_site cells port (end_ports cells) sites c.requires.sites
             (subst (λ (o : Option Site). IsSiteOf sites port o) (sym c.site_in.ensures ∙ w.in-None.is) c.index_of-index.ensures)))
       ];
       deliveries_are = c.in_ok-deliveries-2.ensures;

@@ -2,7 +2,7 @@ use Rattle.fact_store.specs.View.{cells_of}
 use Rattle.audit.specs.Deliveries.{AreDeliveries}
 use Rattle.audit_counts.proofs.Surveyed.{AreSurveyed}
 use Rattle.audit_counts.proofs.ToldLines.{ToldSoFar}
-use Rattle.audit_counts.proofs.all_packets.survey.Given as goal
+use Rattle.audit_counts.proofs.all_packets.add_lines.Given as goal
 
 -- the packets for the lines so far, and of which lines it is told that all arrive
 abbrev pub invariant-loop-line : goal.invariant-loop-line
