@@ -8,8 +8,8 @@ use Rattle.audit_counts.specs.Sites.{IsSiteOf}
 use Rattle.audit_counts.specs.declared.site.Site.{Site}
 use Rattle.audit_counts.specs.declared.packet_tally.PacketTally.{PacketTally}
 use Rattle.audit_counts.proofs.Sited.{site_is, no_site}
-use Rattle.audit_counts.proofs.Surveyed.{AreSurveyed, line_surveyed, line_passed}
-use Rattle.audit_counts.proofs.ToldLines.{ToldSoFar, all_told, told_more}
+use Rattle.audit_counts.proofs.Surveyed.{AreSurveyed, all_surveyed, line_surveyed, line_passed, none_surveyed}
+use Rattle.audit_counts.proofs.ToldLines.{ToldSoFar, all_told, none_told, told_more}
 use Rattle.audit_counts.proofs.all_packets.add_lines.Goals as goal
 use Rattle.audit_counts.proofs.all_packets.add_lines.Goals.{in-Some+in_ok-all-in-Some, in-None}
 
@@ -69,3 +69,21 @@ pub returns-clause-told : goal.returns-clause-told
 returns-clause-told c =
     all_told (cells_of c.args.network.now.facts) c.args.network.now.held c.lids-line-items.result.now c.loop-line.line-index c.loop-line.told.items
     c.loop-line.invariant.told c.lids-line-items.ensures
+
+pub loop-line-init : goal.loop-line-init
+loop-line-init c =
+    let cells = cells_of c.args.network.now.facts in
+    let held = c.args.network.now.held in
+    let lines = c.lids-line-items.result.now in
+    let blocks = c.in_ok-blocks.blocks in
+    record {
+      surveyed = none_surveyed cells held lines blocks.number blocks.rows.items c.args.tally.now c.in_ok-blocks.ensures.0 c.requires.tally;
+      deliveries_are = c.in_ok-deliveries.ensures;
+      told = subst (λ (ts : List Bool). ToldSoFar cells held lines 0 ts) (sym c.requires.told) (none_told cells held lines);
+    }
+
+pub returns-clause-tally : goal.returns-clause-tally
+returns-clause-tally c =
+    let l = c.loop-line in
+    all_surveyed (cells_of c.args.network.now.facts) c.args.network.now.held c.lids-line-items.result.now l.blocks.number l.blocks.rows.items l.line-index
+    l.tally l.invariant.surveyed c.lids-line-items.ensures c.loop-line-test.false

@@ -1,10 +1,12 @@
 -- The switch at which an end port lies is one of the graph.
-use Rattle.std.proofs.Common.{◌≡◌, ◌∙◌, ℕ, List, [], ◌∷◌, refl, sym, ap, subst, map}
+use Rattle.std.proofs.Common.{◌≡◌, ◌∙◌, ℕ, List, [], ◌∷◌, refl, sym, ap, subst, map, length, arith}
 use Rattle.std.specs.Prelude.{Contains, Option, None, Some, option_map}
 use Rattle.std.proofs.lemmas.Option.{same_Some}
+use Rattle.port_graph.proofs.Counts.{length_map}
 use Rattle.fact_store.specs.View.{cells_of}
 use Rattle.subnet_view.specs.Reading.{Cells, switches}
 use Rattle.subnet_view.specs.SwitchEdges.{SwitchEdges}
+use Rattle.subnet_view.specs.Components.{root_of}
 use Rattle.subnet_view.specs.Graph.{edges_of, guids_of}
 use Rattle.lft_blocks.specs.Entries.{attachment_of}
 use Rattle.lft_blocks.proofs.AttachmentSwitches.{attachment_is_switch}
@@ -26,3 +28,9 @@ returns-in_err-index c =
     let it = some_attachment (attachment_of cells c.args.port.now) g (sym c.switch_of.ensures ∙ c.in_ok-switch.was) in
     let there : Contains (switches cells) g = subst (λ (x : ℕ). Contains (switches cells) x) it.2 (attachment_is_switch facts c.args.port.now it.0 it.1) in
     absurd (c.in_err-index.ensures (subst (λ (xs : List ℕ). Contains xs g) (sym (listed cells (switches cells)) ∙ sym (ap guids_of c.requires.graph)) there))
+
+pub bounds-roots-index : goal.bounds-roots-index
+bounds-roots-index c =
+    let inside = c.in_ok-index.ensures.0 in
+    let long = ap length c.requires.roots ∙ length_map (root_of c.args.graph.now) (guids_of c.args.graph.now) in
+    omega (arith, inside, long)
