@@ -5,7 +5,7 @@ ghost use Rattle.sm_cli.specs.declared.asked.Output.{Output as OutputValue};
 ghost use Rattle.sm_cli.specs.declared.asked.RuleAsked.{RuleAsked as RuleValue};
 ghost use Rattle.next_run.specs.declared.run_step.StepAsked.{StepAsked as StepValue};
 ghost use Rattle.cli_task.specs.declared.task.Task.{Task as TaskValue};
-ghost use Rattle.cli_task.specs.Asked.{Asks, AsksOutput, AsksStep, AsksTask, IsFloor, IsLmc, IsRule, RootsLackSpread, Writes};
+ghost use Rattle.cli_task.specs.Asked.{Asks, AsksOutput, AsksStep, AsksTask, IsFloor, IsLmc, IsRule, RootsLackSpread};
 ghost use Rattle.cli_task.specs.Asked.{names_asked, names_in, roots_asked, rule_of_task, takes_files, texts_asked, word_named};
 
 use crate::argument_names::{

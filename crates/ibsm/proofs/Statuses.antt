@@ -1,5 +1,5 @@
 -- No fault ends the program as an audit that does not pass, or as words that ask for nothing.
-use Rattle.std.proofs.Common.{◌≡◌, ◌∙◌, ◌⊎◌, Bool, true, false, cond, refl, sym, inl, inr, List, ℕ, Option}
+use Rattle.std.proofs.Common.{◌≡◌, ◌∙◌, ◌⊎◌, Bool, true, false, cond, refl, sym, inl, inr, List, ℕ}
 use Rattle.std.specs.Borrow.{Bor}
 use Rattle.record_file.specs.declared.file_fault.FileFault.{FileFault}
 use Rattle.record_file.specs.declared.file_fault.FileFault.TheVariants.{Magic, Truncated, BadReport, BadCell, CellOrder, Read, Memory as NoMemoryForFile, TooLong, BadFloor}

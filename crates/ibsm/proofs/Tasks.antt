@@ -1,5 +1,5 @@
 -- Which task words ask for, and which they don't.
-use Rattle.std.proofs.Common.{◌≡◌, ◌≢◌, ◌≤◌, ◌+◌, ◌∙◌, ℕ, List, [], ◌∷◌, ◌++◌, Option, None, Some, IsSome, true, false, length, length-append, ap, sym, refl, subst, arith}
+use Rattle.std.proofs.Common.{◌≡◌, ◌≢◌, ◌+◌, ◌∙◌, ℕ, List, [], ◌∷◌, ◌++◌, Option, None, Some, IsSome, true, false, length, length-append, ap, sym, refl, subst, arith}
 use Rattle.std.proofs.lemmas.Option.{same_Some}
 use Rattle.std.specs.Prelude.{codes, option_and_then, option_map}
 use Rattle.std.specs.Prelude.{map}
@@ -13,7 +13,7 @@ use Rattle.sm_cli.specs.declared.asked.Output.TheVariants.{Facts, Join, Plan}
 use Rattle.sm_cli.specs.declared.asked.RuleAsked.{RuleAsked}
 use Rattle.sm_cli.specs.declared.asked.RuleAsked.TheVariants.{UpDown, Spread, SpreadFromRoots}
 use Rattle.cli_task.specs.Asked.{Asks, AsksOutput, AsksStep, AsksTask, IsFloor, IsLmc, IsRule, IsUpDown}
-use Rattle.cli_task.specs.Asked.{files_named, followed_by, names_asked, names_in, roots_asked, rule_of_task, texts_asked, word_named}
+use Rattle.cli_task.specs.Asked.{files_named, followed_by, names_asked, names_in, roots_asked, texts_asked, word_named}
 use Rattle.ibsm.specs.Ending.{HasEnoughNames}
 use Rattle.next_run.specs.declared.run_step.StepAsked.{StepAsked}
 use Rattle.cli_task.specs.declared.task.Task.{Task}

@@ -1,5 +1,5 @@
 -- How a task over files ends: what was done, or its status and the line on standard error that says why.
-use Rattle.std.specs.Prelude.{◌≡◌, ◌⊎◌, ◌≤◌, ◌+◌, Bool, true, false, List, [], ℕ, Option, Some, None, Result, IsTrue, map, slice_get}
+use Rattle.std.specs.Prelude.{◌≡◌, ◌⊎◌, ◌≤◌, ◌+◌, Bool, true, false, List, [], ℕ, Option, Some, None, Result, map, slice_get}
 use Rattle.std.specs.Borrow.{Bor}
 use Rattle.byte_io.specs.Source.{SourceState}
 use Rattle.clap.specs.declared.parser.matches.ArgMatches.{ArgMatches}
@@ -12,7 +12,7 @@ use Rattle.sm_cli.specs.declared.exit_status.ExitStatus.TheVariants.{Done, Faile
 use Rattle.sm_cli.specs.declared.fault.Fault.{Fault}
 use Rattle.sm_cli.specs.declared.fault.Fault.TheVariants.{Open, File, Text, NoRoom, Write, Memory}
 use Rattle.audit_report.specs.RunAudit.{HasAudited, IsAuditFault}
-use Rattle.next_run.specs.RunNext.{HasStepped, IsSaid, IsStepFault}
+use Rattle.next_run.specs.RunNext.{HasStepped, IsStepFault}
 use Rattle.schedule_run.specs.Run.{HasRun, IsRunFault}
 use Rattle.cli_task.specs.Asked.{Asks, names_asked}
 use Rattle.ibsm.specs.declared.opener.OpenFault.{OpenFault}

@@ -1,20 +1,21 @@
 //! A task over files of some names.
-ghost use Rattle.std.specs.Prelude.{◌≡◌, ◌⊎◌, ◌≤◌, Bool, length, IfOk, IfErr, OnOk, OnErr, IsTrue, true};
+ghost use Rattle.std.specs.Prelude.{◌≡◌, ◌⊎◌, Bool, length, IfOk, IfErr, OnOk, OnErr, IsTrue, true};
 ghost use Rattle.std.specs.Io.KnownBytes.{Appends};
 ghost use Rattle.sm_cli.specs.ExitStatus.{status_of};
 ghost use Rattle.schedule_world.specs.Prints.{PrintsSome};
 ghost use Rattle.next_run.specs.RunNext.{IsSaid};
-ghost use Rattle.ibsm.specs.Ending.{HasEnoughNames, IsDone, IsTaskFault, KeepsOutput, Performs, SaysWhy, StaysSilent};
+ghost use Rattle.ibsm.specs.Ending.{Does, HasEnoughNames, IsDone, IsFaultOver, IsTaskFault, KeepsOutput, Performs, SaysWhy, StaysSilent};
 ghost use Rattle.ibsm.specs.Ending.{fault_line, name_of, status_after};
 ghost use Rattle.ibsm.specs.Opening.{AreOpened, IsOpenFault};
 
 use crate::opener::{OpenFault, Opener};
 use audit_report::run_audit;
-use byte_io::{Sink, ToWrite};
+use byte_io::{Sink, Source, ToWrite};
 use cli_task::Task;
 use next_run::run_next;
 use schedule_run::run_schedule;
 use sm_cli::{ExitStatus, Fault, run_files, write_fault};
+use std::alloc::Global;
 use std::io::Write;
 
 /// Does a task over the files of these names, which are its inputs in the order in which they are read, and says on
@@ -87,18 +88,39 @@ where
     ensures silent { OnOk result (StaysSilent task errors.old errors.new) }
     ensures nothing_said { OnErr result (errors.new ≡ errors.old) }
 {
-    let mut inputs = match open_all(rt, names) {
-        Ok(inputs) => inputs,
-        Err(fault) => return Err(fault),
-    };
+    match open_all(rt, names) {
+        Ok(mut inputs) => do_task(rt.alloc(), task, &mut inputs, output, errors),
+        Err(fault) => Err(fault),
+    }
+}
+
+/// Does a task over its inputs; answers whether what it judges passes.
+fn do_task<S: Source, W: Sink, E: Sink>(
+    alloc: Global,
+    task: Task,
+    inputs: &mut [S],
+    output: &mut W,
+    errors: &mut E,
+) -> Result<bool, Fault>
+    requires { HasEnoughNames task (length inputs.old) }
+    ensures done { IfOk result (Does S.state task inputs.old inputs.new
+        (Appends (W.written output.old) (W.written output.new))
+        (IsSaid E.written E.has_failed errors.old errors.new)) }
+    ensures flushed { OnOk result (IsTrue (W.is_flushed output.new)) }
+    ensures refused { IfErr result (IsFaultOver S.state task inputs.old inputs.new
+        (PrintsSome W.written W.has_failed output.old output.new) (W.has_failed output.new)) }
+    ensures kept { IfErr result (KeepsOutput task (output.new ≡ output.old)) }
+    ensures silent { OnOk result (StaysSilent task errors.old errors.new) }
+    ensures nothing_said { OnErr result (errors.new ≡ errors.old) }
+{
     match task {
-        Task::Answer(request) => match run_files(rt.alloc(), &mut inputs, request, output) {
+        Task::Answer(request) => match run_files(alloc, inputs, request, output) {
             Ok(()) => Ok(true),
             Err(fault) => Err(fault),
         },
-        Task::Audit(floor) => run_audit(rt.alloc(), &mut inputs, floor, output),
-        Task::Next(asked) => run_next(rt.alloc(), &mut inputs, asked, output, errors),
-        Task::Run(lmc, rule) => match run_schedule(rt.alloc(), &mut inputs, lmc, rule, output) {
+        Task::Audit(floor) => run_audit(alloc, inputs, floor, output),
+        Task::Next(asked) => run_next(alloc, inputs, asked, output, errors),
+        Task::Run(lmc, rule) => match run_schedule(alloc, inputs, lmc, rule, output) {
             Ok(()) => Ok(true),
             Err(fault) => Err(fault),
         },

@@ -1,7 +1,6 @@
 //! `ibsm`: what InfiniBand subnet managers know and do.
 #![tactic(auto)]
 
-mod arguments;
 mod files;
 mod opener;
 mod run;

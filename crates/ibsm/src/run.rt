@@ -6,13 +6,12 @@ ghost use Rattle.next_run.specs.RunNext.{IsSaid};
 ghost use Rattle.schedule_world.specs.Prints.{PrintsSome};
 ghost use Rattle.ibsm.specs.Ending.{IsDone, PerformsWords, SaysWhyOfWords, status_after};
 
-use crate::arguments::{command_line, roots_without_spread};
 use crate::files::{perform_or_explain, say};
 use crate::opener::Opener;
 use byte_io::{Sink, ToWrite};
 use clap::error::ErrorKind;
 use clap::{ArgMatches, Error};
-use cli_task::{has_roots_without_spread, names_of, task_of};
+use cli_task::{command_line, has_roots_without_spread, names_of, roots_without_spread, task_of};
 use sm_cli::{ExitStatus, Fault};
 use std::alloc::AllocError;
 use std::io::{BufWriter, Write};

@@ -1,10 +1,10 @@
 //! The command line.
-use clap::error::ErrorKind;
-use clap::{Arg, ArgAction, Command, Error, value_parser};
-use cli_task::{
+use crate::argument_names::{
     AUDIT, FACTS, FILE, FLOOR, JOIN, LMC, NEXT, PLAN, ROOTS, ROUTING, RUN, SCHEDULE, SPREAD,
     TABLES, TOPOLOGY, UPDOWN,
 };
+use clap::error::ErrorKind;
+use clap::{Arg, ArgAction, Command, Error, value_parser};
 use std::alloc::{AllocError, Global};
 
 const RULES: [&str; 2] = [UPDOWN, SPREAD];
@@ -43,7 +43,7 @@ const RUN_END: &str = "Exit status:\n  0  done\n  2  the command line is wrong\n
      5  out of memory\n\nExample:\n  ibsm run triangle.topology bring_up.schedule";
 
 /// The subcommands and their arguments.
-pub(crate) fn command_line<'a>(alloc: Global) -> Result<Command<'a>, AllocError> {
+pub fn command_line<'a>(alloc: Global) -> Result<Command<'a>, AllocError> {
     program(alloc)
         .subcommand(facts(alloc)?)?
         .subcommand(join(alloc)?)?
@@ -202,7 +202,7 @@ fn roots<'a>(alloc: Global) -> Arg<'a> {
 }
 
 /// What is wrong where roots are named behind the subcommand, and another rule of routing than the one that takes them.
-pub(crate) fn roots_without_spread(alloc: Global, name: Option<&str>) -> Result<Error, AllocError> {
+pub fn roots_without_spread(alloc: Global, name: Option<&str>) -> Result<Error, AllocError> {
     let mut command = match name {
         Some(NEXT) => next(alloc)?.bin_name("ibsm next")?,
         Some(RUN) => run(alloc)?.bin_name("ibsm run")?,
