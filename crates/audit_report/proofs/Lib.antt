@@ -1,4 +1,3 @@
-pub mod Audits
 pub mod Judged
 pub mod Missing
 pub mod TallyText

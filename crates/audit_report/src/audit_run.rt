@@ -1,13 +1,16 @@
 //! An audit of tables and files of records.
-ghost use Rattle.std.specs.Prelude.{◌≡◌, ◌≤◌, ◌⊎◌, Err, IfErr, IfOk, IsTrue, OnErr, OnOk, false, length};
+ghost use Rattle.std.specs.Prelude.{◌≡◌, ◌≤◌, ◌↔◌, ◌⊎◌, Err, IfErr, IfOk, IsTrue, OnErr, OnOk, false, length};
 ghost use Rattle.std.specs.Io.KnownBytes.{Appends};
+ghost use Rattle.fact_store.specs.View.{cells_of};
+ghost use Rattle.audit_report.specs.AuditText.{audit_text};
+ghost use Rattle.audit_report.specs.Passing.{Passes};
 ghost use Rattle.audit_report.specs.RunAudit.{HasAudited, IsAnswerFault, IsAuditFault, IsAudited};
 
 use crate::{Audit, write_audit};
 use byte_io::{Sink, Source};
 use fact_store::Store;
 use plan_file::Held;
-use sm_cli::{Fault, read_files, read_tables};
+use sm_cli::{Fault, read_tables_and_files};
 use smp_bytes::Generation;
 use std::alloc::Global;
 
@@ -29,16 +32,10 @@ pub fn run_audit<S: Source, W: Sink>(
         inputs.old inputs.new (W.has_failed sink.new)) }
     ensures nothing_written { OnErr result ((result ≡ Err Fault.Write) ⊎ (sink.new ≡ sink.old)) }
 {
-    let (tables, files) = inputs.split_at_mut(1);
-    let held = match read_tables(alloc, 0, tables) {
-        Ok(held) => held,
-        Err(fault) => return Err(fault),
-    };
-    let store = match read_files(alloc, 1, files, floor) {
-        Ok(store) => store,
-        Err(fault) => return Err(fault),
-    };
-    answer(alloc, sink, &store, &held)
+    match read_tables_and_files(alloc, 0, inputs, floor) {
+        Ok(read) => answer(alloc, sink, &read.store, &read.held),
+        Err(fault) => Err(fault),
+    }
 }
 
 /// Writes how packets fare, and flushes; answers whether they pass.
@@ -50,11 +47,23 @@ fn answer<W: Sink>(alloc: Global, sink: &mut W, store: &Store, held: &Held) -> R
     ensures refused { IfErr result (IsAnswerFault (W.has_failed sink.new)) }
     ensures nothing_written { OnErr result ((result ≡ Err Fault.Write) ⊎ (sink.new ≡ sink.old)) }
 {
-    let audit = match Audit::of(alloc, store, held) {
-        Ok(audit) => audit,
-        Err(_) => return Err(Fault::Memory),
-    };
+    match Audit::of(alloc, store, held) {
+        Ok(audit) => tell(sink, &audit),
+        Err(_) => Err(Fault::Memory),
+    }
+}
+
+/// Writes what an audit found, and flushes; answers whether the tables pass.
+fn tell<W: Sink>(sink: &mut W, audit: &Audit) -> Result<bool, Fault>
+    ensures told { IfOk result (λ passed.
+        Appends (W.written sink.old) (W.written sink.new) (audit_text audit.now)
+        × (IsTrue passed ↔ Passes (cells_of audit.now.facts) audit.now.held)) }
+    ensures flushed { OnOk result (IsTrue (W.is_flushed sink.new)) }
+    ensures sink_works { OnOk result (W.has_failed sink.new ≡ false) }
+    ensures refused { IfErr result (IsAnswerFault (W.has_failed sink.new)) }
+    ensures nothing_written { OnErr result ((result ≡ Err Fault.Write) ⊎ (sink.new ≡ sink.old)) }
+{
     let passed = audit.passes();
-    write_audit(sink, &audit)?;
+    write_audit(sink, audit)?;
     Ok(passed)
 }

@@ -1,5 +1,5 @@
 //! An audit as text.
-ghost use Rattle.std.specs.Prelude.{◌≡◌, ◌-◌, ◌++◌, ◌/◌, IsTrue, OnOk, codes, slice_index};
+ghost use Rattle.std.specs.Prelude.{◌≡◌, ◌-◌, ◌/◌, IsTrue, OnOk, codes, slice_index};
 ghost use Rattle.std.specs.List.{flat_map};
 ghost use Rattle.fact_store.specs.View.{cells_of};
 ghost use Rattle.subnet_view.specs.Reading.{switches};

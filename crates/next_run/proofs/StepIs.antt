@@ -1,5 +1,5 @@
 -- What was written and said is the step, as it is of the facts, of the tables held, and of the plan.
-use Rattle.std.proofs.Common.{◌≡◌, ◌∙◌, ◌==◌, ◌⊎◌, ◌↔◌, ℕ, Bool, true, cond, List, [], ◌∷◌, Option, None, Some, Result, Ok, Err, IsTrue, length, ap, inl, inr, refl, subst, sym}
+use Rattle.std.proofs.Common.{◌≡◌, ◌∙◌, ◌==◌, ◌↔◌, ℕ, Bool, List, [], ◌∷◌, Option, None, Result, Ok, Err, IsTrue, length, ap, inl, inr, subst, sym}
 use Rattle.std.proofs.lemmas.Bool.{eqb-true}
 use Rattle.std.proofs.lemmas.List.{nil_from_length}
 use Rattle.std.specs.Prelude.{OnErr, OnOk}
@@ -13,17 +13,11 @@ use Rattle.lft_blocks.specs.Rules.{RuleValue}
 use Rattle.plan_file.specs.Held.{HeldPlan}
 use Rattle.plan_file.specs.Printed.{held_plan}
 use Rattle.plan_file.specs.TablesText.{next_text}
-use Rattle.next_tables.specs.declared.fault.StepFault.{StepFault}
-use Rattle.next_tables.specs.declared.fault.StepFault.TheVariants as steps
-use Rattle.next_tables.specs.NextTables.{first_moved, is_memory, next_tables, step_fault}
+use Rattle.next_tables.specs.NextTables.{first_moved, next_tables}
 use Rattle.sm_cli.proofs.Plans.{has_room}
 use Rattle.next_tables.specs.StepOrder.{NoneShorter, WaitInCycle}
 use Rattle.next_run.specs.LoopText.{loop_text}
-use Rattle.next_run.specs.RunNext.{IsCycleInStep, IsLoopInStep, IsSaid, IsStep, StopsStep, fault_of_step, planned, stepped}
-
-none_moves : (o : Option ℕ) → step_fault o ≡ None → o ≡ None
-none_moves None e = refl
-none_moves (Some lid) e = absurd (cc)
+use Rattle.next_run.specs.RunNext.{IsCycleInStep, IsLoopInStep, IsSaid, IsStep, stepped}
 
 pub is_empty : (xs : List ℕ) → IsTrue (length xs == 0) ↔ (xs ≡ [])
 is_empty xs = (λ t. nil_from_length xs (eqb-true _ _ t), λ e. ap (λ ys. length ys == 0) e)
@@ -41,45 +35,24 @@ was_said written has_failed (Ok u) old new text ok err = inr ok
 was_said written has_failed (Err fault) old new text ok err = inl err
 
 module _ (lmc : ℕ) (rule : RuleValue) (facts : Facts) (held : HeldPlan) (plan : PlanValue) (is_plan : plan ≡ plan_of rule lmc (cells_of facts))
-    (told_plan : HeldPlan) (is_told : told_plan ≡ held_plan plan) (known : Facts) (is_known : known ≡ facts) (before to next after : HeldPlan)
-    (is_before : before ≡ held) (is_to : to ≡ told_plan) (is_next : next ≡ next_tables (cells_of known) before to) (is_after : after ≡ next) where
-  to_is : to ≡ planned lmc rule facts
-  to_is = is_to ∙ is_told ∙ ap held_plan is_plan
-
+    (from next : HeldPlan) (is_from : from ≡ held) (is_next : next ≡ next_tables (cells_of facts) from (held_plan plan)) where
   next_is : next ≡ stepped lmc rule facts held
   next_is =
-      is_next ∙ ap (λ f. next_tables (cells_of f) before to) is_known ∙ ap (λ h. next_tables (cells_of facts) h to) is_before
-      ∙ ap (next_tables (cells_of facts) held) to_is
+      is_next ∙ ap (λ h. next_tables (cells_of facts) h (held_plan plan)) is_from
+      ∙ ap (λ p. next_tables (cells_of facts) held (held_plan p)) is_plan
 
-  pub step_is : (prints says : List ℕ → Type 0) (passed : Bool) (cycle lids : List ℕ) → lid_fault (no_room lmc (cells_of facts)) ≡ None
-      → step_fault (first_moved before to) ≡ None → IsLoopInStep (cells_of known) before after cycle lids → prints (next_text plan.given next)
+  pub step_is : (prints says : List ℕ → Type 0) (passed : Bool) (known : Facts) (cycle lids : List ℕ) → known ≡ facts
+      → lid_fault (no_room lmc (cells_of facts)) ≡ None → first_moved from (held_plan plan) ≡ None
+      → IsLoopInStep (cells_of facts) from next cycle lids → prints (next_text plan.given next)
       → says (loop_text (cells_of known) cycle lids) → IsTrue passed ↔ (cycle ≡ []) → IsStep lmc rule facts held prints says passed
-  step_is prints says passed cycle lids room still waits printed said judged = record {
+  step_is prints says passed known cycle lids is_known room still waits printed said judged = record {
     has_room = has_room lmc facts room;
-    no_move = ap (λ h. first_moved h (planned lmc rule facts)) (sym is_before) ∙ ap (first_moved before) (sym to_is)
-        ∙ none_moves (first_moved before to) still;
-    written = subst prints (ap (λ p. next_text p.given next) is_plan ∙ ap (next_text (plan_of rule lmc (cells_of facts)).given) next_is) printed;
+    no_move = sym (λ i. first_moved (is_from i) (held_plan (is_plan i))) ∙ still;
+    written = subst prints (λ i. next_text (is_plan i).given (next_is i)) printed;
     cycle = cycle;
     lids = lids;
-    waits = subst (λ (f : Facts). IsLoopInStep (cells_of f) held (stepped lmc rule facts held) cycle lids) is_known
-        (subst (λ (h : HeldPlan). IsLoopInStep (cells_of known) h (stepped lmc rule facts held) cycle lids) is_before
-        (subst (λ (n : HeldPlan). IsLoopInStep (cells_of known) before n cycle lids) (is_after ∙ next_is) waits));
+    waits = subst (λ (h : HeldPlan). IsLoopInStep (cells_of facts) h (stepped lmc rule facts held) cycle lids) is_from
+        (subst (λ (n : HeldPlan). IsLoopInStep (cells_of facts) from n cycle lids) next_is waits);
     said = subst (λ (f : Facts). says (loop_text (cells_of f) cycle lids)) is_known said;
     judged = judged;
   }
-
--- why there is none, where a LID moves or memory was refused
-which_moves : (o : Option ℕ) (lid : ℕ) → step_fault o ≡ Some (steps.Moves lid) → o ≡ Some lid
-which_moves None lid e = absurd (cc)
-which_moves (Some x) lid e = cc
-
-pub step_stops : (lmc : ℕ) (rule : RuleValue) (facts : Facts) (held before to : HeldPlan) (at : ℕ) (failed : Bool) (fault : StepFault) → before ≡ held
-    → to ≡ planned lmc rule facts → lid_fault (no_room lmc (cells_of facts)) ≡ None
-    → step_fault (first_moved before to) ≡ cond (is_memory fault) None (Some fault)
-    → StopsStep at lmc rule facts held failed (fault_of_step at fault)
-step_stops lmc rule facts held before to at failed (steps.Moves lid) is_before is_to room judged = (
-  refl,
-  ap (λ h. first_moved h (planned lmc rule facts)) (sym is_before) ∙ ap (first_moved before) (sym is_to)
-      ∙ which_moves (first_moved before to) lid judged,
-)
-step_stops lmc rule facts held before to at failed steps.Memory is_before is_to room judged = has_room lmc facts room

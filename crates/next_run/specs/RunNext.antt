@@ -1,10 +1,10 @@
 -- What a step from tables that are held towards a plan does: it reads its inputs in order, and writes the tables to
 -- write next, or says why it can't.
-use Rattle.std.specs.Prelude.{◌≡◌, ◌⊎◌, ◌+◌, ◌↔◌, ℕ, Bool, List, [], ◌∷◌, ◌++◌, Option, None, Some, IsTrue}
+use Rattle.std.specs.Prelude.{◌≡◌, ◌⊎◌, ◌↔◌, ℕ, Bool, List, [], ◌∷◌, Option, None, Some, IsTrue}
 use Rattle.std.specs.Io.KnownBytes.{Appends}
 use Rattle.byte_io.specs.Source.{SourceState}
 use Rattle.fact_store.specs.View.{Facts, cells_of}
-use Rattle.subnet_view.specs.Reading.{Cells, is_usable}
+use Rattle.subnet_view.specs.Reading.{Cells}
 use Rattle.lid_assign.specs.LidFault.{no_room}
 use Rattle.lft_blocks.specs.Plan.{plan_of}
 use Rattle.lft_blocks.specs.Rules.{RuleValue}
@@ -18,14 +18,11 @@ use Rattle.next_tables.specs.LoopLids.{AreLoopLids}
 use Rattle.next_tables.specs.StepOrder.{NoneShorter, NumbersRise, WaitInCycle}
 use Rattle.next_run.specs.LoopText.{loop_text}
 use Rattle.sm_cli.specs.Asked.{texts_for}
-use Rattle.sm_cli.specs.InputFiles.{HasRead, IsRefusedFile}
-use Rattle.sm_cli.specs.InputRule.{IsRuleFault, IsRuleRead, rule_fault}
-use Rattle.sm_cli.specs.InputTables.{AreNoTables, AreTables}
+use Rattle.sm_cli.specs.InputReaders.{tables_reader}
+use Rattle.sm_cli.specs.Inputs.{IsInputFault, WithInputs}
 use Rattle.sm_cli.specs.declared.fault.Fault.{Fault}
 use Rattle.sm_cli.specs.declared.fault.Fault.TheVariants.{NoRoom, Text, Write, Memory}
-use Rattle.sm_cli.specs.declared.text_fault.TextFault.{TextFault}
 use Rattle.sm_cli.specs.declared.text_fault.TextFault.TheVariants.{Moves}
-use Rattle.sm_cli.specs.Run.{RefusesRule}
 use Rattle.next_run.specs.declared.run_step.StepAsked.{StepAsked}
 
 -- steps -----------------------------------------------------------------------------------------
@@ -74,6 +71,12 @@ abbrev pub fault_of_step : ℕ → StepFault → Fault
 fault_of_step at (steps.Moves lid) = Text at (Moves lid)
 fault_of_step at steps.Memory = Memory
 
+-- a LID of the tables, which are at this input, moves to another end port in the plan; else memory was refused
+abbrev pub StopsNext : ℕ → HeldPlan → HeldPlan → Fault → Type 0
+StopsNext at held plan (Text input (Moves lid)) = (input ≡ at) × (first_moved held plan ≡ Some lid)
+StopsNext at held plan Memory = Unit {0}
+StopsNext at held plan fault = ⊥
+
 -- why there is none: the plan has no room, or a LID of the tables, which are at this input, moves; else the output has
 -- failed, or memory was refused
 abbrev pub StopsStep : ℕ → ℕ → RuleValue → Facts → HeldPlan → Bool → Fault → Type 0
@@ -84,84 +87,19 @@ StopsStep at lmc rule facts held sink_failed Write = IsTrue sink_failed
 StopsStep at lmc rule facts held sink_failed Memory = no_room lmc (cells_of facts) ≡ None
 StopsStep at lmc rule facts held sink_failed fault = ⊥
 
--- inputs ----------------------------------------------------------------------------------------
+-- runs ------------------------------------------------------------------------------------------
 
--- the inputs: those that a rule takes, the tables, and the files
-pub record Inputs {S : Type 0} (inputs : List S) : Type 0 where
-  pub roots : List S
-  pub tables : List S
-  pub files : List S
-  pub are : inputs ≡ roots ++ (tables ++ files)
+-- the inputs were read, the text that the rule takes, the tables and the files; and the step was written
+abbrev pub HasStepped : {S : Type 0} → (S → SourceState) → StepAsked → List S → List S
+    → (List ℕ → Type 0) → (List ℕ → Type 0) → Bool → Type 0
+HasStepped state asked olds news prints says passed =
+    WithInputs state (tables_reader state asked.floor) asked.rule olds news
+    (λ rule told. IsStep asked.lmc rule told.store told.held prints says passed)
 
--- they were read, and say this
-pub record AreRead {S : Type 0} (state : S → SourceState) (asked : StepAsked) (olds news : List S)
-    (rule : RuleValue) (held : HeldPlan) (facts : Facts) : Type 0 where
-  pub were : Inputs olds
-  pub are : Inputs news
-  pub rule_read : IsRuleRead state asked.rule were.roots are.roots rule
-  pub tables_read : AreTables state were.tables are.tables held
-  pub files_read : HasRead state asked.floor were.files are.files facts
-
--- they were read, each root that was asked for is a usable switch, and the step was written
-pub record HasStepped {S : Type 0} (state : S → SourceState) (asked : StepAsked) (olds news : List S)
-    (prints says : List ℕ → Type 0) (passed : Bool) : Type 0 where
-  pub rule : RuleValue
-  pub held : HeldPlan
-  pub facts : Facts
-  pub read : AreRead state asked olds news rule held facts
-  pub sound : rule_fault (is_usable (cells_of facts)) asked.rule rule ≡ None
-  pub step : IsStep asked.lmc rule facts held prints says passed
-
--- faults ----------------------------------------------------------------------------------------
-
--- the tables are refused behind the text that the rule takes, and no file was touched
-pub record RefusesTables {S : Type 0} (state : S → SourceState) (asked : StepAsked)
-    (olds news : List S) (fault : Fault) : Type 0 where
-  pub were : Inputs olds
-  pub are : Inputs news
-  pub rule : RuleValue
-  pub rule_read : IsRuleRead state asked.rule were.roots are.roots rule
-  pub why : AreNoTables state (texts_for asked.rule) were.tables are.tables fault
-  pub untouched : are.files ≡ were.files
-
--- both were read, and a file is refused
-pub record RefusesFiles {S : Type 0} (state : S → SourceState) (asked : StepAsked)
-    (olds news : List S) (fault : Fault) : Type 0 where
-  pub were : Inputs olds
-  pub are : Inputs news
-  pub rule : RuleValue
-  pub rule_read : IsRuleRead state asked.rule were.roots are.roots rule
-  pub held : HeldPlan
-  pub tables_read : AreTables state were.tables are.tables held
-  pub why : IsRefusedFile state (texts_for asked.rule + 1) were.files are.files fault
-
--- all were read, and no plan goes by the roots
-pub record RefusesRoots {S : Type 0} (state : S → SourceState) (asked : StepAsked) (olds news : List S) (fault : Fault)
-    : Type 0 where
-  pub rule : RuleValue
-  pub held : HeldPlan
-  pub facts : Facts
-  pub read : AreRead state asked olds news rule held facts
-  pub why : TextFault
-  pub is : fault ≡ Text 0 why
-  pub refused : rule_fault (is_usable (cells_of facts)) asked.rule rule ≡ Some why
-
--- all were read, and the step is not written
-pub record FailsToStep {S : Type 0} (state : S → SourceState) (asked : StepAsked) (olds news : List S)
-    (sink_failed : Bool) (fault : Fault) : Type 0 where
-  pub rule : RuleValue
-  pub held : HeldPlan
-  pub facts : Facts
-  pub read : AreRead state asked olds news rule held facts
-  pub sound : rule_fault (is_usable (cells_of facts)) asked.rule rule ≡ None
-  pub stops : StopsStep (texts_for asked.rule) asked.lmc rule facts held sink_failed fault
-
--- why a step over open inputs ends early
+-- why a step over open inputs ends early: they are not read, or the step is not written
 abbrev pub IsStepFault : {S : Type 0} → (S → SourceState) → StepAsked → List S → List S
     → Bool → Fault → Type 0
 IsStepFault state asked olds news sink_failed fault =
-    RefusesRule state asked.rule olds news fault
-    ⊎ (RefusesTables state asked olds news fault
-    ⊎ (RefusesFiles state asked olds news fault
-    ⊎ (RefusesRoots state asked olds news fault
-    ⊎ FailsToStep state asked olds news sink_failed fault)))
+    IsInputFault state (tables_reader state asked.floor) asked.rule olds news fault
+    ⊎ WithInputs state (tables_reader state asked.floor) asked.rule olds news
+    (λ rule told. StopsStep (texts_for asked.rule) asked.lmc rule told.store told.held sink_failed fault)

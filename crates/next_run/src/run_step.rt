@@ -1,10 +1,12 @@
 //! A step from tables that are held towards the plan of what files say.
-ghost use Rattle.std.specs.Prelude.{◌≡◌, ◌⊎◌, ◌+◌, ◌≤◌, ◌↔◌, [], Err, IfErr, IfOk, IsTrue, OnErr, OnOk, false, length};
+ghost use Rattle.std.specs.Prelude.{◌≡◌, ◌⊎◌, ◌+◌, ◌≤◌, Err, IfErr, IfOk, IsTrue, None, OnErr, OnOk, false, length};
 ghost use Rattle.std.specs.Io.KnownBytes.{Appends};
 ghost use Rattle.fact_store.specs.View.{cells_of};
 ghost use Rattle.lft_blocks.specs.Rules.{value_of};
 ghost use Rattle.sm_cli.specs.Asked.{texts_for};
-ghost use Rattle.next_run.specs.RunNext.{HasStepped, IsSaid, IsStep, IsStepFault, StopsStep, fault_of_step};
+ghost use Rattle.next_run.specs.RunNext.{HasStepped, IsLoopInStep, IsSaid, IsStep, IsStepFault, StopsNext, StopsStep, fault_of_step};
+ghost use Rattle.next_tables.specs.NextTables.{first_moved, next_tables};
+ghost use Rattle.plan_file.specs.Printed.{held_plan};
 
 use crate::step_loop::StepLoop;
 use attr_codec::Lmc;
@@ -14,9 +16,9 @@ use fact_store::Store;
 use lft_blocks::{Plan, Rule};
 use next_tables::{StepFault, next_tables};
 use plan_file::{Held, write_next};
-use sm_cli::{Fault, RuleAsked, TextFault, read_files, read_rule, read_tables, rule_fault};
+use sm_cli::{Fault, RuleAsked, TablesAndFiles, TextFault, read_inputs};
 use smp_bytes::Generation;
-use std::alloc::Global;
+use std::alloc::{AllocError, Global};
 
 /// How a step is asked for.
 #[derive(Clone, Copy, Debug, PartialEq, Eq)]
@@ -53,25 +55,20 @@ pub fn run_next<S: Source, W: Sink, E: Sink>(
     ensures nothing_written { OnErr result ((result ≡ Err Fault.Write) ⊎ (sink.new ≡ sink.old)) }
     ensures nothing_told { OnErr result (told.new ≡ told.old) }
 {
-    let texts = asked.rule.texts();
-    let (roots, others) = inputs.split_at_mut(texts);
-    let (tables, files) = others.split_at_mut(1);
-    let rule = match read_rule(alloc, asked.rule, roots) {
-        Ok(rule) => rule,
-        Err(fault) => return Err(fault),
-    };
-    let held = match read_tables(alloc, texts, tables) {
-        Ok(held) => held,
-        Err(fault) => return Err(fault),
-    };
-    let store = match read_files(alloc, texts + 1, files, asked.floor) {
-        Ok(store) => store,
-        Err(fault) => return Err(fault),
-    };
-    if let Some(fault) = rule_fault(asked.rule, &rule, &store) {
-        return Err(Fault::Text { input: 0, fault });
+    let reader = TablesAndFiles { floor: asked.floor };
+    match read_inputs(alloc, asked.rule, &reader, inputs) {
+        Ok((rule, read)) => step(
+            alloc,
+            asked.rule.texts(),
+            &read.held,
+            &read.store,
+            asked.lmc,
+            &rule,
+            sink,
+            told,
+        ),
+        Err(fault) => Err(fault),
     }
-    step(alloc, texts, &held, &store, asked.lmc, &rule, sink, told)
 }
 
 /// Writes the step from tables that are held, whose text is at an input, towards the plan of what a store holds, and
@@ -97,28 +94,62 @@ fn step<W: Sink, E: Sink>(
     ensures nothing_told { OnErr result (told.new ≡ told.old) }
 {
     let plan = Plan::of(alloc, store, lmc, rule)?;
-    let Ok(planned) = Held::of_plan(alloc, &plan) else {
-        return Err(Fault::Memory);
-    };
     let Ok(from) = Network::of(alloc, store, held) else {
         return Err(Fault::Memory);
     };
-    let Ok(to) = Network::of(alloc, store, &planned) else {
-        return Err(Fault::Memory);
-    };
-    let next = match next_tables(alloc, &from, &to) {
+    let next = match next_towards(alloc, input, store, &from, &plan) {
         Ok(next) => next,
-        Err(fault) => return Err(fault_of_step(input, &fault)),
+        Err(fault) => return Err(fault),
     };
-    let Ok(after) = Network::of(alloc, store, &next) else {
-        return Err(Fault::Memory);
-    };
-    let Ok(found) = StepLoop::of(alloc, &from, &after) else {
+    let Ok(found) = loop_towards(alloc, store, &from, &next) else {
         return Err(Fault::Memory);
     };
     write_next(sink, plan.lids(), &next)?;
     let _ = found.write(told, &from);
     Ok(found.is_none())
+}
+
+/// The tables to write next from those of a network towards a plan of the same facts, whose text is at an input.
+fn next_towards(
+    alloc: Global,
+    input: usize,
+    store: &Store,
+    from: &Network,
+    plan: &Plan,
+) -> Result<Held, Fault>
+    requires { from.now.facts ≡ store.now }
+    ensures tables { IfOk result (λ next.
+        next ≡ next_tables (cells_of store.now) from.now.held (held_plan plan.now)) }
+    ensures still { OnOk result (first_moved from.now.held (held_plan plan.now) ≡ None) }
+    ensures refused { IfErr result (StopsNext input from.now.held (held_plan plan.now)) }
+{
+    let Ok(planned) = Held::of_plan(alloc, plan) else {
+        return Err(Fault::Memory);
+    };
+    let Ok(to) = Network::of(alloc, store, &planned) else {
+        return Err(Fault::Memory);
+    };
+    match next_tables(alloc, from, &to) {
+        Ok(next) => Ok(next),
+        Err(fault) => Err(fault_of_step(input, &fault)),
+    }
+}
+
+/// Whether channels can wait for each other by a mixture of the tables of a network and the next ones of its facts.
+fn loop_towards(
+    alloc: Global,
+    store: &Store,
+    from: &Network,
+    next: &Held,
+) -> Result<StepLoop, AllocError>
+    requires { from.now.facts ≡ store.now }
+    ensures { IfOk result (λ found. IsLoopInStep (cells_of store.now) from.now.held next.now
+        found.channels.items found.lids.items) }
+{
+    let Ok(after) = Network::of(alloc, store, next) else {
+        return Err(AllocError);
+    };
+    StepLoop::of(alloc, from, &after)
 }
 
 /// Why there is no step, as a fault of a run in which the tables are at an input.

@@ -1,10 +1,10 @@
 -- What a run writes is a function of its two texts, the LMC and the rule.
-use Rattle.std.specs.Prelude.{◌≡◌, ℕ, Bool, List, Option, Some}
+use Rattle.std.specs.Prelude.{◌≡◌, ℕ, List, Option, Some}
 use Rattle.std.specs.Io.KnownBytes.{Appends}
 use Rattle.byte_io.specs.Source.{SourceState}
 use Rattle.sm_cli.specs.declared.asked.RuleAsked.{RuleAsked}
 use Rattle.schedule_world.specs.Commands.{run_text}
-use Rattle.schedule_run.specs.Run.{HasRun}
+use Rattle.schedule_run.specs.Run.{HasRun, schedule_source, topology_source}
 
 -- where a run has ended well whose sources of topology and schedule held these bytes as it began, exactly `run_text` of
 -- them was written
@@ -12,6 +12,6 @@ abbrev pub TextsDecideOutput : {S W : Type 0} → (S → SourceState) → (W →
 TextsDecideOutput {S} {W} state written =
     (lmc : ℕ) (asked : RuleAsked) (olds news : List S) (sink sink' : W) (topology schedule : List ℕ)
     (run : HasRun state lmc asked olds news (Appends (written sink) (written sink')))
-    → (state run.read.told.were.topology).left ≡ Some topology
-    → (state run.read.told.were.schedule).left ≡ Some schedule
+    → (state (topology_source run)).left ≡ Some topology
+    → (state (schedule_source run)).left ≡ Some schedule
     → Appends (written sink) (written sink') (run_text (record { lmc = lmc; rule = run.rule }) topology schedule)

@@ -1,4 +1,3 @@
 pub mod Judging
 pub mod Running
-pub mod Switches
 pub mod TwoTexts

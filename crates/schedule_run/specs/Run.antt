@@ -1,33 +1,29 @@
 -- A run of a schedule: its inputs are read in order, the text of roots where managers plan from some, the topology and
 -- the schedule, and then judged.
-use Rattle.std.specs.Prelude.{◌≡◌, ◌⊎◌, ◌+◌, ◌&&◌, ◌==◌, ℕ, Bool, true, List, [], ◌∷◌, ◌++◌, Option, Some, None, Result, Ok, Err, IsTrue, if◌then◌else◌}
-use Rattle.std.specs.List.{list_any}
+use Rattle.std.specs.Prelude.{◌≡◌, ◌⊎◌, ◌+◌, ℕ, Bool, true, List, [], ◌∷◌, Option, Some, None, Result, Ok, Err, IsTrue, if◌then◌else◌}
 use Rattle.std.specs.Str.{is_utf8}
 use Rattle.byte_io.specs.Source.{SourceState}
-use Rattle.smp_bytes.specs.NodeType.{is_switch}
 use Rattle.record_file.specs.Whole.{IsReadWhole, FailsToRead}
 use Rattle.record_file.specs.declared.file_fault.FileFault.{FileFault}
 use Rattle.topo_file.specs.FirstFault.{first_line_fault}
 use Rattle.topo_file.specs.Reading.{topology_of}
-use Rattle.topo_file.specs.Topology.{Layout}
+use Rattle.topo_file.specs.Topology.{Layout, has_switch}
 use Rattle.topo_file.specs.declared.fault.TopoFault.{TopoFault}
 use Rattle.topo_file.specs.declared.fault.TopoFault.TheVariants as topologies
 use Rattle.topo_file.specs.declared.node.Node.{Node}
 use Rattle.text_words.specs.Text.{lines}
 use Rattle.schedule_file.specs.FirstFault.{IsSoundOrCrowded}
-use Rattle.schedule_file.specs.Schedule.{Script, schedule_of}
+use Rattle.schedule_file.specs.Schedule.{IsScript, Script, schedule_of}
 use Rattle.schedule_file.specs.declared.fault.ScheduleFault.{ScheduleFault}
 use Rattle.schedule_file.specs.declared.fault.ScheduleFault.TheVariants as schedules
 use Rattle.lft_blocks.specs.Rules.{RuleValue}
-use Rattle.sm_cli.specs.Asked.{texts_for}
-use Rattle.sm_cli.specs.InputRule.{IsRuleRead, rule_fault}
-use Rattle.sm_cli.specs.Run.{RefusesRule}
+use Rattle.sm_cli.specs.Inputs.{AreInputs, IsInputFault, Reader, WithInputs}
 use Rattle.sm_cli.specs.TextFault.{is_of_text}
 use Rattle.sm_cli.specs.declared.asked.RuleAsked.{RuleAsked}
 use Rattle.sm_cli.specs.declared.fault.Fault.{Fault}
 use Rattle.sm_cli.specs.declared.fault.Fault.TheVariants.{File, Text, Write, Memory}
-use Rattle.sm_cli.specs.declared.text_fault.TextFault.{TextFault}
 use Rattle.sm_cli.specs.declared.text_fault.TextFault.TheVariants.{NotUtf8, Topology, Schedule}
+use Rattle.schedule_run.specs.declared.texts.Setting.{Setting}
 use Rattle.schedule_world.specs.Commands.{run_text}
 use Rattle.schedule_world.specs.declared.run_fault.RunFault.{RunFault}
 use Rattle.schedule_world.specs.declared.run_fault.RunFault.TheVariants as runs
@@ -133,14 +129,14 @@ pub record Tells (topology schedule : List ℕ) (layout : Layout) (script : Scri
   pub schedule_told : schedule_of layout.nodes schedule ≡ Ok script
 
 -- both sources were read to their ends, and this is what they tell
-pub record AreTold {S : Type 0} (state : S → SourceState) (olds news : List S) (layout : Layout)
-    (script : Script) : Type 0 where
+pub record AreTold {S : Type 0} (state : S → SourceState) (olds news : List S) (setting : Setting) : Type 0 where
   pub were : AreTexts olds
   pub are : AreTexts news
   pub topology : List ℕ
   pub schedule : List ℕ
   pub read : AreRead state were.topology are.topology were.schedule are.schedule topology schedule
-  pub tells : Tells topology schedule layout script
+  pub tells : Tells topology schedule setting.topology setting.schedule
+  pub is_script : IsScript setting.topology.nodes setting.schedule
 
 -- they were read to their ends, and what they say is refused with this fault
 pub record AreRefused {S : Type 0} (state : S → SourceState) (first : ℕ) (old new old' new' : S)
@@ -164,77 +160,36 @@ pub record AreNotTold {S : Type 0} (state : S → SourceState) (first : ℕ) (ol
   pub are : AreTexts news
   pub why : IsTextsFault state first were.topology are.topology were.schedule are.schedule fault
 
--- roots -----------------------------------------------------------------------------------------
-
--- the node is a switch with this GUID
-abbrev pub is_switch_with : ℕ → Node → Bool
-is_switch_with guid node = is_switch node.kind && (node.guid == guid)
-
--- one of the nodes is
-abbrev pub has_switch : List Node → ℕ → Bool
-has_switch nodes guid = list_any (is_switch_with guid) nodes
-
 -- running ---------------------------------------------------------------------------------------
 
--- the inputs were read, the text that the rule takes and then topology and schedule: this is the rule, and this is what
--- they tell
-pub record HaveTold {S : Type 0} (state : S → SourceState) (asked : RuleAsked) (olds news : List S)
-    (rule : RuleValue) (layout : Layout) (script : Script) : Type 0 where
-  pub roots : List S
-  pub roots' : List S
-  pub texts : List S
-  pub texts' : List S
-  pub were : olds ≡ roots ++ texts
-  pub are : news ≡ roots' ++ texts'
-  pub rule_read : IsRuleRead state asked roots roots' rule
-  pub told : AreTold state texts texts' layout script
+-- what reads both texts, and knows the switches of the topology
+abbrev pub texts_reader : {S : Type 0} → (S → SourceState) → Reader S Setting
+texts_reader state = record {
+  reads = AreTold state;
+  refuses = AreNotTold state;
+  has_switch = λ setting. has_switch setting.topology.nodes;
+}
 
--- all were read, each root that was asked for is a switch of the topology, and this holds of what the run of what they
--- say by managers that plan so prints
+-- the inputs were read, the text that the rule takes and then topology and schedule, and this holds of what the run of
+-- what they say by managers that plan so prints
 pub record HasRun {S : Type 0} (state : S → SourceState) (lmc : ℕ) (asked : RuleAsked) (olds news : List S)
     (prints : List ℕ → Type 0) : Type 0 where
   pub rule : RuleValue
-  pub layout : Layout
-  pub script : Script
-  pub read : HaveTold state asked olds news rule layout script
-  pub sound : rule_fault (has_switch layout.nodes) asked rule ≡ None
-  pub printed : prints (run_text (record { lmc = lmc; rule = rule }) read.told.topology read.told.schedule)
+  pub setting : Setting
+  pub inputs : AreInputs state (texts_reader state) asked olds news rule setting
+  pub printed : prints (run_text (record { lmc = lmc; rule = rule }) inputs.read.others_read.topology
+      inputs.read.others_read.schedule)
+
+-- the source of the topology as the run began, and that of the schedule
+abbrev pub topology_source : {S : Type 0} {state : S → SourceState} {lmc : ℕ} {asked : RuleAsked} {olds news : List S}
+    {prints : List ℕ → Type 0} → HasRun state lmc asked olds news prints → S
+topology_source run = run.inputs.read.others_read.were.topology
+
+abbrev pub schedule_source : {S : Type 0} {state : S → SourceState} {lmc : ℕ} {asked : RuleAsked} {olds news : List S}
+    {prints : List ℕ → Type 0} → HasRun state lmc asked olds news prints → S
+schedule_source run = run.inputs.read.others_read.were.schedule
 
 -- faults ----------------------------------------------------------------------------------------
-
--- topology or schedule is refused behind the text that the rule takes
-pub record RefusesInput {S : Type 0} (state : S → SourceState) (asked : RuleAsked)
-    (olds news : List S) (fault : Fault) : Type 0 where
-  pub roots : List S
-  pub roots' : List S
-  pub texts : List S
-  pub texts' : List S
-  pub were : olds ≡ roots ++ texts
-  pub are : news ≡ roots' ++ texts'
-  pub rule : RuleValue
-  pub rule_read : IsRuleRead state asked roots roots' rule
-  pub why : AreNotTold state (texts_for asked) texts texts' fault
-
--- all were read, and managers can't plan by the roots
-pub record RefusesRoots {S : Type 0} (state : S → SourceState) (asked : RuleAsked) (olds news : List S) (fault : Fault)
-    : Type 0 where
-  pub rule : RuleValue
-  pub layout : Layout
-  pub script : Script
-  pub read : HaveTold state asked olds news rule layout script
-  pub why : TextFault
-  pub is : fault ≡ Text 0 why
-  pub refused : rule_fault (has_switch layout.nodes) asked rule ≡ Some why
-
--- nothing is refused, and the output failed as it was run
-pub record FailsToWrite {S : Type 0} (state : S → SourceState) (asked : RuleAsked) (olds news : List S)
-    (sink_failed : Bool) : Type 0 where
-  pub rule : RuleValue
-  pub layout : Layout
-  pub script : Script
-  pub read : HaveTold state asked olds news rule layout script
-  pub sound : rule_fault (has_switch layout.nodes) asked rule ≡ None
-  pub failed : IsTrue sink_failed
 
 -- the fault of a run as one of the program
 abbrev pub fault_of_run : RunFault → Fault
@@ -245,7 +200,7 @@ fault_of_run runs.Memory = Memory
 abbrev pub StopsEarly : {S : Type 0} → (S → SourceState) → ℕ → RuleAsked → List S → List S
     → (List ℕ → Type 0) → Bool → Fault → Type 0
 StopsEarly state lmc asked olds news prints sink_failed Write =
-    FailsToWrite state asked olds news sink_failed
+    WithInputs state (texts_reader state) asked olds news (λ rule setting. IsTrue sink_failed)
 StopsEarly state lmc asked olds news prints sink_failed Memory =
     HasRun state lmc asked olds news prints
 StopsEarly state lmc asked olds news prints sink_failed fault = ⊥
@@ -255,7 +210,5 @@ abbrev pub IsRunFault : {S : Type 0} → (S → SourceState) → ℕ → RuleAsk
     → (List ℕ → Type 0) → Bool
     → Fault → Type 0
 IsRunFault state lmc asked olds news prints sink_failed fault =
-    RefusesRule state asked olds news fault
-    ⊎ (RefusesInput state asked olds news fault
-    ⊎ (RefusesRoots state asked olds news fault
-    ⊎ StopsEarly state lmc asked olds news prints sink_failed fault))
+    IsInputFault state (texts_reader state) asked olds news fault
+    ⊎ StopsEarly state lmc asked olds news prints sink_failed fault

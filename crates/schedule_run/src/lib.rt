@@ -1,7 +1,6 @@
 //! A schedule that is run in the fabric of a topology: both texts are read and judged, and then its commands are run.
 #![tactic(auto)]
 
-mod roots;
 mod run;
 mod texts;
 

@@ -5,13 +5,12 @@ ghost use Rattle.sm_cli.specs.Asked.{texts_for};
 ghost use Rattle.schedule_run.specs.Run.{HasRun, IsRunFault, fault_of_run};
 ghost use Rattle.schedule_world.specs.Prints.{PrintsSome};
 
-use crate::roots::rule_fault;
-use crate::texts::read_setting;
+use crate::texts::TopologyAndSchedule;
 use attr_codec::Lmc;
 use byte_io::{Sink, Source};
 use lft_blocks::Planning;
 use schedule_world::{RunFault, run_commands};
-use sm_cli::{Fault, RuleAsked, read_rule};
+use sm_cli::{Fault, RuleAsked, read_inputs};
 use std::alloc::Global;
 
 /// Runs a schedule in the simulated fabric of a topology, with managers that plan 2^LMC LIDs for each adapter port by
@@ -46,18 +45,10 @@ pub fn run_schedule<S: Source, W: Sink>(
     ensures nothing_written { OnErr result ((result ≡ Err Fault.Write)
         ⊎ (result ≡ Err Fault.Memory) ⊎ (sink.new ≡ sink.old)) }
 {
-    let (roots, texts) = inputs.split_at_mut(asked.texts());
-    let rule = match read_rule(alloc, asked, roots) {
-        Ok(rule) => rule,
+    let (rule, setting) = match read_inputs(alloc, asked, &TopologyAndSchedule, inputs) {
+        Ok(read) => read,
         Err(fault) => return Err(fault),
     };
-    let setting = match read_setting(alloc, asked.texts(), texts) {
-        Ok(setting) => setting,
-        Err(fault) => return Err(fault),
-    };
-    if let Some(fault) = rule_fault(asked, &rule, &setting.topology) {
-        return Err(Fault::Text { input: 0, fault });
-    }
     let planning = Planning::new(lmc, rule);
     match run_commands(alloc, &setting.topology, &setting.schedule, &planning, sink) {
         Ok(()) => Ok(()),

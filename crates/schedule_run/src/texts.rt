@@ -1,13 +1,14 @@
 //! The texts of a topology and of a schedule: they are read, and then judged.
-ghost use Rattle.std.specs.Prelude.{◌≡◌, ◌+◌, ◌<◌, ℕ, List, IfOk, IfErr, Ok, OnOk, None, length};
+ghost use Rattle.std.specs.Prelude.{◌≡◌, ◌+◌, ◌<◌, ◌≤◌, ℕ, List, IfOk, IfErr, Ok, OnOk, None, length};
 ghost use Rattle.schedule_file.specs.Schedule.{IsScript, schedule_of};
-ghost use Rattle.schedule_run.specs.Run.{AreNotTold, AreRead, AreTold, FailsToReadThem, IsTextsFault, RefusesScript, RefusesTexts, Tells};
+ghost use Rattle.schedule_run.specs.Run.{AreNotTold, AreRead, AreTold, FailsToReadThem, RefusesScript, RefusesTexts, Tells};
 ghost use Rattle.schedule_run.specs.Run.{TellsTopology, input_fault, schedule_fault};
 
 use byte_io::Source;
 use record_file::read_whole;
 use schedule_file::Schedule;
-use sm_cli::{Fault, TextFault};
+use sm_cli::{Fault, InputReader, TextFault};
+use smp_bytes::Guid;
 use std::alloc::Global;
 use std::str;
 use topo_file::Topology;
@@ -26,18 +27,35 @@ pub(crate) struct Setting {
     pub(crate) schedule: Schedule,
 }
 
+/// What reads both texts, and knows the switches of the topology.
+#[derive(Clone, Copy, Debug, PartialEq, Eq)]
+pub(crate) struct TopologyAndSchedule;
+
+impl<S: Source> InputReader<S> for TopologyAndSchedule {
+    ghost use Rattle.std.specs.Prelude.{◌≡◌};
+    ghost use Rattle.schedule_run.specs.Run.{texts_reader};
+
+    type Told = Setting;
+
+    ghost reader = { λ texts. texts_reader S.state };
+
+    ghost takes = { λ texts count. count ≡ 2 };
+
+    fn read(&self, alloc: Global, before: usize, inputs: &mut [S]) -> Result<Setting, Fault> {
+        read_setting(alloc, before, inputs)
+    }
+
+    fn has_switch(&self, told: &Setting, guid: Guid) -> bool {
+        told.topology.has_switch(guid)
+    }
+}
+
 /// What both texts tell, or their first fault. Both are read to their ends, the topology first, and then judged. So
 /// many inputs come before them.
-pub(crate) fn read_setting<S: Source>(
-    alloc: Global,
-    before: usize,
-    texts: &mut [S],
-) -> Result<Setting, Fault>
+fn read_setting<S: Source>(alloc: Global, before: usize, texts: &mut [S]) -> Result<Setting, Fault>
     requires two { length texts.old ≡ 2 }
-    requires few { before < 2 }
-    ensures told { IfOk result (λ setting. AreTold S.state texts.old texts.new
-        setting.topology setting.schedule) }
-    ensures script { IfOk result (λ setting. IsScript setting.topology.nodes setting.schedule) }
+    requires counted { before + length texts.old ≤ usize.MAX }
+    ensures told { IfOk result (AreTold S.state texts.old texts.new) }
     ensures refused { IfErr result
         (AreNotTold S.state before texts.old texts.new) }
 {
@@ -59,7 +77,7 @@ fn read_texts<S: Source>(
     topology: &mut S,
     schedule: &mut S,
 ) -> Result<Texts, Fault>
-    requires { first < 2 }
+    requires { first < usize.MAX }
     ensures read { IfOk result (λ texts. AreRead S.state
         topology.old topology.new schedule.old schedule.new
         texts.topology.items texts.schedule.items) }
@@ -86,7 +104,7 @@ fn read_texts<S: Source>(
 #[tactic(auto, using(crate::proofs::Judging::behind, crate::proofs::Judging::refused_behind))]
 /// What both texts tell, or their first fault: the topology is judged first.
 fn judge(alloc: Global, first: usize, texts: &Texts) -> Result<Setting, Fault>
-    requires { first < 2 }
+    requires { first < usize.MAX }
     ensures sound { OnOk result
         (input_fault first texts.now.topology.items texts.now.schedule.items ≡ None) }
     ensures told { IfOk result (λ setting. Tells texts.now.topology.items
@@ -121,7 +139,7 @@ fn judge_schedule(
     topology: &Topology,
     bytes: &[u8],
 ) -> Result<Schedule, Fault>
-    requires { first < 2 }
+    requires { first < usize.MAX }
     ensures sound { OnOk result (schedule_fault (first + 1) topology.now.nodes bytes.now ≡ None) }
     ensures told { IfOk result (λ schedule.
         schedule_of topology.now.nodes bytes.now ≡ Ok schedule) }

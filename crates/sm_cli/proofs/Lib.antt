@@ -1,4 +1,3 @@
-pub mod Answered
 pub mod AnswerLaws
 pub mod FileLaws
 pub mod Plans

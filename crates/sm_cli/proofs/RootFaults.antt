@@ -8,7 +8,7 @@ use Rattle.roots_file.specs.RootsTextFault.{RootsLineFault}
 use Rattle.roots_file.specs.RootsTextFault.{RootsTextFault as RootsFault}
 use Rattle.text_words.specs.declared.fault.LinesFault.TheVariants as wrong
 use Rattle.sm_cli.specs.declared.text_fault.TextFault.TheVariants.{NoSwitch}
-use Rattle.sm_cli.specs.InputRule.{IsFaultOfText, fault_of_first}
+use Rattle.sm_cli.specs.Inputs.{IsFaultOfText, fault_of_first}
 
 -- a text's first fault, or out of memory where it has none
 faulty : (told : Result (List ℕ) RootsLineFault) (fault : RootsLineFault) → option_map wrong.Line (result_err told) ≡ Some (wrong.Line fault) → told ≡ Err fault

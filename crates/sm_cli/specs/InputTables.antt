@@ -1,5 +1,5 @@
--- The text of tables that switches hold: it is read whole, and then judged.
-use Rattle.std.specs.Prelude.{◌≡◌, ℕ, List, None, Some}
+-- The text of tables that switches hold: it is read whole, and then judged; and files behind it.
+use Rattle.std.specs.Prelude.{◌≡◌, ◌⊎◌, ◌+◌, ℕ, List, None, Some}
 use Rattle.byte_io.specs.Source.{SourceState}
 use Rattle.record_file.specs.Whole.{IsReadWhole, FailsToRead}
 use Rattle.plan_file.specs.Held.{HeldPlan}
@@ -10,7 +10,9 @@ use Rattle.sm_cli.specs.declared.fault.Fault.{Fault}
 use Rattle.sm_cli.specs.declared.fault.Fault.TheVariants.{File, Text}
 use Rattle.sm_cli.specs.declared.text_fault.TextFault.{TextFault}
 use Rattle.sm_cli.specs.declared.text_fault.TextFault.TheVariants as texts
-use Rattle.sm_cli.specs.InputRule.{IsOneRead}
+use Rattle.sm_cli.specs.declared.input_tables.TablesAndFacts.{TablesAndFacts}
+use Rattle.sm_cli.specs.InputFiles.{HasRead, IsRefusedFile}
+use Rattle.sm_cli.specs.Sources.{IsOneRead, Parts}
 
 -- the source was read to its end, and its text has no fault and says these tables
 pub record IsTables {S : Type 0} (state : S → SourceState) (old new : S) (held : HeldPlan) : Type 0 where
@@ -51,3 +53,35 @@ abbrev pub AreNoTables : {S : Type 0} → (S → SourceState) → ℕ → List S
     → Type 0
 AreNoTables state at olds news fault =
     IsOneRead olds news (λ old new. IsTablesFault state at old new fault)
+
+-- files ------------------------------------------------------------------------------------------
+
+-- the tables and then the files were read, and say this
+pub record AreTablesAndFiles {S : Type 0} (state : S → SourceState) (floor : ℕ) (olds news : List S)
+    (told : TablesAndFacts) : Type 0 where
+  pub were : Parts olds
+  pub are : Parts news
+  pub tables_read : AreTables state were.first are.first told.held
+  pub files_read : HasRead state floor were.others are.others told.store
+
+-- the tables are refused, at an input, and no file was touched
+pub record StopsAtTables {S : Type 0} (state : S → SourceState) (at : ℕ) (olds news : List S) (fault : Fault) :
+    Type 0 where
+  pub were : Parts olds
+  pub are : Parts news
+  pub why : AreNoTables state at were.first are.first fault
+  pub untouched : are.others ≡ were.others
+
+-- they were read, and a file behind them is refused
+pub record StopsAtFiles {S : Type 0} (state : S → SourceState) (at : ℕ) (olds news : List S) (fault : Fault) :
+    Type 0 where
+  pub were : Parts olds
+  pub are : Parts news
+  pub held : HeldPlan
+  pub tables_read : AreTables state were.first are.first held
+  pub why : IsRefusedFile state (at + 1) were.others are.others fault
+
+-- why tables at an input and the files behind them are not read
+abbrev pub AreNoTablesAndFiles : {S : Type 0} → (S → SourceState) → ℕ → List S → List S → Fault → Type 0
+AreNoTablesAndFiles state at olds news fault =
+    StopsAtTables state at olds news fault ⊎ StopsAtFiles state at olds news fault

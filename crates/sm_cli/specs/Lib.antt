@@ -3,8 +3,10 @@ pub mod ExitStatus
 pub mod Faults
 pub mod FaultText
 pub mod InputFiles
-pub mod InputRule
+pub mod InputReaders
 pub mod InputTables
+pub mod Inputs
 pub mod Run
 pub mod RunLaws
+pub mod Sources
 pub mod TextFault

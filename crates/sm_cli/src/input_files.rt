@@ -1,16 +1,43 @@
 //! The files of a run: they are read in order, and what they say together is kept.
-ghost use Rattle.std.specs.Prelude.{◌≡◌, ◌+◌, ◌≤◌, length, IfErr, IfOk, OnOk};
+ghost use Rattle.std.specs.Prelude.{◌+◌, ◌≤◌, length, IfErr, IfOk, OnOk};
 ghost use Rattle.sm_cli.specs.InputFiles.{HasRead, IsRefusedFile, ReadsInto, Refuses};
 
 use crate::fault::Fault;
+use crate::inputs::InputReader;
 use byte_io::Source;
 use fact_store::Store;
 use record_file::{FileFault, absorb};
-use smp_bytes::Generation;
+use smp_bytes::{Generation, Guid};
 use std::alloc::Global;
+use subnet_view::is_usable;
+
+/// What reads files, and knows the switches of their facts.
+#[derive(Clone, Copy, Debug, PartialEq, Eq)]
+pub struct FilesFrom {
+    /// What is older than this generation does not count.
+    pub floor: Generation,
+}
+
+impl<S: Source> InputReader<S> for FilesFrom {
+    ghost use Rattle.sm_cli.specs.InputReaders.{files_reader};
+
+    type Told = Store;
+
+    ghost reader = { λ files. files_reader S.state files.floor };
+
+    ghost takes = { λ files count. Unit {0} };
+
+    fn read(&self, alloc: Global, before: usize, inputs: &mut [S]) -> Result<Store, Fault> {
+        read_files(alloc, before, inputs, self.floor)
+    }
+
+    fn has_switch(&self, told: &Store, guid: Guid) -> bool {
+        is_usable(told, guid)
+    }
+}
 
 /// All that the files say from a floor on, or the fault of the first that is refused. So many inputs come before them.
-pub fn read_files<S: Source>(
+pub(crate) fn read_files<S: Source>(
     alloc: Global,
     before: usize,
     files: &mut [S],

@@ -1,16 +1,85 @@
-//! The text of tables: it is read, and then judged.
-ghost use Rattle.std.specs.Prelude.{◌≡◌, length, IfErr, IfOk};
-ghost use Rattle.sm_cli.specs.InputTables.{AreNoTables, AreTables, IsTables, IsTablesFault};
+//! The text of tables: it is read, and then judged; and files behind it.
+ghost use Rattle.std.specs.Prelude.{◌≡◌, ◌+◌, ◌≤◌, length, IfErr, IfOk};
+ghost use Rattle.sm_cli.specs.InputTables.{AreNoTables, AreNoTablesAndFiles, AreTables, AreTablesAndFiles, IsTables, IsTablesFault};
 
 use crate::fault::Fault;
+use crate::input_files::read_files;
+use crate::inputs::InputReader;
 use crate::text_fault::TextFault;
 use byte_io::Source;
+use fact_store::Store;
 use plan_file::{Held, parse};
 use record_file::read_whole;
+use smp_bytes::{Generation, Guid};
 use std::alloc::Global;
+use subnet_view::is_usable;
+
+/// What a text of tables and files say.
+#[derive(Drop)]
+pub struct TablesAndFacts {
+    /// The tables that switches hold, and the LIDs of end ports.
+    pub held: Held,
+    /// What the files say together.
+    pub store: Store,
+}
+
+/// What reads a text of tables and then files, and knows the switches of their facts.
+#[derive(Clone, Copy, Debug, PartialEq, Eq)]
+pub struct TablesAndFiles {
+    /// What is older than this generation does not count.
+    pub floor: Generation,
+}
+
+impl<S: Source> InputReader<S> for TablesAndFiles {
+    ghost use Rattle.std.specs.Prelude.{◌≤◌};
+    ghost use Rattle.sm_cli.specs.InputReaders.{tables_reader};
+
+    type Told = TablesAndFacts;
+
+    ghost reader = { λ inputs. tables_reader S.state inputs.floor };
+
+    ghost takes = { λ inputs count. 1 ≤ count };
+
+    fn read(
+        &self,
+        alloc: Global,
+        before: usize,
+        inputs: &mut [S],
+    ) -> Result<TablesAndFacts, Fault> {
+        read_tables_and_files(alloc, before, inputs, self.floor)
+    }
+
+    fn has_switch(&self, told: &TablesAndFacts, guid: Guid) -> bool {
+        is_usable(&told.store, guid)
+    }
+}
+
+/// What the text of tables says, which is the first of these inputs, and what the files behind it say from a floor on.
+/// So many inputs come before them.
+pub fn read_tables_and_files<S: Source>(
+    alloc: Global,
+    before: usize,
+    inputs: &mut [S],
+    floor: Generation,
+) -> Result<TablesAndFacts, Fault>
+    requires enough { 1 ≤ length inputs.old }
+    requires counted { before + length inputs.old ≤ usize.MAX }
+    ensures read { IfOk result (AreTablesAndFiles S.state floor inputs.old inputs.new) }
+    ensures refused { IfErr result (AreNoTablesAndFiles S.state before inputs.old inputs.new) }
+{
+    let (tables, files) = inputs.split_at_mut(1);
+    let held = match read_tables(alloc, before, tables) {
+        Ok(held) => held,
+        Err(fault) => return Err(fault),
+    };
+    match read_files(alloc, before + 1, files, floor) {
+        Ok(store) => Ok(TablesAndFacts { held, store }),
+        Err(fault) => Err(fault),
+    }
+}
 
 /// What the text of tables says, the one of these sources, at this input of a run. It is read to its end.
-pub fn read_tables<S: Source>(alloc: Global, input: usize, texts: &mut [S]) -> Result<Held, Fault>
+fn read_tables<S: Source>(alloc: Global, input: usize, texts: &mut [S]) -> Result<Held, Fault>
     requires { length texts.old ≡ 1 }
     ensures read { IfOk result (AreTables S.state texts.old texts.new) }
     ensures refused { IfErr result

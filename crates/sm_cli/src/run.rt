@@ -7,12 +7,12 @@ ghost use Rattle.lft_blocks.specs.Rules.{value_of};
 ghost use Rattle.lft_blocks.specs.Plan.{plan_of};
 ghost use Rattle.lft_blocks.specs.PlanText.{plan_text};
 ghost use Rattle.sm_cli.specs.Asked.{rule_for, texts_for};
-ghost use Rattle.sm_cli.specs.Run.{HasAnswered, IsAnswered, IsAnswerFault, IsFaultOf, IsWritingFault, answer_to};
+ghost use Rattle.sm_cli.specs.Run.{HasAnswered, IsAnswer, IsAnswerFault, IsFaultOf, IsWritingFault};
 
 use crate::asked::{Invocation, Output};
 use crate::fault::Fault;
-use crate::input_files::read_files;
-use crate::input_rule::{read_rule, rule_fault};
+use crate::input_files::FilesFrom;
+use crate::inputs::read_inputs;
 use attr_codec::Lmc;
 use byte_io::{Sink, Source};
 use fact_store::Store;
@@ -39,20 +39,13 @@ pub fn run_files<S: Source, W: Sink>(
         inputs.old inputs.new (W.has_failed sink.new)) }
     ensures nothing_written { OnErr result ((result ≡ Err Fault.Write) ⊎ (sink.new ≡ sink.old)) }
 {
-    let asked = request.output.rule();
-    let (texts, files) = inputs.split_at_mut(asked.texts());
-    let rule = match read_rule(alloc, asked, texts) {
-        Ok(rule) => rule,
-        Err(fault) => return Err(fault),
+    let reader = FilesFrom {
+        floor: request.floor,
     };
-    let store = match read_files(alloc, asked.texts(), files, request.floor) {
-        Ok(store) => store,
-        Err(fault) => return Err(fault),
-    };
-    if let Some(fault) = rule_fault(asked, &rule, &store) {
-        return Err(Fault::Text { input: 0, fault });
+    match read_inputs(alloc, request.output.rule(), &reader, inputs) {
+        Ok((rule, store)) => write_answer(alloc, sink, request.output, &rule, &store),
+        Err(fault) => Err(fault),
     }
-    write_answer(alloc, sink, request.output, &rule, &store)
 }
 
 /// Writes what is asked for of the facts that a store holds, a plan by this rule, and flushes.
@@ -63,9 +56,8 @@ fn write_answer<W: Sink>(
     rule: &Rule,
     store: &Store,
 ) -> Result<(), Fault>
-    ensures answered { OnOk result (Appends (W.written sink.old) (W.written sink.new)
-        (answer_to output (value_of rule.now) store.now)) }
-    ensures can_be { OnOk result (IsAnswered output store.now) }
+    ensures done { OnOk result (IsAnswer output (value_of rule.now) store.now
+        (Appends (W.written sink.old) (W.written sink.new))) }
     ensures flushed { OnOk result (IsTrue (W.is_flushed sink.new)) }
     ensures sink_works { OnOk result (W.has_failed sink.new ≡ false) }
     ensures refused { IfErr result (IsAnswerFault output store.now (W.has_failed sink.new)) }

@@ -1,5 +1,6 @@
 -- What was found of the store's facts and of the tables is written and told.
 use Rattle.std.proofs.Common.{◌≡◌, IsTrue, subst}
+use Rattle.std.proofs.lemmas.Result.{IfOk-weaker}
 use Rattle.std.specs.Prelude.{◌↔◌}
 use Rattle.std.specs.Io.KnownBytes.{Appends}
 use Rattle.fact_store.specs.View.{cells_of}
@@ -7,16 +8,15 @@ use Rattle.audit_report.specs.AuditText.{audit_text}
 use Rattle.audit_report.specs.Passing.{Audited, Passes}
 use Rattle.audit_report.proofs.audit_run.answer.Goals as goal
 
-pub returns-clause-audited : goal.returns-clause-audited
-returns-clause-audited g c =
+pub returns-in-Ok-clause-audited : goal.returns-in-Ok-clause-audited
+returns-in-Ok-clause-audited g c =
     let found = c.in-Ok.ensures in
     let written = g.W.Sink.written in
     let same : ◌≡◌ {A = Audited} c.in-Ok.audit (record { facts = c.args.store.now; held = c.args.held.now; cycle = c.in-Ok.audit.cycle }) =
     λ i. record { facts = found.facts i; held = found.held i; cycle = c.in-Ok.audit.cycle } in
-    record {
+    IfOk-weaker c.tell.result _ _ (λ passed told. record {
       cycle = c.in-Ok.audit.cycle;
       waits = found.cycle;
-      answered = subst (λ (x : Audited). Appends (written c.args.sink.now) (written c.write_audit.new.sink) (audit_text x)) same
-          c.in_ok-write_audit.ensures.writes.ok;
-      judged = subst (λ (x : Audited). IsTrue c.passes-passed.result ↔ Passes (cells_of x.facts) x.held) same c.passes-passed.ensures;
-    }
+      answered = subst (λ (x : Audited). Appends (written c.args.sink.now) (written c.tell.new.sink) (audit_text x)) same told.0;
+      judged = subst (λ (x : Audited). IsTrue passed ↔ Passes (cells_of x.facts) x.held) same told.1;
+    }) c.tell.ensures.told

@@ -1,18 +1,14 @@
--- The inputs were read.
-use Rattle.std.specs.Io.KnownBytes.{Appends}
-use Rattle.audit_report.proofs.Audits.{audited, not_audited}
+-- The inputs were read, and what they say was audited.
+use Rattle.std.proofs.Common.{inr}
+use Rattle.std.proofs.lemmas.Result.{IfErr-weaker, IfOk-weaker}
 use Rattle.audit_report.proofs.audit_run.run_audit.Goals as goal
 
-pub returns-clause-done : goal.returns-clause-done
-returns-clause-done g c =
-    audited g.S.Source.state c.args.floor c.args.inputs.now c.split_at_mut-tables.result.0.now c.read_tables.new.texts
-    c.split_at_mut-tables.result.1.now c.read_files.new.files c.split_at_mut-tables.ensures.value c.in-Ok.held c.in-Ok-read_files.store
-    c.in-Ok.ensures.read c.in-Ok-read_files.ensures.read c.answer.result (Appends (g.W.Sink.written c.args.sink.now) (g.W.Sink.written c.answer.new.sink))
+pub returns-in-Ok-clause-done : goal.returns-in-Ok-clause-done
+returns-in-Ok-clause-done g c =
+    IfOk-weaker c.answer.result _ _ (λ passed audited. record { told = c.in-Ok.read; read = c.in-Ok.ensures.read; audited = audited })
     c.answer.ensures.audited
 
-pub returns-clause-refused : goal.returns-clause-refused
-returns-clause-refused g c =
-    not_audited g.S.Source.state c.args.floor c.args.inputs.now c.split_at_mut-tables.result.0.now c.read_tables.new.texts
-    c.split_at_mut-tables.result.1.now c.read_files.new.files c.split_at_mut-tables.ensures.value c.in-Ok.held c.in-Ok-read_files.store
-    c.in-Ok.ensures.read c.in-Ok-read_files.ensures.read (g.W.Sink.has_failed c.answer.new.sink) c.answer.result
+pub returns-in-Ok-clause-refused : goal.returns-in-Ok-clause-refused
+returns-in-Ok-clause-refused g c =
+    IfErr-weaker c.answer.result _ _ (λ fault why. inr (record { told = c.in-Ok.read; read = c.in-Ok.ensures.read; why = why }))
     c.answer.ensures.refused

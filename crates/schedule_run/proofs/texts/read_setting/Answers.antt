@@ -22,6 +22,7 @@ returns-in-Ok-judge-clause-told g c = record {
   schedule = c.in-Ok.texts.schedule.items;
   read = c.in-Ok.ensures.read;
   tells = c.in-Ok-judge.ensures.told;
+  is_script = c.in-Ok-judge.ensures.script;
 }
 
 pub returns-clause-refused : goal.returns-clause-refused

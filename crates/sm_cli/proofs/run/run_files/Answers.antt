@@ -1,30 +1,37 @@
--- The inputs were read.
-use Rattle.std.proofs.Common.{◌≡◌, ◌∙◌, None, arith, sym}
-use Rattle.std.specs.Io.KnownBytes.{Appends}
+-- The inputs were read, by the rule that is asked for.
+use Rattle.std.proofs.Common.{inl, inr, subst}
+use Rattle.std.proofs.lemmas.Result.{IfErr-weaker, on_ok_weaker}
 use Rattle.lft_blocks.specs.Rules.{value_of}
-use Rattle.sm_cli.proofs.Answered.{answered, not_answered, roots_refused}
+use Rattle.sm_cli.specs.InputReaders.{files_reader}
+use Rattle.sm_cli.specs.Inputs.{AreInputs, IsInputFault}
+use Rattle.sm_cli.specs.declared.asked.RuleAsked.{RuleAsked}
 use Rattle.sm_cli.proofs.run.run_files.Goals as goal
 
-pub returns-in-Some-clause-refused : goal.returns-in-Some-clause-refused
-returns-in-Some-clause-refused g c =
-    roots_refused g.S.Source.state c.args.request c.rule-asked.result c.rule-asked.ensures c.args.inputs.now
-    c.split_at_mut-texts.result.0.now c.read_rule.new.texts c.split_at_mut-texts.result.1.now c.read_files.new.files c.split_at_mut-texts.ensures.value
-    (value_of c.in-Ok.rule) c.in-Ok-read_files.store c.in-Ok.ensures.read c.in-Ok-read_files.ensures.read
-    (g.W.Sink.has_failed c.args.sink.now) c.in-Some.fault (sym c.rule_fault.ensures ∙ c.in-Some.is)
+pub returns-in-Ok-clause-done : goal.returns-in-Ok-clause-done
+returns-in-Ok-clause-done g c =
+    let Read : RuleAsked → Type 0 = λ asked. AreInputs g.S.Source.state (files_reader g.S.Source.state c.args.request.floor) asked c.args.inputs.now
+    c.read_inputs.new.inputs (value_of c.in-Ok.rule) c.in-Ok.store in
+    on_ok_weaker c.write_answer.result (λ answer. record {
+      rule = value_of c.in-Ok.rule;
+      told = c.in-Ok.store;
+      inputs = subst Read c.rule.ensures c.in-Ok.ensures.read;
+      so = answer;
+    }) c.write_answer.ensures.done
 
-pub returns-clause-done : goal.returns-clause-done
-returns-clause-done g c =
-    let none : c.rule_fault.result ≡ None = grind arith in
-    answered g.S.Source.state c.args.request c.rule-asked.result c.rule-asked.ensures c.args.inputs.now
-    c.split_at_mut-texts.result.0.now c.read_rule.new.texts c.split_at_mut-texts.result.1.now c.read_files.new.files c.split_at_mut-texts.ensures.value
-    (value_of c.in-Ok.rule) c.in-Ok-read_files.store c.in-Ok.ensures.read c.in-Ok-read_files.ensures.read (sym c.rule_fault.ensures ∙ none)
-    c.write_answer.result (Appends (g.W.Sink.written c.args.sink.now) (g.W.Sink.written c.write_answer.new.sink)) c.write_answer.ensures.answered
-    c.write_answer.ensures.can_be
+pub returns-in-Ok-clause-refused : goal.returns-in-Ok-clause-refused
+returns-in-Ok-clause-refused g c =
+    let Read : RuleAsked → Type 0 = λ asked. AreInputs g.S.Source.state (files_reader g.S.Source.state c.args.request.floor) asked c.args.inputs.now
+    c.read_inputs.new.inputs (value_of c.in-Ok.rule) c.in-Ok.store in
+    IfErr-weaker c.write_answer.result _ _ (λ fault why. inr (record {
+      rule = value_of c.in-Ok.rule;
+      told = c.in-Ok.store;
+      inputs = subst Read c.rule.ensures c.in-Ok.ensures.read;
+      so = why;
+    })) c.write_answer.ensures.refused
 
-pub returns-clause-refused : goal.returns-clause-refused
-returns-clause-refused g c =
-    let none : c.rule_fault.result ≡ None = grind arith in
-    not_answered g.S.Source.state c.args.request c.rule-asked.result c.rule-asked.ensures c.args.inputs.now
-    c.split_at_mut-texts.result.0.now c.read_rule.new.texts c.split_at_mut-texts.result.1.now c.read_files.new.files c.split_at_mut-texts.ensures.value
-    (value_of c.in-Ok.rule) c.in-Ok-read_files.store c.in-Ok.ensures.read c.in-Ok-read_files.ensures.read (sym c.rule_fault.ensures ∙ none)
-    (g.W.Sink.has_failed c.write_answer.new.sink) c.write_answer.result c.write_answer.ensures.refused
+pub returns-in-Err-clause-refused : goal.returns-in-Err-clause-refused
+returns-in-Err-clause-refused g c =
+    let state = g.S.Source.state in
+    let Refused : RuleAsked → Type 0 = λ asked. IsInputFault state (files_reader state c.args.request.floor) asked c.args.inputs.now
+    c.read_inputs.new.inputs c.in-Err.fault in
+    inl (subst Refused c.rule.ensures c.in-Err.ensures.refused)

@@ -51,8 +51,8 @@ returns-in-Merge g c = record {
 
 pub returns-in-Packet : goal.returns-in-Packet
 returns-in-Packet g c = record {
-  does = does_same g.W.Sink.written g.W.Sink.has_failed c.args.self.now c.handle_packet.new.self c.handle_packet.result c.args.sink.now c.handle_packet.new.sink _ _
-      (ap (after_command c.args.topology.now.nodes (value_of c.args.self.now)) (sym c.in-Packet.is)) c.handle_packet.ensures.does;
+  does = does_same g.W.Sink.written g.W.Sink.has_failed c.args.self.now c.handle_packet.new.self c.handle_packet.result c.args.sink.now
+      c.handle_packet.new.sink _ _ (ap (after_command c.args.topology.now.nodes (value_of c.args.self.now)) (sym c.in-Packet.is)) c.handle_packet.ensures.does;
 }
 
 pub returns-in-Drain : goal.returns-in-Drain
@@ -91,12 +91,14 @@ pub returns-in-Tables : goal.returns-in-Tables
 returns-in-Tables g c = record {
   does = does_same g.W.Sink.written g.W.Sink.has_failed c.args.self.now c.args.self.now c.show_tables.result c.args.sink.now c.show_tables.new.sink _ _
       (ap (after_command c.args.topology.now.nodes (value_of c.args.self.now)) (sym c.in-Tables.is))
-      (does_show g.W.Sink.written g.W.Sink.has_failed c.args.self.now c.show_tables.result c.args.sink.now c.show_tables.new.sink _ c.show_tables.ensures.prints);
+      (does_show g.W.Sink.written g.W.Sink.has_failed c.args.self.now c.show_tables.result c.args.sink.now c.show_tables.new.sink _
+      c.show_tables.ensures.prints);
 }
 
 pub returns-in-Flight : goal.returns-in-Flight
 returns-in-Flight g c = record {
   does = does_same g.W.Sink.written g.W.Sink.has_failed c.args.self.now c.args.self.now c.show_flight.result c.args.sink.now c.show_flight.new.sink _ _
       (ap (after_command c.args.topology.now.nodes (value_of c.args.self.now)) (sym c.in-Flight.is))
-      (does_show g.W.Sink.written g.W.Sink.has_failed c.args.self.now c.show_flight.result c.args.sink.now c.show_flight.new.sink _ c.show_flight.ensures.prints);
+      (does_show g.W.Sink.written g.W.Sink.has_failed c.args.self.now c.show_flight.result c.args.sink.now c.show_flight.new.sink _
+      c.show_flight.ensures.prints);
 }

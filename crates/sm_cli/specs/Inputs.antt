@@ -1,12 +1,14 @@
--- The rule that plans go by: the text of roots is read where one is asked for, and its roots are judged once the
--- switches are known.
-use Rattle.std.specs.Prelude.{◌≡◌, ℕ, Bool, List, [], ◌∷◌, Option, None, Some, Ok, Err, find, not, option_map}
+-- The inputs of a run: the text of roots is read where a rule is asked for with one, then what stands behind it, and
+-- the roots are judged once the switches are known.
+use Rattle.std.specs.Prelude.{◌≡◌, ◌⊎◌, ℕ, Bool, List, [], ◌∷◌, Option, None, Some, Ok, Err, find, not, option_map}
 use Rattle.byte_io.specs.Source.{SourceState}
 use Rattle.record_file.specs.Whole.{IsReadWhole, FailsToRead}
 use Rattle.roots_file.specs.Reading.{roots_of}
 use Rattle.roots_file.specs.RootsTextFault.{RootsTextFault as RootsFault}
 use Rattle.text_words.specs.declared.fault.LinesFault.TheVariants as wrong
 use Rattle.lft_blocks.specs.Rules.{RuleValue, spread_from, up_and_down}
+use Rattle.sm_cli.specs.Asked.{texts_for}
+use Rattle.sm_cli.specs.Sources.{IsOneRead, Parts}
 use Rattle.sm_cli.specs.declared.asked.RuleAsked.{RuleAsked}
 use Rattle.sm_cli.specs.declared.asked.RuleAsked.TheVariants.{UpDown, Spread, SpreadFromRoots}
 use Rattle.sm_cli.specs.declared.fault.Fault.{Fault}
@@ -37,15 +39,7 @@ rule_fault usable Spread rule = None
 rule_fault usable SpreadFromRoots up_and_down = None
 rule_fault usable SpreadFromRoots (spread_from roots) = roots_fault usable roots
 
--- reading ---------------------------------------------------------------------------------------
-
--- there is one source, and it was read so
-pub record IsOneRead {S : Type 0} (olds news : List S) (read_as : S → S → Type 0) : Type 0 where
-  pub old : S
-  pub new : S
-  pub was : olds ≡ old ∷ []
-  pub is : news ≡ new ∷ []
-  pub read : read_as old new
+-- rules ------------------------------------------------------------------------------------------
 
 -- the source was read to its end, and its text has no fault and names these roots
 pub record IsRoots {S : Type 0} (state : S → SourceState) (old new : S) (roots : List ℕ) : Type 0 where
@@ -59,13 +53,13 @@ IsFaultOfText text (wrong.Line fault) = roots_of text ≡ Err fault
 IsFaultOfText text wrong.Memory = (roots : List ℕ) × (roots_of text ≡ Ok roots)
 
 -- the source was read to its end, and its text is refused
-pub record RefusesRoots {S : Type 0} (state : S → SourceState) (old new : S) (fault : RootsFault) : Type 0 where
+pub record RefusesRootsText {S : Type 0} (state : S → SourceState) (old new : S) (fault : RootsFault) : Type 0 where
   pub text : List ℕ
   pub read : IsReadWhole state old new text
   pub refused : IsFaultOfText text fault
 
 abbrev pub IsTextRefused : {S : Type 0} → (S → SourceState) → S → S → TextFault → Type 0
-IsTextRefused state old new (texts.Roots fault) = RefusesRoots state old new fault
+IsTextRefused state old new (texts.Roots fault) = RefusesRootsText state old new fault
 IsTextRefused state old new fault = ⊥
 
 -- why the roots are not read: of the first of the files that are named
@@ -96,3 +90,60 @@ IsRuleFault state UpDown olds news fault = ⊥
 IsRuleFault state Spread olds news fault = ⊥
 IsRuleFault state SpreadFromRoots olds news fault =
     IsOneRead olds news (λ old new. IsRootsFault state old new fault)
+
+-- inputs ----------------------------------------------------------------------------------------
+
+-- how inputs behind the text that a rule takes are read: to what they tell, or to a fault, where so many inputs come
+-- before them; and which GUIDs are those of usable switches, by what they tell
+pub record Reader (S T : Type 0) : Type 1 where
+  pub reads : List S → List S → T → Type 0
+  pub refuses : ℕ → List S → List S → Fault → Type 0
+  pub has_switch : T → ℕ → Bool
+
+module _ {S T : Type 0} (state : S → SourceState) (reader : Reader S T) (asked : RuleAsked) (olds news : List S) where
+  -- the inputs were read, the text that the rule takes first: this is the rule, and this is what the others tell
+  pub record AreRead (rule : RuleValue) (told : T) : Type 0 where
+    pub were : Parts olds
+    pub are : Parts news
+    pub rule_read : IsRuleRead state asked were.first are.first rule
+    pub others_read : reader.reads were.others are.others told
+
+  -- so they were, and each root that was asked for is a usable switch
+  pub record AreInputs (rule : RuleValue) (told : T) : Type 0 where
+    pub read : AreRead rule told
+    pub sound : rule_fault (reader.has_switch told) asked rule ≡ None
+
+  -- and this holds of the rule and of what they tell
+  pub record WithInputs (holds : RuleValue → T → Type 0) : Type 0 where
+    pub rule : RuleValue
+    pub told : T
+    pub inputs : AreInputs rule told
+    pub so : holds rule told
+
+  -- the text that the rule takes is refused, and no other input was touched
+  pub record RefusesRule (fault : Fault) : Type 0 where
+    pub were : Parts olds
+    pub are : Parts news
+    pub why : IsRuleFault state asked were.first are.first fault
+    pub untouched : are.others ≡ were.others
+
+  -- it was read, and what stands behind it is refused
+  pub record RefusesOthers (fault : Fault) : Type 0 where
+    pub were : Parts olds
+    pub are : Parts news
+    pub rule : RuleValue
+    pub rule_read : IsRuleRead state asked were.first are.first rule
+    pub why : reader.refuses (texts_for asked) were.others are.others fault
+
+  -- all were read, and no plan goes by the roots
+  pub record RefusesRoots (fault : Fault) : Type 0 where
+    pub rule : RuleValue
+    pub told : T
+    pub read : AreRead rule told
+    pub why : TextFault
+    pub is : fault ≡ Text 0 why
+    pub refused : rule_fault (reader.has_switch told) asked rule ≡ Some why
+
+  -- why the inputs are not read, or no plan goes by the roots
+  abbrev pub IsInputFault : Fault → Type 0
+  IsInputFault fault = RefusesRule fault ⊎ (RefusesOthers fault ⊎ RefusesRoots fault)

@@ -2,7 +2,7 @@
 use Rattle.std.proofs.Common.{◌≡◌, ℕ, List, refl, subst}
 use Rattle.record_file.specs.Whole.{IsReadWhole}
 use Rattle.sm_cli.proofs.RootFaults.{text_refused}
-use Rattle.sm_cli.proofs.input_rule.read_roots.Goals as goal
+use Rattle.sm_cli.proofs.inputs.read_roots.Goals as goal
 
 pub returns-clause-refused : goal.returns-clause-refused
 returns-clause-refused g c =

@@ -1,0 +1,25 @@
+-- What reads the inputs of a run: files, or a text of tables and files behind it.
+use Rattle.std.specs.Prelude.{ℕ}
+use Rattle.byte_io.specs.Source.{SourceState}
+use Rattle.fact_store.specs.View.{Facts, cells_of}
+use Rattle.subnet_view.specs.Reading.{is_usable}
+use Rattle.sm_cli.specs.InputFiles.{HasRead, IsRefusedFile}
+use Rattle.sm_cli.specs.InputTables.{AreNoTablesAndFiles, AreTablesAndFiles}
+use Rattle.sm_cli.specs.Inputs.{Reader}
+use Rattle.sm_cli.specs.declared.input_tables.TablesAndFacts.{TablesAndFacts}
+
+-- files, from a floor on
+abbrev pub files_reader : {S : Type 0} → (S → SourceState) → ℕ → Reader S Facts
+files_reader state floor = record {
+  reads = HasRead state floor;
+  refuses = IsRefusedFile state;
+  has_switch = λ facts. is_usable (cells_of facts);
+}
+
+-- a text of tables and then files, from a floor on
+abbrev pub tables_reader : {S : Type 0} → (S → SourceState) → ℕ → Reader S TablesAndFacts
+tables_reader state floor = record {
+  reads = AreTablesAndFiles state floor;
+  refuses = AreNoTablesAndFiles state;
+  has_switch = λ told. is_usable (cells_of told.store);
+}

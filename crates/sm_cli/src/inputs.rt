@@ -1,0 +1,158 @@
+//! The inputs of a run: the text of the roots that a rule takes, if any, and what stands behind it.
+ghost use Rattle.std.specs.Prelude.{◌≡◌, ◌+◌, ◌-◌, ◌≤◌, ℕ, length, IfErr, IfOk};
+ghost use Rattle.lft_blocks.specs.Rules.{value_of};
+ghost use Rattle.sm_cli.specs.Asked.{texts_for};
+ghost use Rattle.sm_cli.specs.Inputs.{AreInputs, IsInputFault, IsRoots, IsRootsFault, IsRuleFault, IsRuleRead};
+ghost use Rattle.sm_cli.specs.Inputs.{fault_of_first, first_unusable, rule_fault};
+
+use crate::asked::RuleAsked;
+use crate::fault::Fault;
+use crate::text_fault::TextFault;
+use byte_io::Source;
+use lft_blocks::Rule;
+use record_file::read_whole;
+use roots_file::parse;
+use smp_bytes::Guid;
+use std::alloc::Global;
+
+/// What a run reads behind the text that its rule takes.
+pub trait InputReader<S: Source> {
+    ghost use Rattle.sm_cli.specs.Inputs.{Reader};
+
+    /// What its inputs tell.
+    type Told: Drop;
+
+    // How it reads them, and which switches it knows then.
+    ghost reader: { Self → Reader S Self.Told };
+
+    // So many inputs it takes.
+    ghost takes: { Self → ℕ → Type 0 };
+
+    /// Reads these inputs; so many come before them.
+    fn read(&self, alloc: Global, before: usize, inputs: &mut [S]) -> Result<Self::Told, Fault>
+        requires enough { takes self.now (length inputs.old) }
+        requires counted { before + length inputs.old ≤ usize.MAX }
+        ensures read { IfOk result ((reader self.now).reads inputs.old inputs.new) }
+        ensures refused { IfErr result ((reader self.now).refuses before inputs.old inputs.new) };
+
+    /// Whether a usable switch has this GUID, by what the inputs tell.
+    fn has_switch(&self, told: &Self::Told, guid: Guid) -> bool
+        ensures { result ≡ (reader self.now).has_switch told.now guid };
+}
+
+/// The rule that is asked for, and what the inputs behind its text tell. They are read in their order, each to its end.
+/// The first fault counts; then that of the roots, of which there has to be one, where a text names them, each a usable
+/// switch.
+pub fn read_inputs<S: Source, R: InputReader<S>>(
+    alloc: Global,
+    asked: RuleAsked,
+    reader: &R,
+    inputs: &mut [S],
+) -> Result<(Rule, R::Told), Fault>
+    requires texts { texts_for asked ≤ length inputs.old }
+    requires enough { R.takes reader.now (length inputs.old - texts_for asked) }
+    ensures read { IfOk result (λ read. AreInputs S.state (R.reader reader.now) asked inputs.old inputs.new
+        (value_of read.0) read.1) }
+    ensures refused { IfErr result (IsInputFault S.state (R.reader reader.now) asked inputs.old inputs.new) }
+{
+    let (texts, others) = inputs.split_at_mut(asked.texts());
+    let rule = match read_rule(alloc, asked, texts) {
+        Ok(rule) => rule,
+        Err(fault) => return Err(fault),
+    };
+    let told = match reader.read(alloc, asked.texts(), others) {
+        Ok(told) => told,
+        Err(fault) => return Err(fault),
+    };
+    match rule_fault(asked, &rule, reader, &told) {
+        Some(fault) => Err(Fault::Text { input: 0, fault }),
+        None => Ok((rule, told)),
+    }
+}
+
+/// The rule that is asked for. The text of its roots, where one names them, is the first input, and is read to its end.
+fn read_rule<S: Source>(alloc: Global, asked: RuleAsked, texts: &mut [S]) -> Result<Rule, Fault>
+    requires { length texts.old ≡ texts_for asked }
+    ensures read { IfOk result (λ rule.
+        IsRuleRead S.state asked texts.old texts.new (value_of rule)) }
+    ensures refused { IfErr result
+        (IsRuleFault S.state asked texts.old texts.new) }
+{
+    match asked {
+        RuleAsked::UpDown => Ok(Rule::UpDown),
+        RuleAsked::Spread => Ok(Rule::Spread {
+            roots: Vec::new(alloc),
+        }),
+        RuleAsked::SpreadFromRoots => match read_roots(alloc, &mut texts[0]) {
+            Ok(roots) => Ok(Rule::Spread { roots }),
+            Err(fault) => Err(fault),
+        },
+    }
+}
+
+/// The roots that a text names, which is read to its end.
+fn read_roots<S: Source>(alloc: Global, roots: &mut S) -> Result<Vec<Guid>, Fault>
+    ensures read { IfOk result (λ found.
+        IsRoots S.state roots.old roots.new found.items) }
+    ensures refused { IfErr result
+        (IsRootsFault S.state roots.old roots.new) }
+{
+    let text = match read_whole(alloc, roots) {
+        Ok(text) => text,
+        Err(fault) => return Err(Fault::File { input: 0, fault }),
+    };
+    match parse(alloc, &text) {
+        Ok(roots) => Ok(roots),
+        Err(fault) => Err(Fault::Text {
+            input: 0,
+            fault: TextFault::Roots(fault),
+        }),
+    }
+}
+
+/// Why no plan goes by the rule that was asked for, if so: it has no root though a text names them, or one is no usable
+/// switch.
+fn rule_fault<S: Source, R: InputReader<S>>(
+    asked: RuleAsked,
+    rule: &Rule,
+    reader: &R,
+    told: &R::Told,
+) -> Option<TextFault>
+    ensures { result ≡ rule_fault ((R.reader reader.now).has_switch told.now) asked (value_of rule.now) }
+{
+    match (asked, rule) {
+        (RuleAsked::SpreadFromRoots, Rule::Spread { roots }) => {
+            fault_of_first(roots, first_unusable(roots, reader, told))
+        }
+        _ => None,
+    }
+}
+
+#[tactic(auto, using(crate::proofs::RootFaults::some_named))]
+/// Why no plan goes by some roots, if so, by the first of them that is no usable switch: there is no root, or there is
+/// that one.
+fn fault_of_first(roots: &[Guid], unusable: Option<Guid>) -> Option<TextFault>
+    ensures { result ≡ fault_of_first roots.now unusable }
+{
+    if roots.is_empty() {
+        return Some(TextFault::NoRoot);
+    }
+    match unusable {
+        Some(root) => Some(TextFault::NoSwitch(root)),
+        None => None,
+    }
+}
+
+/// The first of some roots that is no usable switch.
+fn first_unusable<S: Source, R: InputReader<S>>(
+    roots: &[Guid],
+    reader: &R,
+    told: &R::Told,
+) -> Option<Guid>
+    ensures { result ≡ first_unusable ((R.reader reader.now).has_switch told.now) roots.now }
+{
+    roots
+        .iter()
+        .copied()
+        .find(|root| !reader.has_switch(told, *root))
+}
