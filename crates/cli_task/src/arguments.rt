@@ -80,16 +80,14 @@ fn join<'a>(alloc: Global) -> Result<Command<'a>, AllocError> {
 }
 
 fn plan<'a>(alloc: Global) -> Result<Command<'a>, AllocError> {
-    Command::new(alloc, PLAN)
+    let command = Command::new(alloc, PLAN)
         .about(
             "Prints the LIDs and the forwarding blocks that follow from the facts of all the files",
         )
         .after_help(PLAN_END)
         .arg(files(alloc))?
-        .arg(floor(alloc))?
-        .arg(lmc(alloc))?
-        .arg(routing(alloc))?
-        .arg(roots(alloc))
+        .arg(floor(alloc))?;
+    with_planning(alloc, command)
 }
 
 fn audit<'a>(alloc: Global) -> Result<Command<'a>, AllocError> {
@@ -109,7 +107,7 @@ fn audit<'a>(alloc: Global) -> Result<Command<'a>, AllocError> {
 }
 
 fn next<'a>(alloc: Global) -> Result<Command<'a>, AllocError> {
-    Command::new(alloc, NEXT)
+    let command = Command::new(alloc, NEXT)
         .about(
             "Prints the tables to write next, from those that switches hold towards the plan of the facts of \
              all the files, so that no packet for a LID that stays is lost meanwhile",
@@ -121,14 +119,12 @@ fn next<'a>(alloc: Global) -> Result<Command<'a>, AllocError> {
             "The LIDs that ports hold and the forwarding tables of switches, as plan prints them",
         ))?
         .arg(files(alloc))?
-        .arg(floor(alloc))?
-        .arg(lmc(alloc))?
-        .arg(routing(alloc))?
-        .arg(roots(alloc))
+        .arg(floor(alloc))?;
+    with_planning(alloc, command)
 }
 
 fn run<'a>(alloc: Global) -> Result<Command<'a>, AllocError> {
-    Command::new(alloc, RUN)
+    let command = Command::new(alloc, RUN)
         .about(
             "Runs a schedule in the simulated fabric of a topology, and prints what its commands print",
         )
@@ -142,7 +138,13 @@ fn run<'a>(alloc: Global) -> Result<Command<'a>, AllocError> {
             alloc,
             SCHEDULE,
             "The managers and the commands that are run",
-        ))?
+        ))?;
+    with_planning(alloc, command)
+}
+
+/// With how plans are made: their LMC, their rule of routing and its roots.
+fn with_planning<'a>(alloc: Global, command: Command<'a>) -> Result<Command<'a>, AllocError> {
+    command
         .arg(lmc(alloc))?
         .arg(routing(alloc))?
         .arg(roots(alloc))
