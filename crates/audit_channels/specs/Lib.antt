@@ -1,11 +1,7 @@
 pub mod Columns
 pub mod Fabrics
-pub mod Figures
-pub mod Groups
 pub mod Known
 pub mod Numbers
 pub mod Orders
 pub mod Searches
 pub mod Waiting
-pub mod WayTally
-pub mod Ways

@@ -15,7 +15,7 @@ use Rattle.subnet_view.specs.Reading.{Cells}
 use Rattle.held_tables.specs.Tables.{is_owner, is_same_end}
 use Rattle.audit.proofs.Judged.{same_ends}
 use Rattle.audit_counts.specs.declared.site.Site.{Site}
-use Rattle.audit_channels.specs.Ways.{is_adapter}
+use Rattle.audit_ways.specs.Ways.{is_adapter}
 use Rattle.audit_counts.specs.Sites.{IsSiteOf, is_of, are_adapters, are_joined, are_joined_adapters, are_one_component, first_root, is_one_root, leads_to, site_of}
 
 module _ (cells : Cells) (port : EndPort) (ports : List EndPort) (sites : List Site) (sites_are : sites ≡ map (site_of cells) ports) where

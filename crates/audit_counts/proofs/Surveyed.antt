@@ -20,7 +20,7 @@ use Rattle.held_tables.specs.Tables.{is_owner}
 use Rattle.audit.proofs.Arrivals.{all_there}
 use Rattle.audit.proofs.InTime.{end_found, found_at}
 use Rattle.audit.proofs.Judged.{at_contains, same_itself}
-use Rattle.audit_channels.specs.Ways.{AllComeTo}
+use Rattle.audit_ways.specs.Ways.{AllComeTo}
 use Rattle.audit_counts.specs.declared.sent_packet.SentPacket.{SentPacket}
 use Rattle.audit_counts.specs.declared.packet_tally.PacketTally.{PacketTally}
 use Rattle.audit_counts.specs.Packets.{arrives, is_between, packet_of, packets_for, packets_of, sent_to}

@@ -7,7 +7,7 @@ use Rattle.std.proofs.lemmas.Option.{same_Some, slice_get-get_or}
 use Rattle.subnet_view.specs.Reading.{Cells}
 use Rattle.plan_file.specs.declared.held.HeldLid.{HeldLid}
 use Rattle.plan_file.specs.Held.{HeldPlan}
-use Rattle.audit_channels.specs.Ways.{AllComeTo, AreTold}
+use Rattle.audit_ways.specs.Ways.{AllComeTo, AreTold}
 
 last_of : (told : List Bool) (all : Bool) → slice_index_or (told ++ all ∷ []) (length told) false ≡ all
 last_of [] all = refl

@@ -4,7 +4,7 @@ ghost use Rattle.fact_store.specs.View.{cells_of};
 ghost use Rattle.subnet_view.specs.EndPorts.{end_ports};
 ghost use Rattle.audit.specs.Deliveries.{AreDeliveries};
 ghost use Rattle.held_tables.specs.Blocks.{AreBlocks};
-ghost use Rattle.audit_channels.specs.Ways.{AllComeTo, AreTold};
+ghost use Rattle.audit_ways.specs.Ways.{AllComeTo, AreTold};
 ghost use Rattle.audit_counts.specs.declared.sent_packet.SentPacket.{SentPacket as Sent};
 ghost use Rattle.audit_counts.specs.Packets.{packets_of, sent_to};
 ghost use Rattle.audit_counts.specs.Sites.{IsCensus, are_joined, are_joined_adapters, site_of};

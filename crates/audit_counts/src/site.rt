@@ -5,13 +5,13 @@ ghost use Rattle.fact_store.specs.View.{cells_of};
 ghost use Rattle.subnet_view.specs.EndPorts.{end_ports};
 ghost use Rattle.subnet_view.specs.Graph.{graph_of, guids_of};
 ghost use Rattle.subnet_view.specs.Components.{root_of};
-ghost use Rattle.audit_channels.specs.Ways.{is_adapter};
+ghost use Rattle.audit_ways.specs.Ways.{is_adapter};
 ghost use Rattle.audit_counts.specs.Sites.{IsCensus, IsSiteOf, is_of};
 ghost use Rattle.audit_counts.specs.Sites.{are_adapters, are_joined, are_joined_adapters};
 ghost use Rattle.audit_counts.specs.Sites.{are_one_component, first_root, is_one_root, leads_to, root_at, site_of, switch_of};
 
 use audit::is_same_end;
-use audit_channels::is_adapter;
+use audit_ways::is_adapter;
 use fact_store::{Refused, Store};
 use smp_bytes::{Guid, PortNum};
 use std::alloc::{AllocError, Global};

@@ -13,9 +13,9 @@ use Rattle.audit.specs.declared.end.Cause.TheVariants.{AboveTop, NoEntry, NoPort
 use Rattle.audit.specs.declared.end.End.{End}
 use Rattle.audit.specs.declared.end.End.TheVariants.{Taken, Lost}
 use Rattle.audit.specs.NextHops.{entry_by}
-use Rattle.audit_channels.specs.declared.figures.Figures.{Figures}
-use Rattle.audit_channels.specs.Figures.{figures_of}
-use Rattle.audit_channels.specs.Ways.{hops_of, loads_of}
+use Rattle.audit_ways.specs.declared.figures.Figures.{Figures}
+use Rattle.audit_ways.specs.Figures.{figures_of}
+use Rattle.audit_ways.specs.Ways.{hops_of, loads_of}
 use Rattle.audit_counts.specs.declared.sent_packet.SentPacket.{SentPacket}
 use Rattle.audit_counts.specs.declared.causes.Causes.{Causes}
 use Rattle.audit_counts.specs.declared.pairs.Pairs.{Pairs}

@@ -16,8 +16,8 @@ use Rattle.audit.specs.declared.end.End.TheVariants.{Taken}
 use Rattle.audit.specs.Network.{Seen}
 use Rattle.audit.specs.NextHops.{IsBrought}
 use Rattle.audit_channels.specs.Waiting.{RiseOnWays, WaitInCycle}
-use Rattle.audit_channels.specs.declared.ways.WayFigures.{WayFigures}
-use Rattle.audit_channels.specs.Ways.{IsToldOfWays}
+use Rattle.audit_ways.specs.declared.ways.WayFigures.{WayFigures}
+use Rattle.audit_ways.specs.Ways.{IsToldOfWays}
 use Rattle.audit_counts.specs.declared.packet_tally.PacketTally.{PacketTally}
 use Rattle.audit_counts.specs.declared.unmatched.Unmatched.{Unmatched}
 use Rattle.audit_counts.specs.Disputed.{disputed}

@@ -1,7 +1,7 @@
 ghost use Rattle.std.specs.Prelude.{◌≡◌, ◌↔◌, IfOk, IsTrue};
 ghost use Rattle.fact_store.specs.View.{cells_of};
 ghost use Rattle.audit_channels.specs.Waiting.{NoneShorter};
-ghost use Rattle.audit_channels.specs.Ways.{AreTold, IsToldOfWays};
+ghost use Rattle.audit_ways.specs.Ways.{AreTold, IsToldOfWays};
 ghost use Rattle.audit_counts.specs.Packets.{packets_of};
 ghost use Rattle.audit_counts.specs.PacketTally.{IsTally};
 ghost use Rattle.audit_counts.specs.Unmatched.{IsUnmatched};
@@ -9,8 +9,9 @@ ghost use Rattle.audit_report.specs.Passing.{EachHasTables, EachHoldsLid, IsCycl
 ghost use Rattle.audit_report.specs.Passing.{Passes};
 
 use audit::Network;
-use audit_channels::{ChannelOrder, WayFigures, channel_order, figures_of_ways_told};
+use audit_channels::{ChannelOrder, channel_order};
 use audit_counts::{PacketSurvey, PacketTally, Unmatched, disputed, sites, survey};
+use audit_ways::{WayFigures, figures_of_ways_told};
 use fact_store::{Refused, Store};
 use plan_file::Held;
 use std::alloc::{AllocError, Global};

@@ -3,7 +3,7 @@ use Rattle.std.proofs.Common.{◌≡◌, ◌∙◌, ◌+◌, Bool, true, List, s
 use Rattle.std.specs.Prelude.{Option}
 use Rattle.fact_store.specs.View.{cells_of}
 use Rattle.subnet_view.specs.EndPorts.{end_ports}
-use Rattle.audit_channels.specs.Ways.{AllComeTo}
+use Rattle.audit_ways.specs.Ways.{AllComeTo}
 use Rattle.audit_counts.specs.Sites.{IsSiteOf}
 use Rattle.audit_counts.specs.declared.site.Site.{Site}
 use Rattle.audit_counts.specs.declared.packet_tally.PacketTally.{PacketTally}

@@ -5,7 +5,7 @@ use Rattle.fact_store.specs.View.{cells_of}
 use Rattle.port_graph.proofs.Counts.{length_map}
 use Rattle.subnet_view.specs.declared.end_port.EndPort.{EndPort}
 use Rattle.subnet_view.specs.EndPorts.{end_ports}
-use Rattle.audit_channels.proofs.Senders.{all_come_to}
+use Rattle.audit_ways.proofs.Senders.{all_come_to}
 use Rattle.audit_counts.specs.declared.site.Site.{Site}
 use Rattle.audit_counts.specs.declared.packet_tally.PacketTally.{PacketTally}
 use Rattle.audit_counts.specs.Sites.{are_joined, are_joined_adapters, site_of}

@@ -1,0 +1,9 @@
+pub mod Added
+pub mod Counted
+pub mod Grouped
+pub mod Loads
+pub mod Once
+pub mod Rosters
+pub mod Senders
+pub mod Surveyed
+pub mod Walked

@@ -1,0 +1,76 @@
+-- Packets by where their senders' wires lead, and what a roster of the end ports says of these wires.
+use Rattle.std.specs.Prelude.{◌≡◌, ◌<◌, ◌+◌, ◌*◌, ◌&&◌, ℕ, true, false, List, Option, None, Some, Contains, filter, length, map, slice_index}
+use Rattle.std.specs.List.{list_any, sum_by}
+use Rattle.std.specs.List.Sorted.{IsPermutation, IsSortedByKey}
+use Rattle.std.specs.Ordering.{nat_cmp, ordering_then}
+use Rattle.std.specs.declared.cmp.Ordering.{Ordering}
+use Rattle.subnet_view.specs.declared.end_port.EndPort.{EndPort}
+use Rattle.subnet_view.specs.EndPorts.{end_ports}
+use Rattle.subnet_view.specs.Reading.{Cells, switches}
+use Rattle.held_tables.specs.declared.far_end.Far.{Far}
+use Rattle.held_tables.specs.declared.far_end.Far.TheVariants.{Switch}
+use Rattle.held_tables.specs.declared.senders.Sender.{Sender}
+use Rattle.held_tables.specs.Switches.{far_of, sender_of, switch_over}
+use Rattle.held_tables.specs.Tables.{is_same_end}
+use Rattle.audit_ways.specs.declared.sender_groups.Groups.{Groups}
+use Rattle.audit_ways.specs.WayTally.{weighed}
+use Rattle.audit_ways.specs.Ways.{is_adapter}
+
+-- a wire leads to none but the first switches
+abbrev pub IsWithin : ℕ → Far → Type 0
+IsWithin count far = (index : ℕ) → far ≡ Switch index → index < count
+
+-- the sum of a number over packets, by the switches to which they come first; None is an adapter, over one wire
+abbrev pub total : (Option ℕ → ℕ) → Groups → ℕ
+total number groups = weighed (λ i. number (Some i)) groups.weights.items + groups.direct * number None
+
+-- a packet more
+pub record IsGroupedWith (old : Groups) (far : Far) (new : Groups) : Type 0 where
+  pub as_many : length new.weights.items ≡ length old.weights.items
+  pub sums : (number : Option ℕ → ℕ) → total number new ≡ total number old + number (switch_over far)
+
+-- how many packets come there
+abbrev pub packets_at : Groups → Option ℕ → ℕ
+packets_at groups None = groups.direct
+packets_at groups (Some index) = slice_index groups.weights.items index
+
+-- the number for the packet of an end port
+abbrev pub by_switch : Cells → (Option ℕ → ℕ) → EndPort → ℕ
+by_switch cells number e = number (switch_over (far_of cells e.node e.port))
+
+-- the packets of these end ports
+pub record AreGrouped (cells : Cells) (ports : List EndPort) (groups : Groups) : Type 0 where
+  pub as_many : length groups.weights.items ≡ length (switches cells)
+  pub sums : (number : Option ℕ → ℕ) → sum_by (by_switch cells number) ports ≡ total number groups
+
+-- the adapter ports of the facts
+abbrev pub adapters : Cells → List EndPort
+adapters cells = filter is_adapter (end_ports cells)
+
+-- the order of nodes and ports
+abbrev pub port_cmp : ℕ × ℕ → ℕ × ℕ → Ordering
+port_cmp a b = ordering_then (nat_cmp a.0 b.0) (nat_cmp a.1 b.1)
+
+abbrev pub port_of : Sender → ℕ × ℕ
+port_of source = (source.port.node, source.port.port)
+
+-- sources by node and port
+abbrev pub AreByPort : List Sender → Type 0
+AreByPort roster = IsSortedByKey port_of port_cmp roster
+
+-- the end ports as sources, by node and port
+pub record IsRoster (cells : Cells) (roster : List Sender) : Type 0 where
+  pub moved : IsPermutation (map (sender_of cells) (end_ports cells)) roster
+  pub by_port : AreByPort roster
+
+-- where the wire in an end port leads, by the sources
+pub record LeadsTo (sources : List Sender) (e : EndPort) (far : Far) : Type 0 where
+  pub source : Sender
+  pub there : Contains sources source
+  pub port_is : source.port ≡ e
+  pub far_is : source.far ≡ far
+
+-- and that of an adapter port; None where it is none of these
+abbrev pub IsTargetAmong : List Sender → EndPort → Option Far → Type 0
+IsTargetAmong sources e None = (is_adapter e && list_any (λ source. is_same_end e source.port) sources) ≡ false
+IsTargetAmong sources e (Some far) = (is_adapter e ≡ true) × LeadsTo sources e far

@@ -1,0 +1,4 @@
+pub mod Figures
+pub mod Groups
+pub mod WayTally
+pub mod Ways

@@ -1,0 +1,127 @@
+-- The ways of the packets that adapter ports send to each other, and how often these take each channel.
+-- InfiniBand Architecture Specification, Volume 1: switches, unicast forwarding by the linear forwarding table.
+use Rattle.std.specs.Prelude.{◌≡◌, ◌+◌, ◌*◌, ◌==◌, ◌&&◌, ℕ, zero, suc, Bool, true, false, not, List, [], ◌∷◌, Option, None, Some, Contains, count_by, filter, length, map, slice_get, slice_index_or, if◌then◌else◌}
+use Rattle.std.specs.List.{flat_map, range_with_len, sum_by}
+use Rattle.std.specs.Option.{option_map_or}
+use Rattle.port_graph.specs.declared.edge.Edge.{Edge}
+use Rattle.audit_channels.specs.Columns.{number_of}
+use Rattle.subnet_view.specs.declared.end_port.EndPort.{EndPort}
+use Rattle.subnet_view.specs.EndPorts.{end_ports}
+use Rattle.subnet_view.specs.Reading.{Cells, switches}
+use Rattle.plan_file.specs.declared.held.HeldLid.{HeldLid}
+use Rattle.plan_file.specs.Held.{HeldPlan}
+use Rattle.audit.specs.declared.end.End.{End}
+use Rattle.held_tables.specs.declared.far_end.Far.{Far}
+use Rattle.held_tables.specs.declared.far_end.Far.TheVariants.{Nothing, Switch, Port}
+use Rattle.audit.specs.Edges.{edges_of}
+use Rattle.held_tables.specs.Switches.{far_by, far_of}
+use Rattle.audit.specs.NextHops.{end_for, is_at}
+use Rattle.held_tables.specs.Tables.{is_owner, is_same_end}
+use Rattle.audit_ways.specs.declared.ways.WayFigures.{WayFigures}
+use Rattle.audit_ways.specs.Figures.{figures_of}
+
+-- the way of a packet: how many wires it takes, those at the adapters counted, and the channels, which are wires
+-- between usable switches, taken one way
+pub record Way : Type 0 where
+  pub wires : ℕ
+  pub channels : List ℕ
+
+-- the channels from a switch on, in at most so many steps
+abbrev pub channels_from : ℕ → List (Option Edge) → ℕ → List ℕ
+channels_from zero edges switch = []
+channels_from (suc steps) edges switch =
+    option_map_or (λ edge. number_of switch edge
+    ∷ channels_from steps edges edge.to) (slice_index_or edges switch None) []
+
+-- from an adapter to a switch, from there by channels, and to an adapter
+abbrev pub way_from : List (Option Edge) → ℕ → Way
+way_from edges switch = record {
+  wires = length (channels_from (length edges) edges switch) + 2;
+  channels =
+      channels_from (length edges) edges switch;
+}
+
+-- from an adapter to an adapter
+abbrev pub one_wire : Way
+one_wire = record { wires = 1; channels = [] }
+
+-- by where the sender's wire leads
+abbrev pub way_over : List (Option Edge) → Far → Way
+way_over edges Nothing = one_wire
+way_over edges (Switch index) = way_from edges index
+way_over edges (Port e) = one_wire
+
+-- an end port of an adapter: that of a switch is port 0
+abbrev pub is_adapter : EndPort → Bool
+is_adapter e = not (e.port == 0)
+
+-- an adapter port sends the packet to another port, by whether it ends there
+abbrev pub reaches_if : HeldLid → EndPort → Bool → Bool
+reaches_if line e arrives = is_adapter e && not (is_same_end line.port e) && arrives
+
+-- by where it ends
+abbrev pub reaches_by : HeldLid → EndPort → Option End → Bool
+reaches_by line e end = reaches_if line e (is_at line.port end)
+
+-- a packet for the LID of a line, from an adapter port, is delivered at the line's port, which is another
+abbrev pub reaches : Cells → HeldPlan → HeldLid → EndPort → Bool
+reaches cells held line e = reaches_by line e (end_for cells held line.lid e)
+
+-- the packets for the LID of a line that end ports send are all delivered at its port
+abbrev pub AllComeTo : Cells → HeldPlan → HeldLid → Type 0
+AllComeTo cells held line =
+    (e : EndPort) → Contains (end_ports cells) e → is_at line.port (end_for cells held line.lid e) ≡ true
+
+-- so it is of those lines of which it is told, by their indices
+abbrev pub AreTold : Cells → HeldPlan → List Bool → Type 0
+AreTold cells held told = (index : ℕ) (line : HeldLid) → slice_get held.lids index ≡ Some line
+    → slice_index_or told index false ≡ true → AllComeTo cells held line
+
+-- the way of a packet for the LID of a line
+abbrev pub way_of : Cells → HeldPlan → HeldLid → EndPort → Way
+way_of cells held line e = way_over (edges_of cells held line.lid) (far_of cells e.node e.port)
+
+-- the ways of those that are delivered
+abbrev pub ways_to : Cells → HeldPlan → HeldLid → List Way
+ways_to cells held line = map (way_of cells held line) (filter (reaches cells held line) (end_ports cells))
+
+-- an adapter port of the facts
+abbrev pub is_target : Cells → EndPort → Bool
+is_target cells e = is_adapter e && is_owner (end_ports cells) e
+
+abbrev pub ways_for : Cells → HeldPlan → HeldLid → List Way
+ways_for cells held line = if is_target cells line.port then ways_to cells held line else []
+
+-- from each adapter port to each LID of another one
+abbrev pub ways_of : Cells → HeldPlan → List Way
+ways_of cells held = flat_map (ways_for cells held) held.lids
+
+-- how many wires each takes
+abbrev pub hops_of : Cells → HeldPlan → List ℕ
+hops_of cells held = map (λ w. w.wires) (ways_of cells held)
+
+-- how often a way takes a channel
+abbrev pub times_on : ℕ → Way → ℕ
+times_on channel way = count_by (λ x. x == channel) way.channels
+
+-- how often these ways do
+abbrev pub load_of : List Way → ℕ → ℕ
+load_of ways channel = sum_by (times_on channel) ways
+
+abbrev pub is_to_switch : Far → Bool
+is_to_switch Nothing = false
+is_to_switch (Switch index) = true
+is_to_switch (Port e) = false
+
+-- the channels of the subnet: the ports of usable switches whose wires lead to usable switches
+abbrev pub channels_of : Cells → List ℕ
+channels_of cells = filter (λ n. is_to_switch (far_by cells n)) (range_with_len 0 (256 * length (switches cells)))
+
+-- how often each is taken
+abbrev pub loads_of : Cells → HeldPlan → List ℕ
+loads_of cells held = map (load_of (ways_of cells held)) (channels_of cells)
+
+-- what is told of the wires that packets take, and of the loads of channels
+pub record IsToldOfWays (cells : Cells) (held : HeldPlan) (told : WayFigures) : Type 0 where
+  pub hops : told.hops ≡ figures_of (hops_of cells held)
+  pub load : told.load ≡ figures_of (loads_of cells held)

@@ -1,0 +1,60 @@
+//! What is told of some numbers: the greatest, and their mean.
+ghost use Rattle.std.specs.Prelude.{◌≡◌, ◌≤◌, [], IfOk, OnOk};
+ghost use Rattle.audit_ways.specs.Figures.{IsTotal, IsTotalWith, figures_by};
+
+use std::alloc::AllocError;
+
+/// What is told of some numbers.
+#[derive(Clone, Copy, Debug, PartialEq, Eq)]
+pub struct Figures {
+    /// The greatest.
+    pub most: u64,
+    /// A hundred times their mean, cut off.
+    pub hundredths: u64,
+}
+
+/// Numbers that are counted.
+#[derive(Clone, Copy)]
+pub(crate) struct Total {
+    pub(crate) count: u64,
+    pub(crate) sum: u64,
+    pub(crate) most: u64,
+}
+
+impl Total {
+    /// No number.
+    pub(crate) fn none() -> Self
+        ensures { IsTotal [] result }
+    {
+        Total {
+            count: 0,
+            sum: 0,
+            most: 0,
+        }
+    }
+
+    /// A number some times more; refused where 64 bits are too few.
+    pub(crate) fn add(&mut self, number: u64, times: u64) -> Result<(), AllocError>
+        ensures { OnOk result (IsTotalWith self.old number times self.new) }
+    {
+        let more = number.checked_mul(times).ok_or(AllocError)?;
+        self.count = self.count.checked_add(times).ok_or(AllocError)?;
+        self.sum = self.sum.checked_add(more).ok_or(AllocError)?;
+        self.most = self.most.max(number);
+        Ok(())
+    }
+
+    /// The greatest and the mean, where there are numbers; refused where 64 bits are too few.
+    pub(crate) fn figures(&self) -> Result<Option<Figures>, AllocError>
+        ensures { IfOk result (λ figures. figures ≡ figures_by self.now.count self.now.sum self.now.most) }
+    {
+        if self.count == 0 {
+            return Ok(None);
+        }
+        let hundred = self.sum.checked_mul(100).ok_or(AllocError)?;
+        Ok(Some(Figures {
+            most: self.most,
+            hundredths: hundred / self.count,
+        }))
+    }
+}

@@ -1,0 +1,14 @@
+//! Ways of packets between adapters by the forwarding tables that a subnet's switches hold: how many wires they take,
+//! and how often each channel is taken.
+#![tactic(auto)]
+
+mod channel_loads;
+mod figures;
+mod roster;
+mod sender_groups;
+mod way_tally;
+mod ways;
+
+pub use figures::Figures;
+pub use sender_groups::is_adapter;
+pub use ways::{WayFigures, figures_of_ways, figures_of_ways_told};

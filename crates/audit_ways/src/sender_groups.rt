@@ -1,0 +1,125 @@
+//! Packets for one LID, by the switches to which they come first.
+ghost use Rattle.std.specs.Prelude.{◌≡◌, ◌<◌, ◌≤◌, ◌+◌, [], IfOk, OnOk, filter, length, slice_index, slice_set};
+ghost use Rattle.fact_store.specs.View.{cells_of};
+ghost use Rattle.subnet_view.specs.EndPorts.{end_ports};
+ghost use Rattle.subnet_view.specs.Reading.{switches};
+ghost use Rattle.held_tables.specs.Switches.{switch_over};
+ghost use Rattle.audit.specs.NextHops.{AreBrought};
+ghost use Rattle.audit_ways.specs.Groups.{AreGrouped, IsGroupedWith, IsWithin, adapters, packets_at};
+ghost use Rattle.audit_ways.specs.Ways.{is_adapter, reaches, reaches_if};
+
+use crate::channel_loads::load_channel;
+use audit::{Ends, Far, Network, is_same_end};
+use plan_file::HeldLid;
+use std::alloc::{AllocError, Global};
+use subnet_view::EndPort;
+
+/// Packets by where their senders' wires lead.
+#[derive(Drop)]
+pub(crate) struct Groups {
+    /// How many come first to each switch.
+    pub(crate) weights: Vec<u64>,
+    /// How many come to an adapter over one wire.
+    pub(crate) direct: u64,
+}
+
+impl Groups {
+    /// No packet, over the switches of a network.
+    fn none(alloc: Global, network: &Network) -> Result<Self, AllocError>
+        ensures { IfOk result (AreGrouped (cells_of network.now.facts) []) }
+    {
+        Ok(Groups {
+            weights: vec![in alloc; 0u64; network.switch_count()]?,
+            direct: 0,
+        })
+    }
+
+    /// A packet more, by where its sender's wire leads; refused where 64 bits are too few.
+    pub(crate) fn join(&mut self, far: &Far) -> Result<(), AllocError>
+        requires { IsWithin (length self.old.weights.items) far.now }
+        ensures { OnOk result (IsGroupedWith self.old far.now self.new) }
+    {
+        match *far {
+            Far::Switch(first) => load_channel(&mut self.weights, first, 1),
+            _ => self.join_direct(),
+        }
+    }
+
+    /// A packet more over one wire.
+    fn join_direct(&mut self) -> Result<(), AllocError>
+        ensures direct { OnOk result (self.new.direct ≡ self.old.direct + 1) }
+        ensures weights { self.new.weights ≡ self.old.weights }
+    {
+        self.direct = self.direct.checked_add(1).ok_or(AllocError)?;
+        Ok(())
+    }
+
+    /// A packet less, where there is one whose sender's wire leads there.
+    pub(crate) fn leave(&mut self, far: &Far)
+        requires { 1 ≤ packets_at self.old (switch_over far.now) }
+        ensures { IsGroupedWith self.new far.now self.old }
+    {
+        match *far {
+            Far::Switch(first) => unload(&mut self.weights, first),
+            _ => self.direct -= 1,
+        }
+    }
+}
+
+/// One from a weight.
+fn unload(weights: &mut [u64], first: usize)
+    requires { 1 ≤ slice_index weights.old first }
+    ensures { weights.old ≡ slice_set weights.new first (slice_index weights.new first + 1) }
+{
+    weights[first] -= 1;
+}
+
+/// A packet from each adapter port. Takes a step for each end port.
+pub(crate) fn senders(alloc: Global, network: &Network) -> Result<Groups, AllocError>
+    ensures { IfOk result (AreGrouped (cells_of network.now.facts) (adapters (cells_of network.now.facts))) }
+{
+    let mut groups = Groups::none(alloc, network)?;
+    for source in network.sources() {
+        if is_adapter(&source.port) {
+            groups.join(&source.far)?;
+        }
+    }
+    Ok(groups)
+}
+
+/// The packets for the LID of a line which adapter ports send and which are delivered at the line's port, another one,
+/// by where each end port's packet ends. Takes a step for each end port.
+pub(crate) fn group_packets(
+    alloc: Global,
+    network: &Network,
+    line: &HeldLid,
+    ends: &Ends,
+) -> Result<Groups, AllocError>
+    requires brought { AreBrought (cells_of network.now.facts) network.now.held line.now.lid ends.now.ends }
+    requires port { ends.now.port ≡ line.now.port }
+    ensures { IfOk result (AreGrouped (cells_of network.now.facts)
+        (filter (reaches (cells_of network.now.facts) network.now.held line.now)
+        (end_ports (cells_of network.now.facts)))) }
+{
+    let mut groups = Groups::none(alloc, network)?;
+    for (index, source) in network.sources().iter().enumerate() {
+        if reaches(line, &source.port, ends.arrives(index)) {
+            groups.join(&source.far)?;
+        }
+    }
+    Ok(groups)
+}
+
+/// Whether an adapter port sends the packet to another port, by whether it ends there.
+fn reaches(line: &HeldLid, port: &EndPort, arrives: bool) -> bool
+    ensures { result ≡ reaches_if line.now port.now arrives }
+{
+    is_adapter(port) && !is_same_end(&line.port, port) && arrives
+}
+
+/// Whether it is an end port of an adapter: that of a switch is its port 0.
+pub fn is_adapter(port: &EndPort) -> bool
+    ensures { result ≡ is_adapter port.now }
+{
+    port.port.number() != 0
+}

@@ -1,0 +1,76 @@
+//! Ways that are counted.
+ghost use Rattle.std.specs.Prelude.{◌≡◌, ◌+◌, ◌*◌, IfOk, OnOk, length};
+ghost use Rattle.audit_ways.specs.WayTally.{IsCounted, IsCountedMore, IsCountedWith, grouped};
+ghost use Rattle.audit_ways.specs.Ways.{one_wire, way_from};
+
+use crate::channel_loads::load_channels;
+use crate::figures::Total;
+use port_graph::Edge;
+use std::alloc::{AllocError, Global};
+
+/// The ways that are counted.
+#[derive(Drop)]
+pub(crate) struct WayTally {
+    /// The wires of each way.
+    pub(crate) hops: Total,
+    /// How often each channel is taken.
+    pub(crate) loads: Vec<u64>,
+}
+
+impl WayTally {
+    /// No way, over so many channels.
+    pub(crate) fn new(alloc: Global, channels: usize) -> Result<Self, AllocError>
+        ensures { IfOk result (IsCounted channels (λ _. 0)) }
+    {
+        Ok(WayTally {
+            hops: Total::none(),
+            loads: vec![in alloc; 0u64; channels]?,
+        })
+    }
+
+    /// The way from each switch as often as its weight says, and those over one wire. Takes a step for each switch, and
+    /// for each channel of a way from one.
+    pub(crate) fn add(
+        &mut self,
+        edges: &[Option<Edge>],
+        weights: &[u64],
+        direct: u64,
+    ) -> Result<(), AllocError>
+        requires switches { length weights.now ≡ length edges.now }
+        requires channels { length self.old.loads.items ≡ 256 * length edges.now }
+        ensures { OnOk result (IsCountedMore (256 * length edges.now) self.old (grouped edges.now weights.now direct)
+            self.new) }
+    {
+        for (first, weight) in weights.iter().enumerate() {
+            if *weight > 0 {
+                self.add_from(edges, first, *weight)?;
+            }
+        }
+        if direct > 0 {
+            self.add_direct(direct)?;
+        }
+        Ok(())
+    }
+
+    /// The way from a switch some times more.
+    fn add_from(
+        &mut self,
+        edges: &[Option<Edge>],
+        first: usize,
+        times: u64,
+    ) -> Result<(), AllocError>
+        requires { length self.old.loads.items ≡ 256 * length edges.now }
+        ensures { OnOk result (IsCountedWith self.old (way_from edges.now first) times self.new) }
+    {
+        let channels = load_channels(&mut self.loads, edges, first, times)?;
+        let wires = (channels as u64).checked_add(2).ok_or(AllocError)?;
+        self.hops.add(wires, times)
+    }
+
+    /// The way over one wire some times more.
+    fn add_direct(&mut self, times: u64) -> Result<(), AllocError>
+        ensures { OnOk result (IsCountedWith self.old one_wire times self.new) }
+    {
+        self.hops.add(1, times)
+    }
+}

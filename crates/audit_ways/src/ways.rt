@@ -1,0 +1,173 @@
+ghost use Rattle.std.specs.Prelude.{◌≡◌, ◌/◌, ◌*◌, true, false, IfOk, MatchOption, OnOk, filter, length, map, slice_index, slice_index_or};
+ghost use Rattle.std.specs.List.{sum_by};
+ghost use Rattle.fact_store.specs.View.{cells_of};
+ghost use Rattle.subnet_view.specs.EndPorts.{end_ports};
+ghost use Rattle.subnet_view.specs.Reading.{switches};
+ghost use Rattle.held_tables.specs.Switches.{far_of};
+ghost use Rattle.held_tables.specs.Blocks.{AreBlocks};
+ghost use Rattle.audit_ways.specs.Figures.{IsTotal};
+ghost use Rattle.audit_ways.specs.Groups.{AreGrouped, adapters};
+ghost use Rattle.audit_ways.specs.WayTally.{IsCounted, IsCountedMore};
+ghost use Rattle.audit_ways.specs.Ways.{AllComeTo, AreTold, IsToldOfWays, channels_of};
+ghost use Rattle.audit_ways.specs.Ways.{is_target, is_to_switch, reaches, ways_of, ways_to};
+
+use crate::figures::{Figures, Total};
+use crate::roster::{roster, target_among};
+use crate::sender_groups::{Groups, group_packets, senders};
+use crate::way_tally::WayTally;
+use audit::{Blocks, Far, Network};
+use plan_file::HeldLid;
+use std::alloc::{AllocError, Global};
+
+/// What is told of the packets that adapter ports send to the LIDs of each other, and that are delivered there.
+#[derive(Clone, Copy, Debug, PartialEq, Eq)]
+pub struct WayFigures {
+    /// Of how many wires each takes, those at the adapters counted; None where there is no such packet.
+    pub hops: Option<Figures>,
+    /// Of how often each channel is taken; None where there is no channel.
+    pub load: Option<Figures>,
+}
+
+/// How far packets go between adapter ports, and how evenly they load the channels. Takes what `Network::ends` and
+/// `Network::edges` do for each LID, what `Network::blocks` does for each 64, for each LID a walk from each switch at
+/// which an adapter lies, and a step for each end port where not all packets for the LID are delivered. Refused for
+/// lack of memory, and where 64 bits are too few.
+pub fn figures_of_ways(alloc: Global, network: &Network) -> Result<WayFigures, AllocError>
+    ensures { IfOk result (IsToldOfWays (cells_of network.now.facts) network.now.held) }
+{
+    figures_of_ways_told(alloc, network, &[])
+}
+
+/// The same, where it is told of some lines that all packets for their LIDs are delivered at their ports: for these it
+/// does not take what `Network::ends` does.
+pub fn figures_of_ways_told(
+    alloc: Global,
+    network: &Network,
+    told: &[bool],
+) -> Result<WayFigures, AllocError>
+    requires { AreTold (cells_of network.now.facts) network.now.held told.now }
+    ensures { IfOk result (IsToldOfWays (cells_of network.now.facts) network.now.held) }
+{
+    let tally = tally_of(alloc, network, told)?;
+    let hops = tally.hops.figures()?;
+    let loads = loads_of(network, &tally.loads)?;
+    let load = loads.figures()?;
+    Ok(WayFigures { hops, load })
+}
+
+/// Counts the ways of the packets.
+fn tally_of(alloc: Global, network: &Network, told: &[bool]) -> Result<WayTally, AllocError>
+    requires { AreTold (cells_of network.now.facts) network.now.held told.now }
+    ensures { IfOk result (IsCounted (256 * length (switches (cells_of network.now.facts)))
+        (λ number. sum_by number (ways_of (cells_of network.now.facts) network.now.held))) }
+{
+    let channels = network.switch_count().checked_mul(256).ok_or(AllocError)?;
+    let mut tally = WayTally::new(alloc, channels)?;
+    let roster = roster(alloc, network)?;
+    let mut senders = senders(alloc, network)?;
+    let mut blocks = network.blocks(alloc, 0)?;
+    for (index, line) in network.lids().iter().enumerate() {
+        blocks = network.blocks_for(alloc, blocks, line.lid)?;
+        if let Some(far) = target_among(&roster, &line.port) {
+            add_ways(
+                alloc,
+                &mut tally,
+                &mut senders,
+                network,
+                &blocks,
+                line,
+                &far,
+                is_told(told, index),
+            )?;
+        }
+    }
+    Ok(tally)
+}
+
+/// Whether it is told of the line at an index.
+fn is_told(told: &[bool], index: usize) -> bool
+    ensures { result ≡ slice_index_or told.now index false }
+{
+    told.get(index).copied().unwrap_or(false)
+}
+
+/// Counts those for the LID of a line, the wire in whose port leads there. Takes the packets from all adapter ports,
+/// and leaves them as they were.
+fn add_ways(
+    alloc: Global,
+    tally: &mut WayTally,
+    senders: &mut Groups,
+    network: &Network,
+    blocks: &Blocks,
+    line: &HeldLid,
+    far: &Far,
+    told: bool,
+) -> Result<(), AllocError>
+    requires held { AreBlocks network.now.held blocks.now.number blocks.now.rows.items }
+    requires number { blocks.now.number ≡ line.now.lid / 64 }
+    requires channels { length tally.old.loads.items ≡ 256 * length (switches (cells_of network.now.facts)) }
+    requires senders { AreGrouped (cells_of network.now.facts) (adapters (cells_of network.now.facts)) senders.old }
+    requires target { is_target (cells_of network.now.facts) line.now.port ≡ true }
+    requires far { far.now ≡ far_of (cells_of network.now.facts) line.now.port.node line.now.port.port }
+    requires told { told ≡ true → AllComeTo (cells_of network.now.facts) network.now.held line.now }
+    ensures ways { OnOk result (IsCountedMore (256 * length (switches (cells_of network.now.facts))) tally.old
+        (λ number. sum_by number (ways_to (cells_of network.now.facts) network.now.held line.now)) tally.new) }
+    ensures senders { OnOk result
+        (AreGrouped (cells_of network.now.facts) (adapters (cells_of network.now.facts)) senders.new) }
+{
+    let edges = network.edges(alloc, blocks, line.lid)?;
+    match some_of_all(alloc, network, blocks, line, told)? {
+        Some(groups) => return tally.add(&edges, &groups.weights, groups.direct),
+        None => {}
+    }
+    senders.leave(far);
+    tally.add(&edges, &senders.weights, senders.direct)?;
+    senders.join(far)
+}
+
+/// The packets for the LID of a line that are delivered, where not all are; None where all are, as may be told.
+fn some_of_all(
+    alloc: Global,
+    network: &Network,
+    blocks: &Blocks,
+    line: &HeldLid,
+    told: bool,
+) -> Result<Option<Groups>, AllocError>
+    requires held { AreBlocks network.now.held blocks.now.number blocks.now.rows.items }
+    requires number { blocks.now.number ≡ line.now.lid / 64 }
+    requires told { told ≡ true → AllComeTo (cells_of network.now.facts) network.now.held line.now }
+    ensures { IfOk result (λ groups. MatchOption groups
+        (AllComeTo (cells_of network.now.facts) network.now.held line.now)
+        (AreGrouped (cells_of network.now.facts) (filter
+        (reaches (cells_of network.now.facts) network.now.held line.now) (end_ports (cells_of network.now.facts))))) }
+{
+    if told {
+        return Ok(None);
+    }
+    let ends = network.ends(alloc, blocks, line)?;
+    match ends.first_elsewhere() {
+        None => Ok(None),
+        Some(_) => Ok(Some(group_packets(alloc, network, line, &ends)?)),
+    }
+}
+
+/// Counts the loads of the channels of a network.
+fn loads_of(network: &Network, loads: &[u64]) -> Result<Total, AllocError>
+    requires { length loads.now ≡ 256 * length (switches (cells_of network.now.facts)) }
+    ensures { IfOk result (IsTotal (map (slice_index loads.now) (channels_of (cells_of network.now.facts)))) }
+{
+    let mut total = Total::none();
+    for (channel, load) in loads.iter().enumerate() {
+        if is_to_switch(network.far(channel)) {
+            total.add(*load, 1)?;
+        }
+    }
+    Ok(total)
+}
+
+/// Whether a wire leads to a usable switch.
+fn is_to_switch(far: Far) -> bool
+    ensures { result ≡ is_to_switch far }
+{
+    matches!(far, Far::Switch(_))
+}
