@@ -4,13 +4,13 @@ use Rattle.std.specs.Prelude.{IfSome, codes, find, map, option_map, option_and_t
 use Rattle.std.proofs.lemmas.Option.{same_Some, slice_get-map}
 use Rattle.std.specs.Str.{bytes_eq}
 use Rattle.clap.specs.Facts.{Entry}
-use Rattle.clap.specs.Matches.{first_value, matched_of, raw_values, subcommand_name_of}
+use Rattle.clap.specs.Matches.{first_value, matched_of, raw_values}
 use Rattle.clap.specs.Simple.{subcommand_rows_of}
 use Rattle.clap.specs.Walk.{Row, row_of, rows_of, Text}
 use Rattle.clap.specs.declared.parser.matches.ArgMatches.{ArgMatches}
 use Rattle.clap.specs.declared.parser.matches.Found.{Found}
 use Rattle.clap.specs.declared.parser.matches.MatchedArg.{MatchedArg}
-use Rattle.cli_task.specs.Asked.{Asks, AsksTask, RootsLackSpread, files_named, names_asked, names_in, values_in, word_named}
+use Rattle.cli_task.specs.Asked.{files_named, names_asked, names_in, values_in, word_named}
 use Rattle.cli_task.specs.declared.task.Task.{Task}
 
 found_values : (name : List ℕ) (es : List Entry)
@@ -60,39 +60,3 @@ names_are matches found task e =
     values_are (subcommand_rows_of matches) found (codes "FILE") _ e refl in
     ap (λ word. names_in word (option_map raw_values (matched_of found (codes "FILE"))) task) (sym (words_are matches found e))
     ∙ ap (λ names. names_in (word_named matches) names task) (sym files)
-
--- and what they ask for
-pub asks_are : (matches : ArgMatches) (found : Found) (command : List ℕ) (asked : Option Task) → Some command ≡ subcommand_name_of matches
-    → Some (rows_of found) ≡ option_map (λ p. p.1) (subcommand_rows_of matches) → IfSome asked (AsksTask (first_value found) command)
-    → IfSome asked (Asks matches)
-asks_are matches found command None name e asks = tt
-asks_are matches found command (Some task) name e asks = record {
-  command = command;
-  named = sym name;
-  asked = subst (λ (word : List ℕ → Option (List ℕ)). AsksTask word command task) (sym (words_are matches found e)) asks;
-}
-
-pub asks_behind : (matches : ArgMatches) (found : Found) (command : List ℕ) (task : Task) → Some command ≡ subcommand_name_of matches
-    → Some (rows_of found) ≡ option_map (λ p. p.1) (subcommand_rows_of matches) → Asks matches task → AsksTask (first_value found) command task
-asks_behind matches found command task name e asks =
-    let same : asks.command ≡ command = same_Some _ _ (sym asks.named ∙ sym name) in
-    subst (λ (word : List ℕ → Option (List ℕ)). AsksTask word command task) (words_are matches found e)
-    (subst (λ (c : List ℕ). AsksTask (word_named matches) c task) same asks.asked)
-
--- roots that lack their rule there lack it among the words that are named
-pub lack_named : (o : Option (Text × List Row)) (found : Found) (b : Bool) → Some (rows_of found) ≡ option_map (λ p. p.1) o
-    → IsTrue b ↔ RootsLackSpread (first_value found (codes "roots")) (first_value found (codes "routing"))
-    → IsTrue b ↔ RootsLackSpread (option_and_then (λ s. option_and_then (λ vs. slice_get vs 0) (values_in (codes "roots") s.1)) o)
-    (option_and_then (λ s. option_and_then (λ vs. slice_get vs 0) (values_in (codes "routing") s.1)) o)
-lack_named o found b e h =
-    let Roots : Option (List ℕ) → Type 0 = λ w. IsTrue b ↔ RootsLackSpread w (first_value found (codes "routing")) in
-    let roots = option_and_then (λ s. option_and_then (λ vs. slice_get vs 0) (values_in (codes "roots") s.1)) o in
-    let Rule : Option (List ℕ) → Type 0 = λ w. IsTrue b ↔ RootsLackSpread roots w in
-    subst Rule (sym (first_is o found (codes "routing") e)) (subst Roots (sym (first_is o found (codes "roots") e)) h)
-
--- without a subcommand no roots are named
-pub none_lack : (o : Option (Text × List Row)) → None ≡ option_map (λ p. p.1) o
-    → IsTrue false ↔ RootsLackSpread (option_and_then (λ s. option_and_then (λ vs. slice_get vs 0) (values_in (codes "roots") s.1)) o)
-    (option_and_then (λ s. option_and_then (λ vs. slice_get vs 0) (values_in (codes "routing") s.1)) o)
-none_lack None e = (λ t. absurd (cc), λ h. let is = h.0 in absurd (cc))
-none_lack (Some p) e = absurd (cc)

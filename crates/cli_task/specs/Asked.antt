@@ -1,11 +1,12 @@
 -- What the words of the command line ask for: a task, and the names of its inputs.
-use Rattle.std.specs.Prelude.{◌≡◌, ◌≢◌, ◌≤◌, Bool, true, false, List, [], ◌∷◌, ◌++◌, ℕ, Option, None, Some, IsSome, codes, find, option_map, option_and_then, slice_get, if◌then◌else◌}
+use Rattle.std.specs.Prelude.{ℕ, Bool, true, false, List, [], ◌∷◌, ◌++◌, Option, None, Some, codes, find, is_some, not, nat_le, option_map, option_and_then, slice_get, ◌&&◌, if◌then◌else◌}
 use Rattle.std.specs.Str.{bytes_eq}
-use Rattle.std.specs.Str.Parse.{IsNumeral, digits_value, without_leading_plus}
+use Rattle.std.specs.Str.Parse.{without_leading_plus}
 use Rattle.clap.specs.Matches.{subcommand_name_of}
 use Rattle.clap.specs.Simple.{subcommand_rows_of}
 use Rattle.clap.specs.Walk.{Row}
 use Rattle.clap.specs.declared.parser.matches.ArgMatches.{ArgMatches}
+use Rattle.text_words.specs.Number.{number_of}
 use Rattle.sm_cli.specs.Asked.{rule_for}
 use Rattle.sm_cli.specs.declared.asked.Output.{Output}
 use Rattle.sm_cli.specs.declared.asked.Output.TheVariants.{Facts, Join, Plan}
@@ -31,78 +32,81 @@ word_named matches name =
     option_and_then (λ s. option_and_then (λ values. slice_get values 0) (values_in name s.1))
     (subcommand_rows_of matches)
 
--- tasks -----------------------------------------------------------------------------------------
+-- options ---------------------------------------------------------------------------------------
 
--- the word writes this number in decimal, from a least to a greatest
-pub record Writes (least most : ℕ) (word : List ℕ) (number : ℕ) : Type 0 where
-  pub numeral : IsNumeral 10 (without_leading_plus word)
-  pub is : number ≡ digits_value 10 (without_leading_plus word)
-  pub not_less : least ≤ number
-  pub not_more : number ≤ most
+-- the number, where it is within these bounds
+abbrev pub within : ℕ → ℕ → ℕ → Option ℕ
+within least most n = if nat_le least n && nat_le n most then Some n else None
+
+-- the number that a word writes in decimal, with a plus in front or without
+abbrev pub number_in : List ℕ → Option ℕ
+number_in word = number_of 10 (without_leading_plus word)
 
 -- the floor is the number of the word; without a word it is 1
-abbrev pub IsFloor : Option (List ℕ) → ℕ → Type 0
-IsFloor None floor = floor ≡ 1
-IsFloor (Some word) floor = Writes 1 4294967295 word floor
+abbrev pub floor_asked : Option (List ℕ) → Option ℕ
+floor_asked None = Some 1
+floor_asked (Some word) = option_and_then (within 1 4294967295) (number_in word)
 
 -- the LMC is the number of the word; without a word it is 0
-abbrev pub IsLmc : Option (List ℕ) → ℕ → Type 0
-IsLmc None lmc = lmc ≡ 0
-IsLmc (Some word) lmc = Writes 0 7 word lmc
+abbrev pub lmc_asked : Option (List ℕ) → Option ℕ
+lmc_asked None = Some 0
+lmc_asked (Some word) = option_and_then (within 0 7) (number_in word)
 
--- the word names the rule that goes up and down, as none does
-abbrev pub IsUpDown : Option (List ℕ) → Type 0
-IsUpDown None = Unit {0}
-IsUpDown (Some word) = word ≡ codes "updown"
-
--- the rule is the one that a word names, with the roots of a text where that is named, which the rule that spreads
--- alone takes
-abbrev pub IsRule : Option (List ℕ) → Option (List ℕ) → RuleAsked → Type 0
-IsRule routing roots UpDown = IsUpDown routing × (roots ≡ None)
-IsRule routing roots Spread = (routing ≡ Some (codes "spread")) × (roots ≡ None)
-IsRule routing roots SpreadFromRoots = (routing ≡ Some (codes "spread")) × IsSome roots
+-- the rule is the one that a word names, up and down without one; where roots are named, the one that takes them
+abbrev pub rule_asked : Option (List ℕ) → Bool → Option RuleAsked
+rule_asked None rooted = if rooted then None else Some UpDown
+rule_asked (Some word) rooted =
+    if bytes_eq word (codes "spread") then Some (if rooted then SpreadFromRoots else Spread)
+    else (if bytes_eq word (codes "updown") && not rooted then Some UpDown else None)
 
 -- roots are named, and another rule than the one that takes them, or none
-abbrev pub RootsLackSpread : Option (List ℕ) → Option (List ℕ) → Type 0
-RootsLackSpread roots routing = IsSome roots × (routing ≢ Some (codes "spread"))
+abbrev pub roots_lack_rule : Option (List ℕ) → Bool → Bool
+roots_lack_rule None rooted = rooted
+roots_lack_rule (Some word) rooted = rooted && not (bytes_eq word (codes "spread"))
 
--- plans have this LMC, and go by this rule, as the words of their arguments say
-pub record PlansBy (word : List ℕ → Option (List ℕ)) (lmc : ℕ) (rule : RuleAsked) : Type 0 where
-  pub lmc_named : IsLmc (word (codes "lmc")) lmc
-  pub rule_named : IsRule (word (codes "routing")) (word (codes "roots")) rule
+-- options contradict each other
+abbrev pub has_conflict : (List ℕ → Option (List ℕ)) → Bool
+has_conflict word = roots_lack_rule (word (codes "routing")) (is_some (word (codes "roots")))
 
--- a command asks for an output, by the words of its arguments
-abbrev pub AsksOutput : (List ℕ → Option (List ℕ)) → List ℕ → Output → Type 0
-AsksOutput word command Facts = command ≡ codes "facts"
-AsksOutput word command Join = command ≡ codes "join"
-AsksOutput word command (Plan lmc rule) = (command ≡ codes "plan") × PlansBy word lmc rule
+-- tasks -----------------------------------------------------------------------------------------
 
--- words ask for a step
-pub record AsksStep (word : List ℕ → Option (List ℕ)) (step : StepAsked) : Type 0 where
-  pub plan : PlansBy word step.lmc step.rule
-  pub floor : IsFloor (word (codes "floor")) step.floor
+-- the LMC of plans, and the rule that they go by
+abbrev pub planning_asked : (List ℕ → Option (List ℕ)) → Option (ℕ × RuleAsked)
+planning_asked word = option_and_then (λ lmc. option_map (λ rule. (lmc, rule))
+    (rule_asked (word (codes "routing")) (is_some (word (codes "roots"))))) (lmc_asked (word (codes "lmc")))
 
--- and so for a task
-abbrev pub AsksTask : (List ℕ → Option (List ℕ)) → List ℕ → Task → Type 0
-AsksTask word command (Answer request) =
-    AsksOutput word command request.output × IsFloor (word (codes "floor")) request.floor
-AsksTask word command (Audit floor) = (command ≡ codes "audit") × IsFloor (word (codes "floor")) floor
-AsksTask word command (Next asked) = (command ≡ codes "next") × AsksStep word asked
-AsksTask word command (Run lmc rule) = (command ≡ codes "run") × PlansBy word lmc rule
+-- the step
+abbrev pub step_asked : (List ℕ → Option (List ℕ)) → Option StepAsked
+step_asked word = option_and_then (λ by. option_map (λ floor. record { lmc = by.0; rule = by.1; floor = floor })
+    (floor_asked (word (codes "floor")))) (planning_asked word)
 
--- the words ask for a task
-pub record Asks (matches : ArgMatches) (task : Task) : Type 0 where
-  pub command : List ℕ
-  pub named : subcommand_name_of matches ≡ Some command
-  pub asked : AsksTask (word_named matches) command task
+-- what a command writes of files
+abbrev pub output_asked : (List ℕ → Option (List ℕ)) → List ℕ → Option Output
+output_asked word command =
+    if bytes_eq command (codes "facts") then Some Facts
+    else (if bytes_eq command (codes "join") then Some Join
+    else (if bytes_eq command (codes "plan") then option_map (λ by. Plan by.0 by.1) (planning_asked word) else None))
+
+-- the task of a command, by the words of its arguments
+abbrev pub task_behind : (List ℕ → Option (List ℕ)) → List ℕ → Option Task
+task_behind word command =
+    if bytes_eq command (codes "audit") then option_map Audit (floor_asked (word (codes "floor")))
+    else (if bytes_eq command (codes "next") then option_map Next (step_asked word)
+    else (if bytes_eq command (codes "run") then option_map (λ by. Run by.0 by.1) (planning_asked word)
+    else option_and_then (λ output. option_map (λ floor. Answer (record { output = output; floor = floor }))
+    (floor_asked (word (codes "floor")))) (output_asked word command)))
+
+-- the task that the words ask for
+abbrev pub task_asked : ArgMatches → Option Task
+task_asked matches = option_and_then (task_behind (word_named matches)) (subcommand_name_of matches)
 
 -- inputs ----------------------------------------------------------------------------------------
 
--- the text of roots that a rule takes
-abbrev pub roots_asked : (List ℕ → Option (List ℕ)) → RuleAsked → Option (List (List ℕ))
-roots_asked word UpDown = Some []
-roots_asked word Spread = Some []
-roots_asked word SpreadFromRoots = option_map (λ roots. roots ∷ []) (word (codes "roots"))
+-- the texts that a rule takes
+abbrev pub texts_of_rule : (List ℕ → Option (List ℕ)) → RuleAsked → Option (List (List ℕ))
+texts_of_rule word UpDown = Some []
+texts_of_rule word Spread = Some []
+texts_of_rule word SpreadFromRoots = option_map (λ roots. roots ∷ []) (word (codes "roots"))
 
 -- by which rule a task plans; where it does not, by one that takes no text
 abbrev pub rule_of_task : Task → RuleAsked
@@ -138,11 +142,11 @@ followed_by first later = option_and_then (λ names. option_map (λ others. name
 -- the names of the inputs of a task, in the order in which they are read
 abbrev pub names_in : (List ℕ → Option (List ℕ)) → Option (List (List ℕ)) → Task → Option (List (List ℕ))
 names_in word files task =
-    followed_by (roots_asked word (rule_of_task task)) (followed_by (texts_asked word task) (files_asked files task))
+    followed_by (texts_of_rule word (rule_of_task task)) (followed_by (texts_asked word task) (files_asked files task))
 
 abbrev pub names_asked : ArgMatches → Task → Option (List (List ℕ))
 names_asked matches task = names_in (word_named matches) (files_named matches) task
 
--- of each task that the words ask for an input is not named
-abbrev pub LacksInputs : ArgMatches → Type 0
-LacksInputs matches = (task : Task) → Asks matches task → names_asked matches task ≡ None
+-- a task is asked for, and a word for each of its inputs
+abbrev pub inputs_asked : ArgMatches → Option (List (List ℕ))
+inputs_asked matches = option_and_then (names_asked matches) (task_asked matches)

@@ -203,8 +203,8 @@ fn roots<'a>(alloc: Global) -> Arg<'a> {
         .action(ArgAction::Set)
 }
 
-/// What is wrong where roots are named behind the subcommand, and another rule of routing than the one that takes them.
-pub fn roots_without_spread(alloc: Global, name: Option<&str>) -> Result<Error, AllocError> {
+/// What is wrong where options behind the subcommand contradict each other.
+pub fn conflict(alloc: Global, name: Option<&str>) -> Result<Error, AllocError> {
     let mut command = match name {
         Some(NEXT) => next(alloc)?.bin_name("ibsm next")?,
         Some(RUN) => run(alloc)?.bin_name("ibsm run")?,

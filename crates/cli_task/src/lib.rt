@@ -5,5 +5,5 @@ mod argument_names;
 mod arguments;
 mod task;
 
-pub use arguments::{command_line, roots_without_spread};
-pub use task::{Task, has_roots_without_spread, names_of, task_of};
+pub use arguments::{command_line, conflict};
+pub use task::{Task, has_conflict, names_of, task_of};

@@ -1,12 +1,8 @@
 //! What the words of the command line ask for.
-ghost use Rattle.std.specs.Prelude.{◌≡◌, ◌↔◌, ℕ, IfOk, IfSome, IsTrue, None, Some, codes, is_some, map, option_map};
+ghost use Rattle.std.specs.Prelude.{◌≡◌, IfOk, codes, is_some, map, option_map};
 ghost use Rattle.clap.specs.Matches.{first_value, found_of, matched_of, raw_values};
-ghost use Rattle.sm_cli.specs.declared.asked.Output.{Output as OutputValue};
-ghost use Rattle.sm_cli.specs.declared.asked.RuleAsked.{RuleAsked as RuleValue};
-ghost use Rattle.next_run.specs.declared.run_step.StepAsked.{StepAsked as StepValue};
-ghost use Rattle.cli_task.specs.declared.task.Task.{Task as TaskValue};
-ghost use Rattle.cli_task.specs.Asked.{Asks, AsksOutput, AsksStep, AsksTask, IsFloor, IsLmc, IsRule, RootsLackSpread};
-ghost use Rattle.cli_task.specs.Asked.{names_asked, names_in, roots_asked, rule_of_task, takes_files, texts_asked, word_named};
+ghost use Rattle.cli_task.specs.Asked.{floor_asked, has_conflict, lmc_asked, output_asked, planning_asked, rule_asked, step_asked, task_asked, task_behind};
+ghost use Rattle.cli_task.specs.Asked.{names_asked, names_in, rule_of_task, takes_files, texts_asked, texts_of_rule, word_named};
 
 use crate::argument_names::{
     AUDIT, FACTS, FILE, FLOOR, JOIN, LMC, NEXT, PLAN, ROOTS, ROUTING, RUN, SCHEDULE, SPREAD,
@@ -60,8 +56,7 @@ impl Task {
 
 /// The task that the words ask for, by the subcommand and the words behind it.
 pub fn task_of(matches: &ArgMatches<'_>) -> Option<Task>
-    ensures some { IfSome result (Asks matches.now) }
-    ensures none { result ≡ None → (task : TaskValue) → Asks matches.now task → ⊥ }
+    ensures { result ≡ task_asked matches.now }
 {
     let (command, words) = matches.subcommand()?;
     task_behind(command, words)
@@ -69,14 +64,15 @@ pub fn task_of(matches: &ArgMatches<'_>) -> Option<Task>
 
 /// The task that a subcommand asks for, by the words behind it.
 fn task_behind(command: &str, words: &ArgMatches<'_>) -> Option<Task>
-    ensures some { IfSome result (AsksTask (first_value (found_of words.now)) command.now) }
-    ensures none { result ≡ None → (task : TaskValue)
-        → AsksTask (first_value (found_of words.now)) command.now task → ⊥ }
+    ensures { result ≡ task_behind (first_value (found_of words.now)) command.now }
 {
     match command {
         AUDIT => Some(Task::Audit(floor_of(words)?)),
         NEXT => Some(Task::Next(step_of(words)?)),
-        RUN => Some(Task::Run(lmc_of(words)?, rule_of(words)?)),
+        RUN => {
+            let (lmc, rule) = planning_of(words)?;
+            Some(Task::Run(lmc, rule))
+        }
         _ => {
             let output = output_of(command, words)?;
             let floor = floor_of(words)?;
@@ -87,34 +83,40 @@ fn task_behind(command: &str, words: &ArgMatches<'_>) -> Option<Task>
 
 /// The step that the words behind a subcommand ask for.
 fn step_of(words: &ArgMatches<'_>) -> Option<StepAsked>
-    ensures some { IfSome result (AsksStep (first_value (found_of words.now))) }
-    ensures none { result ≡ None → (step : StepValue)
-        → AsksStep (first_value (found_of words.now)) step → ⊥ }
+    ensures { result ≡ step_asked (first_value (found_of words.now)) }
 {
-    let lmc = lmc_of(words)?;
-    let rule = rule_of(words)?;
+    let (lmc, rule) = planning_of(words)?;
     let floor = floor_of(words)?;
     Some(StepAsked { lmc, rule, floor })
 }
 
 /// What a subcommand is to write of files, by the words behind it.
 fn output_of(command: &str, words: &ArgMatches<'_>) -> Option<Output>
-    ensures some { IfSome result (AsksOutput (first_value (found_of words.now)) command.now) }
-    ensures none { result ≡ None → (output : OutputValue)
-        → AsksOutput (first_value (found_of words.now)) command.now output → ⊥ }
+    ensures { result ≡ output_asked (first_value (found_of words.now)) command.now }
 {
     match command {
         FACTS => Some(Output::Facts),
         JOIN => Some(Output::Join),
-        PLAN => Some(Output::Plan(lmc_of(words)?, rule_of(words)?)),
+        PLAN => {
+            let (lmc, rule) = planning_of(words)?;
+            Some(Output::Plan(lmc, rule))
+        }
         _ => None,
     }
 }
 
+/// The LMC of plans and their rule of routing that the words behind a subcommand ask for.
+fn planning_of(words: &ArgMatches<'_>) -> Option<(Lmc, RuleAsked)>
+    ensures { result ≡ planning_asked (first_value (found_of words.now)) }
+{
+    let lmc = lmc_of(words)?;
+    let rule = rule_of(words)?;
+    Some((lmc, rule))
+}
+
 /// The floor that the words behind a subcommand ask for, 1 where they ask for none.
 fn floor_of(words: &ArgMatches<'_>) -> Option<Generation>
-    ensures some { IfSome result (IsFloor (first_value (found_of words.now) (codes "floor"))) }
-    ensures none { result ≡ None → (floor : ℕ) → IsFloor (first_value (found_of words.now) (codes "floor")) floor → ⊥ }
+    ensures { result ≡ floor_asked (first_value (found_of words.now) (codes "floor")) }
 {
     let number = match words.get_str(FLOOR) {
         Some(text) => text.parse::<u32>().ok()?,
@@ -125,8 +127,7 @@ fn floor_of(words: &ArgMatches<'_>) -> Option<Generation>
 
 /// The LMC that the words behind a subcommand ask for, 0 where they ask for none.
 fn lmc_of(words: &ArgMatches<'_>) -> Option<Lmc>
-    ensures some { IfSome result (IsLmc (first_value (found_of words.now) (codes "lmc"))) }
-    ensures none { result ≡ None → (lmc : ℕ) → IsLmc (first_value (found_of words.now) (codes "lmc")) lmc → ⊥ }
+    ensures { result ≡ lmc_asked (first_value (found_of words.now) (codes "lmc")) }
 {
     let number = match words.get_str(LMC) {
         Some(text) => text.parse::<u8>().ok()?,
@@ -137,10 +138,8 @@ fn lmc_of(words: &ArgMatches<'_>) -> Option<Lmc>
 
 /// The rule of routing that the words behind a subcommand ask for, up and down where they ask for none.
 fn rule_of(words: &ArgMatches<'_>) -> Option<RuleAsked>
-    ensures some { IfSome result (IsRule (first_value (found_of words.now) (codes "routing"))
-        (first_value (found_of words.now) (codes "roots"))) }
-    ensures none { result ≡ None → (rule : RuleValue) → IsRule (first_value (found_of words.now) (codes "routing"))
-        (first_value (found_of words.now) (codes "roots")) rule → ⊥ }
+    ensures { result ≡ rule_asked (first_value (found_of words.now) (codes "routing"))
+        (is_some (first_value (found_of words.now) (codes "roots"))) }
 {
     let rooted = has_roots(words);
     match words.get_str(ROUTING) {
@@ -151,23 +150,25 @@ fn rule_of(words: &ArgMatches<'_>) -> Option<RuleAsked>
     }
 }
 
-/// Whether roots are named, and another rule of routing than the one that takes them.
-pub fn has_roots_without_spread(matches: &ArgMatches<'_>) -> bool
-    ensures { IsTrue result
-        ↔ RootsLackSpread (word_named matches.now (codes "roots")) (word_named matches.now (codes "routing")) }
+/// Whether options contradict each other: roots are named, and another rule of routing than the one that takes them, or
+/// none.
+pub fn has_conflict(matches: &ArgMatches<'_>) -> bool
+    ensures { result ≡ has_conflict (word_named matches.now) }
 {
     match matches.subcommand() {
-        Some((_, words)) => lacks_spread(words),
+        Some((_, words)) => lacks_rule(words),
         None => false,
     }
 }
 
-/// Whether the words behind a subcommand name a file of roots, and another rule, or none.
-fn lacks_spread(words: &ArgMatches<'_>) -> bool
-    ensures { IsTrue result ↔ RootsLackSpread (first_value (found_of words.now) (codes "roots"))
-        (first_value (found_of words.now) (codes "routing")) }
+/// Whether options behind a subcommand do so.
+fn lacks_rule(words: &ArgMatches<'_>) -> bool
+    ensures { result ≡ has_conflict (first_value (found_of words.now)) }
 {
-    has_roots(words) && !is_spread(words)
+    match words.get_str(ROUTING) {
+        Some(SPREAD) => false,
+        _ => has_roots(words),
+    }
 }
 
 /// Whether they name a file of roots.
@@ -177,18 +178,8 @@ fn has_roots(words: &ArgMatches<'_>) -> bool
     words.get_str(ROOTS).is_some()
 }
 
-/// Whether they ask for the rule that takes roots.
-fn is_spread(words: &ArgMatches<'_>) -> bool
-    ensures { IsTrue result ↔ (first_value (found_of words.now) (codes "routing") ≡ Some (codes "spread")) }
-{
-    match words.get_str(ROUTING) {
-        Some(rule) => rule == SPREAD,
-        None => false,
-    }
-}
-
-/// The names of the inputs of a task, in the order in which they are read: roots, other texts, files. None where one is
-/// not named.
+/// The names of the inputs of a task, in the order in which they are read: the texts of its rule, its own, files. None
+/// where one is not named.
 pub fn names_of<'a>(
     alloc: Global,
     matches: &ArgMatches<'a>,
@@ -213,13 +204,13 @@ fn names_behind<'a>(
         ≡ names_in (first_value (found_of words.now))
         (option_map raw_values (matched_of (found_of words.now) (codes "FILE"))) task.now) }
 {
-    let Some(roots) = roots_of(words, task.rule()) else {
+    let Some(first) = texts_of_rule(words, task.rule()) else {
         return Ok(None);
     };
     let Some(texts) = texts_of(words, task) else {
         return Ok(None);
     };
-    let mut names = Vec::from_slice(alloc, &roots)?;
+    let mut names = Vec::from_slice(alloc, &first)?;
     names.extend_from_slice(&texts)?;
     if task.takes_files() {
         let Some(files) = words.get_strs(FILE) else {
@@ -230,16 +221,16 @@ fn names_behind<'a>(
     Ok(Some(names))
 }
 
-/// The text of roots, where a rule takes one.
-fn roots_of<'a>(words: &ArgMatches<'a>, rule: RuleAsked) -> Option<ArrayVec<&'a str, 1>>
+/// The texts that a rule takes: that of the roots, where they are named.
+fn texts_of_rule<'a>(words: &ArgMatches<'a>, rule: RuleAsked) -> Option<ArrayVec<&'a str, 1>>
     ensures { option_map (λ found. map (λ name. name.now) found.items) result
-        ≡ roots_asked (first_value (found_of words.now)) rule }
+        ≡ texts_of_rule (first_value (found_of words.now)) rule }
 {
-    let mut roots = ArrayVec::new();
+    let mut texts = ArrayVec::new();
     if rule == RuleAsked::SpreadFromRoots {
-        roots.push(words.get_str(ROOTS)?);
+        texts.push(words.get_str(ROOTS)?);
     }
-    Some(roots)
+    Some(texts)
 }
 
 /// The other texts of a task.

@@ -14,7 +14,7 @@ use Rattle.sm_cli.specs.declared.fault.Fault.TheVariants.{Open, File, Text, NoRo
 use Rattle.audit_report.specs.RunAudit.{HasAudited, IsAuditFault}
 use Rattle.next_run.specs.RunNext.{HasStepped, IsStepFault}
 use Rattle.schedule_run.specs.Run.{HasRun, IsRunFault}
-use Rattle.cli_task.specs.Asked.{Asks, names_asked}
+use Rattle.cli_task.specs.Asked.{names_asked, task_asked}
 use Rattle.ibsm.specs.declared.opener.OpenFault.{OpenFault}
 use Rattle.cli_task.specs.declared.task.Task.{Task}
 use Rattle.cli_task.specs.declared.task.Task.TheVariants.{Answer, Audit, Next, Run}
@@ -58,7 +58,7 @@ pub record Performs {S : Type 0} (answers : List ℕ → Result S OpenFault → 
 -- the words ask for a task, and name its inputs
 pub record AsksWhole (matches : ArgMatches) : Type 0 where
   pub task : Task
-  pub is_asked : Asks matches task
+  pub is_asked : task_asked matches ≡ Some task
   pub names : List (Bor (List ℕ))
   pub named : names_asked matches task ≡ Some (map (λ name. name.now) names)
 

@@ -1,7 +1,7 @@
 //! One run of the program.
-ghost use Rattle.std.specs.Prelude.{◌≡◌, ◌⊎◌, Bool, IfOk, IsTrue};
+ghost use Rattle.std.specs.Prelude.{◌≡◌, ◌⊎◌, Bool, IfOk, IsTrue, None};
 ghost use Rattle.std.specs.Io.KnownBytes.{Appends};
-ghost use Rattle.cli_task.specs.Asked.{LacksInputs};
+ghost use Rattle.cli_task.specs.Asked.{inputs_asked};
 ghost use Rattle.next_run.specs.RunNext.{IsSaid};
 ghost use Rattle.schedule_world.specs.Prints.{PrintsSome};
 ghost use Rattle.ibsm.specs.Ending.{IsDone, PerformsWords, SaysWhyOfWords, status_after};
@@ -11,7 +11,7 @@ use crate::opener::Opener;
 use byte_io::{Sink, ToWrite};
 use clap::error::ErrorKind;
 use clap::{ArgMatches, Error};
-use cli_task::{command_line, has_roots_without_spread, names_of, roots_without_spread, task_of};
+use cli_task::{command_line, conflict, has_conflict, names_of, task_of};
 use sm_cli::{ExitStatus, Fault};
 use std::alloc::AllocError;
 use std::io::{BufWriter, Write};
@@ -44,8 +44,8 @@ where
     };
     let writer = BufWriter::new(rt.alloc(), output).map_err(|_| AllocError)?;
     match command_line(rt.alloc())?.try_get_matches_from(words.as_slice()) {
-        Ok(matches) if has_roots_without_spread(&matches) => {
-            let error = roots_without_spread(rt.alloc(), matches.subcommand_name())?;
+        Ok(matches) if has_conflict(&matches) => {
+            let error = conflict(rt.alloc(), matches.subcommand_name())?;
             explain(rt, &error, errors)
         }
         Ok(matches) => dispatch(rt, &matches, &mut ToWrite::new(writer), errors),
@@ -87,7 +87,7 @@ where
         (PrintsSome ⟦<ToWrite<O> as Sink>⟧.written ⟦<ToWrite<O> as Sink>⟧.has_failed output.old output.new)
         (⟦<ToWrite<O> as Sink>⟧.has_failed output.new) (output.new ≡ output.old) status
         (IsSaid ⟦<ToWrite<E> as Sink>⟧.written ⟦<ToWrite<E> as Sink>⟧.has_failed errors.old errors.new))) }
-    ensures usage { IfOk result (λ status. status ≡ ExitStatus.Usage → LacksInputs matches.now) }
+    ensures usage { IfOk result (λ status. status ≡ ExitStatus.Usage → inputs_asked matches.now ≡ None) }
 {
     let Some(task) = task_of(matches) else {
         return Ok(ExitStatus::Usage);

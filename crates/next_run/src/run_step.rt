@@ -31,12 +31,12 @@ pub struct StepAsked {
     pub floor: Generation,
 }
 
-/// Reads the text of roots, where one is asked for, then the text of tables that switches hold, and then the files in
-/// order; writes the tables to write next towards the plan of what the files say together, as text; and says on `told`,
-/// in a line as an audit's, whether channels can wait for each other by any mixture of both tables, and in another for
-/// which LIDs. Answers whether none can. The first fault counts; then that of the roots, that there is no room for the
-/// plan, and that a LID is given to another end port than the one that holds it. Where an input is refused, or memory
-/// is, nothing is written; how much went out before a write failed is not said.
+/// Reads the inputs in order, the text that a rule takes, the text of tables that switches hold, and then the files
+/// (`read_inputs`); writes the tables to write next towards the plan of what the files say together, as text; and says
+/// on `told`, in a line as an audit's, whether channels can wait for each other by any mixture of both tables, and in
+/// another for which LIDs. Answers whether none can. The first fault of the inputs counts; then that there is no room
+/// for the plan, and that a LID is given to another end port than the one that holds it. Where an input is refused, or
+/// memory is, nothing is written; how much went out before a write failed is not said.
 pub fn run_next<S: Source, W: Sink, E: Sink>(
     alloc: Global,
     inputs: &mut [S],

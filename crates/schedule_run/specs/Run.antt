@@ -1,5 +1,5 @@
--- A run of a schedule: its inputs are read in order, the text of roots where managers plan from some, the topology and
--- the schedule, and then judged.
+-- A run of a schedule: its inputs are read in order, the text that a rule takes, the topology and the schedule, and then
+-- judged.
 use Rattle.std.specs.Prelude.{◌≡◌, ◌⊎◌, ◌+◌, ℕ, Bool, true, List, [], ◌∷◌, Option, Some, None, Result, Ok, Err, IsTrue, if◌then◌else◌}
 use Rattle.std.specs.Str.{is_utf8}
 use Rattle.byte_io.specs.Source.{SourceState}

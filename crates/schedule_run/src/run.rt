@@ -14,10 +14,9 @@ use sm_cli::{Fault, RuleAsked, read_inputs};
 use std::alloc::Global;
 
 /// Runs a schedule in the simulated fabric of a topology, with managers that plan 2^LMC LIDs for each adapter port by
-/// the rule that is asked for. The inputs are the text of roots, where one is asked for, the topology and the schedule.
-/// The roots are read to their end and judged, then both others are read to their ends, the topology first, and then
-/// judged, the topology first; then there has to be a root, where a text names them, and each has to be a switch of the
-/// topology. Then the commands are run in their order, and their output is flushed.
+/// the rule that is asked for. The inputs are the text that a rule takes, the topology and the schedule (`read_inputs`).
+/// The topology and the schedule are read to their ends, and then judged, the topology first. Then the commands are run
+/// in their order, and their output is flushed.
 ///
 /// What is written is `run_text` of the two texts: the lines of all commands in turn. Where an input is refused nothing
 /// is written; where memory is refused as the commands are run it is a beginning of that text; how much went out before
@@ -26,7 +25,7 @@ use std::alloc::Global;
 ///
 /// It takes the memory of the texts, of the fabric and of what is in flight and known. A delivery takes one step where
 /// the packet of the least serial number is delivered, as `drain` does, and a search elsewhere, and what the manager
-/// takes for the packet where it comes to one. Roots take besides a walk over the nodes for each.
+/// takes for the packet where it comes to one.
 pub fn run_schedule<S: Source, W: Sink>(
     alloc: Global,
     inputs: &mut [S],

@@ -1,5 +1,4 @@
 pub mod AnswerLaws
 pub mod FileLaws
 pub mod Plans
-pub mod RootFaults
 pub mod Runs

@@ -128,18 +128,15 @@ fn rule_fault<S: Source, R: InputReader<S>>(
     }
 }
 
-#[tactic(auto, using(crate::proofs::RootFaults::some_named))]
 /// Why no plan goes by some roots, if so, by the first of them that is no usable switch: there is no root, or there is
 /// that one.
 fn fault_of_first(roots: &[Guid], unusable: Option<Guid>) -> Option<TextFault>
     ensures { result ≡ fault_of_first roots.now unusable }
 {
-    if roots.is_empty() {
-        return Some(TextFault::NoRoot);
-    }
-    match unusable {
-        Some(root) => Some(TextFault::NoSwitch(root)),
-        None => None,
+    match (roots, unusable) {
+        ([], _) => Some(TextFault::NoRoot),
+        (_, Some(root)) => Some(TextFault::NoSwitch(root)),
+        (_, None) => None,
     }
 }
 

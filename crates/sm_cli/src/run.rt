@@ -20,9 +20,8 @@ use lft_blocks::{Plan, Rule, write_plan};
 use record_file::{write_facts, write_store};
 use std::alloc::Global;
 
-/// Reads the inputs in order, the text of roots where one is asked for and then the files, and writes what is asked for
-/// of all that the files say. The first fault counts; then that of the roots, of which there has to be one, each a
-/// usable switch of the facts. Where an input is refused, or there is no room for a plan, nothing is written; how much
+/// Reads the inputs in order, the text that a rule takes and then the files (`read_inputs`), and writes what is asked for
+/// of all that the files say. Where an input is refused, or there is no room for a plan, nothing is written; how much
 /// went out before a write failed is not said.
 pub fn run_files<S: Source, W: Sink>(
     alloc: Global,

@@ -1,14 +1,14 @@
-use Rattle.clap.specs.Matches.{found_of}
-use Rattle.cli_task.proofs.Words.{asks_are, asks_behind}
+-- The words of all arguments are those behind the subcommand.
+use Rattle.std.proofs.Common.{◌∙◌, List, Option, ℕ, ap, sym}
+use Rattle.std.specs.Prelude.{option_and_then}
+use Rattle.clap.specs.Matches.{found_of, subcommand_name_of}
+use Rattle.cli_task.specs.Asked.{task_behind, word_named}
+use Rattle.cli_task.proofs.Words.{words_are}
 use Rattle.cli_task.proofs.task.task_of.Goals as goal
 
-pub returns-clause-some : goal.returns-clause-some
-returns-clause-some c =
-    asks_are c.args.matches.now (found_of c.in_ok-command.words.now) c.in_ok-command.command.now c.task_behind.result c.in_ok-command.ensures.name
-    c.in_ok-command.ensures.rows c.task_behind.ensures.some
-
-pub returns-clause-none : goal.returns-clause-none
-returns-clause-none c = λ none task asks.
-    c.task_behind.ensures.none none task
-    (asks_behind c.args.matches.now (found_of c.in_ok-command.words.now) c.in_ok-command.command.now task c.in_ok-command.ensures.name
-    c.in_ok-command.ensures.rows asks)
+pub returns : goal.returns
+returns c =
+    c.task_behind.ensures
+    ∙ sym (ap (λ (word : List ℕ → Option (List ℕ)). task_behind word c.in_ok-command.command.now)
+    (words_are c.args.matches.now (found_of c.in_ok-command.words.now) c.in_ok-command.ensures.rows))
+    ∙ ap (option_and_then (task_behind (word_named c.args.matches.now))) c.in_ok-command.ensures.name

@@ -1,0 +1,10 @@
+-- The words of all arguments are those behind the subcommand.
+use Rattle.std.proofs.Common.{◌∙◌, ap, sym}
+use Rattle.clap.specs.Matches.{found_of}
+use Rattle.cli_task.specs.Asked.{has_conflict}
+use Rattle.cli_task.proofs.Words.{words_are}
+use Rattle.cli_task.proofs.task.has_conflict.Goals as goal
+
+pub returns-in-Some : goal.returns-in-Some
+returns-in-Some c =
+    c.lacks_rule.ensures ∙ sym (ap has_conflict (words_are c.args.matches.now (found_of c.in-Some.words.now) c.in-Some.ensures.rows))

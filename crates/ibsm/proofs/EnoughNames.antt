@@ -1,0 +1,62 @@
+-- There are as many inputs as a task takes.
+use Rattle.std.proofs.Common.{◌≡◌, ◌+◌, ◌∙◌, ℕ, List, [], ◌∷◌, ◌++◌, Option, None, Some, length, length-append, ap, sym, refl, subst, arith}
+use Rattle.std.proofs.lemmas.Option.{same_Some}
+use Rattle.std.specs.Prelude.{codes, map, option_and_then, option_map}
+use Rattle.std.specs.Borrow.{Bor}
+use Rattle.std.proofs.lemmas.List.{length-map}
+use Rattle.clap.specs.declared.parser.matches.ArgMatches.{ArgMatches}
+use Rattle.sm_cli.specs.Asked.{rule_for}
+use Rattle.cli_task.specs.Asked.{files_named, followed_by, names_asked, names_in, texts_asked, texts_of_rule, word_named}
+use Rattle.cli_task.specs.declared.task.Task.{Task}
+use Rattle.cli_task.specs.declared.task.Task.TheVariants.{Answer, Audit, Next, Run}
+use Rattle.cli_task.proofs.RuleTexts.{one_word, texts_counted}
+use Rattle.ibsm.specs.Ending.{HasEnoughNames}
+
+-- the names of both are those of the first and then those of the others
+both_named : (first later : Option (List (List ℕ))) (names : List (List ℕ)) → followed_by first later ≡ Some names
+    → (xs : List (List ℕ)) × (ys : List (List ℕ)) × (first ≡ Some xs) × (later ≡ Some ys) × (length names ≡ length xs + length ys)
+both_named None later names e = absurd (cc)
+both_named (Some xs) None names e = absurd (cc)
+both_named (Some xs) (Some ys) names e =
+    let is : xs ++ ys ≡ names = same_Some _ _ e in (xs, ys, refl, refl, ap length (sym is) ∙ length-append xs ys)
+
+two_words : (topology schedule : Option (List ℕ)) (xs : List (List ℕ))
+    → option_and_then (λ t. option_map (λ s. t ∷ s ∷ []) schedule) topology ≡ Some xs → length xs ≡ 2
+two_words None schedule xs e = absurd (cc)
+two_words (Some t) None xs e = absurd (cc)
+two_words (Some t) (Some s) xs e = ap length (sym (same_Some _ _ e))
+
+-- there are as many inputs as the task takes
+pub names_suffice : (word : List ℕ → Option (List ℕ)) (files : Option (List (List ℕ))) (task : Task) (names : List (List ℕ))
+    → names_in word files task ≡ Some names → HasEnoughNames task (length names)
+names_suffice word files (Answer request) names e =
+    let all = both_named (texts_of_rule word (rule_for request.output)) (followed_by (Some []) files) names e in
+    let texts = texts_counted word (rule_for request.output) all.0 all.2 in
+    let count = all.4 in omega arith
+names_suffice word files (Audit floor) names e =
+    let all = both_named (Some []) (followed_by (texts_asked word (Audit floor)) files) names e in
+    let rest = both_named (texts_asked word (Audit floor)) files all.1 all.3 in
+    let one = one_word (word (codes "TABLES")) rest.0 rest.2 in
+    let count = all.4 in
+    let others = rest.4 in omega arith
+names_suffice word files (Next step) names e =
+    let all = both_named (texts_of_rule word step.rule) (followed_by (texts_asked word (Next step)) files) names e in
+    let texts = texts_counted word step.rule all.0 all.2 in
+    let rest = both_named (texts_asked word (Next step)) files all.1 all.3 in
+    let one = one_word (word (codes "TABLES")) rest.0 rest.2 in
+    let count = all.4 in
+    let others = rest.4 in omega arith
+names_suffice word files (Run lmc rule) names e =
+    let all = both_named (texts_of_rule word rule) (followed_by (texts_asked word (Run lmc rule)) (Some [])) names e in
+    let texts = texts_counted word rule all.0 all.2 in
+    let rest = both_named (texts_asked word (Run lmc rule)) (Some []) all.1 all.3 in
+    let two = two_words (word (codes "TOPOLOGY")) (word (codes "SCHEDULE")) rest.0 rest.2 in
+    let none = ap length (same_Some _ _ rest.3) in
+    let count = all.4 in
+    let others = rest.4 in omega arith
+
+pub inputs_suffice : (matches : ArgMatches) (task : Task) (names : List (Bor (List ℕ))) → Some (map (λ name. name.now) names) ≡ names_asked matches task
+    → HasEnoughNames task (length names)
+inputs_suffice matches task names e =
+    subst (λ (count : ℕ). HasEnoughNames task count) (length-map names (λ name. name.now))
+    (names_suffice (word_named matches) (files_named matches) task (map (λ name. name.now) names) (sym e))
