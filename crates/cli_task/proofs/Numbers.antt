@@ -1,5 +1,5 @@
 -- What a word is parsed as is the number that it writes.
-use Rattle.std.proofs.Common.{◌≡◌, ◌↔◌, ℕ, zero, suc, ◌<◌, ◌≤◌, ◌^◌, ◌&&◌, Bool, true, false, leb, leb-false, List, length, Option, None, Some, IsSome, Result, Ok, Err, refl, arith, ap, ◌∙◌, sym}
+use Rattle.std.proofs.Common.{◌≡◌, ◌↔◌, ℕ, zero, suc, ◌<◌, ◌≤◌, ◌^◌, ◌&&◌, true, false, leb, leb-false, List, length, Option, None, Some, IsSome, Result, Ok, Err, refl, arith, ap, ◌∙◌, sym}
 use Rattle.std.specs.Option.{IsNone}
 use Rattle.std.specs.Prelude.{IfSome, option_and_then, if◌then◌else◌}
 use Rattle.std.specs.Result.{result_ok}

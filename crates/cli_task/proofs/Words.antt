@@ -1,7 +1,7 @@
 -- What the words of the command line name.
-use Rattle.std.proofs.Common.{◌≡◌, ℕ, Bool, List, [], ◌∷◌, true, false, IsTrue, ◌↔◌, Option, None, Some, refl, subst, sym, ap, ◌∙◌}
-use Rattle.std.specs.Prelude.{IfSome, codes, find, map, option_map, option_and_then, slice_get, if◌then◌else◌}
-use Rattle.std.proofs.lemmas.Option.{same_Some, slice_get-map}
+use Rattle.std.proofs.Common.{◌≡◌, ℕ, List, [], ◌∷◌, true, false, Option, None, Some, refl, sym, ap, ◌∙◌}
+use Rattle.std.specs.Prelude.{codes, find, map, option_map, option_and_then, slice_get, if◌then◌else◌}
+use Rattle.std.proofs.lemmas.Option.{slice_get-map}
 use Rattle.std.specs.Str.{bytes_eq}
 use Rattle.clap.specs.Facts.{Entry}
 use Rattle.clap.specs.Matches.{first_value, matched_of, raw_values}

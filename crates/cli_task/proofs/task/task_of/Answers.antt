@@ -1,7 +1,7 @@
 -- The words of all arguments are those behind the subcommand.
 use Rattle.std.proofs.Common.{◌∙◌, List, Option, ℕ, ap, sym}
 use Rattle.std.specs.Prelude.{option_and_then}
-use Rattle.clap.specs.Matches.{found_of, subcommand_name_of}
+use Rattle.clap.specs.Matches.{found_of}
 use Rattle.cli_task.specs.Asked.{task_behind, word_named}
 use Rattle.cli_task.proofs.Words.{words_are}
 use Rattle.cli_task.proofs.task.task_of.Goals as goal
