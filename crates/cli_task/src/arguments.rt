@@ -1,10 +1,14 @@
 //! The command line.
+ghost use Rattle.std.specs.Prelude.{◌≡◌, IfOk, false};
+ghost use Rattle.cli_task.specs.Asked.{has_conflict, word_named};
+
 use crate::argument_names::{
     AUDIT, FACTS, FILE, FLOOR, JOIN, LMC, NEXT, PLAN, ROOTS, ROUTING, RUN, SCHEDULE, SPREAD,
     TABLES, TOPOLOGY, UPDOWN,
 };
+use crate::task::has_conflict;
 use clap::error::ErrorKind;
-use clap::{Arg, ArgAction, Command, Error, value_parser};
+use clap::{Arg, ArgAction, ArgMatches, Command, Error, value_parser};
 use std::alloc::{AllocError, Global};
 
 const RULES: [&str; 2] = [UPDOWN, SPREAD];
@@ -42,8 +46,27 @@ const RUN_END: &str = "Exit status:\n  0  done\n  2  the command line is wrong\n
      3  a file is refused\n  4  a file cannot be opened or read, or the output takes no more\n  \
      5  out of memory\n\nExample:\n  ibsm run triangle.topology bring_up.schedule";
 
+/// What the words of a command line are, the program's name first, or what is wrong with them; an outer `Err` says that
+/// memory ran out.
+pub fn matches_of<'a>(
+    alloc: Global,
+    words: &'a [String],
+) -> Result<Result<ArgMatches<'a>, Error>, AllocError>
+    ensures { IfOk result (λ parsed. IfOk parsed (λ matches. has_conflict (word_named matches) ≡ false)) }
+{
+    let matches = match command_line(alloc)?.try_get_matches_from(words) {
+        Ok(matches) => matches,
+        Err(error) => return Ok(Err(error)),
+    };
+    if has_conflict(&matches) {
+        let error = conflict(alloc, matches.subcommand_name())?;
+        return Ok(Err(error));
+    }
+    Ok(Ok(matches))
+}
+
 /// The subcommands and their arguments.
-pub fn command_line<'a>(alloc: Global) -> Result<Command<'a>, AllocError> {
+fn command_line<'a>(alloc: Global) -> Result<Command<'a>, AllocError> {
     program(alloc)
         .subcommand(facts(alloc)?)?
         .subcommand(join(alloc)?)?
@@ -204,7 +227,7 @@ fn roots<'a>(alloc: Global) -> Arg<'a> {
 }
 
 /// What is wrong where options behind the subcommand contradict each other.
-pub fn conflict(alloc: Global, name: Option<&str>) -> Result<Error, AllocError> {
+fn conflict(alloc: Global, name: Option<&str>) -> Result<Error, AllocError> {
     let mut command = match name {
         Some(NEXT) => next(alloc)?.bin_name("ibsm next")?,
         Some(RUN) => run(alloc)?.bin_name("ibsm run")?,

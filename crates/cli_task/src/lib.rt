@@ -5,5 +5,5 @@ mod argument_names;
 mod arguments;
 mod task;
 
-pub use arguments::{command_line, conflict};
-pub use task::{Task, has_conflict, names_of, task_of};
+pub use arguments::matches_of;
+pub use task::{Task, names_of, task_of};

@@ -152,7 +152,7 @@ fn rule_of(words: &ArgMatches<'_>) -> Option<RuleAsked>
 
 /// Whether options contradict each other: roots are named, and another rule of routing than the one that takes them, or
 /// none.
-pub fn has_conflict(matches: &ArgMatches<'_>) -> bool
+pub(crate) fn has_conflict(matches: &ArgMatches<'_>) -> bool
     ensures { result ≡ has_conflict (word_named matches.now) }
 {
     match matches.subcommand() {

@@ -11,7 +11,7 @@ use crate::opener::Opener;
 use byte_io::{Sink, ToWrite};
 use clap::error::ErrorKind;
 use clap::{ArgMatches, Error};
-use cli_task::{command_line, conflict, has_conflict, names_of, task_of};
+use cli_task::{matches_of, names_of, task_of};
 use sm_cli::{ExitStatus, Fault};
 use std::alloc::AllocError;
 use std::io::{BufWriter, Write};
@@ -43,11 +43,7 @@ where
         return Ok(ExitStatus::Usage);
     };
     let writer = BufWriter::new(rt.alloc(), output).map_err(|_| AllocError)?;
-    match command_line(rt.alloc())?.try_get_matches_from(words.as_slice()) {
-        Ok(matches) if has_conflict(&matches) => {
-            let error = conflict(rt.alloc(), matches.subcommand_name())?;
-            explain(rt, &error, errors)
-        }
+    match matches_of(rt.alloc(), words.as_slice())? {
         Ok(matches) => dispatch(rt, &matches, &mut ToWrite::new(writer), errors),
         Err(error) => explain(rt, &error, errors),
     }
