@@ -1,11 +1,10 @@
 -- What the words of the command line ask for: a task, and the names of its inputs.
-use Rattle.std.specs.Prelude.{ℕ, Bool, true, false, List, [], ◌∷◌, ◌++◌, Option, None, Some, codes, find, is_some, not, nat_le, option_map, option_and_then, slice_get, ◌&&◌, if◌then◌else◌}
+use Rattle.std.specs.Prelude.{ℕ, Bool, true, false, List, [], ◌∷◌, ◌++◌, Option, None, Some, codes, is_some, not, nat_le, option_map, option_and_then, ◌&&◌, if◌then◌else◌}
 use Rattle.std.specs.Str.{bytes_eq}
 use Rattle.std.specs.Str.Parse.{without_leading_plus}
 use Rattle.clap.specs.Matches.{subcommand_name_of}
-use Rattle.clap.specs.Simple.{subcommand_rows_of}
-use Rattle.clap.specs.Walk.{Row}
 use Rattle.clap.specs.declared.parser.matches.ArgMatches.{ArgMatches}
+use Rattle.cli_arguments.specs.Words.{files_named, word_named}
 use Rattle.text_words.specs.Number.{number_of}
 use Rattle.sm_cli.specs.Asked.{rule_for}
 use Rattle.sm_cli.specs.declared.asked.Output.{Output}
@@ -15,22 +14,6 @@ use Rattle.sm_cli.specs.declared.asked.RuleAsked.TheVariants.{UpDown, Spread, Sp
 use Rattle.next_run.specs.declared.run_step.StepAsked.{StepAsked}
 use Rattle.cli_task.specs.declared.task.Task.{Task}
 use Rattle.cli_task.specs.declared.task.Task.TheVariants.{Answer, Audit, Next, Run}
-
--- words -----------------------------------------------------------------------------------------
-
--- the values of the argument with this name
-abbrev pub values_in : List ℕ → List Row → Option (List (List ℕ))
-values_in name rows = option_map (λ r. r.values) (find (λ r. bytes_eq r.id name) rows)
-
--- the names of files behind the subcommand
-abbrev pub files_named : ArgMatches → Option (List (List ℕ))
-files_named matches = option_and_then (λ s. values_in (codes "FILE") s.1) (subcommand_rows_of matches)
-
--- the word that is the argument with this name behind the subcommand
-abbrev pub word_named : ArgMatches → List ℕ → Option (List ℕ)
-word_named matches name =
-    option_and_then (λ s. option_and_then (λ values. slice_get values 0) (values_in name s.1))
-    (subcommand_rows_of matches)
 
 -- options ---------------------------------------------------------------------------------------
 
@@ -58,15 +41,6 @@ rule_asked None rooted = if rooted then None else Some UpDown
 rule_asked (Some word) rooted =
     if bytes_eq word (codes "spread") then Some (if rooted then SpreadFromRoots else Spread)
     else (if bytes_eq word (codes "updown") && not rooted then Some UpDown else None)
-
--- roots are named, and another rule than the one that takes them, or none
-abbrev pub roots_lack_rule : Option (List ℕ) → Bool → Bool
-roots_lack_rule None rooted = rooted
-roots_lack_rule (Some word) rooted = rooted && not (bytes_eq word (codes "spread"))
-
--- options contradict each other
-abbrev pub has_conflict : (List ℕ → Option (List ℕ)) → Bool
-has_conflict word = roots_lack_rule (word (codes "routing")) (is_some (word (codes "roots")))
 
 -- tasks -----------------------------------------------------------------------------------------
 

@@ -1,16 +1,17 @@
 //! What the words of the command line ask for.
 ghost use Rattle.std.specs.Prelude.{◌≡◌, IfOk, codes, is_some, map, option_map};
 ghost use Rattle.clap.specs.Matches.{first_value, found_of, matched_of, raw_values};
-ghost use Rattle.cli_task.specs.Asked.{floor_asked, has_conflict, lmc_asked, output_asked, planning_asked, rule_asked, step_asked, task_asked, task_behind};
-ghost use Rattle.cli_task.specs.Asked.{names_asked, names_in, rule_of_task, takes_files, texts_asked, texts_of_rule, word_named};
+ghost use Rattle.cli_task.specs.Asked.{floor_asked, lmc_asked, output_asked, planning_asked, rule_asked, step_asked, task_asked, task_behind};
+ghost use Rattle.cli_task.specs.Asked.{names_asked, names_in, rule_of_task, takes_files, texts_asked, texts_of_rule};
 
-use crate::argument_names::{
-    AUDIT, FACTS, FILE, FLOOR, JOIN, LMC, NEXT, PLAN, ROOTS, ROUTING, RUN, SCHEDULE, SPREAD,
-    TABLES, TOPOLOGY, UPDOWN,
-};
 use arrayvec::ArrayVec;
 use attr_codec::Lmc;
 use clap::ArgMatches;
+use cli_arguments::argument_names::{
+    AUDIT, FACTS, FILE, FLOOR, JOIN, LMC, NEXT, PLAN, ROOTS, ROUTING, RUN, SCHEDULE, SPREAD,
+    TABLES, TOPOLOGY, UPDOWN,
+};
+use cli_arguments::has_roots;
 use next_run::StepAsked;
 use sm_cli::{Invocation, Output, RuleAsked};
 use smp_bytes::Generation;
@@ -148,34 +149,6 @@ fn rule_of(words: &ArgMatches<'_>) -> Option<RuleAsked>
         Some(SPREAD) => Some(RuleAsked::Spread),
         _ => None,
     }
-}
-
-/// Whether options contradict each other: roots are named, and another rule of routing than the one that takes them, or
-/// none.
-pub(crate) fn has_conflict(matches: &ArgMatches<'_>) -> bool
-    ensures { result ≡ has_conflict (word_named matches.now) }
-{
-    match matches.subcommand() {
-        Some((_, words)) => lacks_rule(words),
-        None => false,
-    }
-}
-
-/// Whether options behind a subcommand do so.
-fn lacks_rule(words: &ArgMatches<'_>) -> bool
-    ensures { result ≡ has_conflict (first_value (found_of words.now)) }
-{
-    match words.get_str(ROUTING) {
-        Some(SPREAD) => false,
-        _ => has_roots(words),
-    }
-}
-
-/// Whether they name a file of roots.
-fn has_roots(words: &ArgMatches<'_>) -> bool
-    ensures { result ≡ is_some (first_value (found_of words.now) (codes "roots")) }
-{
-    words.get_str(ROOTS).is_some()
 }
 
 /// The names of the inputs of a task, in the order in which they are read: the texts of its rule, its own, files. None

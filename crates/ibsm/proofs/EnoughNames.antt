@@ -6,7 +6,8 @@ use Rattle.std.specs.Borrow.{Bor}
 use Rattle.std.proofs.lemmas.List.{length-map}
 use Rattle.clap.specs.declared.parser.matches.ArgMatches.{ArgMatches}
 use Rattle.sm_cli.specs.Asked.{rule_for}
-use Rattle.cli_task.specs.Asked.{files_named, followed_by, names_asked, names_in, texts_asked, texts_of_rule, word_named}
+use Rattle.cli_arguments.specs.Words.{files_named, word_named}
+use Rattle.cli_task.specs.Asked.{followed_by, names_asked, names_in, texts_asked, texts_of_rule}
 use Rattle.cli_task.specs.declared.task.Task.{Task}
 use Rattle.cli_task.specs.declared.task.Task.TheVariants.{Answer, Audit, Next, Run}
 use Rattle.cli_task.proofs.RuleTexts.{one_word, texts_counted}

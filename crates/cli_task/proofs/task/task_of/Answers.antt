@@ -2,8 +2,9 @@
 use Rattle.std.proofs.Common.{◌∙◌, List, Option, ℕ, ap, sym}
 use Rattle.std.specs.Prelude.{option_and_then}
 use Rattle.clap.specs.Matches.{found_of}
-use Rattle.cli_task.specs.Asked.{task_behind, word_named}
-use Rattle.cli_task.proofs.Words.{words_are}
+use Rattle.cli_arguments.proofs.FoundWords.{words_are}
+use Rattle.cli_arguments.specs.Words.{word_named}
+use Rattle.cli_task.specs.Asked.{task_behind}
 use Rattle.cli_task.proofs.task.task_of.Goals as goal
 
 pub returns : goal.returns

@@ -1,12 +1,12 @@
 //! The command line.
-ghost use Rattle.std.specs.Prelude.{◌≡◌, IfOk, false};
-ghost use Rattle.cli_task.specs.Asked.{has_conflict, word_named};
+ghost use Rattle.std.specs.Prelude.{◌≡◌, IfOk, codes, false, is_some};
+ghost use Rattle.clap.specs.Matches.{first_value, found_of};
+ghost use Rattle.cli_arguments.specs.Words.{has_conflict, word_named};
 
 use crate::argument_names::{
     AUDIT, FACTS, FILE, FLOOR, JOIN, LMC, NEXT, PLAN, ROOTS, ROUTING, RUN, SCHEDULE, SPREAD,
     TABLES, TOPOLOGY, UPDOWN,
 };
-use crate::task::has_conflict;
 use clap::error::ErrorKind;
 use clap::{Arg, ArgAction, ArgMatches, Command, Error, value_parser};
 use std::alloc::{AllocError, Global};
@@ -67,13 +67,9 @@ pub fn matches_of<'a>(
 
 /// The subcommands and their arguments.
 fn command_line<'a>(alloc: Global) -> Result<Command<'a>, AllocError> {
-    program(alloc)
-        .subcommand(facts(alloc)?)?
-        .subcommand(join(alloc)?)?
-        .subcommand(plan(alloc)?)?
-        .subcommand(audit(alloc)?)?
-        .subcommand(next(alloc)?)?
-        .subcommand(run(alloc)?)
+    let command = with_stores(alloc, program(alloc))?;
+    let command = with_tables(alloc, command)?;
+    with_changes(alloc, command)
 }
 
 /// The program, which does nothing without a subcommand.
@@ -84,22 +80,35 @@ fn program<'a>(alloc: Global) -> Command<'a> {
         .subcommand_required(true)
 }
 
+/// With what is said of stores.
+fn with_stores<'a>(alloc: Global, command: Command<'a>) -> Result<Command<'a>, AllocError> {
+    command.subcommand(facts(alloc)?)?.subcommand(join(alloc)?)
+}
+
+/// With what is said of tables.
+fn with_tables<'a>(alloc: Global, command: Command<'a>) -> Result<Command<'a>, AllocError> {
+    command.subcommand(plan(alloc)?)?.subcommand(audit(alloc)?)
+}
+
+/// With what is said of tables that change.
+fn with_changes<'a>(alloc: Global, command: Command<'a>) -> Result<Command<'a>, AllocError> {
+    command.subcommand(next(alloc)?)?.subcommand(run(alloc)?)
+}
+
 fn facts<'a>(alloc: Global) -> Result<Command<'a>, AllocError> {
-    Command::new(alloc, FACTS)
+    let command = Command::new(alloc, FACTS)
         .about("Prints the facts that all the files tell together")
-        .after_help(FACTS_END)
-        .arg(files(alloc))?
-        .arg(floor(alloc))
+        .after_help(FACTS_END);
+    of_files(alloc, command)
 }
 
 fn join<'a>(alloc: Global) -> Result<Command<'a>, AllocError> {
-    Command::new(alloc, JOIN)
+    let command = Command::new(alloc, JOIN)
         .about(
             "Writes the facts that all the files tell together to standard output, as a store file",
         )
-        .after_help(JOIN_END)
-        .arg(files(alloc))?
-        .arg(floor(alloc))
+        .after_help(JOIN_END);
+    of_files(alloc, command)
 }
 
 fn plan<'a>(alloc: Global) -> Result<Command<'a>, AllocError> {
@@ -107,26 +116,18 @@ fn plan<'a>(alloc: Global) -> Result<Command<'a>, AllocError> {
         .about(
             "Prints the LIDs and the forwarding blocks that follow from the facts of all the files",
         )
-        .after_help(PLAN_END)
-        .arg(files(alloc))?
-        .arg(floor(alloc))?;
-    with_planning(alloc, command)
+        .after_help(PLAN_END);
+    with_planning(alloc, of_files(alloc, command)?)
 }
 
 fn audit<'a>(alloc: Global) -> Result<Command<'a>, AllocError> {
-    Command::new(alloc, AUDIT)
+    let command = Command::new(alloc, AUDIT)
         .about(
             "Prints how packets fare by the tables that switches hold, in the subnet of the facts of all the \
              files",
         )
-        .after_help(AUDIT_END)
-        .arg(text(
-            alloc,
-            TABLES,
-            "The LIDs that ports hold and the forwarding tables of switches, as plan prints them",
-        ))?
-        .arg(files(alloc))?
-        .arg(floor(alloc))
+        .after_help(AUDIT_END);
+    of_tables(alloc, command)
 }
 
 fn next<'a>(alloc: Global) -> Result<Command<'a>, AllocError> {
@@ -135,15 +136,8 @@ fn next<'a>(alloc: Global) -> Result<Command<'a>, AllocError> {
             "Prints the tables to write next, from those that switches hold towards the plan of the facts of \
              all the files, so that no packet for a LID that stays is lost meanwhile",
         )
-        .after_help(NEXT_END)
-        .arg(text(
-            alloc,
-            TABLES,
-            "The LIDs that ports hold and the forwarding tables of switches, as plan prints them",
-        ))?
-        .arg(files(alloc))?
-        .arg(floor(alloc))?;
-    with_planning(alloc, command)
+        .after_help(NEXT_END);
+    with_planning(alloc, of_tables(alloc, command)?)
 }
 
 fn run<'a>(alloc: Global) -> Result<Command<'a>, AllocError> {
@@ -163,6 +157,21 @@ fn run<'a>(alloc: Global) -> Result<Command<'a>, AllocError> {
             "The managers and the commands that are run",
         ))?;
     with_planning(alloc, command)
+}
+
+/// A subcommand of files, from a floor on.
+fn of_files<'a>(alloc: Global, command: Command<'a>) -> Result<Command<'a>, AllocError> {
+    command.arg(files(alloc))?.arg(floor(alloc))
+}
+
+/// A subcommand of tables and files.
+fn of_tables<'a>(alloc: Global, command: Command<'a>) -> Result<Command<'a>, AllocError> {
+    let command = command.arg(text(
+        alloc,
+        TABLES,
+        "The LIDs that ports hold and the forwarding tables of switches, as plan prints them",
+    ))?;
+    of_files(alloc, command)
 }
 
 /// With how plans are made: their LMC, their rule of routing and its roots.
@@ -226,17 +235,50 @@ fn roots<'a>(alloc: Global) -> Arg<'a> {
         .action(ArgAction::Set)
 }
 
+/// Whether options contradict each other: roots are named, and another rule of routing than the one that takes them, or
+/// none.
+fn has_conflict(matches: &ArgMatches<'_>) -> bool
+    ensures { result ≡ has_conflict (word_named matches.now) }
+{
+    match matches.subcommand() {
+        Some((_, words)) => lacks_rule(words),
+        None => false,
+    }
+}
+
+/// Whether options behind a subcommand do so.
+fn lacks_rule(words: &ArgMatches<'_>) -> bool
+    ensures { result ≡ has_conflict (first_value (found_of words.now)) }
+{
+    match words.get_str(ROUTING) {
+        Some(SPREAD) => false,
+        _ => has_roots(words),
+    }
+}
+
+/// Whether they name a file of roots.
+pub fn has_roots(words: &ArgMatches<'_>) -> bool
+    ensures { result ≡ is_some (first_value (found_of words.now) (codes "roots")) }
+{
+    words.get_str(ROOTS).is_some()
+}
+
 /// What is wrong where options behind the subcommand contradict each other.
 fn conflict(alloc: Global, name: Option<&str>) -> Result<Error, AllocError> {
-    let mut command = match name {
-        Some(NEXT) => next(alloc)?.bin_name("ibsm next")?,
-        Some(RUN) => run(alloc)?.bin_name("ibsm run")?,
-        _ => plan(alloc)?.bin_name("ibsm plan")?,
-    };
+    let mut command = subcommand(alloc, name)?;
     command.error(
         ErrorKind::ArgumentConflict,
         "the argument '--roots <FILE>' cannot be used without '--routing spread'",
     )
+}
+
+/// The subcommand with a name, of those that make plans.
+fn subcommand<'a>(alloc: Global, name: Option<&str>) -> Result<Command<'a>, AllocError> {
+    match name {
+        Some(NEXT) => next(alloc)?.bin_name("ibsm next"),
+        Some(RUN) => run(alloc)?.bin_name("ibsm run"),
+        _ => plan(alloc)?.bin_name("ibsm plan"),
+    }
 }
 
 /// At least one file. They may stand on both sides of an option.

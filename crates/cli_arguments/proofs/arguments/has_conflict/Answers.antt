@@ -1,9 +1,9 @@
 -- The words of all arguments are those behind the subcommand.
 use Rattle.std.proofs.Common.{◌∙◌, ap, sym}
 use Rattle.clap.specs.Matches.{found_of}
-use Rattle.cli_task.specs.Asked.{has_conflict}
-use Rattle.cli_task.proofs.Words.{words_are}
-use Rattle.cli_task.proofs.task.has_conflict.Goals as goal
+use Rattle.cli_arguments.specs.Words.{has_conflict}
+use Rattle.cli_arguments.proofs.FoundWords.{words_are}
+use Rattle.cli_arguments.proofs.arguments.has_conflict.Goals as goal
 
 pub returns-in-Some : goal.returns-in-Some
 returns-in-Some c =

@@ -1,0 +1,29 @@
+-- The words of the command line by the names of their arguments, and which of them contradict each other.
+use Rattle.std.specs.Prelude.{ℕ, Bool, List, Option, None, Some, codes, find, is_some, not, option_and_then, option_map, slice_get, ◌&&◌}
+use Rattle.std.specs.Str.{bytes_eq}
+use Rattle.clap.specs.Simple.{subcommand_rows_of}
+use Rattle.clap.specs.Walk.{Row}
+use Rattle.clap.specs.declared.parser.matches.ArgMatches.{ArgMatches}
+
+-- the values of the argument with this name
+abbrev pub values_in : List ℕ → List Row → Option (List (List ℕ))
+values_in name rows = option_map (λ r. r.values) (find (λ r. bytes_eq r.id name) rows)
+
+-- the names of files behind the subcommand
+abbrev pub files_named : ArgMatches → Option (List (List ℕ))
+files_named matches = option_and_then (λ s. values_in (codes "FILE") s.1) (subcommand_rows_of matches)
+
+-- the word that is the argument with this name behind the subcommand
+abbrev pub word_named : ArgMatches → List ℕ → Option (List ℕ)
+word_named matches name =
+    option_and_then (λ s. option_and_then (λ values. slice_get values 0) (values_in name s.1))
+    (subcommand_rows_of matches)
+
+-- roots are named, and another rule than the one that takes them, or none
+abbrev pub roots_lack_rule : Option (List ℕ) → Bool → Bool
+roots_lack_rule None rooted = rooted
+roots_lack_rule (Some word) rooted = rooted && not (bytes_eq word (codes "spread"))
+
+-- options contradict each other
+abbrev pub has_conflict : (List ℕ → Option (List ℕ)) → Bool
+has_conflict word = roots_lack_rule (word (codes "routing")) (is_some (word (codes "roots")))

@@ -1,0 +1,7 @@
+//! The words of a command line: which there are, and what they are parsed as.
+#![tactic(auto)]
+
+pub mod argument_names;
+mod arguments;
+
+pub use arguments::{has_roots, matches_of};
