@@ -36,4 +36,5 @@ returns g c =
     let blank = appends_then old (written c.write_number.new.sink) (written c.write-2.new.self) _ (codes " ") number c.in_ok-write-2.ensures.writes.ok in
     let entries = appends_then old (written c.write-2.new.self) (written c.write_entries.new.sink) _ (encode_lower a.block.now) blank
     c.in_ok-write_entries.ensures.ok in
-    writes_then written g.W.Sink.has_failed c.write-3.result a.sink.now c.write_entries.new.sink c.write-3.new.self _ (codes "\n") entries c.write-3.ensures.writes
+    writes_then written g.W.Sink.has_failed c.write-3.result a.sink.now c.write_entries.new.sink c.write-3.new.self _ (codes "\n") entries
+    c.write-3.ensures.writes
