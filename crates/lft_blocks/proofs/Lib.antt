@@ -18,3 +18,4 @@ pub mod TableLookups
 pub mod Triangle
 pub mod TriangleArrives
 pub mod WholeFabrics
+pub mod Written
