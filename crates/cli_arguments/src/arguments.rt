@@ -257,7 +257,7 @@ fn lacks_rule(words: &ArgMatches<'_>) -> bool
 }
 
 /// Whether they name a file of roots.
-pub fn has_roots(words: &ArgMatches<'_>) -> bool
+fn has_roots(words: &ArgMatches<'_>) -> bool
     ensures { result ≡ is_some (first_value (found_of words.now) (codes "roots")) }
 {
     words.get_str(ROOTS).is_some()

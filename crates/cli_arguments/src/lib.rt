@@ -4,4 +4,4 @@
 pub mod argument_names;
 mod arguments;
 
-pub use arguments::{has_roots, matches_of};
+pub use arguments::matches_of;

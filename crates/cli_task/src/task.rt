@@ -11,7 +11,6 @@ use cli_arguments::argument_names::{
     AUDIT, FACTS, FILE, FLOOR, JOIN, LMC, NEXT, PLAN, ROOTS, ROUTING, RUN, SCHEDULE, SPREAD,
     TABLES, TOPOLOGY, UPDOWN,
 };
-use cli_arguments::has_roots;
 use next_run::StepAsked;
 use sm_cli::{Invocation, Output, RuleAsked};
 use smp_bytes::Generation;
@@ -142,7 +141,7 @@ fn rule_of(words: &ArgMatches<'_>) -> Option<RuleAsked>
     ensures { result ≡ rule_asked (first_value (found_of words.now) (codes "routing"))
         (is_some (first_value (found_of words.now) (codes "roots"))) }
 {
-    let rooted = has_roots(words);
+    let rooted = words.get_str(ROOTS).is_some();
     match words.get_str(ROUTING) {
         None | Some(UPDOWN) if !rooted => Some(RuleAsked::UpDown),
         Some(SPREAD) if rooted => Some(RuleAsked::SpreadFromRoots),
