@@ -67,9 +67,21 @@ pub fn matches_of<'a>(
 
 /// The subcommands and their arguments.
 fn command_line<'a>(alloc: Global) -> Result<Command<'a>, AllocError> {
-    let command = with_stores(alloc, program(alloc))?;
-    let command = with_tables(alloc, command)?;
-    with_changes(alloc, command)
+    let command = with(Ok(program(alloc)), facts(alloc));
+    let command = with(command, join(alloc));
+    let command = with(command, plan(alloc));
+    let command = with(command, audit(alloc));
+    let command = with(command, next(alloc));
+    with(command, run(alloc))
+}
+
+/// A command with another subcommand.
+fn with<'a>(
+    command: Result<Command<'a>, AllocError>,
+    subcommand: Result<Command<'a>, AllocError>,
+) -> Result<Command<'a>, AllocError> {
+    let subcommand = subcommand?;
+    command?.subcommand(subcommand)
 }
 
 /// The program, which does nothing without a subcommand.
@@ -78,21 +90,6 @@ fn program<'a>(alloc: Global) -> Command<'a> {
         .about("InfiniBand subnet managers")
         .version(VERSION)
         .subcommand_required(true)
-}
-
-/// With what is said of stores.
-fn with_stores<'a>(alloc: Global, command: Command<'a>) -> Result<Command<'a>, AllocError> {
-    command.subcommand(facts(alloc)?)?.subcommand(join(alloc)?)
-}
-
-/// With what is said of tables.
-fn with_tables<'a>(alloc: Global, command: Command<'a>) -> Result<Command<'a>, AllocError> {
-    command.subcommand(plan(alloc)?)?.subcommand(audit(alloc)?)
-}
-
-/// With what is said of tables that change.
-fn with_changes<'a>(alloc: Global, command: Command<'a>) -> Result<Command<'a>, AllocError> {
-    command.subcommand(next(alloc)?)?.subcommand(run(alloc)?)
 }
 
 fn facts<'a>(alloc: Global) -> Result<Command<'a>, AllocError> {
