@@ -1,13 +1,12 @@
 //! A simulated fabric and the managers that sit in it.
 ghost use Rattle.std.specs.Prelude.{◌≡◌, ◌+◌, ◌<◌, true, All, IfOk, IfSome, OnOk, Some, length};
-ghost use Rattle.std.specs.Prelude.{map, option_map, slice_get};
+ghost use Rattle.std.specs.Prelude.{option_map, slice_get};
 ghost use Rattle.schedule_file.specs.Schedule.{is_seat};
 ghost use Rattle.fabric_sim.specs.Changes.{after_inject};
-ghost use Rattle.schedule_world.specs.Commands.{new_seated, seat_at, world_of};
+ghost use Rattle.schedule_world.specs.Commands.{seat_at, world_of};
 ghost use Rattle.schedule_world.specs.Flights.{packet_out};
 ghost use Rattle.schedule_world.specs.Prints.{PrintsUnless};
-ghost use Rattle.schedule_world.specs.World.{after_fabric, emptied, after_send, after_inject_all};
-ghost use Rattle.schedule_world.specs.World.{seated_value, value_of, Does};
+ghost use Rattle.schedule_world.specs.World.{after_fabric, emptied, after_send, after_inject_all, value_of, Does};
 
 use crate::refusals::refuse_fabric;
 use crate::run_fault::RunFault;
@@ -55,7 +54,13 @@ impl<'s> World<'s> {
         ensures { IfOk result (λ world. value_of world ≡ world_of planning.now topology.now seats.now) }
     {
         let fabric = Fabric::of(alloc, topology, FIRST_SERIAL)?;
-        let managers = seated_managers(alloc, topology, seats, planning)?;
+        let mut managers = Vec::with_capacity(alloc, seats.len())?;
+        for seat in seats {
+            let guid = port_guid(topology, &seat.at);
+            let own = planning.try_clone(alloc)?;
+            let manager = Manager::new(alloc, guid, seat.at.port, seat.priority, own);
+            managers.push(Seated { seat, manager })?;
+        }
         Ok(World { fabric, managers })
     }
 
@@ -85,40 +90,6 @@ impl<'s> World<'s> {
         }
         None
     }
-}
-
-/// A manager for each seat, in the order of the seats.
-fn seated_managers<'s>(
-    alloc: Global,
-    topology: &Topology,
-    seats: &'s [Seat],
-    planning: &Planning,
-) -> Result<Vec<Seated<'s>>, AllocError>
-    requires { All (λ seat. is_seat topology.now.nodes seat.at ≡ true) seats.now }
-    ensures { IfOk result (λ managers. map seated_value managers.items
-        ≡ map (new_seated planning.now topology.now.nodes) seats.now) }
-{
-    let mut managers = Vec::with_capacity(alloc, seats.len())?;
-    for seat in seats {
-        managers.push(seated_manager(alloc, topology, seat, planning)?)?;
-    }
-    Ok(managers)
-}
-
-/// A manager at a seat.
-fn seated_manager<'s>(
-    alloc: Global,
-    topology: &Topology,
-    seat: &'s Seat,
-    planning: &Planning,
-) -> Result<Seated<'s>, AllocError>
-    requires { is_seat topology.now.nodes seat.now.at ≡ true }
-    ensures { IfOk result (λ seated. seated_value seated ≡ new_seated planning.now topology.now.nodes seat.now) }
-{
-    let guid = port_guid(topology, &seat.at);
-    let own = planning.try_clone(alloc)?;
-    let manager = Manager::new(alloc, guid, seat.at.port, seat.priority, own);
-    Ok(Seated { seat, manager })
 }
 
 /// All that a manager at a port has queued goes out, in its order.

@@ -1,7 +1,7 @@
 use Rattle.std.proofs.Common.{◌≡◌, map, take}
 use Rattle.schedule_world.specs.Commands.{new_seated}
 use Rattle.schedule_world.specs.World.{seated_value}
-use Rattle.schedule_world.proofs.world.seated_managers.Given as goal
+use Rattle.schedule_world.proofs.world.World.of.Given as goal
 
 -- a manager for each seat so far
 abbrev pub invariant-loop-seat : goal.invariant-loop-seat
