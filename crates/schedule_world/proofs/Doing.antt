@@ -1,11 +1,17 @@
 -- Calls on a world, one after the other.
-use Rattle.std.proofs.Common.{◌≡◌, ◌∙◌, Bool, List, ℕ, Option, Result, Ok, Err, refl, subst}
+use Rattle.std.proofs.Common.{◌≡◌, ◌∙◌, Bool, List, ℕ, Option, Result, Ok, Err, refl, ap, subst}
 use Rattle.std.specs.Prelude.{OnOk}
+use Rattle.fabric_sim.specs.Delivery.{Called}
+use Rattle.fabric_sim.specs.Simulation.{Simulation}
+use Rattle.fabric_sim.specs.declared.fault.FabricFault.{FabricFault}
 use Rattle.schedule_world.specs.Prints.{PrintsUnless}
-use Rattle.schedule_world.specs.World.{Does, Outcome, WorldValue, and_then, shows, value_of}
+use Rattle.schedule_world.specs.World.{Does, Outcome, WorldValue, after_fabric_call, and_then, fabric_line, shows, value_of}
 use Rattle.schedule_world.specs.declared.run_fault.RunFault.{RunFault}
 use Rattle.schedule_world.specs.declared.world.World.{World}
-use Rattle.schedule_world.proofs.Printing.{ends_in, failed_with, prints_then}
+use Rattle.schedule_world.proofs.Printing.{ends_in, failed_with, prints_same, prints_then}
+
+abbrev done_with : Unit {0} → Result (Unit {0}) RunFault
+done_with u = Ok u
 
 module _ {W : Type 0} (written : W → Option (List ℕ)) (has_failed : W → Bool) where
   -- a call that comes to the same
@@ -39,3 +45,18 @@ module _ {W : Type 0} (written : W → Option (List ℕ)) (has_failed : W → Bo
       → Does written has_failed w w result sink sink' (shows text (value_of w))
   does_show w (Ok u) sink sink' text h = record { managers = refl; leaves = refl; prints = h }
   does_show w (Err fault) sink sink' text h = record { managers = refl; leaves = tt; prints = h }
+
+  -- one on the fabric, which leaves the managers
+  pub calls_fabric : {R : Type 0} (w : World) (fabric : Simulation) (called : Called R) (r : Result R FabricFault) (result : Result (Unit {0}) RunFault)
+      (sink sink' : W) → fabric ≡ called.fabric → r ≡ called.result → PrintsUnless written has_failed result sink sink' (fabric_line r)
+      → Does written has_failed w (record w { fabric = fabric }) result sink sink' (after_fabric_call (value_of w) called)
+  calls_fabric w fabric called r (Ok u) sink sink' left told prints = record {
+    managers = refl;
+    leaves = ap (λ f. record (value_of w) { fabric = f }) left;
+    prints = prints_same written has_failed (done_with u) sink sink' (fabric_line r) (fabric_line called.result) (ap fabric_line told) prints;
+  }
+  calls_fabric w fabric called r (Err fault) sink sink' left told prints = record {
+    managers = refl;
+    leaves = tt;
+    prints = prints_same written has_failed (failed_with fault) sink sink' (fabric_line r) (fabric_line called.result) (ap fabric_line told) prints;
+  }

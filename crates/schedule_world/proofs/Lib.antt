@@ -3,6 +3,7 @@ pub mod Held
 pub mod Merging
 pub mod Order
 pub mod Ports
+pub mod Present
 pub mod Printing
 pub mod Seating
 pub mod Seats

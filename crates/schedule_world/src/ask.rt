@@ -18,7 +18,6 @@ use std::alloc::{AllocError, Global};
 
 impl World<'_> {
     /// A manager comes to sit at its port.
-    #[tactic(auto, using(crate::proofs::Seats::sits), unfolding(crate::specs::Commands::after_manager_line))]
     pub(crate) fn seat<W: Sink>(&mut self, seat: usize, sink: &mut W) -> Result<(), RunFault>
         requires { seat < length self.old.managers.items }
         ensures does { Does W.written W.has_failed self.old self.new result sink.old sink.new

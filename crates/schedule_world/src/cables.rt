@@ -10,7 +10,6 @@ use fabric_model::NodePort;
 
 impl World<'_> {
     /// The cable in a port is cut.
-    #[tactic(auto, unfolding(crate::specs::Commands::after_cut_line))]
     pub(crate) fn cut<W: Sink>(&mut self, port: NodePort, sink: &mut W) -> Result<(), RunFault>
         ensures does { Does W.written W.has_failed self.old self.new result sink.old sink.new
             (after_cut_line (value_of self.old) port) }
@@ -22,7 +21,6 @@ impl World<'_> {
     }
 
     /// A cable is plugged into two ports.
-    #[tactic(auto, unfolding(crate::specs::Commands::after_plug_line))]
     pub(crate) fn plug<W: Sink>(
         &mut self,
         one: NodePort,

@@ -124,7 +124,6 @@ fn write_start<W: Sink>(
 }
 
 /// Prints where the packet comes to.
-#[tactic(auto, unfolding(crate::specs::Lines::end_text))]
 fn write_end<W: Sink>(sink: &mut W, topology: &Topology, ping: &Ping) -> Result<(), WriteFault>
     ensures writes { Writes W.written W.has_failed result sink.old sink.new
         (end_text topology.now.nodes ping.now) }

@@ -7,6 +7,7 @@ use Rattle.std.proofs.lemmas.List.{take_all}
 use Rattle.schedule_world.specs.Tables.{held_by, held_cmp, in_order}
 use Rattle.schedule_world.proofs.Held.{held_ranks, key_of, more_held}
 use Rattle.schedule_world.proofs.Order.{sorted_is_in_order}
+use Rattle.schedule_world.proofs.Present.{is_present}
 use Rattle.schedule_world.proofs.tables.held_lids.Goals as goal
 
 pub loop-number-preserved : goal.loop-number-preserved
@@ -23,3 +24,9 @@ returns c =
     sorted_is_in_order (λ x y. is_lt (held_cmp x y)) held_ranks c.loop-number.held.items c.sort_by_key.new.self.items
     (c.in_ok-sort_by_key.ensures.sorted key_of tells) (c.in_ok-sort_by_key.ensures.stable key_of tells)
     ∙ ap (in_order (λ x y. is_lt (held_cmp x y))) (c.loop-number.invariant ∙ ap (flat_map held_by) (take_all c.loop-number.number agents all))
+
+pub unwrap-requires : goal.unwrap-requires
+unwrap-requires c =
+    let agents = c.args.fabric.now.agents in
+    is_present agents c.agent.result c.loop-number.number (c.agent.ensures ∙ ap (slice_get agents) c.new.ensures)
+    (omega (arith, c.loop-number-test.true, c.node_count-number-end.ensures))

@@ -9,6 +9,7 @@ use Rattle.node_agents.specs.Agent.{Agent, is_switch}
 use Rattle.schedule_world.specs.Tables.{in_order}
 use Rattle.schedule_world.proofs.Held.{guid_of, guid_ranks, map_in_order, more_switches}
 use Rattle.schedule_world.proofs.Order.{sorted_is_in_order}
+use Rattle.schedule_world.proofs.Present.{is_present}
 use Rattle.schedule_world.proofs.tables.switches.Goals.{then-is_switch+in_ok-push, else-is_switch}
 use Rattle.schedule_world.proofs.tables.switches.Goals as goal
 
@@ -38,3 +39,9 @@ returns c =
     ∙ map_in_order here (λ x y. is_lt (nat_cmp x.node.guid y.node.guid)) c.loop-number.switches.items
     ∙ ap (in_order (λ x y. is_lt (nat_cmp x.node.guid y.node.guid))) (c.loop-number.invariant
     ∙ ap (filter is_switch) (take_all c.loop-number.number agents all))
+
+pub unwrap-agent-requires : goal.unwrap-agent-requires
+unwrap-agent-requires c =
+    let agents = c.args.fabric.now.agents in
+    is_present agents c.agent.result c.loop-number.number (c.agent.ensures ∙ ap (slice_get agents) c.new.ensures)
+    (omega (arith, c.loop-number-test.true, c.node_count-number-end.ensures))

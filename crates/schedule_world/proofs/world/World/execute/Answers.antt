@@ -1,4 +1,5 @@
-use Rattle.std.proofs.Common.{◌≡◌, ◌∙◌, ℕ, List, [], ap, subst, sym}
+use Rattle.std.proofs.Common.{◌≡◌, ◌∙◌, ℕ, List, [], ap, length, subst, sym}
+use Rattle.schedule_file.specs.Schedule.{NamesManagers}
 use Rattle.sm_manager.specs.Manager.{after_raise_floor}
 use Rattle.schedule_world.specs.Commands.{after_command, after_floor_line}
 use Rattle.schedule_world.specs.Prints.{Prints}
@@ -102,3 +103,24 @@ returns-in-Flight g c = record {
       (does_show g.W.Sink.written g.W.Sink.has_failed c.args.self.now c.show_flight.result c.args.sink.now c.show_flight.new.sink _
       c.show_flight.ensures.prints);
 }
+
+pub seat-requires : goal.seat-requires
+seat-requires g c = subst (NamesManagers (length c.args.self.now.managers.items)) c.in-Manager.is c.requires
+
+pub ask-requires : goal.ask-requires
+ask-requires g c = subst (NamesManagers (length c.args.self.now.managers.items)) c.in-Ask.is c.requires
+
+pub time_out-requires : goal.time_out-requires
+time_out-requires g c = subst (NamesManagers (length c.args.self.now.managers.items)) c.in-Timeout.is c.requires
+
+pub raise_floor-requires : goal.raise_floor-requires
+raise_floor-requires g c = subst (NamesManagers (length c.args.self.now.managers.items)) c.in-Floor.is c.requires
+
+pub show-requires : goal.show-requires
+show-requires g c = subst (NamesManagers (length c.args.self.now.managers.items)) c.in-Show.is c.requires
+
+pub merge-requires-clause-seat : goal.merge-requires-clause-seat
+merge-requires-clause-seat g c = (subst (NamesManagers (length c.args.self.now.managers.items)) c.in-Merge.is c.requires).0
+
+pub merge-requires-clause-other : goal.merge-requires-clause-other
+merge-requires-clause-other g c = (subst (NamesManagers (length c.args.self.now.managers.items)) c.in-Merge.is c.requires).1

@@ -5,6 +5,7 @@ use Rattle.fabric_model.specs.declared.cable.NodePort.{NodePort}
 use Rattle.schedule_world.specs.Commands.{flight_shown}
 use Rattle.schedule_world.specs.Lines.{flight_line}
 use Rattle.schedule_world.specs.World.{Outcome, shows}
+use Rattle.schedule_world.proofs.Present.{is_present}
 use Rattle.schedule_world.proofs.Printing.{IsUnderWay, goes_on, is_over, wrote}
 use Rattle.schedule_world.proofs.Turns.{lines_from, lines_next, lines_none}
 use Rattle.schedule_world.proofs.world.World.show_flight.Goals as goal
@@ -34,3 +35,8 @@ returns g c =
           c.loop-i.invariant
           (ap (λ r. r.text) (lines_none (flight_shown c.args.topology.now.nodes) flights c.loop-i.i all));
     }
+
+pub unwrap-flight-requires : goal.unwrap-flight-requires
+unwrap-flight-requires g c =
+    is_present c.args.self.now.fabric.flights c.in_flight.result c.loop-i.i c.in_flight.ensures
+    (omega (arith, c.loop-i-test.true, c.flight_count-i-end.ensures))
