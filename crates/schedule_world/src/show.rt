@@ -20,7 +20,6 @@ use topo_file::Topology;
 
 impl World<'_> {
     /// Prints something of a manager.
-    #[tactic(auto, using(crate::proofs::Seats::sits), unfolding(crate::specs::Commands::shown_of))]
     pub(crate) fn show<W: Sink>(
         &self,
         seat: usize,
@@ -79,7 +78,6 @@ impl World<'_> {
 
 impl Seated<'_> {
     /// Prints something of the manager.
-    #[tactic(auto, using(crate::proofs::Printing::wrote))]
     fn show<W: Sink>(&self, what: Shown, sink: &mut W) -> Result<(), RunFault>
         ensures prints { PrintsUnless W.written W.has_failed result sink.old sink.new
             (text_of what (seated_value self.now)) }
