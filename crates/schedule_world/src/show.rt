@@ -78,6 +78,7 @@ impl World<'_> {
 
 impl Seated<'_> {
     /// Prints something of the manager.
+    #[tactic(auto, using(crate::proofs::Printing::wrote))]
     fn show<W: Sink>(&self, what: Shown, sink: &mut W) -> Result<(), RunFault>
         ensures prints { PrintsUnless W.written W.has_failed result sink.old sink.new
             (text_of what (seated_value self.now)) }
