@@ -10,6 +10,7 @@ use fabric_model::NodePort;
 
 impl World<'_> {
     /// The cable in a port is cut.
+    #[tactic(auto, unfolding(crate::specs::Commands::after_cut_line))]
     pub(crate) fn cut<W: Sink>(&mut self, port: NodePort, sink: &mut W) -> Result<(), RunFault>
         ensures does { Does W.written W.has_failed self.old self.new result sink.old sink.new
             (after_cut_line (value_of self.old) port) }

@@ -15,6 +15,7 @@ use schedule_file::{Fate, Which};
 
 impl World<'_> {
     /// A packet in flight meets its fate.
+    #[tactic(auto, unfolding(crate::specs::Commands::after_packet_line))]
     pub(crate) fn handle_packet<W: Sink>(
         &mut self,
         which: Which,

@@ -20,7 +20,6 @@ use topo_file::Topology;
 
 impl World<'_> {
     /// Prints something of a manager.
-    #[tactic(auto, using(crate::proofs::Seats::sits), unfolding(crate::specs::Commands::shown_of))]
     pub(crate) fn show<W: Sink>(
         &self,
         seat: usize,

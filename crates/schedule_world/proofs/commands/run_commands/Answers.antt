@@ -1,9 +1,10 @@
-use Rattle.std.proofs.Common.{◌∙◌, ◌+◌, List, [], ℕ, drop, get_or, length, refl, ap, subst, sym}
+use Rattle.std.proofs.Common.{◌≡◌, ◌∙◌, ◌+◌, true, List, [], ℕ, drop, get_or, length, refl, ap, subst, sym}
 use Rattle.std.specs.Prelude.{All}
 use Rattle.std.proofs.lemmas.List.{append-nil, length-map}
 use Rattle.std.proofs.lemmas.Option.{slice_get_read}
 use Rattle.std.proofs.lemmas.Result.{err_from_is_err_and}
-use Rattle.schedule_file.specs.Schedule.{NamesManagers, SeatCommand}
+use Rattle.schedule_file.specs.Schedule.{NamesManagers, SeatCommand, is_seat}
+use Rattle.schedule_file.specs.declared.schedule.Seat.{Seat}
 use Rattle.schedule_world.specs.Commands.{after_command, after_commands, new_seated, script_text, world_of}
 use Rattle.schedule_world.specs.Prints.{Prints}
 use Rattle.schedule_world.specs.World.{Outcome, WorldValue, seated_value, value_of}
@@ -101,3 +102,6 @@ pub returns-in_err-flush-clause-prints : goal.returns-in_err-flush-clause-prints
 returns-in_err-flush-clause-prints g c =
     let p = err_from_is_err_and c.from_residual-in_err-flush.result c.from_residual-in_err-flush.ensures.1 in
     rw (p.1, p.2) (c.in_err-flush.ensures.writes.failed.0 refl)
+
+pub of-requires : goal.of-requires
+of-requires g c = subst (All (λ (seat : Seat). is_seat c.args.topology.now.nodes seat.at ≡ true)) (sym c.seats.ensures) c.requires.seats

@@ -4,7 +4,7 @@ use Rattle.std.proofs.lemmas.Result.{err_from_is_err_and}
 use Rattle.node_agents.specs.Agent.{Agent}
 use Rattle.schedule_world.specs.Tables.{table_text}
 use Rattle.schedule_world.specs.World.{Outcome, shows}
-use Rattle.schedule_world.proofs.Printing.{IsUnderWay, goes_on, stops_in}
+use Rattle.schedule_world.proofs.Printing.{IsUnderWay, begins, goes_on, stops_in}
 use Rattle.schedule_world.proofs.Turns.{lines_at, lines_from}
 use Rattle.schedule_world.proofs.tables.write_tables.Goals as goal
 
@@ -35,3 +35,6 @@ returns-in_err-write_table g c =
           c.write_table.new.sink whole (shows (line x) tt) (λ u. lines_from line xs (i + 1))
           (subst Under (lines_at line xs i x c.loop-switch-test.true c.switch-item.is) c.loop-switch.invariant) c.in_err-write_table.ensures.prints);
     }
+
+pub loop-switch-init : goal.loop-switch-init
+loop-switch-init g c = begins g.W.Sink.written g.W.Sink.has_failed c.args.sink.now (lines_from line c.args.switches.now 0)

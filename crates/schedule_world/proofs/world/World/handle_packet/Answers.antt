@@ -30,25 +30,3 @@ returns-in-Deliver g c =
           (ap (λ fate. after_fate w fate c.in-Some.serial) (sym c.in-Deliver.is)
           ∙ ap (λ o. option_map_or (after_fate w c.args.fate) o (shows line w)) (sym c.in-Some.is ∙ c.serial.ensures)) c.deliver.ensures.does;
     }
-
-pub returns-in-Lose : goal.returns-in-Lose
-unfolding after_packet_line
-returns-in-Lose g c =
-    let w = value_of c.args.self.now in
-    let line = refusal_line (fabric_fault_name NoSuchPacket) in
-    record {
-      does = does_same g.W.Sink.written g.W.Sink.has_failed c.args.self.now c.lose.new.self c.lose.result c.args.sink.now c.lose.new.sink _ _
-          (ap (λ fate. after_fate w fate c.in-Some.serial) (sym c.in-Lose.is)
-          ∙ ap (λ o. option_map_or (after_fate w c.args.fate) o (shows line w)) (sym c.in-Some.is ∙ c.serial.ensures)) c.lose.ensures.does;
-    }
-
-pub returns-in-Repeat : goal.returns-in-Repeat
-unfolding after_packet_line
-returns-in-Repeat g c =
-    let w = value_of c.args.self.now in
-    let line = refusal_line (fabric_fault_name NoSuchPacket) in
-    record {
-      does = does_same g.W.Sink.written g.W.Sink.has_failed c.args.self.now c.repeat.new.self c.repeat.result c.args.sink.now c.repeat.new.sink _ _
-          (ap (λ fate. after_fate w fate c.in-Some.serial) (sym c.in-Repeat.is)
-          ∙ ap (λ o. option_map_or (after_fate w c.args.fate) o (shows line w)) (sym c.in-Some.is ∙ c.serial.ensures)) c.repeat.ensures.does;
-    }

@@ -2,7 +2,7 @@ use Rattle.std.proofs.Common.{◌∙◌, ◌+◌, ◌<◌, drop, get_or, refl, s
 use Rattle.std.proofs.lemmas.Result.{err_from_is_err_and}
 use Rattle.schedule_world.specs.Commands.{after_give_up, after_giving_up}
 use Rattle.schedule_world.specs.World.{Outcome, WorldValue, after_send, value_of}
-use Rattle.schedule_world.proofs.Printing.{IsUnderWay, begins, ends_unprinted, failed_with, goes_on, prints_same, stops_before, then_leaves, then_prints}
+use Rattle.schedule_world.proofs.Printing.{IsUnderWay, begins, failed_with, goes_on, prints_same, stops_before, then_leaves, then_prints}
 use Rattle.schedule_world.proofs.Seats.{leaves_same, timed_out}
 use Rattle.schedule_world.proofs.Turns.{given_next, given_none}
 use Rattle.schedule_world.proofs.world.World.time_out.Goals as goal
@@ -83,14 +83,3 @@ give_up-requires g c = subst (λ n. c.args.seat < n) (sym c.loop-transaction.inv
 
 pub send-requires : goal.send-requires
 send-requires g c = subst (λ n. c.args.seat < n) (sym c.loop-transaction.invariant.managers) c.requires
-
-pub returns-in_err-waiting : goal.returns-in_err-waiting
-returns-in_err-waiting g c =
-    let p = err_from_is_err_and c.from_residual.result c.from_residual.ensures.1 in
-    record {
-      does = rw (p.1, p.2) (record {
-        managers = refl;
-        leaves = tt;
-        prints = ends_unprinted g.W.Sink.written g.W.Sink.has_failed c.args.sink.now c.args.sink.now _ refl;
-      });
-    }
