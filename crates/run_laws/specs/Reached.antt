@@ -17,7 +17,7 @@ use Rattle.manager_laws.specs.Managing.{Managing, ManagerEvent}
 use Rattle.manager_laws.specs.WritingPings.{BringsUp}
 use Rattle.manager_laws.specs.Written.{at_end, at_writing, plan_at}
 use Rattle.schedule_world.specs.Commands.{ping_shown}
-use Rattle.schedule_world.specs.Lines.{ping_line}
+use Rattle.schedule_lines.specs.Lines.{ping_line}
 use Rattle.schedule_world.specs.World.{WorldValue}
 
 -- the line says that the packet reaches the port of that end port, over so many wires

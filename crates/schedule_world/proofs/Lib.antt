@@ -9,4 +9,3 @@ pub mod Seating
 pub mod Seats
 pub mod Sending
 pub mod Turns
-pub mod Written

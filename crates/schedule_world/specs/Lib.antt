@@ -1,6 +1,5 @@
 pub mod Commands
 pub mod Flights
-pub mod Lines
 pub mod Prints
 pub mod Refusals
 pub mod Tables

@@ -4,7 +4,6 @@
 mod ask;
 mod cables;
 mod commands;
-mod lines;
 mod packets;
 mod refusals;
 mod run_fault;

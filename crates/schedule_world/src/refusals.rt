@@ -6,10 +6,10 @@ ghost use Rattle.sm_manager.specs.Fault.{manager_fault_name};
 ghost use Rattle.schedule_world.specs.Prints.{PrintsUnless};
 ghost use Rattle.schedule_world.specs.Refusals.{refusal_line};
 
-use crate::lines::write_between;
 use crate::run_fault::RunFault;
 use byte_io::{Sink, WriteFault};
 use fabric_sim::FabricFault;
+use schedule_lines::write_between;
 use sm_manager::ManagerFault;
 
 /// Prints that the fabric refuses a call. Out of memory is not printed, and ends the run.

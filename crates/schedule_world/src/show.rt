@@ -5,7 +5,6 @@ ghost use Rattle.schedule_world.specs.Commands.{flights_text, ping_shown, plan_o
 ghost use Rattle.schedule_world.specs.Prints.{PrintsUnless};
 ghost use Rattle.schedule_world.specs.World.{seated_value, value_of};
 
-use crate::lines::{write_flight, write_ping, write_progress, write_state};
 use crate::refusals::{refuse_fabric, refuse_manager};
 use crate::run_fault::RunFault;
 use crate::world::{Seated, World};
@@ -14,6 +13,7 @@ use fabric_model::NodePort;
 use lft_blocks::write_plan;
 use record_file::write_facts;
 use schedule_file::Shown;
+use schedule_lines::{write_flight, write_ping, write_progress, write_state};
 use sm_manager::Manager;
 use smp_bytes::Lid;
 use topo_file::Topology;

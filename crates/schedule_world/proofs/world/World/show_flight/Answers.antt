@@ -3,7 +3,7 @@ use Rattle.std.specs.Option.{option_copied}
 use Rattle.byte_io.specs.Writes.{Writes}
 use Rattle.fabric_model.specs.declared.cable.NodePort.{NodePort}
 use Rattle.schedule_world.specs.Commands.{flight_shown}
-use Rattle.schedule_world.specs.Lines.{flight_line}
+use Rattle.schedule_lines.specs.Lines.{flight_line}
 use Rattle.schedule_world.specs.World.{Outcome, shows}
 use Rattle.schedule_world.proofs.Present.{is_present}
 use Rattle.schedule_world.proofs.Printing.{IsUnderWay, goes_on, is_over, wrote}

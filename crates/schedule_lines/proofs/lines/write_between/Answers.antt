@@ -1,5 +1,5 @@
-use Rattle.schedule_world.proofs.Written.{fails_then, writes_then}
-use Rattle.schedule_world.proofs.lines.write_between.Goals as goal
+use Rattle.schedule_lines.proofs.Written.{fails_then, writes_then}
+use Rattle.schedule_lines.proofs.lines.write_between.Goals as goal
 
 pub returns-in_err-write_pair : goal.returns-in_err-write_pair
 returns-in_err-write_pair g c = record {

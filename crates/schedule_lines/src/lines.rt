@@ -3,8 +3,8 @@ ghost use Rattle.std.specs.Prelude.{◌≡◌, ◌++◌};
 ghost use Rattle.byte_io.specs.Writes.{Writes};
 ghost use Rattle.text_words.specs.Printed.{named_text, quoted_text};
 ghost use Rattle.topo_file.specs.Printed.{name_at};
-ghost use Rattle.schedule_world.specs.Lines.{count_text, counts_text, end_text, flight_line, ping_line};
-ghost use Rattle.schedule_world.specs.Lines.{port_text, progress_line, start_text, stage_text, state_line};
+ghost use Rattle.schedule_lines.specs.Lines.{count_text, counts_text, end_text, flight_line, ping_line};
+ghost use Rattle.schedule_lines.specs.Lines.{port_text, progress_line, start_text, stage_text, state_line};
 
 use byte_io::{Sink, WriteFault, write_number};
 use fabric_model::{NodeId, NodePort};
@@ -15,7 +15,7 @@ use smp_bytes::Lid;
 use topo_file::Topology;
 
 /// The name of a node, and nothing where there is no such node.
-pub(crate) fn name_at(topology: &Topology, node: NodeId) -> &str
+fn name_at(topology: &Topology, node: NodeId) -> &str
     ensures { result.now ≡ name_at topology.now.nodes node }
 {
     match topology.node(node) {
@@ -25,7 +25,7 @@ pub(crate) fn name_at(topology: &Topology, node: NodeId) -> &str
 }
 
 /// Prints how far a manager is with its sweep.
-pub(crate) fn write_progress<W: Sink>(
+pub fn write_progress<W: Sink>(
     sink: &mut W,
     manager: &str,
     progress: Progress,
@@ -61,11 +61,7 @@ fn write_stage<W: Sink>(sink: &mut W, progress: Progress) -> Result<(), WriteFau
 }
 
 /// Prints a manager's state.
-pub(crate) fn write_state<W: Sink>(
-    sink: &mut W,
-    manager: &str,
-    state: SmState,
-) -> Result<(), WriteFault>
+pub fn write_state<W: Sink>(sink: &mut W, manager: &str, state: SmState) -> Result<(), WriteFault>
     ensures writes { Writes W.written W.has_failed result sink.old sink.new
         (state_line manager.now state) }
 {
@@ -93,7 +89,7 @@ fn write_count<W: Sink>(sink: &mut W, words: &[u8], count: u64) -> Result<(), Wr
 }
 
 /// Prints where a packet comes to that is sent from a port to a LID.
-pub(crate) fn write_ping<W: Sink>(
+pub fn write_ping<W: Sink>(
     sink: &mut W,
     topology: &Topology,
     from: &NodePort,
@@ -159,7 +155,7 @@ fn write_name<W: Sink>(sink: &mut W, name: &str) -> Result<(), WriteFault>
 }
 
 /// Prints a packet in flight: its serial number, and the node where it waits.
-pub(crate) fn write_flight<W: Sink>(
+pub fn write_flight<W: Sink>(
     sink: &mut W,
     topology: &Topology,
     serial: u64,
@@ -175,7 +171,7 @@ pub(crate) fn write_flight<W: Sink>(
 }
 
 /// Prints a text between two others.
-pub(crate) fn write_between<W: Sink>(
+pub fn write_between<W: Sink>(
     sink: &mut W,
     front: &[u8],
     text: &[u8],

@@ -1,6 +1,6 @@
-use Rattle.schedule_world.specs.Lines.{counts_text}
-use Rattle.schedule_world.proofs.Written.{writes_then}
-use Rattle.schedule_world.proofs.lines.write_counts.Goals as goal
+use Rattle.schedule_lines.specs.Lines.{counts_text}
+use Rattle.schedule_lines.proofs.Written.{writes_then}
+use Rattle.schedule_lines.proofs.lines.write_counts.Goals as goal
 
 pub returns : goal.returns
 unfolding counts_text

@@ -1,6 +1,6 @@
 use Rattle.record_file.proofs.Writing.{appends_then}
-use Rattle.schedule_world.proofs.Written.{fails_then, writes_then}
-use Rattle.schedule_world.proofs.lines.write_ping.Goals as goal
+use Rattle.schedule_lines.proofs.Written.{fails_then, writes_then}
+use Rattle.schedule_lines.proofs.lines.write_ping.Goals as goal
 
 pub returns-in_err-write_start : goal.returns-in_err-write_start
 returns-in_err-write_start g c = record {

@@ -1,9 +1,9 @@
 use Rattle.std.proofs.Common.{◌++◌, ◌∙◌, append_assoc, ap, sym}
 use Rattle.std.specs.Prelude.{codes, decimal}
-use Rattle.schedule_world.specs.Lines.{port_text, start_text}
+use Rattle.schedule_lines.specs.Lines.{port_text, start_text}
 use Rattle.record_file.proofs.Writing.{appends_then}
-use Rattle.schedule_world.proofs.Written.{fails_then, writes_same, writes_then}
-use Rattle.schedule_world.proofs.lines.write_start.Goals as goal
+use Rattle.schedule_lines.proofs.Written.{fails_then, writes_same, writes_then}
+use Rattle.schedule_lines.proofs.lines.write_start.Goals as goal
 
 pub returns-in_err-write : goal.returns-in_err-write
 returns-in_err-write g c = record {

@@ -2,9 +2,9 @@ use Rattle.std.proofs.Common.{◌++◌, ◌∙◌, append_assoc, ap, sym}
 use Rattle.std.specs.Prelude.{codes, decimal}
 use Rattle.text_words.specs.Printed.{quoted_text}
 use Rattle.record_file.proofs.Writing.{appends_then}
-use Rattle.schedule_world.specs.Lines.{end_text, port_text}
-use Rattle.schedule_world.proofs.Written.{fails_then, writes_same, writes_then}
-use Rattle.schedule_world.proofs.lines.write_end.Goals as goal
+use Rattle.schedule_lines.specs.Lines.{end_text, port_text}
+use Rattle.schedule_lines.proofs.Written.{fails_then, writes_same, writes_then}
+use Rattle.schedule_lines.proofs.lines.write_end.Goals as goal
 
 pub returns-in_err-write-in-Reached : goal.returns-in_err-write-in-Reached
 returns-in_err-write-in-Reached g c = record {

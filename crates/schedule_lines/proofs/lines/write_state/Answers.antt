@@ -1,7 +1,7 @@
 use Rattle.std.proofs.Common.{◌++◌, ◌∙◌, append_assoc, sym}
 use Rattle.std.specs.Prelude.{codes}
-use Rattle.schedule_world.proofs.Written.{fails_then, writes_same, writes_then}
-use Rattle.schedule_world.proofs.lines.write_state.Goals as goal
+use Rattle.schedule_lines.proofs.Written.{fails_then, writes_same, writes_then}
+use Rattle.schedule_lines.proofs.lines.write_state.Goals as goal
 
 pub returns-in_err-write_between : goal.returns-in_err-write_between
 returns-in_err-write_between g c = record {

@@ -1,5 +1,5 @@
-use Rattle.schedule_world.proofs.Written.{fails_then, writes_then}
-use Rattle.schedule_world.proofs.lines.write_count.Goals as goal
+use Rattle.schedule_lines.proofs.Written.{fails_then, writes_then}
+use Rattle.schedule_lines.proofs.lines.write_count.Goals as goal
 
 pub returns-in_err-write : goal.returns-in_err-write
 returns-in_err-write g c = record {

@@ -1,9 +1,9 @@
 use Rattle.std.proofs.Common.{◌++◌, ap}
 use Rattle.std.specs.Prelude.{codes}
-use Rattle.schedule_world.specs.Lines.{stage_text}
+use Rattle.schedule_lines.specs.Lines.{stage_text}
 use Rattle.record_file.proofs.Writing.{appends_then}
-use Rattle.schedule_world.proofs.Written.{fails_then, writes_same, writes_then}
-use Rattle.schedule_world.proofs.lines.write_progress.Goals as goal
+use Rattle.schedule_lines.proofs.Written.{fails_then, writes_same, writes_then}
+use Rattle.schedule_lines.proofs.lines.write_progress.Goals as goal
 
 pub returns-in_err-write_pair : goal.returns-in_err-write_pair
 returns-in_err-write_pair g c = record {

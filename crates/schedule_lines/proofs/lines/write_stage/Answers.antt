@@ -1,8 +1,8 @@
 use Rattle.std.proofs.Common.{ap, sym}
 use Rattle.std.specs.Prelude.{codes}
-use Rattle.schedule_world.specs.Lines.{counts_text, stage_text}
-use Rattle.schedule_world.proofs.Written.{fails_then, writes_same, writes_then}
-use Rattle.schedule_world.proofs.lines.write_stage.Goals as goal
+use Rattle.schedule_lines.specs.Lines.{counts_text, stage_text}
+use Rattle.schedule_lines.proofs.Written.{fails_then, writes_same, writes_then}
+use Rattle.schedule_lines.proofs.lines.write_stage.Goals as goal
 
 pub returns-in_err-write-in-Running : goal.returns-in_err-write-in-Running
 returns-in_err-write-in-Running g c = record {

@@ -2,8 +2,8 @@ use Rattle.std.proofs.Common.{◌++◌, ap}
 use Rattle.std.specs.Prelude.{codes, decimal}
 use Rattle.text_words.specs.Printed.{quoted_text}
 use Rattle.record_file.proofs.Writing.{appends_then}
-use Rattle.schedule_world.proofs.Written.{fails_then, writes_same, writes_then}
-use Rattle.schedule_world.proofs.lines.write_flight.Goals as goal
+use Rattle.schedule_lines.proofs.Written.{fails_then, writes_same, writes_then}
+use Rattle.schedule_lines.proofs.lines.write_flight.Goals as goal
 
 pub returns-in_err-write_count : goal.returns-in_err-write_count
 returns-in_err-write_count g c = record {
