@@ -14,9 +14,9 @@ use sm_cli::{Fault, RuleAsked, read_inputs};
 use std::alloc::Global;
 
 /// Runs a schedule in the simulated fabric of a topology, with managers that plan 2^LMC LIDs for each adapter port by
-/// the rule that is asked for. The inputs are the text that a rule takes, the topology and the schedule (`read_inputs`).
-/// The topology and the schedule are read to their ends, and then judged, the topology first. Then the commands are run
-/// in their order, and their output is flushed.
+/// the rule that is asked for. The inputs are the text that a rule takes, the topology and the schedule
+/// (`read_inputs`). The topology and the schedule are read to their ends, and then judged, the topology first. Then the
+/// commands are run in their order, and their output is flushed.
 ///
 /// What is written is `run_text` of the two texts: the lines of all commands in turn. Where an input is refused nothing
 /// is written; where memory is refused as the commands are run it is a beginning of that text; how much went out before

@@ -20,9 +20,9 @@ use lft_blocks::{Plan, Rule, write_plan};
 use record_file::{write_facts, write_store};
 use std::alloc::Global;
 
-/// Reads the inputs in order, the text that a rule takes and then the files (`read_inputs`), and writes what is asked for
-/// of all that the files say. Where an input is refused, or there is no room for a plan, nothing is written; how much
-/// went out before a write failed is not said.
+/// Reads the inputs in order, the text that a rule takes and then the files (`read_inputs`), and writes what is asked
+/// for of all that the files say. Where an input is refused, or there is no room for a plan, nothing is written; how
+/// much went out before a write failed is not said.
 pub fn run_files<S: Source, W: Sink>(
     alloc: Global,
     inputs: &mut [S],
