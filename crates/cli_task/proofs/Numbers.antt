@@ -10,13 +10,10 @@ use Rattle.std.proofs.lemmas.Bool.{leb-true}
 use Rattle.std.proofs.lemmas.Option.{same_Some}
 use Rattle.text_words.proofs.Digits.{all_digits, is_within}
 use Rattle.text_words.proofs.Names.{both}
-use Rattle.text_words.proofs.NumbersPrinted.{digits_pass}
+use Rattle.text_words.proofs.NumbersPrinted.{number_from}
 use Rattle.cli_task.specs.Asked.{number_in, within}
 
 -- digits, and nothing else
-number_is : (ds : List ℕ) → IsNumeral 10 ds → (leb 1 (length ds) && list_all (λ b. is_digit b 10) ds) ≡ true
-number_is ds numeral = rw (is_within 1 (length ds) numeral.0, digits_pass 10 ds numeral.1) refl
-
 numeral_is : (ds : List ℕ) → (leb 1 (length ds) && list_all (λ b. is_digit b 10) ds) ≡ true → IsNumeral 10 ds
 numeral_is ds e = let p = both _ _ e in (leb-true 1 (length ds) p.0, all_digits 10 ds p.1)
 
@@ -49,7 +46,7 @@ module _ {E : Type 0} (k : ℕ) (word : List ℕ) (number : Option ℕ) where
   pub number_parsed : (least most : ℕ) (r : Result ℕ E) → most < 2 ^ k → ParsesUnsigned k 10 word r → number ≡ result_ok r
       → option_and_then (within least most) (number_in word) ≡ option_and_then (within least most) number
   number_parsed least most (Ok n) fits is e =
-      ap (option_and_then (within least most)) (rw (number_is (without_leading_plus word) is.0.0) (ap Some (sym is.1)) ∙ sym e)
+      ap (option_and_then (within least most)) (number_from 10 (without_leading_plus word) is.0.0.0 is.0.0.1 ∙ ap Some (sym is.1) ∙ sym e)
   number_parsed least most (Err fault) fits none e =
       not_parsed k least most word fits none ∙ sym (ap (option_and_then (within least most)) e)
 

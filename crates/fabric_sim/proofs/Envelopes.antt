@@ -15,7 +15,8 @@ use Rattle.fabric_sim.specs.declared.flight.Whereabouts.{Whereabouts}
 use Rattle.fabric_sim.specs.declared.packet.Packet.{Packet}
 use Rattle.fabric_sim.specs.Outcome.{Outcome, Moves, Asks, HandsUp, Drops}
 use Rattle.fabric_sim.specs.Simulation.{Simulation, IsSimulation, Finds, flight_with}
-use Rattle.fabric_sim.specs.Delivery.{Called, CanFare, IsEnvelopeAt, after_deliver, after_outcome, delivered_flight, envelope_of, flight_in, outcome_by, outcome_of, packet_in, without}
+use Rattle.fabric_sim.specs.Called.{Called}
+use Rattle.fabric_sim.specs.Delivery.{CanFare, IsEnvelopeAt, after_deliver, after_outcome, delivered_flight, envelope_of, flight_in, outcome_by, outcome_of, packet_in, without}
 use Rattle.fabric_sim.proofs.Kept.{fares}
 use Rattle.fabric_sim.proofs.Serials.{at_index}
 

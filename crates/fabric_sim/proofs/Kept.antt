@@ -21,7 +21,8 @@ use Rattle.fabric_sim.specs.declared.delivered.Delivered.TheVariants.{Answered}
 use Rattle.fabric_sim.specs.declared.delivered.Reason.TheVariants.{Down, Unreadable, Course as OffCourse}
 use Rattle.fabric_sim.specs.Outcome.{Outcome, Moves, Asks, HandsUp, Drops}
 use Rattle.fabric_sim.specs.Simulation.{Simulation, IsSimulation, IsWaiting, CanWait, across, is_seat_at, fabric_of, port_of, is_at_seat, is_by_wire, is_numbered, flight_with}
-use Rattle.fabric_sim.specs.Delivery.{CanFare, carrying, leaving, is_for_manager, here_at, at_agent, by_verdict, directed_outcome, by_course, lid_routed_outcome, outcome_of, refused, with_flight, without, asked, after_enqueue, after_outcome, delivered_flight, after_deliver}
+use Rattle.fabric_sim.specs.Called.{refused}
+use Rattle.fabric_sim.specs.Delivery.{CanFare, carrying, leaving, is_for_manager, here_at, at_agent, by_verdict, directed_outcome, by_course, lid_routed_outcome, outcome_of, with_flight, without, asked, after_enqueue, after_outcome, delivered_flight, after_deliver}
 use Rattle.fabric_sim.specs.Changes.{addressed, after_inject, copied, after_repeat, after_lose}
 use Rattle.fabric_sim.proofs.Invariants.{with_flight_is, without_is, moved_to_is, asked_is}
 

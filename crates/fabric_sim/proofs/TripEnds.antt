@@ -34,7 +34,8 @@ use Rattle.fabric_sim.specs.declared.delivered.Delivered.TheVariants as delivere
 use Rattle.fabric_sim.specs.Outcome.{Asks}
 use Rattle.fabric_sim.specs.Simulation.{Simulation, IsSimulation, IsWaiting, agent_at, port_count, is_seat_at, fabric_of, port_of, flight_with, without_flight, answer_whereabouts}
 use Rattle.fabric_sim.specs.declared.delivered.Delivered.{Delivered}
-use Rattle.fabric_sim.specs.Delivery.{Called, with_changed, with_flight, by_verdict, carrying, outcome_of, after_outcome, asked, answer_at, delivered_flight, after_deliver}
+use Rattle.fabric_sim.specs.Called.{Called}
+use Rattle.fabric_sim.specs.Delivery.{with_changed, with_flight, by_verdict, carrying, outcome_of, after_outcome, asked, answer_at, delivered_flight, after_deliver}
 use Rattle.fabric_sim.specs.Changes.{after_inject}
 use Rattle.fabric_sim.specs.Calls.{Call, Inject, Deliver, after_calls, is_delivery_of}
 use Rattle.fabric_sim.specs.ThereAndBack.{ThereAndBack, directed_packet, BeginsWith, IsAnswerOver, IsAnsweredAt, ComesHome, KeepsPacket}

@@ -29,6 +29,7 @@ use Rattle.fabric_sim.specs.declared.delivered.Reason.{Reason}
 use Rattle.fabric_sim.specs.declared.delivered.Reason.TheVariants.{Course as OffCourse, Transit, OutPort, Down, Unreadable, NoRoute}
 use Rattle.fabric_sim.specs.declared.delivered.Delivered.{Delivered}
 use Rattle.fabric_sim.specs.declared.delivered.Delivered.TheVariants as delivered_is
+use Rattle.fabric_sim.specs.Called.{Called, refused}
 use Rattle.fabric_sim.specs.Outcome.{Outcome, Moves, Asks, HandsUp, Drops}
 use Rattle.fabric_sim.specs.declared.fault.FabricFault.{FabricFault}
 use Rattle.fabric_sim.specs.declared.fault.FabricFault.TheVariants.{Memory, NoSuchPacket, SerialsSpent}
@@ -146,22 +147,7 @@ CanFare s (Asks request slid dlid) = Unit {0}
 CanFare s (HandsUp packet) = Unit {0}
 CanFare s (Drops reason) = Unit {0}
 
--- what a call leaves -------------------------------------------------------------------------
-
--- the fabric afterwards, and the call's result
-pub record Called (R : Type 0) : Type 0 where
-  pub fabric : Simulation
-  pub result : Result R FabricFault
-
--- a call has come to this, but for lack of memory: that is answered only where it is not refused, and leaves everything
--- as it is
-abbrev pub ComesTo : {R : Type 0} → Result R FabricFault → Simulation → Simulation → Called R → Type 0
-ComesTo (Err Memory) old new called = (new ≡ old) × IsOk called.result
-ComesTo result old new called = (new ≡ called.fabric) × (result ≡ called.result)
-
--- a refusal leaves everything as it is
-abbrev pub refused : {R : Type 0} → Simulation → FabricFault → Called R
-refused s fault = record { fabric = s; result = Err fault }
+-- what a delivery leaves ----------------------------------------------------------------------
 
 -- the agents with one changed
 abbrev pub with_changed : List Agent → ℕ → (Agent → Agent) → List Agent

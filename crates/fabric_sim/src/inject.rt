@@ -1,6 +1,6 @@
 ghost use Rattle.std.specs.Prelude.{◌≡◌};
 ghost use Rattle.fabric_sim.specs.Changes.{addressed, after_inject};
-ghost use Rattle.fabric_sim.specs.Delivery.{ComesTo};
+ghost use Rattle.fabric_sim.specs.Called.{ComesTo};
 
 use crate::fabric::Fabric;
 use crate::fault::FabricFault;

@@ -3,7 +3,7 @@ ghost use Rattle.std.specs.Prelude.{◌≡◌, ◌⊎◌, Bool, IfOk, IsTrue, No
 ghost use Rattle.std.specs.Io.KnownBytes.{Appends};
 ghost use Rattle.cli_task.specs.Asked.{inputs_asked};
 ghost use Rattle.next_run.specs.RunNext.{IsSaid};
-ghost use Rattle.schedule_world.specs.Prints.{PrintsSome};
+ghost use Rattle.schedule_lines.specs.Prints.{PrintsSome};
 ghost use Rattle.ibsm.specs.Ending.{IsDone, PerformsWords, SaysWhyOfWords, status_after};
 
 use crate::files::{perform_or_explain, say};

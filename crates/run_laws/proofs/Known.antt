@@ -51,8 +51,9 @@ use Rattle.schedule_world.specs.Commands.{after_fate, after_floor_line, after_gi
 use Rattle.schedule_world.specs.Commands.{after_packet_line, after_plug_line, after_step, after_take, after_take_and_send, after_timeout_line}
 use Rattle.schedule_world.specs.Commands.{seat_at, world_of}
 use Rattle.schedule_world.specs.Flights.{serial_of}
-use Rattle.schedule_world.specs.Refusals.{refusal_line}
-use Rattle.schedule_world.specs.World.{Outcome, SeatedValue, WorldValue, and_then, after_ask, at_seat, after_manager_call, after_fabric_call, quiet, after_send, after_send_by, shows, with_manager}
+use Rattle.schedule_lines.specs.Refusals.{refusal_line}
+use Rattle.schedule_lines.specs.Outcome.{Outcome, and_then, quiet, shows}
+use Rattle.schedule_world.specs.World.{SeatedValue, WorldValue, after_ask, at_seat, after_manager_call, after_fabric_call, after_send, after_send_by, with_manager}
 use Rattle.run_laws.specs.Accounts.{Account, Accounts, RunsAreAccountedFor, account_after, world_after, opened, told_at, told_by_command}
 use Rattle.run_laws.specs.Accounts.{told_by_commands, told_by_deliver, told_by_delivery, told_by_drain, told_by_merge, told_by_packet, told_by_step}
 use Rattle.run_laws.specs.Accounts.{with_more}

@@ -38,8 +38,9 @@ use Rattle.manager_laws.specs.Written.{AllKeep, Keeps}
 use Rattle.schedule_world.specs.Commands.{after_arrival, after_ask_line, after_command, after_commands, after_drain_line, after_fate, after_give_up}
 use Rattle.schedule_world.specs.Commands.{after_giving_up, after_hand_up, after_packet_line, after_step, after_take_and_send, after_timeout_line, seat_at}
 use Rattle.schedule_world.specs.Flights.{packet_out, serial_of}
-use Rattle.schedule_world.specs.Refusals.{refusal_line}
-use Rattle.schedule_world.specs.World.{SeatedValue, WorldValue, and_then, after_ask, after_manager_call, quiet, after_send, after_inject_all, shows}
+use Rattle.schedule_lines.specs.Refusals.{refusal_line}
+use Rattle.schedule_lines.specs.Outcome.{and_then, quiet, shows}
+use Rattle.schedule_world.specs.World.{SeatedValue, WorldValue, after_ask, after_manager_call, after_send, after_inject_all}
 use Rattle.run_laws.specs.Alone.{AreLines, IsLine, KeepsLine, KeepsLines, KeepsStep, KeepsSteps}
 
 abbrev pub managing_of : Scene → NodePort → Manager → List Outgoing → Managing

@@ -1,1 +1,6 @@
+pub mod Held
+pub mod LinesFrom
+pub mod Order
+pub mod Present
+pub mod Printing
 pub mod Written

@@ -1,1 +1,5 @@
 pub mod Lines
+pub mod Outcome
+pub mod Prints
+pub mod Refusals
+pub mod Tables

@@ -171,7 +171,7 @@ pub fn write_flight<W: Sink>(
 }
 
 /// Prints a text between two others.
-pub fn write_between<W: Sink>(
+pub(crate) fn write_between<W: Sink>(
     sink: &mut W,
     front: &[u8],
     text: &[u8],

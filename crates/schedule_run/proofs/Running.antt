@@ -7,12 +7,12 @@ use Rattle.lft_blocks.specs.Rules.{RuleValue}
 use Rattle.sm_cli.specs.Inputs.{AreInputs}
 use Rattle.sm_cli.specs.declared.asked.RuleAsked.{RuleAsked}
 use Rattle.schedule_world.specs.Commands.{run_text, schedule_text, script_text, topology_text}
-use Rattle.schedule_world.specs.Prints.{Prints, PrintsSome, PrintsUnless}
+use Rattle.schedule_lines.specs.Prints.{Prints, PrintsSome, PrintsUnless}
 use Rattle.schedule_run.specs.Run.{HasRun, IsRunFault, StopsEarly, Tells, fault_of_run, texts_reader}
 use Rattle.schedule_run.specs.declared.texts.Setting.{Setting}
-use Rattle.schedule_world.specs.declared.run_fault.RunFault.{RunFault}
-use Rattle.schedule_world.specs.declared.run_fault.RunFault.TheVariants.{Write, Memory}
-use Rattle.schedule_world.proofs.Printing.{failed_with}
+use Rattle.schedule_lines.specs.declared.run_fault.RunFault.{RunFault}
+use Rattle.schedule_lines.specs.declared.run_fault.RunFault.TheVariants.{Write, Memory}
+use Rattle.schedule_lines.proofs.Printing.{failed_with}
 use Rattle.std.specs.Io.KnownBytes.{Appends}
 use Rattle.byte_io.specs.Source.{SourceState}
 

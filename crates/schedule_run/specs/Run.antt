@@ -25,8 +25,8 @@ use Rattle.sm_cli.specs.declared.fault.Fault.TheVariants.{File, Text, Write, Mem
 use Rattle.sm_cli.specs.declared.text_fault.TextFault.TheVariants.{NotUtf8, Topology, Schedule}
 use Rattle.schedule_run.specs.declared.texts.Setting.{Setting}
 use Rattle.schedule_world.specs.Commands.{run_text}
-use Rattle.schedule_world.specs.declared.run_fault.RunFault.{RunFault}
-use Rattle.schedule_world.specs.declared.run_fault.RunFault.TheVariants as runs
+use Rattle.schedule_lines.specs.declared.run_fault.RunFault.{RunFault}
+use Rattle.schedule_lines.specs.declared.run_fault.RunFault.TheVariants as runs
 
 -- judging ---------------------------------------------------------------------------------------
 

@@ -3,13 +3,14 @@ ghost use Rattle.std.specs.Prelude.{◌≡◌, ◌⊎◌, ◌+◌, Err, false, l
 ghost use Rattle.std.specs.Io.KnownBytes.{Appends};
 ghost use Rattle.sm_cli.specs.Asked.{texts_for};
 ghost use Rattle.schedule_run.specs.Run.{HasRun, IsRunFault, fault_of_run};
-ghost use Rattle.schedule_world.specs.Prints.{PrintsSome};
+ghost use Rattle.schedule_lines.specs.Prints.{PrintsSome};
 
 use crate::texts::TopologyAndSchedule;
 use attr_codec::Lmc;
 use byte_io::{Sink, Source};
 use lft_blocks::Planning;
-use schedule_world::{RunFault, run_commands};
+use schedule_lines::RunFault;
+use schedule_world::run_commands;
 use sm_cli::{Fault, RuleAsked, read_inputs};
 use std::alloc::Global;
 

@@ -1,14 +1,15 @@
 -- Calls on a world, one after the other.
 use Rattle.std.proofs.Common.{◌≡◌, ◌∙◌, Bool, List, ℕ, Option, Result, Ok, Err, refl, ap, subst}
 use Rattle.std.specs.Prelude.{OnOk}
-use Rattle.fabric_sim.specs.Delivery.{Called}
+use Rattle.fabric_sim.specs.Called.{Called}
 use Rattle.fabric_sim.specs.Simulation.{Simulation}
 use Rattle.fabric_sim.specs.declared.fault.FabricFault.{FabricFault}
-use Rattle.schedule_world.specs.Prints.{PrintsUnless}
-use Rattle.schedule_world.specs.World.{Does, Outcome, WorldValue, after_fabric_call, and_then, fabric_line, shows, value_of}
-use Rattle.schedule_world.specs.declared.run_fault.RunFault.{RunFault}
+use Rattle.schedule_lines.specs.Prints.{PrintsUnless}
+use Rattle.schedule_lines.specs.Outcome.{Outcome, and_then, shows}
+use Rattle.schedule_world.specs.World.{Does, WorldValue, after_fabric_call, fabric_line, value_of}
+use Rattle.schedule_lines.specs.declared.run_fault.RunFault.{RunFault}
 use Rattle.schedule_world.specs.declared.world.World.{World}
-use Rattle.schedule_world.proofs.Printing.{ends_in, failed_with, prints_same, prints_then}
+use Rattle.schedule_lines.proofs.Printing.{ends_in, failed_with, prints_same, prints_then}
 
 abbrev done_with : Unit {0} → Result (Unit {0}) RunFault
 done_with u = Ok u

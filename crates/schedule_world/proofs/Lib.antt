@@ -1,10 +1,6 @@
 pub mod Doing
-pub mod Held
 pub mod Merging
-pub mod Order
 pub mod Ports
-pub mod Present
-pub mod Printing
 pub mod Seating
 pub mod Seats
 pub mod Sending

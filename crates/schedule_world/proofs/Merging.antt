@@ -11,7 +11,8 @@ use Rattle.fabric_sim.specs.Simulation.{Simulation}
 use Rattle.fact_store.proofs.Merges.{merge_is_idempotent}
 use Rattle.sm_manager.specs.Manager.{Manager, after_merge}
 use Rattle.schedule_world.specs.Commands.{after_merge_line}
-use Rattle.schedule_world.specs.World.{SeatedValue, WorldValue, at_seat, quiet, seated_value, with_manager}
+use Rattle.schedule_lines.specs.Outcome.{quiet}
+use Rattle.schedule_world.specs.World.{SeatedValue, WorldValue, at_seat, seated_value, with_manager}
 use Rattle.schedule_world.specs.declared.world.Seated.{Seated}
 use Rattle.schedule_world.proofs.Seats.{with_one}
 

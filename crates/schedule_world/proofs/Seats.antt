@@ -18,14 +18,16 @@ use Rattle.sm_manager.specs.Manager.{Manager, outstanding}
 use Rattle.sm_manager.specs.declared.fault.ManagerFault.{ManagerFault}
 use Rattle.sm_manager.specs.declared.fault.ManagerFault.TheVariants as manager
 use Rattle.schedule_world.specs.Commands.{after_giving_up, seat_at, after_timeout_line}
-use Rattle.schedule_world.specs.Prints.{PrintsUnless}
-use Rattle.schedule_world.specs.World.{Does, Outcome, SeatedValue, WorldValue, after_ask, after_inject_all, after_manager_call, after_send, after_send_by}
-use Rattle.schedule_world.specs.World.{and_then, at_seat, emptied, manager_line, quiet, seated_value, shows, value_of, with_manager}
-use Rattle.schedule_world.specs.declared.run_fault.RunFault.{RunFault}
-use Rattle.schedule_world.specs.declared.run_fault.RunFault.TheVariants.{Memory}
+use Rattle.schedule_lines.specs.Prints.{PrintsUnless}
+use Rattle.schedule_lines.specs.Outcome.{Outcome}
+use Rattle.schedule_world.specs.World.{Does, SeatedValue, WorldValue, after_ask, after_inject_all, after_manager_call, after_send, after_send_by}
+use Rattle.schedule_lines.specs.Outcome.{and_then, quiet, shows}
+use Rattle.schedule_world.specs.World.{at_seat, emptied, manager_line, seated_value, value_of, with_manager}
+use Rattle.schedule_lines.specs.declared.run_fault.RunFault.{RunFault}
+use Rattle.schedule_lines.specs.declared.run_fault.RunFault.TheVariants.{Memory}
 use Rattle.schedule_world.specs.declared.world.Seated.{Seated}
 use Rattle.schedule_world.specs.declared.world.World.{World}
-use Rattle.schedule_world.proofs.Printing.{ends_unprinted, failed_with, prints_nothing, prints_same}
+use Rattle.schedule_lines.proofs.Printing.{ends_unprinted, failed_with, prints_nothing, prints_same}
 
 -- the manager of a seat
 pub sits : (items : List Seated) (seat : ℕ) (s : Seated) → seat < length items → s ≡ get_or items seat s

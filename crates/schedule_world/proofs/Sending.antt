@@ -6,7 +6,8 @@ use Rattle.fabric_sim.specs.Simulation.{Simulation}
 use Rattle.sm_manager.specs.declared.outgoing.Outgoing.{Outgoing}
 use Rattle.sm_manager.specs.Manager.{Manager, after_take_outgoing, taken_of}
 use Rattle.schedule_world.specs.Flights.{packet_out}
-use Rattle.schedule_world.specs.World.{and_then, after_fabric, emptied, quiet, after_inject_all}
+use Rattle.schedule_lines.specs.Outcome.{and_then, quiet}
+use Rattle.schedule_world.specs.World.{after_fabric, emptied, after_inject_all}
 
 first_of : (m : Manager) (queue : List Outgoing) (out : Outgoing) → (taken_of m queue).packet ≡ Some out
     → queue ≡ out ∷ (taken_of m queue).manager.outgoing

@@ -12,9 +12,10 @@ use Rattle.std.proofs.Math.Seq.{drop-cons}
 use Rattle.std.proofs.Math.ListN.{drop_of_length-le}
 use Rattle.fabric_sim.specs.declared.flight.Flight.{Flight}
 use Rattle.schedule_world.specs.Commands.{after_command, after_commands, after_drain_line, after_give_up, after_giving_up, after_step}
-use Rattle.schedule_world.specs.Tables.{blocks_to}
-use Rattle.schedule_world.specs.World.{Outcome, WorldValue, and_then, quiet, shows}
-use Rattle.schedule_world.proofs.Held.{one_more}
+use Rattle.schedule_lines.specs.Tables.{blocks_to}
+use Rattle.schedule_lines.specs.Outcome.{Outcome, and_then, quiet, shows}
+use Rattle.schedule_world.specs.World.{WorldValue}
+use Rattle.schedule_lines.proofs.Held.{one_more}
 
 -- requests that are given up ------------------------------------------------------------------------------
 
@@ -56,26 +57,6 @@ drain_none w (suc most) there = ap (λ o. option_map_or (λ (f : Flight). and_th
 pub drain_end : (w : WorldValue) (most i : ℕ) → most ≤ i → after_drain_line w (most - i) ≡ quiet w
 drain_end w most i h = let none : most - i ≡ 0 = omega arith in ap (after_drain_line w) none
 
--- lines that are printed ---------------------------------------------------------------------------------------
-
--- the lines from an index on
-abbrev pub lines_from : {X : Type 0} → (X → List ℕ) → List X → ℕ → Outcome (Unit {0})
-lines_from line xs i = shows (flat_map line (drop i xs)) tt
-
-pub lines_next : {X : Type 0} (line : X → List ℕ) (xs : List X) (i : ℕ) (x : X) → slice_get xs i ≡ Some x
-    → lines_from line xs i ≡ and_then (shows (line x) tt) (λ u. lines_from line xs (i + 1))
-lines_next line xs i x there =
-    let at : drop i xs ≡ x ∷ drop (i + 1) xs = drop-cons xs i x (slice_get_within xs i x there)
-    ∙ ap (λ y. y ∷ drop (suc i) xs) (get_or_from_slice_get xs i x x there) ∙ ap (λ n. x ∷ drop n xs) (sym (add-one i)) in
-    ap (λ ys. shows (flat_map line ys) tt) at
-
-pub lines_at : {X : Type 0} (line : X → List ℕ) (xs : List X) (i : ℕ) (x : X) → i < length xs → x ≡ get_or xs i x
-    → lines_from line xs i ≡ and_then (shows (line x) tt) (λ u. lines_from line xs (i + 1))
-lines_at line xs i x h e = lines_next line xs i x (slice_get_read xs (length xs) i x refl h e)
-
-pub lines_none : {X : Type 0} (line : X → List ℕ) (xs : List X) (i : ℕ) → length xs ≤ i → lines_from line xs i ≡ quiet tt
-lines_none line xs i h = ap (λ ys. shows (flat_map line ys) tt) (drop_of_length-le xs h)
-
 -- commands that are run ------------------------------------------------------------------------------------------
 
 pub commands_next : (nodes : List Node) (w : WorldValue) (commands : List SeatCommand) (i : ℕ) (command : SeatCommand) → slice_get commands i ≡ Some command
@@ -88,19 +69,3 @@ commands_next nodes w commands i command there =
 pub commands_none : (nodes : List Node) (w : WorldValue) (commands : List SeatCommand) (i : ℕ) → length commands ≤ i
     → after_commands nodes w (drop i commands) ≡ quiet w
 commands_none nodes w commands i h = ap (after_commands nodes w) (drop_of_length-le commands h)
-
--- blocks of tables -------------------------------------------------------------------------------------------------
-
-pub block_there : (top b : ℕ) → b < top / 64 + 1 → slice_get (blocks_to top) b ≡ Some b
-block_there top b h =
-    let n = top / 64 + 1 in
-    let zero_more : 0 + b ≡ b = omega arith in
-    slice_get-get_or (blocks_to top) b 0 (omega (arith, length-range_with_len 0 n)) ∙ ap (λ x. Some x) (get_or-range_with_len 0 n b 0 h ∙ zero_more)
-
-pub blocks_many : (top b : ℕ) → top / 64 + 1 ≤ b → length (blocks_to top) ≤ b
-blocks_many top b h = omega (arith, length-range_with_len 0 (top / 64 + 1))
-
--- lines of what a function tells
-pub flat_map_map : {X Y A : Type 0} (f : Y → List A) (g : X → Y) (xs : List X) → flat_map (λ x. f (g x)) xs ≡ flat_map f (map g xs)
-flat_map_map f g [] = refl
-flat_map_map f g (x ∷ xs) = ap (λ t. f (g x) ++ t) (flat_map_map f g xs)

@@ -45,9 +45,10 @@ use Rattle.sm_manager.specs.Plans.{plan_fault, writing_fault}
 use Rattle.sm_manager.specs.Writing.{after_write_steps}
 use Rattle.schedule_world.specs.Flights.{serial_of}
 use Rattle.schedule_lines.specs.Lines.{flight_line, ping_line, progress_line, state_line}
-use Rattle.schedule_world.specs.Refusals.{refusal_line}
-use Rattle.schedule_world.specs.Tables.{tables_text}
-use Rattle.schedule_world.specs.World.{Outcome, SeatedValue, WorldValue, and_then, after_ask, at_seat, after_fabric_call, manager_line, quiet, after_send, shows, with_manager}
+use Rattle.schedule_lines.specs.Refusals.{refusal_line}
+use Rattle.schedule_lines.specs.Tables.{tables_text}
+use Rattle.schedule_lines.specs.Outcome.{Outcome, and_then, quiet, shows}
+use Rattle.schedule_world.specs.World.{SeatedValue, WorldValue, after_ask, at_seat, after_fabric_call, manager_line, after_send, with_manager}
 
 -- managers -----------------------------------------------------------------------------------------
 

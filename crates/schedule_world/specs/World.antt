@@ -6,16 +6,17 @@ use Rattle.fabric_model.specs.declared.cable.NodePort.{NodePort}
 use Rattle.fabric_sim.specs.declared.fault.FabricFault.{FabricFault}
 use Rattle.fabric_sim.specs.FabricFault.{fabric_fault_name}
 use Rattle.fabric_sim.specs.Changes.{after_inject}
-use Rattle.fabric_sim.specs.Delivery.{Called}
+use Rattle.fabric_sim.specs.Called.{Called}
 use Rattle.fabric_sim.specs.Simulation.{Simulation}
 use Rattle.sm_manager.specs.declared.fault.ManagerFault.{ManagerFault}
 use Rattle.sm_manager.specs.declared.outgoing.Outgoing.{Outgoing}
 use Rattle.sm_manager.specs.Fault.{manager_fault_name}
 use Rattle.sm_manager.specs.Manager.{Manager}
+use Rattle.schedule_lines.specs.Outcome.{Outcome, and_then, quiet, shows}
+use Rattle.schedule_lines.specs.Prints.{PrintsUnless}
+use Rattle.schedule_lines.specs.Refusals.{refusal_line}
+use Rattle.schedule_lines.specs.declared.run_fault.RunFault.{RunFault}
 use Rattle.schedule_world.specs.Flights.{packet_out}
-use Rattle.schedule_world.specs.Prints.{PrintsUnless}
-use Rattle.schedule_world.specs.Refusals.{refusal_line}
-use Rattle.schedule_world.specs.declared.run_fault.RunFault.{RunFault}
 use Rattle.schedule_world.specs.declared.world.Seated.{Seated}
 use Rattle.schedule_world.specs.declared.world.World.{World}
 
@@ -35,23 +36,6 @@ seated_value s = record { name = s.seat.now.name; at = s.seat.now.at; manager = 
 
 abbrev pub value_of : World → WorldValue
 value_of w = record { fabric = w.fabric; managers = map seated_value w.managers.items }
-
--- one after the other ----------------------------------------------------------------------------
-
--- what is left of a fabric or of a world, and the lines that were printed
-pub record Outcome (S : Type 0) : Type 0 where
-  pub now : S
-  pub text : List ℕ
-
-abbrev pub quiet : {S : Type 0} → S → Outcome S
-quiet s = record { now = s; text = [] }
-
-abbrev pub shows : {S : Type 0} → List ℕ → S → Outcome S
-shows text s = record { now = s; text = text }
-
--- and then what comes next
-abbrev pub and_then : {S : Type 0} → Outcome S → (S → Outcome S) → Outcome S
-and_then outcome next = record { now = (next outcome.now).now; text = outcome.text ++ (next outcome.now).text }
 
 -- the fabric ---------------------------------------------------------------------------------------
 

@@ -1,17 +1,16 @@
 //! The commands to managers.
-ghost use Rattle.std.specs.Prelude.{◌≡◌, ◌≢◌, ◌<◌, Err, Some, length, slice_get, slice_set, IfOk, OnErr, OnOk};
-ghost use Rattle.sm_manager.specs.Manager.{after_merge, outstanding};
+ghost use Rattle.std.specs.Prelude.{◌≡◌, ◌<◌, length, IfOk, OnErr, OnOk};
+ghost use Rattle.sm_manager.specs.Manager.{outstanding};
 ghost use Rattle.schedule_world.specs.Commands.{after_ask_line, after_asked, after_floor_line, after_give_up};
-ghost use Rattle.schedule_world.specs.Commands.{after_manager_line, after_merge_line, after_timeout_line, asked_fault};
+ghost use Rattle.schedule_world.specs.Commands.{after_manager_line, after_timeout_line, asked_fault};
 ghost use Rattle.schedule_world.specs.World.{Does, value_of};
 ghost use Rattle.smp_bytes.specs.Judges.{JudgesButFor};
 ghost use Rattle.sm_manager.specs.Fault.{is_memory};
 
-use crate::refusals::{refuse_fabric, refuse_manager};
-use crate::run_fault::RunFault;
-use crate::world::{Seated, World};
+use crate::world::World;
 use byte_io::Sink;
 use schedule_file::Ask;
+use schedule_lines::{RunFault, refuse_fabric, refuse_manager};
 use sm_manager::{Manager, ManagerFault};
 use smp_bytes::Generation;
 use std::alloc::{AllocError, Global};
@@ -53,28 +52,6 @@ impl World<'_> {
         ensures leaves { value_of self.new ≡ (after_floor_line (value_of self.old) seat floor).now }
     {
         self.managers[seat].manager.raise_floor(floor);
-    }
-
-    /// A manager takes in all that another knows. Its own facts tell it nothing.
-    #[tactic(auto, unfolding(crate::specs::Commands::after_merge_line))]
-    pub(crate) fn merge<W: Sink>(
-        &mut self,
-        seat: usize,
-        other: usize,
-        sink: &mut W,
-    ) -> Result<(), RunFault>
-        requires seat { seat < length self.old.managers.items }
-        requires other { other < length self.old.managers.items }
-        ensures does { Does W.written W.has_failed self.old self.new result sink.old sink.new
-            (after_merge_line (value_of self.old) seat other) }
-    {
-        if seat == other {
-            return Ok(());
-        }
-        match merge_at(&mut self.managers, seat, other) {
-            Ok(()) => Ok(()),
-            Err(fault) => refuse_manager(sink, fault),
-        }
     }
 
     /// A manager waits no more for the answers that it waits for now. What that brings up goes out.
@@ -124,27 +101,6 @@ fn ask_manager(manager: &mut Manager, what: Ask) -> Result<(), ManagerFault>
         Ask::Write => manager.write_steps(),
         Ask::Handover => manager.handover(),
         Ask::Poll(lid) => manager.poll(lid),
-    }
-}
-
-/// One of these managers takes in all that another knows. It is out of the list meanwhile.
-fn merge_at(managers: &mut Vec<Seated>, seat: usize, other: usize) -> Result<(), ManagerFault>
-    requires seat { seat < length managers.old.items }
-    requires other { other < length managers.old.items }
-    requires apart { seat ≢ other }
-    ensures managers { length managers.new.items ≡ length managers.old.items }
-    ensures ok { (s o : _) → slice_get managers.old.items seat ≡ Some s
-        → slice_get managers.old.items other ≡ Some o
-        → OnOk result (managers.new.items ≡ slice_set managers.old.items seat
-        (record { seat = s.seat; manager = after_merge s.manager o.manager.store })) }
-    ensures memory { OnErr result (result ≡ Err ManagerFault.Memory) }
-{
-    let mut seated = managers.remove(seat);
-    let index = if seat < other { other - 1 } else { other };
-    let merged = seated.manager.merge_from(managers[index].manager.store());
-    match managers.insert(seat, seated) {
-        Ok(()) => merged,
-        Err(_) => unreachable!(),
     }
 }
 

@@ -2,11 +2,10 @@
 ghost use Rattle.schedule_world.specs.Commands.{after_cut_line, after_plug_line};
 ghost use Rattle.schedule_world.specs.World.{Does, value_of};
 
-use crate::refusals::refuse_fabric;
-use crate::run_fault::RunFault;
 use crate::world::World;
 use byte_io::Sink;
 use fabric_model::NodePort;
+use schedule_lines::{RunFault, refuse_fabric};
 
 impl World<'_> {
     /// The cable in a port is cut.

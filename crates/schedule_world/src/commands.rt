@@ -2,14 +2,14 @@
 ghost use Rattle.std.specs.Prelude.{◌≡◌, false, length, OnOk, IsTrue};
 ghost use Rattle.schedule_file.specs.Schedule.{IsScript, NamesManagers};
 ghost use Rattle.schedule_world.specs.Commands.{after_command, script_text};
-ghost use Rattle.schedule_world.specs.Prints.{PrintsUnless};
+ghost use Rattle.schedule_lines.specs.Prints.{PrintsUnless};
 ghost use Rattle.schedule_world.specs.World.{Does, value_of};
 
-use crate::run_fault::RunFault;
 use crate::world::World;
 use byte_io::Sink;
 use lft_blocks::Planning;
 use schedule_file::{Command, Schedule, SeatCommand};
+use schedule_lines::{RunFault, show_tables};
 use std::alloc::Global;
 use topo_file::Topology;
 
@@ -66,7 +66,7 @@ impl World<'_> {
             Command::Cut(port) => self.cut(port, sink),
             Command::Plug(one, other) => self.plug(one, other, sink),
             Command::Ping(from, lid) => self.show_ping(topology, from, lid, sink),
-            Command::Tables => self.show_tables(alloc, sink),
+            Command::Tables => show_tables(alloc, &self.fabric, sink),
             Command::Flight => self.show_flight(topology, sink),
         }
     }

@@ -4,12 +4,9 @@
 mod ask;
 mod cables;
 mod commands;
+mod merge;
 mod packets;
-mod refusals;
-mod run_fault;
 mod show;
-mod tables;
 mod world;
 
 pub use commands::run_commands;
-pub use run_fault::RunFault;

@@ -5,13 +5,12 @@ ghost use Rattle.schedule_world.specs.Commands.{after_packet_line, after_step, a
 ghost use Rattle.schedule_world.specs.Flights.{serial_of};
 ghost use Rattle.schedule_world.specs.World.{Does, value_of};
 
-use crate::refusals::{refuse_fabric, refuse_manager};
-use crate::run_fault::RunFault;
 use crate::world::World;
 use byte_io::Sink;
 use fabric_model::NodePort;
 use fabric_sim::{Delivered, Fabric, FabricFault, Packet};
 use schedule_file::{Fate, Which};
+use schedule_lines::{RunFault, refuse_fabric, refuse_manager};
 
 impl World<'_> {
     /// A packet in flight meets its fate.
@@ -74,7 +73,7 @@ impl World<'_> {
 
     /// The packet with a serial number takes one step. What comes to a manager is taken in by it, and what it
     /// queues then goes out.
-    #[tactic(auto, using(crate::proofs::Printing::prints_then), unfolding(crate::specs::Commands::after_step))]
+    #[tactic(auto, using(schedule_lines::proofs::Printing::prints_then), unfolding(crate::specs::Commands::after_step))]
     fn deliver<W: Sink>(&mut self, serial: u64, sink: &mut W) -> Result<(), RunFault>
         ensures does { Does W.written W.has_failed self.old self.new result sink.old sink.new
             (after_step (value_of self.old) serial) }

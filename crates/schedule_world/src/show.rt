@@ -2,18 +2,18 @@ ghost use Rattle.std.specs.Prelude.{◌<◌, length};
 ghost use Rattle.fact_store.specs.View.{cells_of};
 ghost use Rattle.sm_manager.specs.Plans.{plan_fault};
 ghost use Rattle.schedule_world.specs.Commands.{flights_text, ping_shown, plan_or_refusal, shown_of, text_of};
-ghost use Rattle.schedule_world.specs.Prints.{PrintsUnless};
+ghost use Rattle.schedule_lines.specs.Prints.{PrintsUnless};
 ghost use Rattle.schedule_world.specs.World.{seated_value, value_of};
 
-use crate::refusals::{refuse_fabric, refuse_manager};
-use crate::run_fault::RunFault;
 use crate::world::{Seated, World};
 use byte_io::Sink;
 use fabric_model::NodePort;
 use lft_blocks::write_plan;
 use record_file::write_facts;
 use schedule_file::Shown;
-use schedule_lines::{write_flight, write_ping, write_progress, write_state};
+use schedule_lines::{
+    RunFault, refuse_fabric, refuse_manager, write_flight, write_ping, write_progress, write_state,
+};
 use sm_manager::Manager;
 use smp_bytes::Lid;
 use topo_file::Topology;
@@ -34,7 +34,7 @@ impl World<'_> {
     }
 
     /// Prints where a packet comes to that is sent from a port to a LID.
-    #[tactic(auto, using(crate::proofs::Printing::wrote), unfolding(crate::specs::Commands::ping_shown))]
+    #[tactic(auto, using(schedule_lines::proofs::Printing::wrote), unfolding(crate::specs::Commands::ping_shown))]
     pub(crate) fn show_ping<W: Sink>(
         &self,
         topology: &Topology,
@@ -78,7 +78,7 @@ impl World<'_> {
 
 impl Seated<'_> {
     /// Prints something of the manager.
-    #[tactic(auto, using(crate::proofs::Printing::wrote))]
+    #[tactic(auto, using(schedule_lines::proofs::Printing::wrote))]
     fn show<W: Sink>(&self, what: Shown, sink: &mut W) -> Result<(), RunFault>
         ensures prints { PrintsUnless W.written W.has_failed result sink.old sink.new
             (text_of what (seated_value self.now)) }
@@ -96,7 +96,7 @@ impl Seated<'_> {
 }
 
 /// Prints a manager's plan, or why there is none.
-#[tactic(auto, using(crate::proofs::Printing::wrote))]
+#[tactic(auto, using(schedule_lines::proofs::Printing::wrote))]
 fn show_plan<W: Sink>(sink: &mut W, manager: &Manager) -> Result<(), RunFault>
     ensures prints { PrintsUnless W.written W.has_failed result sink.old sink.new
         (plan_or_refusal manager.now.planning (cells_of manager.now.store)

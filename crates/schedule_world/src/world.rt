@@ -5,16 +5,15 @@ ghost use Rattle.schedule_file.specs.Schedule.{is_seat};
 ghost use Rattle.fabric_sim.specs.Changes.{after_inject};
 ghost use Rattle.schedule_world.specs.Commands.{seat_at, world_of};
 ghost use Rattle.schedule_world.specs.Flights.{packet_out};
-ghost use Rattle.schedule_world.specs.Prints.{PrintsUnless};
+ghost use Rattle.schedule_lines.specs.Prints.{PrintsUnless};
 ghost use Rattle.schedule_world.specs.World.{after_fabric, emptied, after_send, after_inject_all, value_of, Does};
 
-use crate::refusals::refuse_fabric;
-use crate::run_fault::RunFault;
 use byte_io::Sink;
 use fabric_model::NodePort;
 use fabric_sim::{Fabric, Packet};
 use lft_blocks::Planning;
 use schedule_file::Seat;
+use schedule_lines::{RunFault, refuse_fabric};
 use sm_manager::{Manager, Outgoing};
 use smp_bytes::{Guid, Lid};
 use std::alloc::{AllocError, Global};

@@ -1,5 +1,8 @@
 ghost use Rattle.std.specs.Prelude.{◌≡◌};
 
+use crate::fault::Fault;
+use record_file::FileFault;
+
 /// What a run of the program ends with.
 #[derive(Clone, Copy, Debug, PartialEq, Eq)]
 pub enum ExitStatus {
@@ -20,5 +23,27 @@ impl ExitStatus {
         ensures { result ≡ code_of self }
     {
         self as u8
+    }
+}
+
+impl Fault {
+    ghost use Rattle.sm_cli.specs.ExitStatus.{status_of};
+
+    /// What the program ends with.
+    pub fn status(&self) -> ExitStatus
+        ensures { result ≡ status_of self.now }
+    {
+        match self {
+            Fault::Open { .. } | Fault::Write => ExitStatus::InputOutput,
+            Fault::File { fault, .. } => match fault {
+                FileFault::Read => ExitStatus::InputOutput,
+                FileFault::Memory => ExitStatus::Memory,
+                _ => ExitStatus::Refused,
+            },
+            Fault::Text { fault, .. } if fault.is_of_text() => ExitStatus::Refused,
+            Fault::Text { .. } => ExitStatus::Memory,
+            Fault::NoRoom(_) => ExitStatus::Refused,
+            Fault::Memory => ExitStatus::Memory,
+        }
     }
 }

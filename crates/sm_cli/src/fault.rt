@@ -1,6 +1,5 @@
 ghost use Rattle.std.specs.Prelude.{◌≡◌};
 
-use crate::exit_status::ExitStatus;
 use crate::text_fault::TextFault;
 use byte_io::WriteFault;
 use lid_assign::{LidFault, NoRoom};
@@ -28,28 +27,6 @@ pub enum Fault {
     /// A growth was refused, of no file.
     #[error("out of memory")]
     Memory,
-}
-
-impl Fault {
-    ghost use Rattle.sm_cli.specs.ExitStatus.{status_of};
-
-    /// What the program ends with.
-    pub fn status(&self) -> ExitStatus
-        ensures { result ≡ status_of self.now }
-    {
-        match self {
-            Fault::Open { .. } | Fault::Write => ExitStatus::InputOutput,
-            Fault::File { fault, .. } => match fault {
-                FileFault::Read => ExitStatus::InputOutput,
-                FileFault::Memory => ExitStatus::Memory,
-                _ => ExitStatus::Refused,
-            },
-            Fault::Text { fault, .. } if fault.is_of_text() => ExitStatus::Refused,
-            Fault::Text { .. } => ExitStatus::Memory,
-            Fault::NoRoom(_) => ExitStatus::Refused,
-            Fault::Memory => ExitStatus::Memory,
-        }
-    }
 }
 
 impl From<WriteFault> for Fault {

@@ -20,7 +20,7 @@ use Rattle.sm_manager.specs.declared.outgoing.Outgoing.{Outgoing}
 use Rattle.sm_manager.specs.declared.pending.Pending.{Pending}
 use Rattle.sm_manager.specs.declared.pending.Purpose.TheVariants.{Control}
 use Rattle.sm_state.specs.declared.standing.Standing.{Standing}
-use Rattle.sm_state.specs.declared.seen.SeenManager.{SeenManager}
+use Rattle.sm_state.specs.declared.election.SeenManager.{SeenManager}
 use Rattle.sm_manager.specs.Election.{control_out, control_sent, after_handover, handover_move, successor_lid, info_pending, port_seen, after_message}
 use Rattle.sm_manager.specs.Manager.{Manager}
 use Rattle.sm_manager.specs.Plans.{plan_fault, room_fault}

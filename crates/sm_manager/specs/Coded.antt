@@ -9,7 +9,7 @@ use Rattle.sm_manager.specs.declared.outgoing.Outgoing.{Outgoing}
 use Rattle.sm_manager.specs.contracts.outgoing.Outgoing as outgoing
 use Rattle.sm_manager.specs.declared.pending.Pending.{Pending}
 use Rattle.sm_manager.specs.contracts.pending.Pending as pending
-use Rattle.sm_state.specs.declared.seen.SeenManager.{SeenManager}
+use Rattle.sm_state.specs.declared.election.SeenManager.{SeenManager}
 use Rattle.sm_state.specs.contracts.seen.SeenManager as seen
 use Rattle.sm_state.specs.declared.standing.Standing.{Standing}
 use Rattle.sm_state.specs.contracts.standing.Standing as standing

@@ -22,11 +22,11 @@ use Rattle.sm_manager.specs.declared.outgoing.Outgoing.{Outgoing}
 use Rattle.sm_manager.specs.declared.pending.Pending.{Pending}
 use Rattle.sm_manager.specs.declared.pending.Purpose.{Purpose}
 use Rattle.sm_manager.specs.declared.pending.Purpose.TheVariants as purpose
-use Rattle.sm_state.specs.declared.seen.SeenManager.{SeenManager}
+use Rattle.sm_state.specs.declared.election.SeenManager.{SeenManager}
 use Rattle.sm_state.specs.declared.standing.Standing.{Standing}
 use Rattle.sm_manager.specs.Manager.{Manager}
 use Rattle.sm_manager.specs.Plans.{number_fault, or_else, plan_fault}
-use Rattle.sm_state.specs.Seen.{successor_of}
+use Rattle.sm_state.specs.Election.{successor_of}
 use Rattle.sm_state.specs.Standing.{info_of, is_in, moved_to}
 
 -- requests for SMInfo ---------------------------------------------------------------------------

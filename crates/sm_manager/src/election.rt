@@ -1,4 +1,4 @@
-//! What a manager sends to other managers.
+//! What becomes of a manager that has seen others, and what it sends to them.
 ghost use Rattle.std.specs.Prelude.{◌≡◌, ◌<◌, ◌+◌, ◌≤◌, ◌^◌, ◌∷◌, ◌++◌, [], None, Some, true, IfOk, OnOk, OnErr};
 ghost use Rattle.std.specs.VecDeque.{deque_capacity, deque_len};
 ghost use Rattle.fact_store.specs.View.{cells_of};
@@ -11,21 +11,32 @@ ghost use Rattle.sm_manager.specs.Election.{message_count, message_out, message_
 ghost use Rattle.sm_manager.specs.declared.pending.Purpose.TheVariants.{Control as ForControl, Poll as ForPoll};
 ghost use Rattle.sm_state.specs.Controls.{modifier_of_control};
 ghost use Rattle.sm_manager.specs.Fault.{is_memory};
+ghost use Rattle.sm_manager.specs.Manager.{after_verdict};
 ghost use Rattle.sm_manager.specs.Plans.{plan_fault};
 
 use crate::fault::ManagerFault;
 use crate::manager::Manager;
+use crate::manager_requests::{ManagerRequests, make_room, reserve};
 use crate::outgoing::Outgoing;
 use crate::pending::Purpose;
-use crate::requests::{ManagerRequests, make_room, reserve};
 use crate::write_steps::where_numbered;
 use attr_codec::Attribute;
 use fact_store::Store;
 use lid_assign::{LidFault, LidMap, assign};
-use sm_state::{Control, Event, Message, SeenManager, SmState, Standing, step, successor};
+use sm_state::{
+    Control, Event, Message, SeenManager, SmState, Standing, step, successor, sweep_verdict,
+};
 use smp_bytes::{Lid, Method};
 use std::collections::VecDeque;
 use subnet_view::{EndPort, is_end_port};
+
+/// A sweep that saw these has got done.
+pub(crate) fn end_sweep(standing: &mut Standing, seen: &[SeenManager])
+    ensures { standing.new ≡ after_verdict seen.now standing.old }
+{
+    let event = sweep_verdict(&standing.info(), seen);
+    standing.move_by(event);
+}
 
 impl Manager {
     /// Asks the manager at a LID, the master, whether it is there. The answer or its absence counts once it comes.

@@ -9,9 +9,9 @@ ghost use Rattle.sm_manager.specs.Plans.{plan_fault};
 ghost use Rattle.sweep.specs.Replies.{judged};
 
 use crate::fault::ManagerFault;
+use crate::manager_requests::ManagerRequests;
 use crate::outgoing::{Outgoing, send_queued};
 use crate::progress::Progress;
-use crate::requests::ManagerRequests;
 use crate::writing::Writing;
 use attr_codec::Priority;
 use fact_store::Store;

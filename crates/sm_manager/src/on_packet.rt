@@ -1,16 +1,15 @@
 ghost use Rattle.std.specs.Prelude.{◌≡◌, ◌-◌, OnOk, OnErr};
-ghost use Rattle.sm_manager.specs.Manager.{after_verdict};
 ghost use Rattle.sm_manager.specs.Packets.{HasSender, IsFaultWithoutRoom, is_for_sweep, is_info_request, sweep_answered, after_packet};
 ghost use Rattle.smp_bytes.specs.Judges.{JudgesButFor};
 ghost use Rattle.sm_manager.specs.Fault.{is_memory, refusal_of};
 ghost use Rattle.sweep.specs.Replies.{judged};
 
+use crate::election::end_sweep;
 use crate::fault::ManagerFault;
 use crate::manager::Manager;
 use crate::note_seen::note_seen;
 use crate::outgoing::send_queued;
 use fact_store::ReportFault;
-use sm_state::{SeenManager, Standing, sweep_verdict};
 use smp_bytes::{AttributeId, Lid, Method, Smp, SmpClass};
 use sweep::{Sweep, SweepFault};
 
@@ -77,14 +76,6 @@ impl Manager {
             Err(fault) => Err(refusal_of(fault)),
         }
     }
-}
-
-/// A sweep that saw these has got done.
-pub(crate) fn end_sweep(standing: &mut Standing, seen: &[SeenManager])
-    ensures { standing.new ≡ after_verdict seen.now standing.old }
-{
-    let event = sweep_verdict(&standing.info(), seen);
-    standing.move_by(event);
 }
 
 /// The refusal of a sweep as the manager's own.

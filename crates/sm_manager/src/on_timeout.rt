@@ -4,9 +4,9 @@ ghost use Rattle.smp_bytes.specs.Judges.{JudgesButFor};
 ghost use Rattle.sm_manager.specs.Fault.{is_memory};
 ghost use Rattle.sweep.specs.Replies.{judged};
 
+use crate::election::end_sweep;
 use crate::fault::ManagerFault;
 use crate::manager::Manager;
-use crate::on_packet::end_sweep;
 
 impl Manager {
     /// A request was not answered in time, and waits no more. Three polls in a row move the state; where a sweep is

@@ -10,7 +10,7 @@ ghost use Rattle.sm_manager.specs.Writing.{count_after, without_empty_phases, ph
 
 use crate::fault::ManagerFault;
 use crate::manager::Manager;
-use crate::requests::{make_room, reserve};
+use crate::manager_requests::{make_room, reserve};
 use crate::writing::Writing;
 use plan_steps::{most_steps, phases};
 use sm_state::SmState;

@@ -4,8 +4,8 @@ ghost use Rattle.std.specs.VecDeque.{deque_capacity, deque_len};
 ghost use Rattle.sm_manager.specs.Writing.{next_pending, next_phase, numbered, without_empty_phases, steps_out, is_written};
 
 use crate::manager::Manager;
+use crate::manager_requests::ManagerRequests;
 use crate::outgoing::Outgoing;
-use crate::requests::ManagerRequests;
 use plan_steps::{Phase, Step, phases};
 use std::collections::VecDeque;
 use std::marker::Model;

@@ -8,8 +8,8 @@ use Rattle.std.specs.Prelude.{Option, Some, None, ◌&&◌, ◌==◌, filter, na
 use Rattle.attr_codec.specs.declared.sm_info.SmInfo.{SmInfo}
 use Rattle.sm_state.proofs.Winning.{wins_is_an_order}
 use Rattle.sm_state.specs.Ranks.{wins}
-use Rattle.sm_state.specs.declared.seen.SeenManager.{SeenManager}
-use Rattle.sm_state.specs.Seen.{SuccessorLaw, IsFirstGreatest, IsSuccessorOrNone, better, best_with, is_candidate, next_best}
+use Rattle.sm_state.specs.declared.election.SeenManager.{SeenManager}
+use Rattle.sm_state.specs.Election.{SuccessorLaw, IsFirstGreatest, IsSuccessorOrNone, better, best_with, is_candidate, next_best}
 
 all_both : {X : Type 0} (P : X → Type 0) (xs ys : List X) → AllByRecursion P xs → AllByRecursion P ys → AllByRecursion P (xs ++ ys)
 all_both P [] ys a b = b

@@ -1,6 +1,6 @@
 pub mod Controls
+pub mod Election
 pub mod Ranks
-pub mod Seen
 pub mod Standing
 pub mod StateLaws
 pub mod States

@@ -1,6 +1,6 @@
 //! The laws of managers' states.
 ghost use Rattle.sm_state.specs.Ranks.{WinsIsAnOrder};
-ghost use Rattle.sm_state.specs.Seen.{SuccessorLaw};
+ghost use Rattle.sm_state.specs.Election.{SuccessorLaw};
 ghost use Rattle.sm_state.specs.StateLaws.{MastersStay, NothingElseMoves, OthersAreTold, StatesAreNumbered};
 
 /// Of two managers with different priorities or GUIDs one wins; none wins over itself; and who wins over

@@ -2,19 +2,19 @@
 #![tactic(auto)]
 
 mod control;
+mod election;
 mod event;
 pub mod laws;
 mod precedence;
-mod seen;
 mod standing;
 mod state;
 mod transition;
 mod transitions;
 
 pub use control::Control;
+pub use election::{SeenManager, successor, sweep_verdict};
 pub use event::{Event, Message};
 pub use precedence::wins;
-pub use seen::{SeenManager, successor, sweep_verdict};
 pub use standing::Standing;
 pub use state::SmState;
 pub use transition::Transition;

@@ -10,8 +10,8 @@ mod finding;
 pub mod laws;
 mod on_reply;
 mod request;
-mod requests;
 mod sweep;
+mod sweep_requests;
 mod vertex;
 
 pub use answer::Answer;

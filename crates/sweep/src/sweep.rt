@@ -5,7 +5,7 @@ ghost use Rattle.sweep.specs.Sweep.{is_done, outstanding_at, path_to, seen_state
 use crate::discovered::Discovered;
 use crate::fault::SweepFault;
 use crate::request::{Question, transaction_of};
-use crate::requests::SweepRequests;
+use crate::sweep_requests::SweepRequests;
 use crate::vertex::Vertex;
 use attr_codec::PortState;
 use fact_store::Context;

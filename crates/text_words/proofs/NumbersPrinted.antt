@@ -22,7 +22,7 @@ digits_pass base (b ∷ word) all =
     let here : is_digit b base ≡ true = is_below (digit_value b) base all.0 in
     rw (here, digits_pass base word all.1) refl
 
-number_from : (base : ℕ) (word : List ℕ) → 1 ≤ length word → AllDigits base word → number_of base word ≡ Some (digits_value base word)
+pub number_from : (base : ℕ) (word : List ℕ) → 1 ≤ length word → AllDigits base word → number_of base word ≡ Some (digits_value base word)
 number_from base word some all = rw (is_within 1 (length word) some, digits_pass base word all) refl
 
 -- the digits of a number in decimal

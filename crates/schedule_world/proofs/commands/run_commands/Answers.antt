@@ -6,9 +6,10 @@ use Rattle.std.proofs.lemmas.Result.{err_from_is_err_and}
 use Rattle.schedule_file.specs.Schedule.{NamesManagers, SeatCommand, is_seat}
 use Rattle.schedule_file.specs.declared.schedule.Seat.{Seat}
 use Rattle.schedule_world.specs.Commands.{after_command, after_commands, new_seated, script_text, world_of}
-use Rattle.schedule_world.specs.Prints.{Prints}
-use Rattle.schedule_world.specs.World.{Outcome, WorldValue, seated_value, value_of}
-use Rattle.schedule_world.proofs.Printing.{IsUnderWay, begins, ends_unprinted, failed_with, goes_on, is_over, prints_both, prints_same, stops_in, wrote}
+use Rattle.schedule_lines.specs.Prints.{Prints}
+use Rattle.schedule_lines.specs.Outcome.{Outcome}
+use Rattle.schedule_world.specs.World.{WorldValue, seated_value, value_of}
+use Rattle.schedule_lines.proofs.Printing.{IsUnderWay, begins, ends_unprinted, failed_with, goes_on, is_over, prints_both, prints_same, stops_in, wrote}
 use Rattle.schedule_world.proofs.Turns.{commands_next, commands_none}
 use Rattle.schedule_world.proofs.commands.run_commands.Goals as goal
 

@@ -1,7 +1,7 @@
 use Rattle.std.proofs.Common.{◌≡◌, drop, length}
 use Rattle.schedule_world.specs.Commands.{after_commands}
 use Rattle.schedule_world.specs.World.{value_of}
-use Rattle.schedule_world.proofs.Printing.{IsUnderWay}
+use Rattle.schedule_lines.proofs.Printing.{IsUnderWay}
 use Rattle.schedule_world.proofs.commands.run_commands.Given as goal
 
 -- there is a manager for each seat, and the commands from this one on are yet to be run

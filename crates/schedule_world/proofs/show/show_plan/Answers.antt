@@ -3,7 +3,7 @@ use Rattle.std.proofs.lemmas.Result.{err_from_is_err_and}
 use Rattle.fact_store.specs.View.{cells_of}
 use Rattle.sm_manager.specs.declared.fault.ManagerFault.{ManagerFault}
 use Rattle.schedule_world.specs.Commands.{plan_or_refusal}
-use Rattle.schedule_world.specs.World.{Outcome, shows}
+use Rattle.schedule_lines.specs.Outcome.{Outcome, shows}
 use Rattle.schedule_world.proofs.Seats.{but_for_memory, refusal_prints, refuses}
 use Rattle.schedule_world.proofs.show.show_plan.Goals as goal
 

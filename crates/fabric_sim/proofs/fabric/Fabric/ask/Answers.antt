@@ -3,7 +3,8 @@ use Rattle.std.specs.Prelude.{remove, slice_get, slice_set, option_map, Some}
 use Rattle.fabric_sim.specs.declared.flight.Flight.{Flight}
 use Rattle.fabric_sim.specs.Simulation.{Simulation, next_serial, has_cable_port, port_of, answer_whereabouts}
 use Rattle.fabric_sim.specs.declared.envelope.Envelope.{Envelope}
-use Rattle.fabric_sim.specs.Delivery.{asked, refused, flight_in, Called}
+use Rattle.fabric_sim.specs.Called.{refused, Called}
+use Rattle.fabric_sim.specs.Delivery.{asked, flight_in}
 use Rattle.fabric_sim.specs.declared.fault.FabricFault.TheVariants.{SerialsSpent}
 use Rattle.fabric_sim.specs.declared.delivered.Delivered.{Delivered}
 use Rattle.std.proofs.lemmas.Bool.{cond-false}

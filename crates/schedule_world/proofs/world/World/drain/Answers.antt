@@ -1,8 +1,9 @@
 use Rattle.std.proofs.Common.{◌∙◌, ◌+◌, ◌-◌, ap, subst, sym}
 use Rattle.std.proofs.lemmas.Result.{err_from_is_err_and}
 use Rattle.schedule_world.specs.Commands.{after_drain_line, after_step}
-use Rattle.schedule_world.specs.World.{Outcome, WorldValue, value_of}
-use Rattle.schedule_world.proofs.Printing.{IsUnderWay, goes_on, is_over, stops_in}
+use Rattle.schedule_lines.specs.Outcome.{Outcome}
+use Rattle.schedule_world.specs.World.{WorldValue, value_of}
+use Rattle.schedule_lines.proofs.Printing.{IsUnderWay, goes_on, is_over, stops_in}
 use Rattle.schedule_world.proofs.Turns.{drain_end, drain_next, drain_none}
 use Rattle.schedule_world.proofs.world.World.drain.Goals as goal
 

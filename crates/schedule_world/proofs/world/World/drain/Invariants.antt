@@ -1,7 +1,7 @@
 use Rattle.std.proofs.Common.{◌≡◌, ◌-◌, length}
 use Rattle.schedule_world.specs.Commands.{after_drain_line}
 use Rattle.schedule_world.specs.World.{value_of}
-use Rattle.schedule_world.proofs.Printing.{IsUnderWay}
+use Rattle.schedule_lines.proofs.Printing.{IsUnderWay}
 use Rattle.schedule_world.proofs.world.World.drain.Given as goal
 
 -- the managers are still there, and the steps that are left are yet to be taken

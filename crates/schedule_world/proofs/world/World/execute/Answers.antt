@@ -2,10 +2,10 @@ use Rattle.std.proofs.Common.{◌≡◌, ◌∙◌, ℕ, List, [], ap, length, s
 use Rattle.schedule_file.specs.Schedule.{NamesManagers}
 use Rattle.sm_manager.specs.Manager.{after_raise_floor}
 use Rattle.schedule_world.specs.Commands.{after_command, after_floor_line}
-use Rattle.schedule_world.specs.Prints.{Prints}
+use Rattle.schedule_lines.specs.Prints.{Prints}
 use Rattle.schedule_world.specs.World.{value_of, with_manager}
 use Rattle.schedule_world.proofs.Doing.{does_same, does_show}
-use Rattle.schedule_world.proofs.Printing.{prints_nothing}
+use Rattle.schedule_lines.proofs.Printing.{prints_nothing}
 use Rattle.schedule_world.proofs.Seats.{quiet_at}
 use Rattle.schedule_world.proofs.world.World.execute.Goals as goal
 

@@ -1,7 +1,7 @@
 use Rattle.std.proofs.Common.{refl}
 use Rattle.sm_manager.specs.Packets.{after_timeout}
 use Rattle.schedule_world.specs.Commands.{after_give_up}
-use Rattle.schedule_world.specs.World.{quiet}
+use Rattle.schedule_lines.specs.Outcome.{quiet}
 use Rattle.schedule_world.proofs.Seats.{but_for_memory, quiet_does, refused_does}
 use Rattle.schedule_world.proofs.world.World.give_up.Goals as goal
 

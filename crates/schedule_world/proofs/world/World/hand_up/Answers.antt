@@ -2,7 +2,8 @@ use Rattle.std.proofs.Common.{ap}
 use Rattle.std.proofs.lemmas.Result.{err_from_is_err_and}
 use Rattle.std.specs.Option.{option_map_or}
 use Rattle.schedule_world.specs.Commands.{after_hand_up, after_take, after_take_and_send}
-use Rattle.schedule_world.specs.World.{after_send, quiet, value_of}
+use Rattle.schedule_lines.specs.Outcome.{quiet}
+use Rattle.schedule_world.specs.World.{after_send, value_of}
 use Rattle.schedule_world.proofs.Doing.{does_no_more, does_same, does_then}
 use Rattle.schedule_world.proofs.world.World.hand_up.Goals as goal
 

@@ -3,8 +3,9 @@ use Rattle.std.specs.Option.{option_map_or}
 use Rattle.fabric_sim.specs.FabricFault.{fabric_fault_name}
 use Rattle.fabric_sim.specs.declared.fault.FabricFault.TheVariants.{NoSuchPacket}
 use Rattle.schedule_world.specs.Commands.{after_fate, after_packet_line}
-use Rattle.schedule_world.specs.Refusals.{refusal_line}
-use Rattle.schedule_world.specs.World.{shows, value_of}
+use Rattle.schedule_lines.specs.Refusals.{refusal_line}
+use Rattle.schedule_lines.specs.Outcome.{shows}
+use Rattle.schedule_world.specs.World.{value_of}
 use Rattle.schedule_world.proofs.Doing.{does_same, does_show}
 use Rattle.schedule_world.proofs.world.World.handle_packet.Goals as goal
 

@@ -1,8 +1,8 @@
 use Rattle.std.proofs.Common.{ℕ, List, refl, subst, sym}
-use Rattle.schedule_world.specs.Prints.{Prints}
+use Rattle.schedule_lines.specs.Prints.{Prints}
 use Rattle.schedule_world.specs.World.{value_of}
 use Rattle.schedule_world.proofs.Merging.{merge_quiet, merges, merges_itself, somebody}
-use Rattle.schedule_world.proofs.Printing.{prints_nothing}
+use Rattle.schedule_lines.proofs.Printing.{prints_nothing}
 use Rattle.schedule_world.proofs.world.World.merge.Goals as goal
 
 pub returns-then-seat-other : goal.returns-then-seat-other

@@ -1,7 +1,7 @@
 use Rattle.std.proofs.Common.{None, Ok, refl}
 use Rattle.sm_manager.specs.Manager.{after_raise_floor}
 use Rattle.schedule_world.specs.Commands.{after_floor_line}
-use Rattle.schedule_world.specs.World.{quiet}
+use Rattle.schedule_lines.specs.Outcome.{quiet}
 use Rattle.schedule_world.proofs.Seats.{done_leaves}
 use Rattle.schedule_world.proofs.world.World.raise_floor.Goals as goal
 

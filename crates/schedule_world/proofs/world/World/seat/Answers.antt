@@ -3,7 +3,7 @@ use Rattle.fabric_sim.specs.Changes.{after_seat}
 use Rattle.schedule_world.specs.Commands.{after_manager_line}
 use Rattle.schedule_world.specs.World.{after_fabric_call, value_of}
 use Rattle.schedule_world.proofs.Doing.{calls_fabric, does_same}
-use Rattle.schedule_world.proofs.Printing.{prints_nothing}
+use Rattle.schedule_lines.proofs.Printing.{prints_nothing}
 use Rattle.schedule_world.proofs.Seats.{at_seat_is}
 use Rattle.schedule_world.proofs.world.World.seat.Goals as goal
 

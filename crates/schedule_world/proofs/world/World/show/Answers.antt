@@ -1,7 +1,7 @@
 use Rattle.std.proofs.Common.{[], ap, sym}
 use Rattle.std.specs.Option.{option_map_or}
 use Rattle.schedule_world.specs.Commands.{shown_of, text_of}
-use Rattle.schedule_world.proofs.Printing.{prints_same}
+use Rattle.schedule_lines.proofs.Printing.{prints_same}
 use Rattle.schedule_world.proofs.Seats.{sits}
 use Rattle.schedule_world.proofs.world.World.show.Goals as goal
 

@@ -4,10 +4,10 @@ use Rattle.byte_io.specs.Writes.{Writes}
 use Rattle.fabric_model.specs.declared.cable.NodePort.{NodePort}
 use Rattle.schedule_world.specs.Commands.{flight_shown}
 use Rattle.schedule_lines.specs.Lines.{flight_line}
-use Rattle.schedule_world.specs.World.{Outcome, shows}
-use Rattle.schedule_world.proofs.Present.{is_present}
-use Rattle.schedule_world.proofs.Printing.{IsUnderWay, goes_on, is_over, wrote}
-use Rattle.schedule_world.proofs.Turns.{lines_from, lines_next, lines_none}
+use Rattle.schedule_lines.specs.Outcome.{Outcome, shows}
+use Rattle.schedule_lines.proofs.Present.{is_present}
+use Rattle.schedule_lines.proofs.Printing.{IsUnderWay, goes_on, is_over, wrote}
+use Rattle.schedule_lines.proofs.LinesFrom.{lines_from, lines_next, lines_none}
 use Rattle.schedule_world.proofs.world.World.show_flight.Goals as goal
 
 pub loop-i-preserved : goal.loop-i-preserved

@@ -1,6 +1,6 @@
 use Rattle.schedule_world.specs.Commands.{flight_shown}
-use Rattle.schedule_world.proofs.Printing.{IsUnderWay}
-use Rattle.schedule_world.proofs.Turns.{lines_from}
+use Rattle.schedule_lines.proofs.Printing.{IsUnderWay}
+use Rattle.schedule_lines.proofs.LinesFrom.{lines_from}
 use Rattle.schedule_world.proofs.world.World.show_flight.Given as goal
 
 -- the packets from this one on are yet to be shown

@@ -1,6 +1,6 @@
 use Rattle.std.proofs.Common.{Some, refl}
 use Rattle.sm_manager.specs.Packets.{after_packet}
-use Rattle.schedule_world.specs.World.{quiet}
+use Rattle.schedule_lines.specs.Outcome.{quiet}
 use Rattle.schedule_world.proofs.Seats.{but_for_memory, quiet_does, refused_does}
 use Rattle.schedule_world.proofs.world.World.take_in.Goals as goal
 

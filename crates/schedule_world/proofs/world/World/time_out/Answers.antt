@@ -1,8 +1,9 @@
 use Rattle.std.proofs.Common.{◌∙◌, ◌+◌, ◌<◌, drop, get_or, refl, sym, ap, subst}
 use Rattle.std.proofs.lemmas.Result.{err_from_is_err_and}
 use Rattle.schedule_world.specs.Commands.{after_give_up, after_giving_up}
-use Rattle.schedule_world.specs.World.{Outcome, WorldValue, after_send, value_of}
-use Rattle.schedule_world.proofs.Printing.{IsUnderWay, begins, failed_with, goes_on, prints_same, stops_before, then_leaves, then_prints}
+use Rattle.schedule_lines.specs.Outcome.{Outcome}
+use Rattle.schedule_world.specs.World.{WorldValue, after_send, value_of}
+use Rattle.schedule_lines.proofs.Printing.{IsUnderWay, begins, failed_with, goes_on, prints_same, stops_before, then_leaves, then_prints}
 use Rattle.schedule_world.proofs.Seats.{leaves_same, timed_out}
 use Rattle.schedule_world.proofs.Turns.{given_next, given_none}
 use Rattle.schedule_world.proofs.world.World.time_out.Goals as goal

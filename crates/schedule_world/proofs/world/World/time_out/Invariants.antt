@@ -1,7 +1,7 @@
 use Rattle.std.proofs.Common.{◌≡◌, drop, length}
 use Rattle.schedule_world.specs.Commands.{after_giving_up}
 use Rattle.schedule_world.specs.World.{value_of}
-use Rattle.schedule_world.proofs.Printing.{IsUnderWay}
+use Rattle.schedule_lines.proofs.Printing.{IsUnderWay}
 use Rattle.schedule_world.proofs.world.World.time_out.Given as goal
 
 -- the managers are still there, and the requests that are left are yet to be given up

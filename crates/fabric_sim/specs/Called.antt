@@ -1,0 +1,20 @@
+-- What a call of a simulated fabric comes to.
+use Rattle.std.specs.Prelude.{◌≡◌, Result, Ok, Err, IsOk}
+use Rattle.fabric_sim.specs.declared.fault.FabricFault.{FabricFault}
+use Rattle.fabric_sim.specs.declared.fault.FabricFault.TheVariants.{Memory}
+use Rattle.fabric_sim.specs.Simulation.{Simulation}
+
+-- the fabric afterwards, and the call's result
+pub record Called (R : Type 0) : Type 0 where
+  pub fabric : Simulation
+  pub result : Result R FabricFault
+
+-- a call has come to this, but for lack of memory: that is answered only where it is not refused, and leaves everything
+-- as it is
+abbrev pub ComesTo : {R : Type 0} → Result R FabricFault → Simulation → Simulation → Called R → Type 0
+ComesTo (Err Memory) old new called = (new ≡ old) × IsOk called.result
+ComesTo result old new called = (new ≡ called.fabric) × (result ≡ called.result)
+
+-- a refusal leaves everything as it is
+abbrev pub refused : {R : Type 0} → Simulation → FabricFault → Called R
+refused s fault = record { fabric = s; result = Err fault }

@@ -1,0 +1,44 @@
+use byte_io::WriteFault;
+use std::alloc::{AllocError, AllocFailed};
+
+/// Why a run ends before its schedule does.
+#[derive(Clone, Copy, Debug, PartialEq, Eq)]
+pub enum RunFault {
+    /// The output took no more.
+    Write,
+    /// Memory was refused.
+    Memory,
+}
+
+impl From<WriteFault> for RunFault {
+    ghost use Rattle.std.specs.Prelude.{◌≡◌};
+    ghost use Rattle.schedule_lines.specs.declared.run_fault.RunFault.TheVariants.{Write};
+
+    ghost from_gives = { λ e fault. fault ≡ Write };
+
+    fn from(_: WriteFault) -> Self {
+        RunFault::Write
+    }
+}
+
+impl From<AllocError> for RunFault {
+    ghost use Rattle.std.specs.Prelude.{◌≡◌};
+    ghost use Rattle.schedule_lines.specs.declared.run_fault.RunFault.TheVariants.{Memory};
+
+    ghost from_gives = { λ e fault. fault ≡ Memory };
+
+    fn from(_: AllocError) -> Self {
+        RunFault::Memory
+    }
+}
+
+impl<T: Drop> From<AllocFailed<T>> for RunFault {
+    ghost use Rattle.std.specs.Prelude.{◌≡◌};
+    ghost use Rattle.schedule_lines.specs.declared.run_fault.RunFault.TheVariants.{Memory};
+
+    ghost from_gives = { λ e fault. fault ≡ Memory };
+
+    fn from(_: AllocFailed<T>) -> Self {
+        RunFault::Memory
+    }
+}

@@ -1,0 +1,131 @@
+//! What the agents of a fabric hold, in the form of a plan.
+ghost use Rattle.std.specs.Prelude.{◌≡◌, ◌++◌, ◌<◌, map, IfOk, OnOk};
+ghost use Rattle.schedule_lines.specs.Prints.{PrintsUnless};
+ghost use Rattle.std.specs.List.{flat_map};
+ghost use Rattle.schedule_lines.specs.Tables.{all_held, block_at, blocks_text, held_by, held_line};
+ghost use Rattle.schedule_lines.specs.Tables.{switches, table_text, tables_text};
+
+use crate::run_fault::RunFault;
+use attr_codec::Lmc;
+use byte_io::Sink;
+use fabric_model::NodeId;
+use fabric_sim::Fabric;
+use lft_blocks::{write_block, write_lid, write_switch};
+use node_agents::Agent;
+use smp_bytes::{Guid, Lid, PortNum};
+use std::alloc::{AllocError, Global};
+use subnet_view::EndPort;
+
+/// Prints the LIDs that the ports of a fabric hold, and then the forwarding tables of all its switches.
+pub fn show_tables<W: Sink>(alloc: Global, fabric: &Fabric, sink: &mut W) -> Result<(), RunFault>
+    ensures prints { PrintsUnless W.written W.has_failed result sink.old sink.new
+        (tables_text fabric.now) }
+{
+    let lids = held_lids(alloc, fabric)?;
+    write_held(sink, &lids)?;
+    let switches = switches(alloc, fabric)?;
+    write_tables(sink, &switches)
+}
+
+/// A LID, with the GUID of the node and the number of the port that hold it, and its LMC.
+type AgentLid = (Lid, Guid, PortNum, Lmc);
+
+/// Prints LIDs, with the GUIDs of the nodes and the numbers of the ports that hold them.
+fn write_held<W: Sink>(sink: &mut W, lids: &[AgentLid]) -> Result<(), RunFault>
+    ensures prints { PrintsUnless W.written W.has_failed result sink.old sink.new
+        (flat_map held_line lids.now) }
+{
+    for (lid, node, port, lmc) in lids {
+        let port = EndPort {
+            node: *node,
+            port: *port,
+        };
+        write_lid(sink, *lid, *lmc, port)?;
+    }
+    Ok(())
+}
+
+/// The LIDs that ports hold, with the GUIDs of their nodes and their numbers, in this order.
+fn held_lids(alloc: Global, fabric: &Fabric) -> Result<Vec<AgentLid>, AllocError>
+    ensures { IfOk result (λ held. held.items ≡ all_held fabric.now.agents) }
+{
+    let mut held = Vec::new(alloc);
+    for number in 0..fabric.node_count() {
+        hold_lids(&mut held, fabric.agent(NodeId::new(number)).unwrap())?;
+    }
+    held.sort_by_key(|held| (held.0, held.1, held.2))?;
+    Ok(held)
+}
+
+/// And those of a node.
+fn hold_lids(held: &mut Vec<AgentLid>, agent: &Agent) -> Result<(), AllocError>
+    ensures { OnOk result (held.new.items ≡ held.old.items ++ held_by agent.now) }
+{
+    for port in 0..=agent.ports() {
+        let port = PortNum::new(port);
+        let lid = agent.base_lid(port);
+        if lid.number() != 0 {
+            let lmc = agent.lmc(port);
+            held.push((lid, agent.guid(), port, lmc))?;
+        }
+    }
+    Ok(())
+}
+
+/// The agents of the switches by their GUIDs, and then by their numbers.
+fn switches<'f>(alloc: Global, fabric: &'f Fabric) -> Result<Vec<&'f Agent>, AllocError>
+    ensures { IfOk result (λ found. map (λ agent. agent.now) found.items ≡ switches fabric.now.agents) }
+{
+    let mut switches = Vec::new(alloc);
+    for number in 0..fabric.node_count() {
+        let agent = fabric.agent(NodeId::new(number)).unwrap();
+        if agent.is_switch() {
+            switches.push(agent)?;
+        }
+    }
+    switches.sort_by_key(|agent| agent.guid())?;
+    Ok(switches)
+}
+
+/// Prints switches.
+fn write_tables<W: Sink>(sink: &mut W, switches: &[&Agent]) -> Result<(), RunFault>
+    ensures prints { PrintsUnless W.written W.has_failed result sink.old sink.new
+        (flat_map (λ agent. table_text agent.now) switches.now) }
+{
+    for switch in switches {
+        write_table(sink, switch)?;
+    }
+    Ok(())
+}
+
+/// Prints a switch's GUID and the top of its table, and the blocks up to the top's.
+fn write_table<W: Sink>(sink: &mut W, agent: &Agent) -> Result<(), RunFault>
+    ensures prints { PrintsUnless W.written W.has_failed result sink.old sink.new
+        (table_text agent.now) }
+{
+    write_switch(sink, agent.top(), agent.guid())?;
+    write_blocks(sink, agent)
+}
+
+/// Prints the blocks of a switch, up to its top's.
+fn write_blocks<W: Sink>(sink: &mut W, agent: &Agent) -> Result<(), RunFault>
+    ensures prints { PrintsUnless W.written W.has_failed result sink.old sink.new
+        (blocks_text agent.now) }
+{
+    for b in 0..usize::from(agent.top().block()) + 1 {
+        write_block(sink, b, &block(agent, b))?;
+    }
+    Ok(())
+}
+
+/// A block of a switch.
+fn block(agent: &Agent, b: usize) -> [u8; 64]
+    requires { b < 1024 }
+    ensures { result ≡ block_at agent.now b }
+{
+    let mut block = [0; 64];
+    for i in 0..64 {
+        block[i] = agent.entry(Lid::new((64 * b + i) as u16)).number();
+    }
+    block
+}
