@@ -17,6 +17,7 @@ pub mod laws;
 mod packet;
 mod peers;
 mod ping;
+mod seats;
 
 pub use delivered::{Delivered, Reason};
 pub use fabric::Fabric;
@@ -24,7 +25,3 @@ pub use fault::FabricFault;
 pub use flight::{Flight, Whereabouts};
 pub use packet::Packet;
 pub use ping::Ping;
-
-mod seats;
-#[cfg(test)]
-mod tests;

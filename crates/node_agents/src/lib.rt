@@ -15,6 +15,3 @@ mod switch_info;
 
 pub use agent::Agent;
 pub use agent_node::AgentNode;
-
-#[cfg(test)]
-mod tests;

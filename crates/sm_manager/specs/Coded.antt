@@ -10,7 +10,7 @@ use Rattle.sm_manager.specs.contracts.outgoing.Outgoing as outgoing
 use Rattle.sm_manager.specs.declared.pending.Pending.{Pending}
 use Rattle.sm_manager.specs.contracts.pending.Pending as pending
 use Rattle.sm_state.specs.declared.election.SeenManager.{SeenManager}
-use Rattle.sm_state.specs.contracts.seen.SeenManager as seen
+use Rattle.sm_state.specs.contracts.election.SeenManager as seen
 use Rattle.sm_state.specs.declared.standing.Standing.{Standing}
 use Rattle.sm_state.specs.contracts.standing.Standing as standing
 use Rattle.plan_steps.specs.Phases.{Phase}

@@ -1,6 +1,6 @@
 //! Requests there and their answers back, each refusal, each reason to discard a packet, and pings.
-use super::*;
 use fabric_model::{NodeId, NodePort};
+use fabric_sim::{Delivered, Fabric, FabricFault, Packet, Ping, Reason};
 use smp_bytes::{AttributeId, Lid, Method, Path, PortNum, Smp};
 use std::alloc::Global;
 use std::process::Abort;

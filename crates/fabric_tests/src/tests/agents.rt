@@ -1,7 +1,7 @@
 //! The agents of the sample fabric's switch S2 and adapter H1: each status, each attribute byte for byte, and port
 //! states.
-use super::*;
 use attr_codec::{Attribute, NodeDescription, PortState};
+use node_agents::{Agent, AgentNode};
 use smp_bytes::{AttributeId, Guid, Lid, Method, NodeType, Path, PortNum, Smp, Status};
 use std::alloc::{AllocError, Global};
 use std::test::Fail;
