@@ -34,7 +34,7 @@ fn at(node: usize, port: u8) -> NodePort {
     }
 }
 
-/// A directed request over at most three ports, 0 for none.
+/// A directed request over at most three ports; behind the last are zeros.
 fn directed(
     method: Method,
     attribute: AttributeId,
@@ -51,12 +51,8 @@ fn directed(
         data,
     );
     let mut bytes = *smp.bytes();
-    for (i, port) in ports.into_iter().enumerate() {
-        bytes[129 + i] = port;
-        if port != 0 {
-            bytes[7] = i as u8 + 1;
-        }
-    }
+    bytes[129..132].copy_from_slice(&ports);
+    bytes[7] = u8::from(ports[0] != 0) + u8::from(ports[1] != 0) + u8::from(ports[2] != 0);
     Packet {
         bytes,
         slid: Lid::new(0xFFFF),
@@ -100,9 +96,8 @@ fn carried(fabric: &mut Fabric, mut serial: u64) -> (&'static str, u64) {
     last
 }
 
-#[test]
-fn a_request_comes_and_its_answer_goes_home(rt: HostRuntime) -> Result<(), Fail> {
-    let mut fabric = ring(rt.alloc(), 7)?;
+/// A request to the first switch is delivered until its answer is at the manager.
+fn check_round_trip(rt: &impl Abort, fabric: &mut Fabric) -> Result<(), Fail> {
     let serial = fabric.inject(at(3, 1), get_node_info([1, 0, 0]))?;
     // The serial number that is delivered, what that does; then the first bytes, the path's first port, the port
     // noted for the way back, and the local port of the node information, of the packet that waits.
@@ -132,6 +127,12 @@ fn a_request_comes_and_its_answer_goes_home(rt: HostRuntime) -> Result<(), Fail>
     Ok(())
 }
 
+#[test]
+fn a_request_comes_and_its_answer_goes_home(rt: HostRuntime) -> Result<(), Fail> {
+    let mut fabric = ring(rt.alloc(), 7)?;
+    check_round_trip(&rt, &mut fabric)
+}
+
 /// What becomes of a packet that is sent from the first adapter.
 fn fate_of(alloc: Global, packet: Packet) -> Result<(&'static str, u64), Fail> {
     let mut fabric = ring(alloc, 0)?;
@@ -140,11 +141,9 @@ fn fate_of(alloc: Global, packet: Packet) -> Result<(&'static str, u64), Fail> {
 }
 
 /// A request for NodeInfo over no hop, with another byte at an offset.
-fn turned(offset: usize, byte: u8) -> Packet {
+fn turned(offset: u8, byte: u8) -> Packet {
     let mut packet = get_node_info([0; 3]);
-    if let Some(turned) = packet.bytes.get_mut(offset) {
-        *turned = byte;
-    }
+    packet.bytes[usize::from(offset)] = byte;
     packet
 }
 
@@ -229,19 +228,24 @@ fn port_refusals(fabric: &mut Fabric) -> [(Option<FabricFault>, FabricFault); 11
     ]
 }
 
-#[test]
-fn each_refusal(rt: HostRuntime) -> Result<(), Fail> {
-    let mut fabric = ring(rt.alloc(), u64::MAX)?;
+/// Refusals of packets, and then of ports.
+fn check_refusals(rt: &impl Abort, fabric: &mut Fabric) -> Result<(), Fail> {
     let last = fabric.inject(at(3, 1), get_node_info([0; 3]))?;
-    for (refused, wanted) in packet_refusals(&mut fabric, last) {
+    for (refused, wanted) in packet_refusals(fabric, last) {
         assert!(rt; refused == Some(wanted), "{refused:?} {wanted:?}");
     }
-    for (refused, wanted) in port_refusals(&mut fabric) {
+    for (refused, wanted) in port_refusals(fabric) {
         assert!(rt; refused == Some(wanted), "{refused:?} {wanted:?}");
     }
     let is_taken = fabric.ping(at(0, 0), Lid::new(1)).is_ok() && fabric.lose(last).is_ok();
     assert!(rt; is_taken);
     Ok(())
+}
+
+#[test]
+fn each_refusal(rt: HostRuntime) -> Result<(), Fail> {
+    let mut fabric = ring(rt.alloc(), u64::MAX)?;
+    check_refusals(&rt, &mut fabric)
 }
 
 /// Where a ping comes to: the node, the port, and how many wires, or 99 for a node where it is lost.
@@ -331,15 +335,20 @@ fn check_routed(rt: &impl Abort, fabric: &mut Fabric) -> Result<(), Fail> {
     Ok(())
 }
 
+/// Pings, Sets and a request by LIDs.
+fn check_tables(rt: &impl Abort, fabric: &mut Fabric) -> Result<(), Fail> {
+    let fresh = pinged(fabric, 5);
+    assert!(rt; fresh == (1, 0, 99), "{fresh:?}");
+    check_sets(rt, fabric)?;
+    let own = pinged(fabric, 4);
+    assert!(rt; own == (3, 1, 0), "{own:?}");
+    check_routed(rt, fabric)
+}
+
 #[test]
 fn packets_that_tables_route(rt: HostRuntime) -> Result<(), Fail> {
     let mut fabric = ring(rt.alloc(), 0)?;
-    let fresh = pinged(&fabric, 5);
-    assert!(rt; fresh == (1, 0, 99), "{fresh:?}");
-    check_sets(&rt, &mut fabric)?;
-    let own = pinged(&fabric, 4);
-    assert!(rt; own == (3, 1, 0), "{own:?}");
-    check_routed(&rt, &mut fabric)
+    check_tables(&rt, &mut fabric)
 }
 
 /// A request for NodeInfo of the first switch is repeated twice, and the first copy is lost.
@@ -370,14 +379,19 @@ fn check_cut(rt: &impl Abort, fabric: &mut Fabric) -> Result<(), Fail> {
     Ok(())
 }
 
-#[test]
-fn copies_losses_and_cables(rt: HostRuntime) -> Result<(), Fail> {
-    let mut fabric = ring(rt.alloc(), 0)?;
-    check_copies(&rt, &mut fabric)?;
-    check_cut(&rt, &mut fabric)?;
+/// Copies, a cut, and a cable from a port to itself.
+fn check_cables(rt: &impl Abort, fabric: &mut Fabric) -> Result<(), Fail> {
+    check_copies(rt, fabric)?;
+    check_cut(rt, fabric)?;
     fabric.plug(at(1, 3), at(1, 3))?;
     let across = (fabric.across(&at(1, 3)), fabric.across(&at(3, 1)));
     let is_seat = fabric.is_seat(&at(3, 1));
     assert!(rt; is_seat && across == (Some(at(1, 3)), None));
     Ok(())
+}
+
+#[test]
+fn copies_losses_and_cables(rt: HostRuntime) -> Result<(), Fail> {
+    let mut fabric = ring(rt.alloc(), 0)?;
+    check_cables(&rt, &mut fabric)
 }
