@@ -1,1 +1,3 @@
+pub mod Commands
 pub mod FoundWords
+pub mod Reading

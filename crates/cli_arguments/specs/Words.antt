@@ -13,11 +13,13 @@ values_in name rows = option_map (λ r. r.values) (find (λ r. bytes_eq r.id nam
 abbrev pub files_named : ArgMatches → Option (List (List ℕ))
 files_named matches = option_and_then (λ s. values_in (codes "FILE") s.1) (subcommand_rows_of matches)
 
--- the word that is the argument with this name behind the subcommand
+-- the word that is the argument with this name behind a subcommand
+abbrev pub word_behind : Option (List ℕ × List Row) → List ℕ → Option (List ℕ)
+word_behind subcommand name =
+    option_and_then (λ s. option_and_then (λ values. slice_get values 0) (values_in name s.1)) subcommand
+
 abbrev pub word_named : ArgMatches → List ℕ → Option (List ℕ)
-word_named matches name =
-    option_and_then (λ s. option_and_then (λ values. slice_get values 0) (values_in name s.1))
-    (subcommand_rows_of matches)
+word_named matches = word_behind (subcommand_rows_of matches)
 
 -- roots are named, and another rule than the one that takes them, or none
 abbrev pub roots_lack_rule : Option (List ℕ) → Bool → Bool

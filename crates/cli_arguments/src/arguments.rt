@@ -1,6 +1,13 @@
 //! The command line.
-ghost use Rattle.std.specs.Prelude.{◌≡◌, IfOk, codes, false, is_some};
+ghost use Rattle.std.specs.Prelude.{◌≡◌, ◌∷◌, ◌++◌, [], IfOk, codes, false, is_some, map};
 ghost use Rattle.clap.specs.Matches.{first_value, found_of};
+ghost use Rattle.clap.specs.Simple.{App, Shape, with_subcommand};
+ghost use Rattle.clap.specs.Values.{kind_of};
+ghost use Rattle.clap.specs.Walk.{rule_of};
+ghost use Rattle.cli_arguments.specs.CommandLine.{AddsRules, AreRoutings, IsApp, IsOf, IsReadAs};
+ghost use Rattle.cli_arguments.specs.CommandLine.{audit_shape, facts_shape, join_shape, next_shape, plan_shape};
+ghost use Rattle.cli_arguments.specs.CommandLine.{command_line, of_files, of_planning, program_app, run_shape};
+ghost use Rattle.cli_arguments.specs.CommandLine.{files_rule, floor_rule, lmc_rule, option_rule, routing_rule, text_rule};
 ghost use Rattle.cli_arguments.specs.Words.{has_conflict, word_named};
 
 use crate::argument_names::{
@@ -46,15 +53,18 @@ const RUN_END: &str = "Exit status:\n  0  done\n  2  the command line is wrong\n
      3  a file is refused\n  4  a file cannot be opened or read, or the output takes no more\n  \
      5  out of memory\n\nExample:\n  ibsm run triangle.topology bring_up.schedule";
 
-/// What the words of a command line are, the program's name first, or what is wrong with them; an outer `Err` says that
-/// memory ran out.
+/// What the words of a command line are, the program's name first, or what is wrong with them: a fault by `command_line`,
+/// or options that contradict each other, or that memory ran out as they were read. So says an outer `Err` too.
 pub fn matches_of<'a>(
     alloc: Global,
     words: &'a [String],
 ) -> Result<Result<ArgMatches<'a>, Error>, AllocError>
-    ensures { IfOk result (λ parsed. IfOk parsed (λ matches. has_conflict (word_named matches) ≡ false)) }
+    ensures read { IfOk result (λ parsed. (routings : _) × AreRoutings routings
+        × IsReadAs (command_line routings) (map (λ word. word.bytes.items) words.now) parsed) }
+    ensures apart { IfOk result (λ parsed. IfOk parsed (λ matches. has_conflict (word_named matches) ≡ false)) }
 {
-    let matches = match command_line(alloc)?.try_get_matches_from(words) {
+    let command = command_line(alloc, RULES.as_slice())?;
+    let matches = match command.try_get_matches_from(words) {
         Ok(matches) => matches,
         Err(error) => return Ok(Err(error)),
     };
@@ -65,41 +75,52 @@ pub fn matches_of<'a>(
     Ok(Ok(matches))
 }
 
-/// The subcommands and their arguments.
-fn command_line<'a>(alloc: Global) -> Result<Command<'a>, AllocError> {
+/// The subcommands and their arguments, with these words for rules of routing.
+fn command_line<'a>(alloc: Global, routings: &'a [&'a str]) -> Result<Command<'a>, AllocError>
+    ensures { IfOk result (IsApp (command_line routings.entry)) }
+{
     let command = with(Ok(program(alloc)), facts(alloc));
     let command = with(command, join(alloc));
-    let command = with(command, plan(alloc));
+    let command = with(command, plan(alloc, routings));
     let command = with(command, audit(alloc));
-    let command = with(command, next(alloc));
-    with(command, run(alloc))
+    let command = with(command, next(alloc, routings));
+    with(command, run(alloc, routings))
 }
 
 /// A command with another subcommand.
 fn with<'a>(
     command: Result<Command<'a>, AllocError>,
     subcommand: Result<Command<'a>, AllocError>,
-) -> Result<Command<'a>, AllocError> {
+) -> Result<Command<'a>, AllocError>
+    ensures { (app : App) (shape : Shape) → IfOk command.entry (IsApp app) → IfOk subcommand.entry (IsOf shape)
+        → IfOk result (IsApp (with_subcommand app shape)) }
+{
     let subcommand = subcommand?;
     command?.subcommand(subcommand)
 }
 
 /// The program, which does nothing without a subcommand.
-fn program<'a>(alloc: Global) -> Command<'a> {
+fn program<'a>(alloc: Global) -> Command<'a>
+    ensures { IsApp program_app result }
+{
     Command::new(alloc, "ibsm")
         .about("InfiniBand subnet managers")
         .version(VERSION)
         .subcommand_required(true)
 }
 
-fn facts<'a>(alloc: Global) -> Result<Command<'a>, AllocError> {
+fn facts<'a>(alloc: Global) -> Result<Command<'a>, AllocError>
+    ensures { IfOk result (IsOf facts_shape) }
+{
     let command = Command::new(alloc, FACTS)
         .about("Prints the facts that all the files tell together")
         .after_help(FACTS_END);
     of_files(alloc, command)
 }
 
-fn join<'a>(alloc: Global) -> Result<Command<'a>, AllocError> {
+fn join<'a>(alloc: Global) -> Result<Command<'a>, AllocError>
+    ensures { IfOk result (IsOf join_shape) }
+{
     let command = Command::new(alloc, JOIN)
         .about(
             "Writes the facts that all the files tell together to standard output, as a store file",
@@ -108,16 +129,20 @@ fn join<'a>(alloc: Global) -> Result<Command<'a>, AllocError> {
     of_files(alloc, command)
 }
 
-fn plan<'a>(alloc: Global) -> Result<Command<'a>, AllocError> {
+fn plan<'a>(alloc: Global, routings: &'a [&'a str]) -> Result<Command<'a>, AllocError>
+    ensures { IfOk result (IsOf (plan_shape routings.entry)) }
+{
     let command = Command::new(alloc, PLAN)
         .about(
             "Prints the LIDs and the forwarding blocks that follow from the facts of all the files",
         )
         .after_help(PLAN_END);
-    with_planning(alloc, of_files(alloc, command)?)
+    with_planning(alloc, routings, of_files(alloc, command)?)
 }
 
-fn audit<'a>(alloc: Global) -> Result<Command<'a>, AllocError> {
+fn audit<'a>(alloc: Global) -> Result<Command<'a>, AllocError>
+    ensures { IfOk result (IsOf audit_shape) }
+{
     let command = Command::new(alloc, AUDIT)
         .about(
             "Prints how packets fare by the tables that switches hold, in the subnet of the facts of all the \
@@ -127,17 +152,21 @@ fn audit<'a>(alloc: Global) -> Result<Command<'a>, AllocError> {
     of_tables(alloc, command)
 }
 
-fn next<'a>(alloc: Global) -> Result<Command<'a>, AllocError> {
+fn next<'a>(alloc: Global, routings: &'a [&'a str]) -> Result<Command<'a>, AllocError>
+    ensures { IfOk result (IsOf (next_shape routings.entry)) }
+{
     let command = Command::new(alloc, NEXT)
         .about(
             "Prints the tables to write next, from those that switches hold towards the plan of the facts of \
              all the files, so that no packet for a LID that stays is lost meanwhile",
         )
         .after_help(NEXT_END);
-    with_planning(alloc, of_tables(alloc, command)?)
+    with_planning(alloc, routings, of_tables(alloc, command)?)
 }
 
-fn run<'a>(alloc: Global) -> Result<Command<'a>, AllocError> {
+fn run<'a>(alloc: Global, routings: &'a [&'a str]) -> Result<Command<'a>, AllocError>
+    ensures { IfOk result (IsOf (run_shape routings.entry)) }
+{
     let command = Command::new(alloc, RUN)
         .about(
             "Runs a schedule in the simulated fabric of a topology, and prints what its commands print",
@@ -153,16 +182,20 @@ fn run<'a>(alloc: Global) -> Result<Command<'a>, AllocError> {
             SCHEDULE,
             "The managers and the commands that are run",
         ))?;
-    with_planning(alloc, command)
+    with_planning(alloc, routings, command)
 }
 
 /// A subcommand of files, from a floor on.
-fn of_files<'a>(alloc: Global, command: Command<'a>) -> Result<Command<'a>, AllocError> {
+fn of_files<'a>(alloc: Global, command: Command<'a>) -> Result<Command<'a>, AllocError>
+    ensures { IfOk result (AddsRules of_files command.entry) }
+{
     command.arg(files(alloc))?.arg(floor(alloc))
 }
 
 /// A subcommand of tables and files.
-fn of_tables<'a>(alloc: Global, command: Command<'a>) -> Result<Command<'a>, AllocError> {
+fn of_tables<'a>(alloc: Global, command: Command<'a>) -> Result<Command<'a>, AllocError>
+    ensures { IfOk result (AddsRules (text_rule (codes "TABLES") ∷ of_files) command.entry) }
+{
     let command = command.arg(text(
         alloc,
         TABLES,
@@ -172,15 +205,24 @@ fn of_tables<'a>(alloc: Global, command: Command<'a>) -> Result<Command<'a>, All
 }
 
 /// With how plans are made: their LMC, their rule of routing and its roots.
-fn with_planning<'a>(alloc: Global, command: Command<'a>) -> Result<Command<'a>, AllocError> {
+fn with_planning<'a>(
+    alloc: Global,
+    routings: &'a [&'a str],
+    command: Command<'a>,
+) -> Result<Command<'a>, AllocError>
+    ensures { IfOk result (AddsRules (of_planning routings.entry) command.entry) }
+{
     command
         .arg(lmc(alloc))?
-        .arg(routing(alloc))?
+        .arg(routing(alloc, routings))?
         .arg(roots(alloc))
 }
 
 /// A file of its own.
-fn text<'a>(alloc: Global, name: &'a str, help: &'a str) -> Arg<'a> {
+fn text<'a>(alloc: Global, name: &'a str, help: &'a str) -> Arg<'a>
+    ensures rule { rule_of result ≡ text_rule name.now }
+    ensures own { result.global ≡ false }
+{
     Arg::new(alloc, name)
         .help(help)
         .required(true)
@@ -188,7 +230,10 @@ fn text<'a>(alloc: Global, name: &'a str, help: &'a str) -> Arg<'a> {
 }
 
 /// A generation.
-fn floor<'a>(alloc: Global) -> Arg<'a> {
+fn floor<'a>(alloc: Global) -> Arg<'a>
+    ensures rule { rule_of result ≡ floor_rule }
+    ensures own { result.global ≡ false }
+{
     Arg::new(alloc, FLOOR)
         .long(FLOOR)
         .value_name("G")
@@ -198,7 +243,10 @@ fn floor<'a>(alloc: Global) -> Arg<'a> {
 }
 
 /// An LMC.
-fn lmc<'a>(alloc: Global) -> Arg<'a> {
+fn lmc<'a>(alloc: Global) -> Arg<'a>
+    ensures rule { rule_of result ≡ lmc_rule }
+    ensures own { result.global ≡ false }
+{
     Arg::new(alloc, LMC)
         .long(LMC)
         .value_name("N")
@@ -207,8 +255,11 @@ fn lmc<'a>(alloc: Global) -> Arg<'a> {
         .action(ArgAction::Set)
 }
 
-/// A rule of routing.
-fn routing<'a>(alloc: Global) -> Arg<'a> {
+/// A rule of routing, by one of these words.
+fn routing<'a>(alloc: Global, routings: &'a [&'a str]) -> Arg<'a>
+    ensures rule { rule_of result ≡ routing_rule routings.entry }
+    ensures own { result.global ≡ false }
+{
     Arg::new(alloc, ROUTING)
         .long(ROUTING)
         .value_name("RULE")
@@ -216,12 +267,15 @@ fn routing<'a>(alloc: Global) -> Arg<'a> {
             "updown leads packets by one root of each component, and is what is taken where none is named; \
              spread leads them over all wires, so that none is much busier than others",
         )
-        .value_parser(RULES.as_slice())
+        .value_parser(routings)
         .action(ArgAction::Set)
 }
 
 /// A file of roots.
-fn roots<'a>(alloc: Global) -> Arg<'a> {
+fn roots<'a>(alloc: Global) -> Arg<'a>
+    ensures rule { rule_of result ≡ option_rule (codes "roots") }
+    ensures own { result.global ≡ false }
+{
     Arg::new(alloc, ROOTS)
         .long(ROOTS)
         .value_name("FILE")
@@ -261,7 +315,9 @@ fn has_roots(words: &ArgMatches<'_>) -> bool
 }
 
 /// What is wrong where options behind the subcommand contradict each other.
-fn conflict(alloc: Global, name: Option<&str>) -> Result<Error, AllocError> {
+fn conflict(alloc: Global, name: Option<&str>) -> Result<Error, AllocError>
+    ensures { IfOk result (λ error. kind_of error ≡ ErrorKind.ArgumentConflict) }
+{
     let mut command = subcommand(alloc, name)?;
     command.error(
         ErrorKind::ArgumentConflict,
@@ -272,14 +328,17 @@ fn conflict(alloc: Global, name: Option<&str>) -> Result<Error, AllocError> {
 /// The subcommand with a name, of those that make plans.
 fn subcommand<'a>(alloc: Global, name: Option<&str>) -> Result<Command<'a>, AllocError> {
     match name {
-        Some(NEXT) => next(alloc)?.bin_name("ibsm next"),
-        Some(RUN) => run(alloc)?.bin_name("ibsm run"),
-        _ => plan(alloc)?.bin_name("ibsm plan"),
+        Some(NEXT) => next(alloc, RULES.as_slice())?.bin_name("ibsm next"),
+        Some(RUN) => run(alloc, RULES.as_slice())?.bin_name("ibsm run"),
+        _ => plan(alloc, RULES.as_slice())?.bin_name("ibsm plan"),
     }
 }
 
 /// At least one file. They may stand on both sides of an option.
-fn files<'a>(alloc: Global) -> Arg<'a> {
+fn files<'a>(alloc: Global) -> Arg<'a>
+    ensures rule { rule_of result ≡ files_rule }
+    ensures own { result.global ≡ false }
+{
     Arg::new(alloc, FILE)
         .help("Report files and store files")
         .required(true)

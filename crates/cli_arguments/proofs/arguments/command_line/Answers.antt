@@ -1,0 +1,12 @@
+use Rattle.cli_arguments.specs.CommandLine.{audit_shape, facts_shape, join_shape, next_shape, plan_shape, program_app, run_shape}
+use Rattle.cli_arguments.proofs.arguments.command_line.Goals as goal
+
+pub returns : goal.returns
+returns c =
+    let words = c.args.routings in
+    let one = c.with-command.ensures program_app facts_shape c.program.ensures c.facts.ensures in
+    let two = c.with-command-2.ensures _ join_shape one c.join.ensures in
+    let three = c.with-command-3.ensures _ (plan_shape words) two c.plan.ensures in
+    let four = c.with-command-4.ensures _ audit_shape three c.audit.ensures in
+    let five = c.with-command-5.ensures _ (next_shape words) four c.next.ensures in
+    c.with.ensures _ (run_shape words) five c.run.ensures

@@ -1,0 +1,123 @@
+-- The command line: its subcommands and their arguments, what words are read as, and when they are refused.
+use Rattle.std.specs.Prelude.{◌≡◌, ◌⊎◌, Bool, true, false, List, [], ◌∷◌, ◌++◌, map, Some, codes, pos, Result, Ok, Err}
+use Rattle.std.specs.Borrow.{Bor}
+use Rattle.clap.specs.Lexer.{usize_max}
+use Rattle.clap.specs.Kinds.{IsAmong}
+use Rattle.clap.specs.Faults.{fault_of}
+use Rattle.clap.specs.Simple.{App, Shape, app_of, new_rule, new_shape, shape_of, subcommand_of, subcommand_rows_of}
+use Rattle.clap.specs.Values.{kind_of}
+use Rattle.clap.specs.Walk.{Rule, Text}
+use Rattle.clap.specs.declared.builder.action.ArgAction.TheVariants.{Append, Set}
+use Rattle.clap.specs.declared.builder.command.Command.{Command}
+use Rattle.clap.specs.declared.builder.command.Command.TheViews.{out-Command as fields_of}
+use Rattle.clap.specs.declared.builder.value_parser.ValueParser.TheVariants.{Names, Signed}
+use Rattle.clap.specs.declared.error.Error.{Error}
+use Rattle.clap.specs.declared.error.kind.ErrorKind.TheVariants.{ArgumentConflict, OutOfMemory}
+use Rattle.clap.specs.declared.parser.matches.ArgMatches.{ArgMatches}
+use Rattle.cli_arguments.specs.Words.{has_conflict, word_behind}
+
+-- arguments ----------------------------------------------------------------------------------------------
+
+-- a file of its own
+abbrev pub text_rule : Text → Rule
+text_rule name = record (new_rule name) { required = true; action = Some Set }
+
+-- one file or more
+abbrev pub files_rule : Rule
+files_rule = record (new_rule (codes "FILE")) {
+  required = true;
+  range = Some (record { start_inclusive = 1; end_inclusive = usize_max });
+  action = Some Append;
+}
+
+-- an option with a word behind it
+abbrev pub option_rule : Text → Rule
+option_rule name = record (new_rule name) { long = Some name; value_names = 1; action = Some Set }
+
+abbrev pub floor_rule : Rule
+floor_rule = record (option_rule (codes "floor")) { parser = Some (Signed (pos 1) (pos 4294967295)) }
+
+abbrev pub lmc_rule : Rule
+lmc_rule = record (option_rule (codes "lmc")) { parser = Some (Signed (pos 0) (pos 7)) }
+
+-- a word out of these
+abbrev pub routing_rule : Bor (List (Bor Text)) → Rule
+routing_rule words = record (option_rule (codes "routing")) { parser = Some (Names words) }
+
+-- the files of facts, from a floor on
+abbrev pub of_files : List Rule
+of_files = files_rule ∷ floor_rule ∷ []
+
+-- how plans are made
+abbrev pub of_planning : Bor (List (Bor Text)) → List Rule
+of_planning words = lmc_rule ∷ routing_rule words ∷ option_rule (codes "roots") ∷ []
+
+-- subcommands --------------------------------------------------------------------------------------------
+
+abbrev pub subcommand_shape : Text → List Rule → Shape
+subcommand_shape name rules = record (new_shape name) { rules = rules }
+
+abbrev pub facts_shape : Shape
+facts_shape = subcommand_shape (codes "facts") of_files
+
+abbrev pub join_shape : Shape
+join_shape = subcommand_shape (codes "join") of_files
+
+abbrev pub plan_shape : Bor (List (Bor Text)) → Shape
+plan_shape words = subcommand_shape (codes "plan") (of_files ++ of_planning words)
+
+abbrev pub audit_shape : Shape
+audit_shape = subcommand_shape (codes "audit") (text_rule (codes "TABLES") ∷ of_files)
+
+abbrev pub next_shape : Bor (List (Bor Text)) → Shape
+next_shape words = subcommand_shape (codes "next") (text_rule (codes "TABLES") ∷ of_files ++ of_planning words)
+
+abbrev pub run_shape : Bor (List (Bor Text)) → Shape
+run_shape words =
+    subcommand_shape (codes "run") (text_rule (codes "TOPOLOGY") ∷ text_rule (codes "SCHEDULE") ∷ of_planning words)
+
+-- the program, which does nothing without a subcommand
+abbrev pub program_app : App
+program_app =
+    record { top = record (new_shape (codes "ibsm")) { has_version = true; subcommand_required = true }; subs = [] }
+
+-- with its subcommands
+abbrev pub command_line : Bor (List (Bor Text)) → App
+command_line words = record {
+  top = record program_app.top { is_leaf = false };
+  subs = facts_shape ∷ join_shape ∷ plan_shape words ∷ audit_shape ∷ next_shape words ∷ run_shape words ∷ [];
+}
+
+-- the rules of routing by their words
+abbrev pub AreRoutings : Bor (List (Bor Text)) → Type 0
+AreRoutings words = map (λ word. word.now) words.now ≡ codes "updown" ∷ codes "spread" ∷ []
+
+-- commands -----------------------------------------------------------------------------------------------
+
+-- a command is of this shape, and no argument of it is one of subcommands too
+abbrev pub IsOf : Shape → Command → Type 0
+IsOf shape c = (shape_of c ≡ shape) × ((fields_of c).has_globals ≡ false)
+
+abbrev pub IsApp : App → Command → Type 0
+IsApp app c = (app_of c ≡ app) × ((fields_of c).has_globals ≡ false)
+
+-- and these arguments behind its own
+abbrev pub AddsRules : List Rule → Command → Command → Type 0
+AddsRules rules old new =
+    (shape_of new ≡ record (shape_of old) { rules = (shape_of old).rules ++ rules })
+    × ((fields_of new).has_globals ≡ (fields_of old).has_globals)
+
+-- words --------------------------------------------------------------------------------------------------
+
+-- options contradict each other in the subcommand that is read
+abbrev pub conflict_of : App → List Text → Bool
+conflict_of app words = has_conflict (word_behind (subcommand_of app words))
+
+-- what the words of a command line are read as, the program's name first: the subcommand with its arguments. They are
+-- refused where they have a fault, or options contradict each other; else only for lack of memory
+abbrev pub IsReadAs : App → List Text → Result ArgMatches Error → Type 0
+IsReadAs app words (Ok matches) =
+    (subcommand_rows_of matches ≡ subcommand_of app words) × (fault_of app words ≡ []) × (conflict_of app words ≡ false)
+IsReadAs app words (Err error) =
+    (kind_of error ≡ OutOfMemory) ⊎ IsAmong (kind_of error) (fault_of app words)
+    ⊎ (fault_of app words ≡ []) × (conflict_of app words ≡ true) × (kind_of error ≡ ArgumentConflict)
