@@ -1,7 +1,10 @@
 ghost use Rattle.std.specs.Prelude.{◌≡◌, ◌<◌, ◌^◌, ◌↔◌, IsTrue};
 ghost use Rattle.smp_bytes.specs.Field.{bits_in, number_in, with_bits, with_number};
 ghost use Rattle.smp_bytes.specs.Requests.{flag};
-ghost use Rattle.attr_codec.specs.PortInfo.{m_key, gid_prefix, base_lid, master_sm_lid, capability_mask, local_port_num, link_speed_supported, port_physical_state, link_down_default_state, m_key_protect_bits, lmc, port_state, is_sm_bit, number_of_state, state_of_number};
+ghost use Rattle.attr_codec.specs.PortInfo.{m_key, gid_prefix, base_lid, master_sm_lid, capability_mask};
+ghost use Rattle.attr_codec.specs.PortInfo.{local_port_num, link_speed_supported, port_physical_state};
+ghost use Rattle.attr_codec.specs.PortInfo.{link_down_default_state, m_key_protect_bits, lmc, port_state};
+ghost use Rattle.attr_codec.specs.PortInfo.{is_sm_bit, number_of_state, state_of_number};
 
 use crate::attribute::Attribute;
 use crate::bits::{bits, with_bits};

@@ -1,7 +1,10 @@
 ghost use Rattle.std.specs.Prelude.{◌≡◌, ◌<◌, ◌^◌, ◌↔◌, IsTrue};
 ghost use Rattle.smp_bytes.specs.Field.{bits_in, number_in, with_bits, with_number};
 ghost use Rattle.smp_bytes.specs.Requests.{flag};
-ghost use Rattle.attr_codec.specs.SwitchInfo.{linear_fdb_cap, random_fdb_cap, multicast_fdb_cap, linear_fdb_top, default_port, default_multicast_primary_port, default_multicast_not_primary_port, lids_per_port, partition_enforcement_cap, life_time_value, port_state_change};
+ghost use Rattle.attr_codec.specs.SwitchInfo.{linear_fdb_cap, random_fdb_cap, multicast_fdb_cap};
+ghost use Rattle.attr_codec.specs.SwitchInfo.{linear_fdb_top, default_port, default_multicast_primary_port};
+ghost use Rattle.attr_codec.specs.SwitchInfo.{default_multicast_not_primary_port, lids_per_port};
+ghost use Rattle.attr_codec.specs.SwitchInfo.{partition_enforcement_cap, life_time_value, port_state_change};
 
 use crate::attribute::Attribute;
 use crate::bits::{bits, with_bits};

@@ -1,6 +1,7 @@
 //! What becomes of packets for one LID at each switch.
 ghost use Rattle.std.specs.Prelude.{◌≡◌, IfOk, map};
-ghost use Rattle.audit.specs.NextHops.{at_port, cause_by, entry_among, first_hop, next_hop_by, next_hop_of, node_entry, over, switch_step_of};
+ghost use Rattle.audit.specs.NextHops.{at_port, cause_by, entry_among, first_hop, next_hop_by, next_hop_of};
+ghost use Rattle.audit.specs.NextHops.{node_entry, over, switch_step_of};
 ghost use Rattle.audit.specs.Edges.{edge_of, switch_by};
 ghost use Rattle.held_tables.specs.Tables.{counted, is_owner};
 

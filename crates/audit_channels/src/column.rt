@@ -1,5 +1,6 @@
 //! The channels that packets for one LID take in turn.
-ghost use Rattle.std.specs.Prelude.{◌≡◌, ◌<◌, ◌+◌, ◌*◌, ◌^◌, ◌↔◌, IsTrue, MatchOption, None, OnOk, length, slice_index_or};
+ghost use Rattle.std.specs.Prelude.{◌≡◌, ◌<◌, ◌+◌, ◌*◌, ◌^◌, ◌↔◌, IsTrue, MatchOption, None, OnOk, length};
+ghost use Rattle.std.specs.Prelude.{slice_index_or};
 ghost use Rattle.audit_channels.specs.Columns.{IsTurn, IsWithAcross, IsWithColumn, TakesNone, number_of};
 
 use crate::waits::Waits;

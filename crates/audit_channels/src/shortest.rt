@@ -1,8 +1,10 @@
 //! Of cycles of channels a shortest one, by a search in breadth from each channel without a number.
-ghost use Rattle.std.specs.Prelude.{◌≡◌, ◌<◌, ◌≤◌, ◌+◌, ◌^◌, ℕ, true, None, IfOk, IfSome, OnOk, length, slice_index_or};
+ghost use Rattle.std.specs.Prelude.{◌≡◌, ◌<◌, ◌≤◌, ◌+◌, ◌^◌, ℕ, true, None, IfOk, IfSome, OnOk, length};
+ghost use Rattle.std.specs.Prelude.{slice_index_or};
 ghost use Rattle.audit_channels.specs.Numbers.{has_none, AreGiven};
 ghost use Rattle.audit_channels.specs.Orders.{Follows, IsCycle, NoneShorter};
-ghost use Rattle.audit_channels.specs.Searches.{at_index, HasReached, IsStep, AreWays, IsSearch, Grows, IsLeast, NoneBelow};
+ghost use Rattle.audit_channels.specs.Searches.{at_index, HasReached, IsStep, AreWays, IsSearch, Grows};
+ghost use Rattle.audit_channels.specs.Searches.{IsLeast, NoneBelow};
 
 use crate::cycle::follows;
 use crate::numbers::has_none;

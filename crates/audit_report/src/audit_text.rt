@@ -6,11 +6,14 @@ ghost use Rattle.subnet_view.specs.Reading.{switches};
 ghost use Rattle.byte_io.specs.Writes.{Writes};
 ghost use Rattle.lft_blocks.specs.WritesPart.{WritesPart};
 ghost use Rattle.audit_report.specs.AuditText.{audit_text, channel_text, channels_text, cycle_line, disputed_line};
-ghost use Rattle.audit_report.specs.AuditText.{cause_text, causes_text, count_text, counts_line, listed_text, missed_line};
+ghost use Rattle.audit_report.specs.AuditText.{cause_text, causes_text, count_text, counts_line, listed_text};
+ghost use Rattle.audit_report.specs.AuditText.{missed_line};
 ghost use Rattle.audit_report.specs.AuditText.{more_line, others_text, pairs_text, tally_text};
 ghost use Rattle.audit_report.specs.AuditText.{figures_line, figures_text, hundredths_text, ways_text};
-ghost use Rattle.audit_report.specs.AuditText.{end_text, entry_text, lid_line, packet_line, packets_text, port_line, kind_text};
-ghost use Rattle.audit_report.specs.AuditText.{lost_text, missed_text, sent_text, switch_line, taken_text, unmatched_text};
+ghost use Rattle.audit_report.specs.AuditText.{end_text, entry_text, lid_line, packet_line, packets_text};
+ghost use Rattle.audit_report.specs.AuditText.{port_line, kind_text};
+ghost use Rattle.audit_report.specs.AuditText.{lost_text, missed_text, sent_text, switch_line, taken_text};
+ghost use Rattle.audit_report.specs.AuditText.{unmatched_text};
 
 use crate::report::Audit;
 use audit::{Cause, End, Network};

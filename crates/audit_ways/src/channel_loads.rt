@@ -1,5 +1,6 @@
 //! The channels that packets take from a switch on.
-ghost use Rattle.std.specs.Prelude.{◌≡◌, ◌<◌, ◌+◌, ◌*◌, ◌^◌, None, IfOk, OnOk, length, slice_index, slice_index_or, slice_set};
+ghost use Rattle.std.specs.Prelude.{◌≡◌, ◌<◌, ◌+◌, ◌*◌, ◌^◌, None, IfOk, OnOk, length, slice_index};
+ghost use Rattle.std.specs.Prelude.{slice_index_or, slice_set};
 ghost use Rattle.audit_channels.specs.Columns.{number_of};
 ghost use Rattle.audit_ways.specs.WayTally.{IsLoadedWith};
 ghost use Rattle.audit_ways.specs.Ways.{channels_from};

@@ -7,7 +7,8 @@ ghost use Rattle.clap.specs.Walk.{rule_of};
 ghost use Rattle.cli_arguments.specs.CommandLine.{AddsRules, AreRoutings, IsApp, IsOf, IsReadAs};
 ghost use Rattle.cli_arguments.specs.CommandLine.{audit_shape, facts_shape, join_shape, next_shape, plan_shape};
 ghost use Rattle.cli_arguments.specs.CommandLine.{command_line, of_files, of_planning, program_app, run_shape};
-ghost use Rattle.cli_arguments.specs.CommandLine.{files_rule, floor_rule, lmc_rule, option_rule, routing_rule, text_rule};
+ghost use Rattle.cli_arguments.specs.CommandLine.{files_rule, floor_rule, lmc_rule, option_rule, routing_rule};
+ghost use Rattle.cli_arguments.specs.CommandLine.{text_rule};
 ghost use Rattle.cli_arguments.specs.Words.{has_conflict, word_named};
 
 use crate::argument_names::{
@@ -53,8 +54,9 @@ const RUN_END: &str = "Exit status:\n  0  done\n  2  the command line is wrong\n
      3  a file is refused\n  4  a file cannot be opened or read, or the output takes no more\n  \
      5  out of memory\n\nExample:\n  ibsm run triangle.topology bring_up.schedule";
 
-/// What the words of a command line are, the program's name first, or what is wrong with them: a fault by `command_line`,
-/// or options that contradict each other, or that memory ran out as they were read. So says an outer `Err` too.
+/// What the words of a command line are, the program's name first, or what is wrong with them: a fault by
+/// `command_line`, options that contradict each other, or that memory ran out as they were read. So says an outer `Err`
+/// too.
 pub fn matches_of<'a>(
     alloc: Global,
     words: &'a [String],

@@ -1,7 +1,8 @@
 //! The laws of views and merges: what a store holds depends on nothing but which sightings were put
 //! in and which floor is the greatest that was raised, in whatever order, however often, and through whatever stores.
 ghost use Rattle.fact_store.specs.View.{ViewLaw, ViewIsUnique, MembersDecideView, ViewOfItsCells, RaisingForgets};
-ghost use Rattle.fact_store.specs.Merge.{MergeLaw, MergeIsUnique, ViewOfBoth, MergeIsCommutative, MergeIsAssociative, MergeIsIdempotent, GroupingIsFree, MergingInTurn};
+ghost use Rattle.fact_store.specs.Merge.{MergeLaw, MergeIsUnique, ViewOfBoth, MergeIsCommutative};
+ghost use Rattle.fact_store.specs.Merge.{MergeIsAssociative, MergeIsIdempotent, GroupingIsFree, MergingInTurn};
 
 /// A view at a floor has a cell exactly for each key that was sighted there or above: at the newest generation of
 /// its sightings, with the value that all of these say, or disputed where no value is said by all.

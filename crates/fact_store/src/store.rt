@@ -1,6 +1,8 @@
-ghost use Rattle.std.specs.Prelude.{◌≡◌, ◌+◌, ◌*◌, ◌≤◌, [], ◌∷◌, ◌↔◌, OnOk, OnErr, IfOk, IsNone, IfSome, length, max, slice_get, unwrap_or};
+ghost use Rattle.std.specs.Prelude.{◌≡◌, ◌+◌, ◌*◌, ◌≤◌, [], ◌∷◌, ◌↔◌, OnOk, OnErr, IfOk, IsNone, IfSome};
+ghost use Rattle.std.specs.Prelude.{length, max, slice_get, unwrap_or};
 ghost use Rattle.fact_store.specs.Comparisons.{CountsSearch, HasDigits, compared_by_walk};
-ghost use Rattle.fact_store.specs.View.{IsNewestGeneration, cell_for, cells_of, no_facts, raised, view, view_at, AreInRange};
+ghost use Rattle.fact_store.specs.View.{IsNewestGeneration, cell_for, cells_of, no_facts, raised, view};
+ghost use Rattle.fact_store.specs.View.{view_at, AreInRange};
 ghost use Rattle.fact_store.specs.Merge.{merge, IsMerge};
 ghost use Rattle.fact_store.specs.Walk.{cells_left};
 

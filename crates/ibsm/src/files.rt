@@ -4,7 +4,8 @@ ghost use Rattle.std.specs.Io.KnownBytes.{Appends};
 ghost use Rattle.sm_cli.specs.ExitStatus.{status_of};
 ghost use Rattle.schedule_lines.specs.Prints.{PrintsSome};
 ghost use Rattle.next_run.specs.RunNext.{IsSaid};
-ghost use Rattle.ibsm.specs.Ending.{Does, HasEnoughNames, IsDone, IsFaultOver, IsTaskFault, KeepsOutput, Performs, SaysWhy, StaysSilent};
+ghost use Rattle.ibsm.specs.Ending.{Does, HasEnoughNames, IsDone, IsFaultOver, IsTaskFault, KeepsOutput};
+ghost use Rattle.ibsm.specs.Ending.{Performs, SaysWhy, StaysSilent};
 ghost use Rattle.ibsm.specs.Ending.{fault_line, name_of, status_after};
 ghost use Rattle.ibsm.specs.Opening.{AreOpened, IsOpenFault};
 

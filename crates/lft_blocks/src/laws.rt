@@ -1,5 +1,6 @@
 //! The laws of plans.
-ghost use Rattle.lft_blocks.specs.Arrival.{PacketsArriveByEachRouting, PacketsArriveIfConnected, PacketsArriveWhereCovered};
+ghost use Rattle.lft_blocks.specs.Arrival.{PacketsArriveByEachRouting, PacketsArriveIfConnected};
+ghost use Rattle.lft_blocks.specs.Arrival.{PacketsArriveWhereCovered};
 ghost use Rattle.lft_blocks.specs.PlanLaws.{PlansStay, LidsStayInPlans, BlocksHoldEntries, BlocksAreOfSwitches};
 ghost use Rattle.lft_blocks.specs.Rules.{RulesAreRoutings, RulesStay};
 

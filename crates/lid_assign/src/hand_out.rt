@@ -2,7 +2,8 @@ ghost use Rattle.std.specs.Prelude.{◌≡◌, ◌+◌, ◌<◌, ◌≤◌, ◌^
 ghost use Rattle.std.specs.List.{filter_map};
 ghost use Rattle.lid_assign.specs.Lids.{hand_out, kept_range};
 ghost use Rattle.lid_assign.specs.Ranges.{width_of};
-ghost use Rattle.lid_assign.specs.Marks.{from_on, AreMarkedMore, ArePassed, AreTaken, IsFound, IsLeastUnmarked, IsPassed, NoneUnmarked};
+ghost use Rattle.lid_assign.specs.Marks.{from_on, AreMarkedMore, ArePassed, AreTaken, IsFound, IsLeastUnmarked};
+ghost use Rattle.lid_assign.specs.Marks.{IsPassed, NoneUnmarked};
 
 use crate::lid_marks::{any_marked, mark};
 use attr_codec::Lmc;

@@ -1,5 +1,6 @@
 //! The laws of the LIDs that are given.
-ghost use Rattle.lid_assign.specs.Lids.{LidsLaw, LidsAreUnique, NoRoomAtLmc0, NoRoomLaw, OthersRise, OwnersAreInverse, RisingLidsLaw};
+ghost use Rattle.lid_assign.specs.Lids.{LidsLaw, LidsAreUnique, NoRoomAtLmc0, NoRoomLaw, OthersRise};
+ghost use Rattle.lid_assign.specs.Lids.{OwnersAreInverse, RisingLidsLaw};
 ghost use Rattle.lid_assign.specs.Ranges.{RangesLaw};
 ghost use Rattle.lid_assign.specs.Stability.{LidsSettle, LidsStay};
 

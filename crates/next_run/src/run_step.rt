@@ -4,7 +4,8 @@ ghost use Rattle.std.specs.Io.KnownBytes.{Appends};
 ghost use Rattle.fact_store.specs.View.{cells_of};
 ghost use Rattle.lft_blocks.specs.Rules.{value_of};
 ghost use Rattle.sm_cli.specs.Asked.{texts_for};
-ghost use Rattle.next_run.specs.RunNext.{HasStepped, IsLoopInStep, IsSaid, IsStep, IsStepFault, StopsNext, StopsStep, fault_of_step};
+ghost use Rattle.next_run.specs.RunNext.{HasStepped, IsLoopInStep, IsSaid, IsStep, IsStepFault, StopsNext};
+ghost use Rattle.next_run.specs.RunNext.{StopsStep, fault_of_step};
 ghost use Rattle.next_tables.specs.NextTables.{first_moved, next_tables};
 ghost use Rattle.plan_file.specs.Printed.{held_plan};
 

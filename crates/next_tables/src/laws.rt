@@ -1,6 +1,7 @@
 //! The laws of a step from the tables that switches hold towards those of a plan.
 ghost use Rattle.next_tables.specs.ChangingFabric.{PacketsArriveWhileTablesChange, WrittenTablesAreInChange};
-ghost use Rattle.next_tables.specs.Mixtures.{NoneIsLost, NoneGoesRound, EndInThePlan, StillIsThePlan, HealInTwo, NextDeliverOrDrop};
+ghost use Rattle.next_tables.specs.Mixtures.{NoneIsLost, NoneGoesRound, EndInThePlan, StillIsThePlan};
+ghost use Rattle.next_tables.specs.Mixtures.{HealInTwo, NextDeliverOrDrop};
 ghost use Rattle.next_tables.specs.Mixtures.{MixturesWaitSo, NoCycleInStep};
 ghost use Rattle.next_tables.specs.NextText.{NextTextsAreRead, StepTextsAreRead};
 ghost use Rattle.next_tables.specs.StepLaws.{StepsEndInThePlan, StepsHealInTwo};

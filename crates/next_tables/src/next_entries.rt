@@ -1,7 +1,8 @@
 //! The next entries of the switches for a LID that the same end port holds in the tables held and in the plan.
 ghost use Rattle.std.specs.Prelude.{◌≡◌, ◌↔◌, IfOk, IsTrue};
 ghost use Rattle.audit.specs.WalkEnds.{HaveEnded};
-ghost use Rattle.next_tables.specs.SwitchSteps.{agreed_by, agreed_of, arrives_by, chosen_by, hops_of, mending_by, mending_of};
+ghost use Rattle.next_tables.specs.SwitchSteps.{agreed_by, agreed_of, arrives_by, chosen_by, hops_of};
+ghost use Rattle.next_tables.specs.SwitchSteps.{mending_by, mending_of};
 ghost use Rattle.next_tables.specs.SwitchSteps.{is_whole, next_by, next_of, patch_by, patch_entry_by};
 
 use audit::walk_ends::{end_of, ends, is_to, onward};

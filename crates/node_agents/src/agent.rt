@@ -1,5 +1,6 @@
 ghost use Rattle.std.specs.Prelude.{◌≡◌, ◌≤◌, false, IfOk};
-ghost use Rattle.node_agents.specs.Agent.{IsAgentNode, fresh_agent, is_switch, port_at, state_at, base_lid_at, lmc_at, has_seat, entry_at, owns, after_set_wired, after_set_seat};
+ghost use Rattle.node_agents.specs.Agent.{IsAgentNode, fresh_agent, is_switch, port_at, state_at, base_lid_at};
+ghost use Rattle.node_agents.specs.Agent.{lmc_at, has_seat, entry_at, owns, after_set_wired, after_set_seat};
 ghost use Rattle.node_agents.specs.Answers.{after_answer};
 
 use crate::agent_node::AgentNode;

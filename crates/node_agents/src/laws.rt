@@ -1,5 +1,7 @@
 //! The laws of agents: what no request changes, what an answer is, and what a Set does.
-ghost use Rattle.node_agents.specs.AnswerLaws.{AgentsAreMade, AnsweredIsAgent, AnsweredKeepsShape, AnswersHold, AnswersSay, GetsChangeNothing, RefusalsChangeNothing, GetsTellAsSets, BlocksAreSet, TopsAreSet, PortsAreSet};
+ghost use Rattle.node_agents.specs.AnswerLaws.{AgentsAreMade, AnsweredIsAgent, AnsweredKeepsShape, AnswersHold};
+ghost use Rattle.node_agents.specs.AnswerLaws.{AnswersSay, GetsChangeNothing, RefusalsChangeNothing};
+ghost use Rattle.node_agents.specs.AnswerLaws.{GetsTellAsSets, BlocksAreSet, TopsAreSet, PortsAreSet};
 
 /// What is made, wired and given a subnet manager is an agent.
 #[tactic(auto, using(crate::proofs::Made::agents_are_made))]

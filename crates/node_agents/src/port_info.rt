@@ -2,7 +2,9 @@
 ghost use Rattle.std.specs.Prelude.{◌≡◌, ◌≤◌, is_some, IfSome};
 ghost use Rattle.smp_bytes.specs.LidRange.{may_have};
 ghost use Rattle.std.specs.Option.{unwrap_or};
-ghost use Rattle.node_agents.specs.PortInfo.{port_meant, port_info_of, get_port_info, has_lid, max_lmc, are_lids_taken, state_after, port_after, changed_port, set_port_info};
+ghost use Rattle.node_agents.specs.PortInfo.{port_meant, port_info_of, get_port_info, has_lid, max_lmc};
+ghost use Rattle.node_agents.specs.PortInfo.{are_lids_taken, state_after, port_after, changed_port};
+ghost use Rattle.node_agents.specs.PortInfo.{set_port_info};
 
 use crate::agent::Agent;
 use crate::port::Port;

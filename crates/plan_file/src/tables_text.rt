@@ -4,7 +4,8 @@ ghost use Rattle.std.specs.List.{flat_map, prefix_len};
 ghost use Rattle.byte_io.specs.Writes.{Writes};
 ghost use Rattle.lft_blocks.specs.PlanText.{switch_line};
 ghost use Rattle.lft_blocks.specs.WritesPart.{WritesPart};
-ghost use Rattle.plan_file.specs.TablesText.{block_text, first_blocks, is_of, later_blocks, next_text, switches_text, tables_text_of};
+ghost use Rattle.plan_file.specs.TablesText.{block_text, first_blocks, is_of, later_blocks, next_text};
+ghost use Rattle.plan_file.specs.TablesText.{switches_text, tables_text_of};
 
 use crate::held::{Held, HeldBlock, HeldSwitch};
 use byte_io::{Sink, WriteFault};

@@ -1,6 +1,8 @@
-ghost use Rattle.std.specs.Prelude.{◌≡◌, ◌==◌, ◌<◌, true, All, IfOk, IfSome, length, map, slice_index, slice_index_or};
+ghost use Rattle.std.specs.Prelude.{◌≡◌, ◌==◌, ◌<◌, true, All, IfOk, IfSome, length, map, slice_index};
+ghost use Rattle.std.specs.Prelude.{slice_index_or};
 ghost use Rattle.port_graph.specs.Indexed.{AreSlopes, indexed, ports_between};
-ghost use Rattle.port_graph.specs.Lanes.{EachLane, AreRouted, IsBlock, IsStepDown, IsStepUp, at, nearest_by, port_in, target_in};
+ghost use Rattle.port_graph.specs.Lanes.{EachLane, AreRouted, IsBlock, IsStepDown, IsStepUp, at, nearest_by};
+ghost use Rattle.port_graph.specs.Lanes.{port_in, target_in};
 ghost use Rattle.port_graph.specs.Slopes.{next_port};
 
 use crate::adjacency::Adjacency;

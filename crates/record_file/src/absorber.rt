@@ -1,6 +1,7 @@
 //! A file that comes in pieces.
 ghost use Rattle.std.specs.Prelude.{◌≡◌, ◌+◌, ◌<◌, ◌≤◌, ◌^◌, [], length};
-ghost use Rattle.record_file.specs.Feeding.{Absorbing, FeedsPiece, Finishes, WasFed, IsInReach, IsShortOf, TakesFront, TakesPiece, offset_of};
+ghost use Rattle.record_file.specs.Feeding.{Absorbing, FeedsPiece, Finishes, WasFed, IsInReach, IsShortOf};
+ghost use Rattle.record_file.specs.Feeding.{TakesFront, TakesPiece, offset_of};
 
 use crate::awaited::Awaited;
 use crate::file_fault::FileFault;

@@ -2,7 +2,8 @@
 ghost use Rattle.std.specs.Prelude.{◌≡◌, IsTrue, OnOk};
 ghost use Rattle.byte_io.specs.Writes.{Writes};
 ghost use Rattle.fact_store.specs.View.{AreInRange};
-ghost use Rattle.record_file.specs.FactsText.{subject_text, key_text, value_text, cell_text, fact_text, line_text, floor_line, facts_text};
+ghost use Rattle.record_file.specs.FactsText.{subject_text, key_text, value_text, cell_text, fact_text};
+ghost use Rattle.record_file.specs.FactsText.{line_text, floor_line, facts_text};
 
 use crate::line::Line;
 use byte_io::{Sink, WriteFault, write_guid, write_number, write_port};

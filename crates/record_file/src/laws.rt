@@ -1,7 +1,9 @@
 //! Laws of reading files. There is nothing to call: the contracts are what counts.
 
-ghost use Rattle.record_file.specs.StoreLaws.{AbsorbingReadsBack, FactsAreReadBack, FactsHaveOneSpelling, RecordsAreSpellings, StoreFilesAreAccepted};
-ghost use Rattle.record_file.specs.Laws.{BadPartStays, FirstBadRecordIsTold, ReportFilesAreAccepted, ReportsHaveOneSpelling, TruncationIsTold};
+ghost use Rattle.record_file.specs.StoreLaws.{AbsorbingReadsBack, FactsAreReadBack, FactsHaveOneSpelling};
+ghost use Rattle.record_file.specs.StoreLaws.{RecordsAreSpellings, StoreFilesAreAccepted};
+ghost use Rattle.record_file.specs.Laws.{BadPartStays, FirstBadRecordIsTold, ReportFilesAreAccepted};
+ghost use Rattle.record_file.specs.Laws.{ReportsHaveOneSpelling, TruncationIsTold};
 ghost use Rattle.record_file.specs.PieceLaws.{CutsChangeNothing, FaultsStay, PiecesAreRead};
 
 use byte_io::Source;

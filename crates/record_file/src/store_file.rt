@@ -1,7 +1,9 @@
 //! Store files: a record of 32 bytes for each cell in the order of the keys, behind their head.
 ghost use Rattle.std.specs.Prelude.{◌≡◌, ◌<◌, ◌^◌, length, IsTrue, OnOk, option_and_then};
 ghost use Rattle.fact_store.specs.View.{cells_of, AreInRange};
-ghost use Rattle.record_file.specs.CellRecord.{candidate, cell_of as cell_in, cell_value_bytes, filled_up, if_sighting, key_of as key_with, record_bytes, state_byte, value_bytes, value_of as value_in};
+ghost use Rattle.record_file.specs.CellRecord.{candidate, cell_of as cell_in, cell_value_bytes, filled_up};
+ghost use Rattle.record_file.specs.CellRecord.{if_sighting, key_of as key_with, record_bytes, state_byte};
+ghost use Rattle.record_file.specs.CellRecord.{value_bytes, value_of as value_in};
 ghost use Rattle.record_file.specs.StoreFile.{store_bytes};
 ghost use Rattle.byte_io.specs.Writes.{Writes};
 

@@ -4,7 +4,11 @@ ghost use Rattle.smp_bytes.specs.Judges.{Judges};
 ghost use Rattle.smp_bytes.specs.Field.{bits_in};
 ghost use Rattle.attr_codec.specs.NodeInfo.{FitsNodeInfo};
 ghost use Rattle.attr_codec.specs.PortInfo.{port_state};
-ghost use Rattle.reply_facts.specs.Report.{about_fault, answer_fault, attribute_fault, node_info_fault, port_info_fault, sightings_by_node_info, sightings_by_packet, sightings_by_port_info, sightings_by_switch_info, are_ports_in_range, fits_node_info, sightings_of_kind, is_up_state, reply_fault, report_fault, sightings_of};
+ghost use Rattle.reply_facts.specs.Report.{about_fault, answer_fault, attribute_fault, node_info_fault};
+ghost use Rattle.reply_facts.specs.Report.{port_info_fault, sightings_by_node_info, sightings_by_packet};
+ghost use Rattle.reply_facts.specs.Report.{sightings_by_port_info, sightings_by_switch_info};
+ghost use Rattle.reply_facts.specs.Report.{are_ports_in_range, fits_node_info, sightings_of_kind, is_up_state};
+ghost use Rattle.reply_facts.specs.Report.{reply_fault, report_fault, sightings_of};
 ghost use Rattle.reply_facts.specs.Sighting.{is_generation};
 
 use crate::key::Key;

@@ -33,7 +33,8 @@ impl Model for Sighting {
     ghost use Rattle.fact_join.specs.Cell.{generation_of};
     ghost use Rattle.reply_facts.specs.declared.key.Key.{Key};
     ghost use Rattle.reply_facts.specs.declared.value.Value.{Value as FactValue};
-    ghost use Rattle.reply_facts.specs.CellForms.{IsSpelled, cell_in, form_of, key_in, number_of, other_of, same_form, same_generation, same_guid};
+    ghost use Rattle.reply_facts.specs.CellForms.{IsSpelled, cell_in, form_of, key_in, number_of, other_of};
+    ghost use Rattle.reply_facts.specs.CellForms.{same_form, same_generation, same_guid};
     ghost use Rattle.reply_facts.specs.Key.{key_guid, key_port};
     ghost use Rattle.reply_facts.specs.Sighting.{IsSighting};
 
@@ -206,7 +207,8 @@ impl Default for Sighting {
     }
 }
 
-ghost use Rattle.reply_facts.specs.Sighting.{is_sighting, is_key, is_cell_of, is_value_of, is_generation, is_guid, is_any_port, is_cabled_port};
+ghost use Rattle.reply_facts.specs.Sighting.{is_sighting, is_key, is_cell_of, is_value_of, is_generation};
+ghost use Rattle.reply_facts.specs.Sighting.{is_guid, is_any_port, is_cabled_port};
 
 fn is_sighting(key: &Key, cell: &Cell<Value>) -> bool
     ensures { result ≡ is_sighting (key.now, cell.now) }

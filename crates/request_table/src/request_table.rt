@@ -1,4 +1,5 @@
-ghost use Rattle.std.specs.Prelude.{◌≡◌, ◌+◌, ◌<◌, ◌≤◌, ◌^◌, [], ◌∷◌, ◌++◌, OnOk, Some, length, nat_le, nat_lt, option_copied, remove, slice_get, IsTrue, ◌↔◌};
+ghost use Rattle.std.specs.Prelude.{◌≡◌, ◌+◌, ◌<◌, ◌≤◌, ◌^◌, [], ◌∷◌, ◌++◌, OnOk, Some, length, nat_le, nat_lt};
+ghost use Rattle.std.specs.Prelude.{option_copied, remove, slice_get, IsTrue, ◌↔◌};
 ghost use Rattle.request_table.specs.Order.{IsIndex};
 ghost use Rattle.request_table.specs.Numbers.{AreNumbered, IsIndexFor, with_number, without_number};
 

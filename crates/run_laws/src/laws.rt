@@ -1,7 +1,8 @@
 //! What the lines of a run tell. There is nothing to call: the contracts are what counts.
 ghost use Rattle.run_laws.specs.Accounts.{RunsAreAccountedFor};
 ghost use Rattle.run_laws.specs.Alone.{RunsOfOneAreReached, SomeRunOfOne};
-ghost use Rattle.run_laws.specs.Lines.{LaterLinesComeBehind, MergedManagersPlanAlike, SameTakenInPlansAlike, SameTakenInSameLines};
+ghost use Rattle.run_laws.specs.Lines.{LaterLinesComeBehind, MergedManagersPlanAlike, SameTakenInPlansAlike};
+ghost use Rattle.run_laws.specs.Lines.{SameTakenInSameLines};
 ghost use Rattle.run_laws.specs.Reached.{HeldPlansAreReached, WrittenPlansAreReached};
 ghost use Rattle.run_laws.specs.Repeats.{TextsDecideOutput};
 

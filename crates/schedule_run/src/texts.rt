@@ -1,7 +1,8 @@
 //! The texts of a topology and of a schedule: they are read, and then judged.
 ghost use Rattle.std.specs.Prelude.{◌≡◌, ◌+◌, ◌<◌, ◌≤◌, ℕ, List, IfOk, IfErr, Ok, OnOk, None, length};
 ghost use Rattle.schedule_file.specs.Schedule.{IsScript, schedule_of};
-ghost use Rattle.schedule_run.specs.Run.{AreNotTold, AreRead, AreTold, FailsToReadThem, RefusesScript, RefusesTexts, Tells};
+ghost use Rattle.schedule_run.specs.Run.{AreNotTold, AreRead, AreTold, FailsToReadThem, RefusesScript};
+ghost use Rattle.schedule_run.specs.Run.{RefusesTexts, Tells};
 ghost use Rattle.schedule_run.specs.Run.{TellsTopology, input_fault, schedule_fault};
 
 use byte_io::Source;

@@ -1,6 +1,7 @@
 //! What the program says of a fault, one line that begins with its own name.
 ghost use Rattle.byte_io.specs.Writes.{Writes};
-ghost use Rattle.sm_cli.specs.FaultText.{name_text, number_text, cause_text, words_of, file_fault_text, text_fault_text, count_text, no_room_text, fault_text, program_line};
+ghost use Rattle.sm_cli.specs.FaultText.{name_text, number_text, cause_text, words_of, file_fault_text};
+ghost use Rattle.sm_cli.specs.FaultText.{text_fault_text, count_text, no_room_text, fault_text, program_line};
 ghost use Rattle.sm_cli.specs.TextFault.{guid_behind, lid_before, line_text, said_of_text};
 
 use crate::fault::Fault;

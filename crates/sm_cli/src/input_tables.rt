@@ -1,6 +1,7 @@
 //! The text of tables: it is read, and then judged; and files behind it.
 ghost use Rattle.std.specs.Prelude.{◌≡◌, ◌+◌, ◌≤◌, length, IfErr, IfOk};
-ghost use Rattle.sm_cli.specs.InputTables.{AreNoTables, AreNoTablesAndFiles, AreTables, AreTablesAndFiles, IsTables, IsTablesFault};
+ghost use Rattle.sm_cli.specs.InputTables.{AreNoTables, AreNoTablesAndFiles, AreTables, AreTablesAndFiles};
+ghost use Rattle.sm_cli.specs.InputTables.{IsTables, IsTablesFault};
 
 use crate::fault::Fault;
 use crate::input_files::read_files;

@@ -1,5 +1,6 @@
 //! What the answer of a run depends on.
-ghost use Rattle.sm_cli.specs.RunLaws.{FilesDecideAnswer, JoinedFileStands, SightingsDecideAnswer, SplitFileStands, SplitStoreStands};
+ghost use Rattle.sm_cli.specs.RunLaws.{FilesDecideAnswer, JoinedFileStands, SightingsDecideAnswer};
+ghost use Rattle.sm_cli.specs.RunLaws.{SplitFileStands, SplitStoreStands};
 
 /// Files that keep the same sightings, in whatever order and however often, and have the same greatest floor give equal
 /// answers.

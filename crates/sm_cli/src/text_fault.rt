@@ -35,7 +35,8 @@ pub enum TextFault {
 }
 
 impl TextFault {
-    ghost use Rattle.sm_cli.specs.TextFault.{text_fault_guid, text_fault_lid, text_fault_line, text_fault_word, is_of_text};
+    ghost use Rattle.sm_cli.specs.TextFault.{text_fault_guid, text_fault_lid, text_fault_line, text_fault_word};
+    ghost use Rattle.sm_cli.specs.TextFault.{is_of_text};
 
     /// The line that has the fault, from 1.
     pub fn line(&self) -> Option<usize>

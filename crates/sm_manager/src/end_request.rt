@@ -3,7 +3,8 @@ ghost use Rattle.std.specs.Prelude.{◌≡◌, ◌<◌, OnOk, OnErr, length, sli
 ghost use Rattle.smp_bytes.specs.Judges.{JudgesButFor};
 ghost use Rattle.sm_manager.specs.declared.pending.Pending.{Pending};
 ghost use Rattle.sm_manager.specs.Fault.{is_memory};
-ghost use Rattle.sm_manager.specs.Packets.{pending_for, after_poll_end, request_answered, after_request, status_number};
+ghost use Rattle.sm_manager.specs.Packets.{pending_for, after_poll_end, request_answered, after_request};
+ghost use Rattle.sm_manager.specs.Packets.{status_number};
 ghost use Rattle.sm_manager.specs.Writing.{is_done_by};
 
 use crate::fault::ManagerFault;

@@ -2,7 +2,9 @@ ghost use Rattle.std.specs.Prelude.{◌≡◌, IfOk, OnOk, OnErr, slice_get, ◌
 ghost use Rattle.fact_store.specs.View.{cells_of};
 ghost use Rattle.lft_blocks.specs.Arrival.{EveryPacketArrives};
 ghost use Rattle.lft_blocks.specs.Plan.{plan_of};
-ghost use Rattle.sm_manager.specs.Manager.{begin_fault, after_raise_floor, after_merge, new_manager, outstanding, progress_of, after_begin_sweep, after_take_outgoing, is_running};
+ghost use Rattle.sm_manager.specs.Manager.{begin_fault, after_raise_floor, after_merge, new_manager};
+ghost use Rattle.sm_manager.specs.Manager.{outstanding, progress_of, after_begin_sweep, after_take_outgoing};
+ghost use Rattle.sm_manager.specs.Manager.{is_running};
 ghost use Rattle.smp_bytes.specs.Judges.{JudgesButFor};
 ghost use Rattle.sm_manager.specs.Fault.{is_memory};
 ghost use Rattle.sm_manager.specs.Plans.{plan_fault};

@@ -1,10 +1,12 @@
-ghost use Rattle.std.specs.Prelude.{◌≡◌, ◌+◌, ◌<◌, ◌≤◌, ◌^◌, [], ◌∷◌, ◌++◌, false, OnOk, Some, length, nat_le, option_copied, option_map, find, slice_get, None, Ok, Option};
+ghost use Rattle.std.specs.Prelude.{◌≡◌, ◌+◌, ◌<◌, ◌≤◌, ◌^◌, [], ◌∷◌, ◌++◌, false, OnOk, Some, length, nat_le};
+ghost use Rattle.std.specs.Prelude.{option_copied, option_map, find, slice_get, None, Ok, Option};
 ghost use Rattle.plan_steps.specs.Step.{set_packet};
 ghost use Rattle.request_table.specs.Numbers.{IsIndexFor};
 ghost use Rattle.smp_bytes.specs.Header.{sm_info};
 ghost use Rattle.smp_bytes.specs.Requests.{lid_routed};
 ghost use Rattle.sm_manager.specs.Election.{info_pending};
-ghost use Rattle.sm_manager.specs.ManagerRequests.{AreNumbered, how_many, is_for_step, is_step, no_step_waits, none_counts, with_number, without_number};
+ghost use Rattle.sm_manager.specs.ManagerRequests.{AreNumbered, how_many, is_for_step, is_step, no_step_waits};
+ghost use Rattle.sm_manager.specs.ManagerRequests.{none_counts, with_number, without_number};
 ghost use Rattle.sm_manager.specs.Packets.{answers};
 ghost use Rattle.sm_manager.specs.Writing.{pending_step};
 ghost use Rattle.std.specs.VecDeque.{deque_capacity, deque_len};

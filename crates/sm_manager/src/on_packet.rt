@@ -1,5 +1,6 @@
 ghost use Rattle.std.specs.Prelude.{◌≡◌, ◌-◌, OnOk, OnErr};
-ghost use Rattle.sm_manager.specs.Packets.{HasSender, IsFaultWithoutRoom, is_for_sweep, is_info_request, sweep_answered, after_packet};
+ghost use Rattle.sm_manager.specs.Packets.{HasSender, IsFaultWithoutRoom, is_for_sweep, is_info_request};
+ghost use Rattle.sm_manager.specs.Packets.{sweep_answered, after_packet};
 ghost use Rattle.smp_bytes.specs.Judges.{JudgesButFor};
 ghost use Rattle.sm_manager.specs.Fault.{is_memory, refusal_of};
 ghost use Rattle.sweep.specs.Replies.{judged};

@@ -4,7 +4,8 @@ ghost use Rattle.smp_bytes.specs.Judges.{JudgesButFor};
 ghost use Rattle.sm_manager.specs.Election.{message_count};
 ghost use Rattle.sm_manager.specs.Fault.{is_memory};
 ghost use Rattle.sm_manager.specs.Packets.{unless_spent};
-ghost use Rattle.sm_manager.specs.Served.{answer_data, answer_out, controlled, is_control, replying, served, status_for};
+ghost use Rattle.sm_manager.specs.Served.{answer_data, answer_out, controlled, is_control, replying, served};
+ghost use Rattle.sm_manager.specs.Served.{status_for};
 ghost use Rattle.sm_state.specs.Standing.{moved_to};
 ghost use Rattle.sm_state.specs.Steps.{status_of};
 

@@ -1,4 +1,5 @@
-ghost use Rattle.std.specs.Prelude.{◌≡◌, ◌<◌, true, false, None, Some, Ok, Option, IfOk, OnOk, OnErr, length, slice_get};
+ghost use Rattle.std.specs.Prelude.{◌≡◌, ◌<◌, true, false, None, Some, Ok, Option, IfOk, OnOk, OnErr, length};
+ghost use Rattle.std.specs.Prelude.{slice_get};
 ghost use Rattle.smp_bytes.specs.Judges.{Judges, JudgesButFor};
 ghost use Rattle.sm_manager.specs.declared.pending.Pending.{Pending};
 ghost use Rattle.sm_manager.specs.declared.fault.ManagerFault.{ManagerFault as Refusal};
@@ -6,7 +7,8 @@ ghost use Rattle.sm_manager.specs.Fault.{is_memory};
 ghost use Rattle.sm_manager.specs.Packets.{unless_spent};
 ghost use Rattle.sm_manager.specs.Plans.{or_else, unless_numbers, writing_fault};
 ghost use Rattle.sm_manager.specs.ManagerRequests.{is_step};
-ghost use Rattle.sm_manager.specs.Writing.{count_after, without_empty_phases, phases_by, after_step, write_fault, after_write_steps};
+ghost use Rattle.sm_manager.specs.Writing.{count_after, without_empty_phases, phases_by, after_step};
+ghost use Rattle.sm_manager.specs.Writing.{write_fault, after_write_steps};
 
 use crate::fault::ManagerFault;
 use crate::manager::Manager;

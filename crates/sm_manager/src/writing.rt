@@ -1,7 +1,8 @@
 ghost use Rattle.std.specs.Prelude.{◌≡◌, ◌≤◌, ◌+◌, ◌^◌, ◌++◌, ◌||◌, ◌&&◌, false, not, drop, length, ◌<◌, None, Some};
 ghost use Rattle.std.specs.List.{list_any};
 ghost use Rattle.std.specs.VecDeque.{deque_capacity, deque_len};
-ghost use Rattle.sm_manager.specs.Writing.{next_pending, next_phase, numbered, without_empty_phases, steps_out, is_written};
+ghost use Rattle.sm_manager.specs.Writing.{next_pending, next_phase, numbered, without_empty_phases, steps_out};
+ghost use Rattle.sm_manager.specs.Writing.{is_written};
 
 use crate::manager::Manager;
 use crate::manager_requests::ManagerRequests;

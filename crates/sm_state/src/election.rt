@@ -1,6 +1,7 @@
 //! The managers that a sweep saw.
 ghost use Rattle.std.specs.Prelude.{◌≡◌, Some, if◌then◌else◌};
-ghost use Rattle.sm_state.specs.Election.{any_outranks, better, next_best, successor_of, is_candidate, outranks, says, sweep_verdict};
+ghost use Rattle.sm_state.specs.Election.{any_outranks, better, next_best, successor_of, is_candidate};
+ghost use Rattle.sm_state.specs.Election.{outranks, says, sweep_verdict};
 
 use crate::{Event, SmState, wins};
 use attr_codec::SmInfo;

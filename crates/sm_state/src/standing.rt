@@ -1,5 +1,6 @@
 ghost use Rattle.std.specs.Prelude.{◌≡◌};
-ghost use Rattle.sm_state.specs.Standing.{active_once_more, info_of, is_in, moved_by, moved_to, new_standing, poll_answered, poll_lost};
+ghost use Rattle.sm_state.specs.Standing.{active_once_more, info_of, is_in, moved_by, moved_to, new_standing};
+ghost use Rattle.sm_state.specs.Standing.{poll_answered, poll_lost};
 
 use crate::{Event, SmState, step};
 use attr_codec::{Priority, SmInfo};

@@ -1,7 +1,10 @@
 //! The laws of packets: what a write into a field or into some bits does, and what stands in the packets that are made.
 ghost use Rattle.std.specs.Prelude.{◌≡◌};
-ghost use Rattle.smp_bytes.specs.Header.{get, set, get_resp, done, method_not_supported, method_and_attribute_not_supported, invalid_field, node_description, node_info, switch_info, port_info, linear_forwarding_table, sm_info};
-ghost use Rattle.smp_bytes.specs.Laws.{NumberIsRead, FieldApartStays, BytesOutsideStay, WriteIsUnique, LastWriteStands, BitsAreRead, BitsApartStay, OtherBytesStay};
+ghost use Rattle.smp_bytes.specs.Header.{get, set, get_resp, done, method_not_supported};
+ghost use Rattle.smp_bytes.specs.Header.{method_and_attribute_not_supported, invalid_field, node_description};
+ghost use Rattle.smp_bytes.specs.Header.{node_info, switch_info, port_info, linear_forwarding_table, sm_info};
+ghost use Rattle.smp_bytes.specs.Laws.{NumberIsRead, FieldApartStays, BytesOutsideStay, WriteIsUnique};
+ghost use Rattle.smp_bytes.specs.Laws.{LastWriteStands, BitsAreRead, BitsApartStay, OtherBytesStay};
 ghost use Rattle.smp_bytes.specs.ReadBack.{DirectedReadsBack, LidRoutedReadsBack, AnswerReadsBack, StatusReadsBack};
 
 use crate::header::{AttributeId, Method, Status};

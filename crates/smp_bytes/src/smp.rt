@@ -1,6 +1,9 @@
 ghost use Rattle.std.specs.Prelude.{◌≡◌, ◌+◌, ◌<◌, ◌≤◌, ◌↔◌, true, None, IfOk, IsTrue, if◌then◌else◌};
 ghost use Rattle.smp_bytes.specs.Field.{number_in, bytes_in};
-ghost use Rattle.smp_bytes.specs.Packet.{base_version, class_version, method, transaction_id, attribute_id, attribute_modifier, m_key, attribute_data, hop_pointer, hop_count, dr_slid, dr_dlid, initial_path, return_path, max_hops, is_directed, is_response, is_returning, status, fault_of, directed_fault_of};
+ghost use Rattle.smp_bytes.specs.Packet.{base_version, class_version, method, transaction_id, attribute_id};
+ghost use Rattle.smp_bytes.specs.Packet.{attribute_modifier, m_key, attribute_data, hop_pointer, hop_count};
+ghost use Rattle.smp_bytes.specs.Packet.{dr_slid, dr_dlid, initial_path, return_path, max_hops, is_directed};
+ghost use Rattle.smp_bytes.specs.Packet.{is_response, is_returning, status, fault_of, directed_fault_of};
 ghost use Rattle.smp_bytes.specs.Judges.{Judges};
 ghost use Rattle.smp_bytes.specs.declared.header.SmpClass.TheVariants.{LidRouted, DirectedRoute};
 

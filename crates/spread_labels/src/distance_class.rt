@@ -1,7 +1,10 @@
 //! How near vertices are to others, and their distance classes by that.
 ghost use Rattle.std.specs.Prelude.{◌≡◌, ◌<◌, ◌≤◌, ◌*◌, ◌^◌, length, map, All, IfOk};
 ghost use Rattle.port_graph.specs.Heads.{LeadToVertices};
-ghost use Rattle.spread_labels.specs.DistanceClasses.{AreDistanceSums, AreWithDistances, HasRoom, IsDistanceSum, IsDistanceSumOf, distance_classes_of, distance_class_at, distance_class_by, quarters_of, with_distance};
+ghost use Rattle.spread_labels.specs.DistanceClasses.{AreDistanceSums, AreWithDistances, HasRoom};
+ghost use Rattle.spread_labels.specs.DistanceClasses.{IsDistanceSum, IsDistanceSumOf, distance_classes_of};
+ghost use Rattle.spread_labels.specs.DistanceClasses.{distance_class_at, distance_class_by, quarters_of};
+ghost use Rattle.spread_labels.specs.DistanceClasses.{with_distance};
 ghost use Rattle.spread_labels.specs.Levels.{levels_of};
 ghost use Rattle.spread_labels.specs.Orders.{numbers_from};
 

@@ -3,7 +3,8 @@ ghost use Rattle.std.specs.Prelude.{◌≡◌, ◌<◌, ◌≤◌, ◌&&◌, ◌
 ghost use Rattle.std.specs.List.{list_any};
 ghost use Rattle.port_graph.specs.Heads.{LeadToVertices};
 ghost use Rattle.spread_labels.specs.TargetSets.{EachTarget, has};
-ghost use Rattle.spread_labels.specs.MarkSets.{AreAtTargets, AreNoted, AreRowsOf, AreSame, AreSetSteps, IsSetStep, giver_set};
+ghost use Rattle.spread_labels.specs.MarkSets.{AreAtTargets, AreNoted, AreRowsOf, AreSame, AreSetSteps};
+ghost use Rattle.spread_labels.specs.MarkSets.{IsSetStep, giver_set};
 
 use crate::target_set::TargetSet;
 use port_graph::{Adjacency, Edge};

@@ -1,4 +1,5 @@
-ghost use Rattle.std.specs.Prelude.{◌≡◌, ◌==◌, ◌+◌, ◌<◌, ◌≤◌, ◌^◌, [], length, slice_get, option_copied, option_map, OnOk, true};
+ghost use Rattle.std.specs.Prelude.{◌≡◌, ◌==◌, ◌+◌, ◌<◌, ◌≤◌, ◌^◌, [], length, slice_get, option_copied};
+ghost use Rattle.std.specs.Prelude.{option_map, OnOk, true};
 ghost use Rattle.sweep.specs.Finding.{too_far_by, with_vertex, with_state, with_state_of};
 ghost use Rattle.std.specs.Vec.{vec_capacity, vec_len};
 ghost use Rattle.sweep.specs.Discovered.{Discovered};

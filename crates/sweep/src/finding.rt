@@ -1,5 +1,7 @@
 ghost use Rattle.std.specs.Prelude.{◌≡◌, ◌≤◌, ℕ, List, length};
-ghost use Rattle.sweep.specs.Finding.{asks_manager, finding, goes_by, has_manager, is_of_adapter, leads_on, node_found, onward, port_found_questions, port_found_of, questions, vertex_of, vertex_questions};
+ghost use Rattle.sweep.specs.Finding.{asks_manager, finding, goes_by, has_manager, is_of_adapter, leads_on};
+ghost use Rattle.sweep.specs.Finding.{node_found, onward, port_found_questions, port_found_of, questions};
+ghost use Rattle.sweep.specs.Finding.{vertex_of, vertex_questions};
 
 use crate::request::{Question, Request};
 use crate::sweep::Sweep;

@@ -1,6 +1,7 @@
 ghost use Rattle.std.specs.Prelude.{◌≡◌, IfOk, OnOk, OnErr, option_copied};
 ghost use Rattle.smp_bytes.specs.Judges.{Judges};
-ghost use Rattle.sweep.specs.Sweep.{is_done, outstanding_at, path_to, seen_state, after_next_request, started, after_timeout, timeout_fault};
+ghost use Rattle.sweep.specs.Sweep.{is_done, outstanding_at, path_to, seen_state, after_next_request, started};
+ghost use Rattle.sweep.specs.Sweep.{after_timeout, timeout_fault};
 
 use crate::discovered::Discovered;
 use crate::fault::SweepFault;

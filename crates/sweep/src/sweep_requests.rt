@@ -1,9 +1,11 @@
-ghost use Rattle.std.specs.Prelude.{◌≡◌, ◌&&◌, ◌+◌, ◌-◌, ◌*◌, ◌<◌, ◌≤◌, ◌^◌, [], ◌∷◌, ◌++◌, length, slice_get, option_copied, Some, OnOk, take, drop, find, nat_lt};
+ghost use Rattle.std.specs.Prelude.{◌≡◌, ◌&&◌, ◌+◌, ◌-◌, ◌*◌, ◌<◌, ◌≤◌, ◌^◌, [], ◌∷◌, ◌++◌, length, slice_get};
+ghost use Rattle.std.specs.Prelude.{option_copied, Some, OnOk, take, drop, find, nat_lt};
 ghost use Rattle.request_table.specs.Order.{IsIndex};
 ghost use Rattle.request_table.specs.Numbers.{AreNumbered, IsIndexFor};
 ghost use Rattle.reply_facts.specs.declared.report.Context.TheVariants.{About};
 ghost use Rattle.sweep.specs.declared.finding.Onward.TheVariants.{Leads};
-ghost use Rattle.sweep.specs.Finding.{IsPathWithinReach, manager_questions, onward_questions, port_found_questions, port_questions, vertex_questions};
+ghost use Rattle.sweep.specs.Finding.{IsPathWithinReach, manager_questions, onward_questions};
+ghost use Rattle.sweep.specs.Finding.{port_found_questions, port_questions, vertex_questions};
 ghost use Rattle.sweep.specs.Taking.{CanTake, HasTaken};
 ghost use Rattle.sweep.specs.Replies.{belongs};
 ghost use Rattle.sweep.specs.SweepRequests.{SweepRequests, HasAsked};

@@ -1,5 +1,7 @@
 //! When two views have one plan.
-ghost use Rattle.takeover_laws.specs.Alike.{AlikeViewsPlanAlike, ClaimedPlansStay, PlansReadKnownValues, KnownPlansStay, WhoSeesTheSamePlansTheSame, WhoSeesTheTruthPlansTheSame, HeldPlansArePlanned};
+ghost use Rattle.takeover_laws.specs.Alike.{AlikeViewsPlanAlike, ClaimedPlansStay, PlansReadKnownValues};
+ghost use Rattle.takeover_laws.specs.Alike.{KnownPlansStay, WhoSeesTheSamePlansTheSame};
+ghost use Rattle.takeover_laws.specs.Alike.{WhoSeesTheTruthPlansTheSame, HeldPlansArePlanned};
 ghost use Rattle.takeover_laws.specs.Claims.{AcceptedClaimsAreTrue, SweptClaimsAreTrue, TakeoversChangeNothing};
 ghost use Rattle.takeover_laws.specs.Rest.{FloorsForget, LidsOutlast, RaisedManagersKnowNothing, RestIsServed};
 ghost use Rattle.takeover_laws.specs.Rest.{SomeManagerServesTheRest};

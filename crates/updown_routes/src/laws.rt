@@ -2,7 +2,8 @@
 ghost use Rattle.updown_routes.specs.RankLaws.{RankLaw, BeforeLaw, SlopeLaw};
 ghost use Rattle.updown_routes.specs.Channels.{ChannelLaw};
 ghost use Rattle.updown_routes.specs.Updown.{UpdownIsRouting};
-ghost use Rattle.updown_routes.specs.RouteLaws.{DownDistanceLaw, CostLaw, CostRecursion, NextPortLaw, WayLaw, NoCostBetween, CostInComponent};
+ghost use Rattle.updown_routes.specs.RouteLaws.{DownDistanceLaw, CostLaw, CostRecursion, NextPortLaw, WayLaw};
+ghost use Rattle.updown_routes.specs.RouteLaws.{NoCostBetween, CostInComponent};
 
 /// Each switch has a rank: the length of a shortest walk from the switch with the least GUID of
 /// those that can be reached.

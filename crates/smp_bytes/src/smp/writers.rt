@@ -2,7 +2,8 @@
 ghost use Rattle.std.specs.Prelude.{◌≡◌, ◌+◌, ◌≤◌, ◌<◌, ◌^◌, true};
 ghost use Rattle.smp_bytes.specs.Field.{number_in, with_bits, with_number};
 ghost use Rattle.smp_bytes.specs.Requests.{flag, word_with_status};
-ghost use Rattle.smp_bytes.specs.Packet.{method, status_word, direction_bit, transaction_id, hop_pointer, hop_count, initial_path, return_path, is_directed};
+ghost use Rattle.smp_bytes.specs.Packet.{method, status_word, direction_bit, transaction_id, hop_pointer};
+ghost use Rattle.smp_bytes.specs.Packet.{hop_count, initial_path, return_path, is_directed};
 
 use crate::field;
 use crate::header::{Method, SmpClass, Status};
