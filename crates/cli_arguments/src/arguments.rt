@@ -9,6 +9,7 @@ ghost use Rattle.cli_arguments.specs.CommandLine.{audit_shape, facts_shape, join
 ghost use Rattle.cli_arguments.specs.CommandLine.{command_line, of_files, of_planning, program_app, run_shape};
 ghost use Rattle.cli_arguments.specs.CommandLine.{files_rule, floor_rule, lmc_rule, option_rule, routing_rule};
 ghost use Rattle.cli_arguments.specs.CommandLine.{text_rule};
+ghost use Rattle.cli_arguments.specs.WellFormed.{IsWellFormed};
 ghost use Rattle.cli_arguments.specs.Words.{has_conflict, word_named};
 
 use crate::argument_names::{
@@ -63,7 +64,7 @@ pub fn matches_of<'a>(
 ) -> Result<Result<ArgMatches<'a>, Error>, AllocError>
     ensures read { IfOk result (λ parsed. (routings : _) × AreRoutings routings
         × IsReadAs (command_line routings) (map (λ word. word.bytes.items) words.now) parsed) }
-    ensures apart { IfOk result (λ parsed. IfOk parsed (λ matches. has_conflict (word_named matches) ≡ false)) }
+    ensures well_formed { IfOk result (λ parsed. IfOk parsed IsWellFormed) }
 {
     let command = command_line(alloc, RULES.as_slice())?;
     let matches = match command.try_get_matches_from(words) {

@@ -6,6 +6,7 @@ use Rattle.clap.specs.Values.{kind_of}
 use Rattle.cli_arguments.specs.CommandLine.{AreRoutings, command_line}
 use Rattle.cli_arguments.specs.Words.{has_conflict, word_behind}
 use Rattle.cli_arguments.proofs.Reading.{no_fault, reads}
+use Rattle.cli_arguments.proofs.WellFormed.{read_is_well_formed}
 use Rattle.cli_arguments.proofs.arguments.matches_of.Goals as goal
 
 pub returns : goal.returns
@@ -16,9 +17,10 @@ returns c =
     let routings : AreRoutings c.as_slice.result = search rules in
     let rows : subcommand_rows_of c.in-Ok.matches ≡ subcommand_of line words = reads _ line words is c.in-Ok.matches refl c.in-Ok.ensures.matches in
     let none : fault_of line words ≡ [] = no_fault _ line words is refl c.in-Ok.ensures.kinds in
+    let apart = ap (λ r. has_conflict (word_behind r)) (sym rows) ∙ sym c.if-has_conflict.ensures in
     record {
-      read = (c.as_slice.result, routings, (rows, none, ap (λ r. has_conflict (word_behind r)) (sym rows) ∙ sym c.if-has_conflict.ensures));
-      apart = sym c.if-has_conflict.ensures;
+      read = (c.as_slice.result, routings, (rows, none, apart));
+      well_formed = read_is_well_formed c.as_slice.result words c.in-Ok.matches routings (rows, none, apart);
     }
 
 pub returns-in-Err-clause-read : goal.returns-in-Err-clause-read

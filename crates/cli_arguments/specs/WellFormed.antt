@@ -1,0 +1,49 @@
+-- What words have that a command line takes: a subcommand, each argument that it requires, numbers in their ranges.
+use Rattle.std.specs.Prelude.{◌≡◌, ◌⊎◌, ⊤, ℕ, true, false, List, Option, None, Some, codes, is_some, pos}
+use Rattle.clap.specs.Matches.{subcommand_name_of}
+use Rattle.clap.specs.Values.{IsSignedIn}
+use Rattle.clap.specs.Walk.{Text}
+use Rattle.clap.specs.declared.parser.matches.ArgMatches.{ArgMatches}
+use Rattle.cli_arguments.specs.Words.{files_named, has_conflict, word_named}
+
+-- the word, if there is one, writes a number within these bounds
+abbrev pub IsNumberWithin : ℕ → ℕ → Option Text → Type 0
+IsNumberWithin least most None = ⊤
+IsNumberWithin least most (Some word) = IsSignedIn (pos least) (pos most) word
+
+-- the word, if there is one, names a rule of routing
+abbrev pub IsRouting : Option Text → Type 0
+IsRouting None = ⊤
+IsRouting (Some word) = (word ≡ codes "updown") ⊎ (word ≡ codes "spread")
+
+-- an argument has a word
+abbrev pub IsGiven : Option Text → Type 0
+IsGiven word = is_some word ≡ true
+
+-- files are named, and a floor is a generation
+pub record NamesFiles (word : Text → Option Text) (files : Option (List Text)) : Type 0 where
+  pub named : is_some files ≡ true
+  pub floor : IsNumberWithin 1 4294967295 (word (codes "floor"))
+
+-- how plans are made can be done: an LMC, and a rule that takes the roots, if these are named
+pub record NamesPlanning (word : Text → Option Text) : Type 0 where
+  pub lmc : IsNumberWithin 0 7 (word (codes "lmc"))
+  pub routing : IsRouting (word (codes "routing"))
+  pub apart : has_conflict word ≡ false
+
+-- a subcommand has the words that it takes
+pub data HasItsWords (word : Text → Option Text) (files : Option (List Text)) (name : Text) : Type 0 where
+  facts : name ≡ codes "facts" → NamesFiles word files → HasItsWords word files name
+  join : name ≡ codes "join" → NamesFiles word files → HasItsWords word files name
+  plan : name ≡ codes "plan" → NamesFiles word files → NamesPlanning word → HasItsWords word files name
+  audit : name ≡ codes "audit" → IsGiven (word (codes "TABLES")) → NamesFiles word files → HasItsWords word files name
+  next : name ≡ codes "next" → IsGiven (word (codes "TABLES")) → NamesFiles word files → NamesPlanning word
+      → HasItsWords word files name
+  run : name ≡ codes "run" → IsGiven (word (codes "TOPOLOGY")) → IsGiven (word (codes "SCHEDULE")) → NamesPlanning word
+      → HasItsWords word files name
+
+-- the words name a subcommand, and have the words that it takes
+pub record IsWellFormed (matches : ArgMatches) : Type 0 where
+  pub name : Text
+  pub named : subcommand_name_of matches ≡ Some name
+  pub words : HasItsWords (word_named matches) (files_named matches) name
