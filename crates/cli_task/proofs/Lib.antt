@@ -1,3 +1,5 @@
 pub mod Numbers
 pub mod RuleTexts
+pub mod WellFormed
+pub mod Within
 pub mod Words

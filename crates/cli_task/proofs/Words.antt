@@ -1,5 +1,5 @@
 -- What the words of the command line name.
-use Rattle.std.proofs.Common.{◌≡◌, List, Option, Some, ℕ, ap, refl, sym, ◌∙◌}
+use Rattle.std.proofs.Common.{◌≡◌, Some, ap, refl, sym, ◌∙◌}
 use Rattle.std.specs.Prelude.{codes, option_map}
 use Rattle.clap.specs.Matches.{first_value, matched_of, raw_values}
 use Rattle.clap.specs.Simple.{subcommand_rows_of}

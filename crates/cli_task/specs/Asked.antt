@@ -1,8 +1,8 @@
 -- What the words of the command line ask for: a task, and the names of its inputs.
-use Rattle.std.specs.Prelude.{ℕ, Bool, true, false, List, [], ◌∷◌, ◌++◌, Option, None, Some, codes}
+use Rattle.std.specs.Prelude.{ℕ, Bool, true, false, List, [], ◌∷◌, ◌++◌, Option, None, Some, codes, drop}
 use Rattle.std.specs.Prelude.{is_some, not, nat_le, option_map, option_and_then, ◌&&◌, if◌then◌else◌}
 use Rattle.std.specs.Str.{bytes_eq}
-use Rattle.std.specs.Str.Parse.{without_leading_plus}
+use Rattle.std.specs.Str.Parse.{starts_with_minus, without_leading_plus}
 use Rattle.clap.specs.Matches.{subcommand_name_of}
 use Rattle.clap.specs.declared.parser.matches.ArgMatches.{ArgMatches}
 use Rattle.cli_arguments.specs.Words.{files_named, word_named}
@@ -22,9 +22,16 @@ use Rattle.cli_task.specs.declared.task.Task.TheVariants.{Answer, Audit, Next, R
 abbrev pub within : ℕ → ℕ → ℕ → Option ℕ
 within least most n = if nat_le least n && nat_le n most then Some n else None
 
--- the number that a word writes in decimal, with a plus in front or without
+-- the number that a word writes in decimal, behind a sign or without one; behind a minus it is 0 alone
 abbrev pub number_in : List ℕ → Option ℕ
-number_in word = number_of 10 (without_leading_plus word)
+number_in word =
+    if starts_with_minus word then option_and_then (within 0 0) (number_of 10 (drop 1 word))
+    else number_of 10 (without_leading_plus word)
+
+-- the number of a word, where it fits 32 bits; another one without a word
+abbrev pub number_or : ℕ → Option (List ℕ) → Option ℕ
+number_or otherwise None = Some otherwise
+number_or otherwise (Some word) = option_and_then (within 0 4294967295) (number_in word)
 
 -- the floor is the number of the word; without a word it is 1
 abbrev pub floor_asked : Option (List ℕ) → Option ℕ

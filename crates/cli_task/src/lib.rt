@@ -1,6 +1,7 @@
 //! What the words of a command line ask for: a task, and the names of its inputs.
 #![tactic(auto)]
 
+pub mod laws;
 mod task;
 
 pub use task::{Task, names_of, task_of};

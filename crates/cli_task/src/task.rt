@@ -1,7 +1,7 @@
 //! What the words of the command line ask for.
-ghost use Rattle.std.specs.Prelude.{◌≡◌, IfOk, codes, is_some, map, option_map};
+ghost use Rattle.std.specs.Prelude.{◌≡◌, IfOk, codes, is_some, map, option_and_then, option_map};
 ghost use Rattle.clap.specs.Matches.{first_value, found_of, matched_of, raw_values};
-ghost use Rattle.cli_task.specs.Asked.{floor_asked, lmc_asked, planning_asked, rule_asked};
+ghost use Rattle.cli_task.specs.Asked.{floor_asked, lmc_asked, number_in, number_or, planning_asked, rule_asked, within};
 ghost use Rattle.cli_task.specs.Asked.{output_asked, step_asked, task_asked, task_behind};
 ghost use Rattle.cli_task.specs.Asked.{names_asked, names_in, rule_of_task, takes_files, texts_asked, texts_of_rule};
 
@@ -115,26 +115,36 @@ fn planning_of(words: &ArgMatches<'_>) -> Option<(Lmc, RuleAsked)>
     Some((lmc, rule))
 }
 
-/// The floor that the words behind a subcommand ask for, 1 where they ask for none.
+/// Returns the floor that the words behind a subcommand ask for, 1 if they ask for none.
 fn floor_of(words: &ArgMatches<'_>) -> Option<Generation>
     ensures { result ≡ floor_asked (first_value (found_of words.now) (codes "floor")) }
 {
-    let number = match words.get_str(FLOOR) {
-        Some(text) => text.parse::<u32>().ok()?,
-        None => 1,
-    };
-    Generation::new(number)
+    Generation::new(number_or(words, FLOOR, 1)?)
 }
 
-/// The LMC that the words behind a subcommand ask for, 0 where they ask for none.
+/// Returns the LMC that the words behind a subcommand ask for, 0 if they ask for none.
 fn lmc_of(words: &ArgMatches<'_>) -> Option<Lmc>
     ensures { result ≡ lmc_asked (first_value (found_of words.now) (codes "lmc")) }
 {
-    let number = match words.get_str(LMC) {
-        Some(text) => text.parse::<u8>().ok()?,
-        None => 0,
-    };
-    Lmc::new(number)
+    Lmc::new(u8::try_from(number_or(words, LMC, 0)?).ok()?)
+}
+
+/// Returns the number behind the option `name`, or `otherwise` if it is not there.
+fn number_or(words: &ArgMatches<'_>, name: &str, otherwise: u32) -> Option<u32>
+    ensures { result ≡ number_or otherwise (first_value (found_of words.now) name.now) }
+{
+    match words.get_str(name) {
+        Some(text) => number_in(text),
+        None => Some(otherwise),
+    }
+}
+
+/// Returns the number that `text` writes in decimal, behind a sign or without one, as the parser of words reads it;
+/// `None` if it writes none of 32 bits.
+fn number_in(text: &str) -> Option<u32>
+    ensures { result ≡ option_and_then (within 0 4294967295) (number_in text.now) }
+{
+    u32::try_from(text.parse::<i64>().ok()?).ok()
 }
 
 /// The rule of routing that the words behind a subcommand ask for, up and down where they ask for none.

@@ -1,7 +1,7 @@
 //! One run of the program.
-ghost use Rattle.std.specs.Prelude.{◌≡◌, ◌⊎◌, Bool, IfOk, IsTrue, None};
+ghost use Rattle.std.specs.Prelude.{◌≡◌, ◌≢◌, ◌⊎◌, Bool, IfOk, IsTrue};
 ghost use Rattle.std.specs.Io.KnownBytes.{Appends};
-ghost use Rattle.cli_task.specs.Asked.{inputs_asked};
+ghost use Rattle.cli_arguments.specs.WellFormed.{IsWellFormed};
 ghost use Rattle.next_run.specs.RunNext.{IsSaid};
 ghost use Rattle.schedule_lines.specs.Prints.{PrintsSome};
 ghost use Rattle.ibsm.specs.Ending.{IsDone, PerformsWords, SaysWhyOfWords, status_after};
@@ -62,8 +62,11 @@ fn words<R: Env + Eprint + AllocGlobal>(rt: &R) -> Result<Option<Vec<String>>, A
     }
 }
 
-/// Does what the words ask for, and says on `errors` why it cannot; an `Err` says that memory ran out before it was
-/// begun.
+/// Does what well-formed words ask for, and says on `errors` why it cannot.
+///
+/// # Errors
+///
+/// Memory ran out before anything was begun.
 fn dispatch<R, O, E>(
     rt: &R,
     matches: &ArgMatches<'_>,
@@ -74,25 +77,21 @@ where
     R: Opener + AllocGlobal,
     O: Write,
     E: Write,
+    requires { IsWellFormed matches.now }
     ensures done { IfOk result (λ status. (passed : Bool) → status ≡ status_after passed
         → PerformsWords (R.answers rt.now) R.Opened.state matches.now
         (Appends (⟦<ToWrite<O> as Sink>⟧.written output.old) (⟦<ToWrite<O> as Sink>⟧.written output.new))
         (IsSaid ⟦<ToWrite<E> as Sink>⟧.written ⟦<ToWrite<E> as Sink>⟧.has_failed errors.old errors.new) passed) }
     ensures flushed { IfOk result (λ status. IsDone status → IsTrue (⟦<ToWrite<O> as Sink>⟧.is_flushed output.new)) }
-    ensures says_why { IfOk result (λ status. IsDone status ⊎ ((status ≡ ExitStatus.Usage)
-        ⊎ SaysWhyOfWords (R.answers rt.now) R.Opened.state matches.now
+    ensures says_why { IfOk result (λ status. IsDone status ⊎ SaysWhyOfWords (R.answers rt.now) R.Opened.state matches.now
         (PrintsSome ⟦<ToWrite<O> as Sink>⟧.written ⟦<ToWrite<O> as Sink>⟧.has_failed output.old output.new)
         (⟦<ToWrite<O> as Sink>⟧.has_failed output.new) (output.new ≡ output.old) status
-        (IsSaid ⟦<ToWrite<E> as Sink>⟧.written ⟦<ToWrite<E> as Sink>⟧.has_failed errors.old errors.new))) }
-    ensures usage { IfOk result (λ status. status ≡ ExitStatus.Usage → inputs_asked matches.now ≡ None) }
+        (IsSaid ⟦<ToWrite<E> as Sink>⟧.written ⟦<ToWrite<E> as Sink>⟧.has_failed errors.old errors.new)) }
+    ensures no_usage { IfOk result (λ status. status ≢ ExitStatus.Usage) }
 {
-    let Some(task) = task_of(matches) else {
-        return Ok(ExitStatus::Usage);
-    };
-    match names_of(rt.alloc(), matches, &task)? {
-        Some(names) => Ok(perform_or_explain(rt, task, &names, output, errors)),
-        None => Ok(ExitStatus::Usage),
-    }
+    let task = task_of(matches).unwrap();
+    let names = names_of(rt.alloc(), matches, &task)?.unwrap();
+    Ok(perform_or_explain(rt, task, &names, output, errors))
 }
 
 /// Prints help on standard output, and what is wrong with the command line on standard error.

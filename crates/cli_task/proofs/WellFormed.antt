@@ -1,0 +1,123 @@
+-- Well-formed words ask for a task, and name its inputs.
+use Rattle.std.proofs.Common.{◌≡◌, ◌&&◌, ℕ, true, false, not, List, [], ◌∷◌, Option, None, Some, ap, inl, inr, refl, sym, subst, ◌∙◌}
+use Rattle.std.specs.Prelude.{codes, is_some, option_and_then, option_map}
+use Rattle.std.specs.Str.{bytes_eq}
+use Rattle.clap.specs.Matches.{subcommand_name_of}
+use Rattle.clap.specs.declared.parser.matches.ArgMatches.{ArgMatches}
+use Rattle.cli_arguments.specs.WellFormed.{HasItsWords, IsGiven, IsNumberWithin, IsRouting, IsWellFormed, NamesFiles, NamesPlanning, facts, join, plan, audit, next, run}
+use Rattle.cli_arguments.specs.Words.{files_named, roots_lack_rule, word_named}
+use Rattle.sm_cli.specs.declared.asked.RuleAsked.{RuleAsked}
+use Rattle.sm_cli.specs.declared.asked.RuleAsked.TheVariants.{UpDown, Spread, SpreadFromRoots}
+use Rattle.cli_task.specs.Asked.{floor_asked, followed_by, lmc_asked, names_in, planning_asked, rule_asked, task_behind, texts_of_rule}
+use Rattle.cli_task.proofs.Within.{number_within}
+
+-- a value that is there
+known : {X : Type 0} (o : Option X) → is_some o ≡ true → (x : X) × (o ≡ Some x)
+known None e = absurd (cc)
+known (Some x) e = (x, refl)
+
+floor_there : (o : Option (List ℕ)) → IsNumberWithin 1 4294967295 o → is_some (floor_asked o) ≡ true
+floor_there None h = refl
+floor_there (Some word) h = number_within 1 4294967295 word h
+
+lmc_there : (o : Option (List ℕ)) → IsNumberWithin 0 7 o → is_some (lmc_asked o) ≡ true
+lmc_there None h = refl
+lmc_there (Some word) h = number_within 0 7 word h
+
+-- the rule, and the text that it takes
+rule_there : (routing roots : Option (List ℕ)) → IsRouting routing → roots_lack_rule routing (is_some roots) ≡ false
+    → (rule : RuleAsked) × (rule_asked routing (is_some roots) ≡ Some rule) × ((word : List ℕ → Option (List ℕ)) → word (codes "roots") ≡ roots
+    → is_some (texts_of_rule word rule) ≡ true)
+rule_there None None h e = (UpDown, refl, (λ word is. refl))
+rule_there None (Some r) h e = absurd (cc)
+rule_there (Some w) roots (inl is) e = updown roots e
+  where
+    updown : (roots : Option (List ℕ)) → (is_some roots && not (bytes_eq w (codes "spread"))) ≡ false
+        → (rule : RuleAsked) × (rule_asked (Some w) (is_some roots) ≡ Some rule) × ((word : List ℕ → Option (List ℕ)) → word (codes "roots") ≡ roots
+        → is_some (texts_of_rule word rule) ≡ true)
+    updown None f = (UpDown, ap (λ v. rule_asked (Some v) false) is, (λ word j. refl))
+    updown (Some r) f =
+        let bad : not (bytes_eq (codes "updown") (codes "spread")) ≡ false = subst (λ (v : List ℕ). not (bytes_eq v (codes "spread")) ≡ false) is f in
+        absurd (cc)
+rule_there (Some w) None (inr is) e = (Spread, ap (λ v. rule_asked (Some v) false) is, (λ word j. refl))
+rule_there (Some w) (Some r) (inr is) e =
+    (SpreadFromRoots, ap (λ v. rule_asked (Some v) true) is, (λ word j. ap (λ o. is_some (option_map (λ roots. roots ∷ []) o)) j))
+
+module _ (word : List ℕ → Option (List ℕ)) (files : Option (List (List ℕ))) where
+  -- how plans are made
+  planning_there : NamesPlanning word → (by : ℕ × RuleAsked) × (planning_asked word ≡ Some by) × (is_some (texts_of_rule word by.1) ≡ true)
+  planning_there h =
+      let lmc = known (lmc_asked (word (codes "lmc"))) (lmc_there (word (codes "lmc")) h.lmc) in
+      let rule = rule_there (word (codes "routing")) (word (codes "roots")) h.routing h.apart in
+      ((lmc.0, rule.0), both (lmc_asked (word (codes "lmc"))) lmc.0 lmc.1 (rule_asked (word (codes "routing")) (is_some (word (codes "roots")))) rule.0 rule.1, rule.2 word refl)
+    where
+      both : (o : Option ℕ) (lmc : ℕ) → o ≡ Some lmc → (r : Option RuleAsked) (rule : RuleAsked) → r ≡ Some rule
+          → option_and_then {U = ℕ × RuleAsked} (λ lmc. option_map {U = ℕ × RuleAsked} (λ rule. (lmc, rule)) r) o ≡ Some (lmc, rule)
+      both o lmc e r rule f = rw (e, f) refl
+
+  both_there : (first later : Option (List (List ℕ))) → is_some first ≡ true → is_some later ≡ true → is_some (followed_by first later) ≡ true
+  both_there None later e f = absurd (cc)
+  both_there (Some xs) None e f = absurd (cc)
+  both_there (Some xs) (Some ys) e f = refl
+
+  one_there : (o : Option (List ℕ)) → is_some o ≡ true → is_some (option_map (λ text. text ∷ []) o) ≡ true
+  one_there None e = absurd (cc)
+  one_there (Some text) e = refl
+
+  two_there : (a b : Option (List ℕ)) → is_some a ≡ true → is_some b ≡ true → is_some (option_and_then (λ x. option_map (λ y. x ∷ y ∷ []) b) a) ≡ true
+  two_there None b e f = absurd (cc)
+  two_there (Some x) None e f = absurd (cc)
+  two_there (Some x) (Some y) e f = refl
+
+  abbrev Asks : List ℕ → Type 0
+  Asks name = is_some (option_and_then (names_in word files) (task_behind word name)) ≡ true
+
+  files_there : NamesFiles word files → is_some (followed_by (Some []) (followed_by (Some []) files)) ≡ true
+  files_there h = both_there (Some []) (followed_by (Some []) files) refl (both_there (Some []) files refl h.named)
+
+  facts_ask : NamesFiles word files → Asks (codes "facts")
+  facts_ask h =
+      let floor = known (floor_asked (word (codes "floor"))) (floor_there (word (codes "floor")) h.floor) in
+      rw floor.1 (files_there h)
+
+  join_ask : NamesFiles word files → Asks (codes "join")
+  join_ask h =
+      let floor = known (floor_asked (word (codes "floor"))) (floor_there (word (codes "floor")) h.floor) in
+      rw floor.1 (files_there h)
+
+  plan_asks : NamesFiles word files → NamesPlanning word → Asks (codes "plan")
+  plan_asks h p =
+      let floor = known (floor_asked (word (codes "floor"))) (floor_there (word (codes "floor")) h.floor) in
+      let by = planning_there p in
+      rw (by.1, floor.1) (both_there (texts_of_rule word by.0.1) (followed_by (Some []) files) by.2 (both_there (Some []) files refl h.named))
+
+  audit_asks : IsGiven (word (codes "TABLES")) → NamesFiles word files → Asks (codes "audit")
+  audit_asks t h =
+      let floor = known (floor_asked (word (codes "floor"))) (floor_there (word (codes "floor")) h.floor) in
+      rw floor.1 (both_there (Some []) _ refl (both_there _ files (one_there (word (codes "TABLES")) t) h.named))
+
+  next_asks : IsGiven (word (codes "TABLES")) → NamesFiles word files → NamesPlanning word → Asks (codes "next")
+  next_asks t h p =
+      let floor = known (floor_asked (word (codes "floor"))) (floor_there (word (codes "floor")) h.floor) in
+      let by = planning_there p in
+      rw (by.1, floor.1) (both_there (texts_of_rule word by.0.1) _ by.2 (both_there _ files (one_there (word (codes "TABLES")) t) h.named))
+
+  run_asks : IsGiven (word (codes "TOPOLOGY")) → IsGiven (word (codes "SCHEDULE")) → NamesPlanning word → Asks (codes "run")
+  run_asks t s p =
+      let by = planning_there p in
+      rw by.1 (both_there (texts_of_rule word by.0.1) _ by.2 (both_there _ (Some []) (two_there (word (codes "TOPOLOGY")) (word (codes "SCHEDULE")) t s) refl))
+
+  words_ask : (name : List ℕ) → HasItsWords word files name → Asks name
+  words_ask name (facts is h) = subst Asks (sym is) (facts_ask h)
+  words_ask name (join is h) = subst Asks (sym is) (join_ask h)
+  words_ask name (plan is h p) = subst Asks (sym is) (plan_asks h p)
+  words_ask name (audit is t h) = subst Asks (sym is) (audit_asks t h)
+  words_ask name (next is t h p) = subst Asks (sym is) (next_asks t h p)
+  words_ask name (run is t s p) = subst Asks (sym is) (run_asks t s p)
+
+-- so do well-formed words
+pub well_formed_asks : (matches : ArgMatches) → IsWellFormed matches
+    → is_some (option_and_then (names_in (word_named matches) (files_named matches)) (option_and_then (task_behind (word_named matches)) (subcommand_name_of matches))) ≡ true
+well_formed_asks matches h =
+    ap (λ o. is_some (option_and_then (names_in (word_named matches) (files_named matches)) (option_and_then (task_behind (word_named matches)) o))) h.named
+    ∙ words_ask (word_named matches) (files_named matches) h.name h.words

@@ -1,0 +1,9 @@
+-- What a command line that is taken asks for.
+use Rattle.std.specs.Prelude.{◌≡◌, true, is_some}
+use Rattle.clap.specs.declared.parser.matches.ArgMatches.{ArgMatches}
+use Rattle.cli_arguments.specs.WellFormed.{IsWellFormed}
+use Rattle.cli_task.specs.Asked.{inputs_asked}
+
+-- well-formed words ask for a task, and name each of its inputs
+abbrev pub WellFormedWordsAsk : Type 0
+WellFormedWordsAsk = (matches : ArgMatches) → IsWellFormed matches → is_some (inputs_asked matches) ≡ true
