@@ -230,6 +230,8 @@ STEADY = (
     ("a ping", "ping SEAT LID"),
     ("a state", "state B"),
     ("a progress", "progress A"),
+    ("silent managers", "silent A"),
+    ("whether a plan is written", "written B"),
     ("a timeout of nothing", "timeout A"),
     ("a refused writing", "write B"),
     ("a packet that is lost", "poll B LID/lose last/timeout A"),

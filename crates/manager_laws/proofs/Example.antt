@@ -1,6 +1,6 @@
 -- A sweep that has every answer: on an adapter, a switch with a loop in its third port, and an adapter that has a port without
 -- a cable and at its other port a manager, which is asked for SMInfo.
-use Rattle.std.proofs.Common.{◌≡◌, ℕ, zero, suc, ◌+◌, ◌*◌, List, [], ◌∷◌, ◌++◌, replicate, refl, ap, ◌∙◌, arith}
+use Rattle.std.proofs.Common.{◌≡◌, ℕ, zero, suc, ◌+◌, ◌*◌, ◌^◌, List, [], ◌∷◌, ◌++◌, replicate, refl, ap, ◌∙◌, arith}
 use Rattle.std.proofs.lemmas.Option.{slice_get-map}
 use Rattle.std.proofs.lemmas.List.Elements.{All-from_recursion}
 use Rattle.std.specs.Prelude.{Some, All, flat_map, option_map, slice_get}
@@ -18,16 +18,16 @@ use Rattle.node_agents.specs.PortInfo.{changed_port}
 use Rattle.fabric_sim.specs.Simulation.{Simulation, IsSimulation, fabric_of}
 use Rattle.fabric_sim.specs.Build.{uncabled}
 use Rattle.fabric_sim.specs.Delivery.{outcome_of, after_deliver}
-use Rattle.fabric_sim.specs.Changes.{changed_at, after_inject, cabled_at}
+use Rattle.fabric_sim.specs.Changes.{changed_at, after_inject, after_lose, cabled_at}
 use Rattle.fabric_sim.proofs.Built.{uncabled_is}
 use Rattle.fabric_sim.proofs.Invariants.{seated_is}
 use Rattle.fabric_sim.proofs.Recabled.{joined_is}
 use Rattle.sweep.specs.Sweep.{started}
 use Rattle.manager_laws.specs.Scene as scene
-use Rattle.manager_laws.specs.Scene.{Answer, Deliver}
+use Rattle.manager_laws.specs.Scene.{Answer, Deliver, Lose}
 use Rattle.manager_laws.specs.Truth.{AreGuidsDistinct}
-use Rattle.manager_laws.specs.Sweeping.{Sweeping, SweepEvent, Around, Ask, Send, Hear, Begins, CanBe, after_sweep_events}
-use Rattle.manager_laws.specs.Complete.{IsWhole, SomeSweepIsWhole}
+use Rattle.manager_laws.specs.Sweeping.{Sweeping, SweepEvent, Around, Ask, Send, Hear, TimeOut, Begins, CanBe, after_sweep_events}
+use Rattle.manager_laws.specs.Complete.{IsWhole, SomeManagerIsSilent, SomeSweepIsWhole}
 use Rattle.manager_laws.proofs.Lists.{all_append}
 
 abbrev port : ℕ → ℕ → NodePort
@@ -184,3 +184,40 @@ whole = record { done = refl; answered = refl; near = refl }
 pub some_sweep_is_whole : SomeSweepIsWhole
 some_sweep_is_whole =
     record { sweeping = beginning; generation = 1; first = 0; events = events; begins = begins; can_be = can_be; whole = whole }
+
+-- a manager that is silent ------------------------------------------------------------------------------------
+
+-- the last request is lost, and given up
+abbrev gives_up : List SweepEvent
+gives_up = Ask ∷ Send 11 ∷ Around (Lose 22) ∷ TimeOut (2 ^ 32 + 11) ∷ []
+
+abbrev silent_events : List SweepEvent
+silent_events = flat_map (λ t. trip t.0 t.1) trips ++ gives_up
+
+silent_can_be : All CanBe silent_events
+silent_can_be =
+    All-from_recursion CanBe silent_events
+    (all_append CanBe (flat_map (λ t. trip t.0 t.1) trips) gives_up (all_can_be trips) (tt, (tt, (tt, (tt, tt)))))
+
+whole_but_for_it : IsWhole (after_sweep_events silent_events beginning).sweep
+unfolding cabled_at fresh_agent after_inject after_deliver after_lose outcome_of after_answer get_of set_of changed_port with_bytes
+whole_but_for_it = record { done = refl; answered = refl; near = refl }
+
+it_is_silent : (after_sweep_events silent_events beginning).sweep.silent_managers ≡ 1
+unfolding cabled_at fresh_agent after_inject after_deliver after_lose outcome_of after_answer get_of set_of changed_port with_bytes
+it_is_silent = refl
+
+pub some_manager_is_silent : SomeManagerIsSilent
+some_manager_is_silent =
+    record {
+      some = record {
+        sweeping = beginning;
+        generation = 1;
+        first = 0;
+        events = silent_events;
+        begins = begins;
+        can_be = silent_can_be;
+        whole = whole_but_for_it;
+      };
+      silent = it_is_silent;
+    }

@@ -1,9 +1,9 @@
 -- Whatever happens, a sweep goes on to cover what it comes to.
-use Rattle.std.proofs.Common.{◌≡◌, ◌⊎◌, ℕ, ◌≤◌, true, List, [], ◌∷◌, ◌++◌, append_assoc, append-nil, refl, sym, ap, ◌∙◌, subst, arith}
+use Rattle.std.proofs.Common.{◌≡◌, ◌⊎◌, ℕ, ◌+◌, ◌≤◌, Bool, true, List, [], ◌∷◌, ◌++◌, append_assoc, append-nil, refl, sym, ap, ◌∙◌, subst, arith}
 use Rattle.std.proofs.lemmas.Bool.{cond_both}
 use Rattle.std.proofs.lemmas.List.Concat.{flat_map-append}
 use Rattle.std.proofs.lemmas.List.Elements.{All-head, All-tail}
-use Rattle.std.specs.Prelude.{Option, Some, None, Result, Ok, Err, All, slice_get, flat_map}
+use Rattle.std.specs.Prelude.{Option, Some, None, Result, Ok, Err, All, find, slice_get, flat_map, ◌==◌}
 use Rattle.std.specs.List.{AllByRecursion}
 use Rattle.fabric_model.specs.declared.cable.NodePort.{NodePort}
 use Rattle.fabric_model.specs.Cables.{is_same_port}
@@ -16,7 +16,10 @@ use Rattle.sweep.specs.declared.answer.Answer.{Answer}
 use Rattle.sweep.specs.declared.answer.Answer.TheVariants.{Facts, Seen}
 use Rattle.sweep.specs.declared.fault.SweepFault.{SweepFault}
 use Rattle.sweep.specs.declared.request.Request.{Request}
-use Rattle.sweep.specs.Sweep.{Sweep, AreRising, first_question, request_with, after_next_request, after_next_request_of, after_timeout, after_timeout_of}
+use Rattle.sweep.specs.declared.request.Question.{Question}
+use Rattle.sweep.specs.declared.request.Question.TheVariants as ask
+use Rattle.sweep.specs.Sweep.{Sweep, AreRising, first_question, managers_asked, request_with, transaction_of, without_number}
+use Rattle.sweep.specs.Sweep.{after_next_request, after_next_request_of, after_timeout, after_timeout_of}
 use Rattle.sweep.specs.Replies.{belongs, judged, after_reply, after_reply_to, sightings_by}
 use Rattle.manager_laws.specs.Scene.{Handed}
 use Rattle.manager_laws.specs.Sweeping.{Sweeping, SweepEvent, Around, Ask, Send, Hear, TimeOut, CanBe, sending, reports_of}
@@ -27,8 +30,9 @@ use Rattle.manager_laws.proofs.Swept as swept
 use Rattle.manager_laws.proofs.Swept.{Goes, goes_on}
 use Rattle.manager_laws.proofs.TrueFacts.{IsCabled}
 use Rattle.manager_laws.proofs.Asked.{IsPending}
-use Rattle.manager_laws.proofs.Covered.{Covered, Covers, IsOrigin, IsRooted}
+use Rattle.manager_laws.proofs.Covered.{Covered, Covers, IsJoinedSighting, IsOrigin, IsRooted}
 use Rattle.manager_laws.proofs.Lists.{Has}
+use Rattle.manager_laws.proofs.PortReplies.{manager_covered}
 use Rattle.manager_laws.proofs.Replies.{by_question}
 
 -- the sightings of all reports
@@ -41,9 +45,10 @@ told_more reports (Seen guid port info) = flat_map-append sightings_of reports [
 
 module _ {start : Simulation} {seat : NodePort} (cables : AreCables start) (counts : (id : ℕ) → port_count start id ≤ 254)
     (can : CanBeSwept (fabric_of start) seat) (cabled : IsCabled (fabric_of start)) where
-  -- as long as nothing is unanswered and nothing is too far
+  -- as long as managers alone are silent and nothing is too far
   abbrev pub CoversSoFar : Sweep → Sightings → Type 0
-  CoversSoFar s told = s.unanswered ≡ 0 → s.too_far ≡ 0 → Covered (fabric_of start) seat s told
+  CoversSoFar s told =
+      (s.silent_managers ≤ s.unanswered) × (s.unanswered ≡ s.silent_managers → s.too_far ≡ 0 → Covered (fabric_of start) seat s told)
 
   -- the first of the queue waits then
   pub sent_covers : (s : Sweep) (told : Sightings) → CoversSoFar s told → CoversSoFar (after_next_request s).sweep told
@@ -51,8 +56,8 @@ module _ {start : Simulation} {seat : NodePort} (cables : AreCables start) (coun
     where
       by_queue : (queue : List Request) → s.queued ≡ queue → CoversSoFar (after_next_request_of s queue).sweep told
       by_queue [] e = h
-      by_queue (r ∷ queue) e = λ answered near.
-          let c = h answered near in
+      by_queue (r ∷ queue) e = (h.0, λ answered near.
+          let c = h.1 answered near in
           let same : s.outstanding ++ s.queued ≡ (s.outstanding ++ r ∷ []) ++ queue =
           ap (λ l. s.outstanding ++ l) e ∙ sym (append_assoc s.outstanding (r ∷ []) queue) in
           record {
@@ -62,15 +67,59 @@ module _ {start : Simulation} {seat : NodePort} (cables : AreCables start) (coun
                 same c.vertices;
             joined = c.joined;
             start = subst (λ rs. (IsPending rs first_question × (s.reached ≡ [])) ⊎ Has (IsOrigin (fabric_of start) seat) s.reached) same c.start;
-          }
+          })
 
-  -- a request that times out counts as unanswered
-  pub timeout_covers : (s : Sweep) (told : Sightings) (transaction : ℕ) → CoversSoFar s told → CoversSoFar (after_timeout s transaction) told
-  timeout_covers s told transaction h = by_request (request_with s.generation transaction s.outstanding)
+  -- a request that has timed out waits no more
+  abbrev given_up : Sweep → Request → ℕ → Sweep
+  given_up s r managers =
+      record s {
+        outstanding = without_number r.number s.outstanding;
+        unanswered = s.unanswered + 1;
+        silent_managers = s.silent_managers + managers;
+      }
+
+  -- of one for SMInfo nothing is missed
+  silent_covers : (s : Sweep) (told : Sightings) (c : Covered (fabric_of start) seat s told) → IsSoundSweep (fabric_of start) seat s
+      → (r : Request) (t : Request → Bool) → find t s.outstanding ≡ Some r → (guid port : ℕ) → r.question ≡ ask.Manager guid port
+      → Covered (fabric_of start) seat (given_up s r 1) told
+  silent_covers s told c sound r t found guid port question =
+      let then = manager_covered can s told c sound r t found s.generation guid port question s.states s.too_far in
+      let queue : s.queued ++ [] ≡ s.queued = append-nil s.queued in
+      let kept : told ++ [] ≡ told = append-nil told in
+      let requests : without_number r.number s.outstanding ++ (s.queued ++ []) ≡ without_number r.number s.outstanding ++ s.queued =
+      ap (λ l. without_number r.number s.outstanding ++ l) queue in
+      let next : s.next + 0 ≡ s.next = omega arith in
+      record {
+        rising = subst (λ rs. AreRising 0 rs s.next) requests (subst (AreRising 0 (without_number r.number s.outstanding ++ (s.queued ++ []))) next then.rising);
+        rooted = subst (λ rs. AllByRecursion (λ (x : Request). IsRooted (fabric_of start) seat s.reached x.context) rs) requests then.rooted;
+        vertices = subst (λ told. AllByRecursion (Covers (fabric_of start) seat (record {
+          requests = without_number r.number s.outstanding ++ s.queued; reached = s.reached; told = told })) s.reached) kept
+            (subst (λ rs. AllByRecursion (Covers (fabric_of start) seat (record { requests = rs; reached = s.reached; told = told ++ [] })) s.reached)
+            requests then.vertices);
+        joined = subst (λ told. AllByRecursion (IsJoinedSighting (fabric_of start) seat) told) kept then.joined;
+        start = subst (λ rs. (IsPending rs first_question × (s.reached ≡ [])) ⊎ Has (IsOrigin (fabric_of start) seat) s.reached) requests then.start;
+      }
+
+  -- a request that times out counts as unanswered, and one for SMInfo as of a silent manager too
+  pub timeout_covers : (s : Sweep) (told : Sightings) (transaction : ℕ) → IsSoundSweep (fabric_of start) seat s → CoversSoFar s told
+      → CoversSoFar (after_timeout s transaction) told
+  timeout_covers s told transaction sound h = by_request (request_with s.generation transaction s.outstanding) refl
     where
-      by_request : (m : Option Request) → CoversSoFar (after_timeout_of s m) told
-      by_request None = h
-      by_request (Some r) = λ answered near. absurd (omega (arith, answered))
+      by_question : (r : Request) → request_with s.generation transaction s.outstanding ≡ Some r → (q : Question) → r.question ≡ q
+          → CoversSoFar (given_up s r (managers_asked q)) told
+      by_question r found ask.Node e = let few = h.0 in (omega (arith, few), λ answered near. absurd (omega (arith, few, answered)))
+      by_question r found ask.Switch e = let few = h.0 in (omega (arith, few), λ answered near. absurd (omega (arith, few, answered)))
+      by_question r found (ask.Port port) e = let few = h.0 in (omega (arith, few), λ answered near. absurd (omega (arith, few, answered)))
+      by_question r found (ask.Manager guid port) e =
+          let few = h.0 in (
+            omega (arith, few),
+            λ answered near. silent_covers s told (h.1 (omega (arith, answered)) near) sound r
+            (λ (x : Request). transaction_of s.generation x.number == transaction) found guid port e,
+          )
+
+      by_request : (m : Option Request) → request_with s.generation transaction s.outstanding ≡ m → CoversSoFar (after_timeout_of s m) told
+      by_request None e = h
+      by_request (Some r) e = by_question r e r.question refl
 
   -- a reply is taken
   pub reply_covers : (s : Sweep) (told : Sightings) → IsSoundSweep (fabric_of start) seat s → (bytes : List ℕ) → IsForManager start seat bytes
@@ -79,8 +128,8 @@ module _ {start : Simulation} {seat : NodePort} (cables : AreCables start) (coun
   reply_covers s told sound bytes is answer taken h =
       let a = swept.accepted_as cables counts can cabled s sound bytes is answer taken in
       subst (λ m. CoversSoFar (after_reply_to s bytes m) (told ++ sightings_by answer)) (sym a.belongs)
-      (λ answered near.
-      let c = h answered (omega (arith, near)) in
+      (h.0, λ answered near.
+      let c = h.1 answered (omega (arith, near)) in
       let found = swept.found cables counts can cabled s sound bytes is answer taken in
       subst (Covered (fabric_of start) seat (after_reply_to s bytes (Some a.request))) (ap (λ x. told ++ sightings_by x) (sym a.answer_is))
       (by_question can s told c sound a.request (belongs s.generation bytes) a.belongs cabled bytes
@@ -125,7 +174,7 @@ module _ {start : Simulation} {seat : NodePort} (cables : AreCables start) (coun
   covers_next w (Send which) g can_be c = sending_covers w (slice_get w.asked which) c
   covers_next w (Hear which) g can_be c =
       hearing_covers w (slice_get w.scene.handed which) g (λ h e. was_there start w.scene.handed which h g.scene.handed e) c
-  covers_next w (TimeOut transaction) g can_be c = timeout_covers w.sweep (told_in w.reports) transaction c
+  covers_next w (TimeOut transaction) g can_be c = timeout_covers w.sweep (told_in w.reports) transaction g.sound c
 
   pub all_covered : (events : List SweepEvent) (w : Sweeping) → Goes cables counts can cabled w → All CanBe events → GoesWell w
       → GoesWell (after_sweep_events events w)

@@ -18,10 +18,11 @@ use Rattle.lft_blocks.specs.Arrival.{HoldsPlan}
 use Rattle.manager_laws.specs.Pings.{EachPingArrives}
 use Rattle.manager_laws.specs.Sweeping.{Sweeping, SweepEvent, CanBe, Begins, after_sweep_events}
 
--- nothing is to be sent or waits, and each request was answered, over a path as long as it had to be
+-- nothing is to be sent or waits, each request that was not answered was for SMInfo, which tells no facts, and none had
+-- to go over a path that is too long
 pub record IsWhole (s : Sweep) : Type 0 where
   pub done : is_done s ≡ true
-  pub answered : s.unanswered ≡ 0
+  pub answered : s.unanswered ≡ s.silent_managers
   pub near : s.too_far ≡ 0
 
 -- what reports tell together
@@ -79,3 +80,8 @@ pub record SomeSweepIsWhole : Type 0 where
   pub begins : Begins sweeping generation first
   pub can_be : All CanBe events
   pub whole : IsWhole (after_sweep_events events sweeping).sweep
+
+-- and there is one in which a manager that is there does not answer
+pub record SomeManagerIsSilent : Type 0 where
+  pub some : SomeSweepIsWhole
+  pub silent : (after_sweep_events some.events some.sweeping).sweep.silent_managers ≡ 1

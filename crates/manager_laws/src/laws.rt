@@ -1,6 +1,7 @@
 //! What is so after any events on a fabric: of sweeps, of plans that are written, and of pings.
 ghost use Rattle.manager_laws.specs.AnswersTell.{AnswersTell};
-ghost use Rattle.manager_laws.specs.Complete.{DoneSweepsAreComplete, SomeSweepIsWhole, SweptPingsArrive};
+ghost use Rattle.manager_laws.specs.Complete.{DoneSweepsAreComplete, SomeManagerIsSilent, SomeSweepIsWhole};
+ghost use Rattle.manager_laws.specs.Complete.{SweptPingsArrive};
 ghost use Rattle.manager_laws.specs.Managing.{NewManagersRest};
 ghost use Rattle.manager_laws.specs.Pings.{PingsArrive};
 ghost use Rattle.manager_laws.specs.Sweeping.{AcceptedFactsAreTrue};
@@ -30,14 +31,13 @@ pub fn pings_arrive()
     ensures { PingsArrive }
 {}
 
-/// When a sweep is done, with each of its requests answered and none wanted over a path that is too
-/// long, the facts of its reports agree with the part of the fabric that is joined to its seat, as
-/// it was when the sweep began and as it is then: they tell its end ports, its switches and its
-/// wires, and no others. And the path that the sweep has for each of these end ports leads there.
-/// So it is on every fabric whose nodes have different GUIDs, whatever other managers send of what
-/// `manager_laws::laws::answers_tell` names, whatever is lost, copied and reordered, and however often or late a
-/// request of the sweep is sent or a reply is given to it. A request for SMInfo has to be answered as well, by the
-/// manager that is asked; what this tells of itself may be anything.
+/// When a sweep is done, with each of its requests but those for SMInfo answered and none wanted over a path that is
+/// too long, the facts of its reports agree with the part of the fabric that is joined to its seat, as it was when the
+/// sweep began and as it is then: they tell its end ports, its switches and its wires, and no others. And the path that
+/// the sweep has for each of these end ports leads there. So it is on every fabric whose nodes have different GUIDs,
+/// whatever other managers send of what `manager_laws::laws::answers_tell` names, whatever is lost, copied and
+/// reordered, and however often or late a request of the sweep is sent or a reply is given to it. A manager that is
+/// asked for SMInfo may answer anything, or nothing at all.
 pub fn done_sweeps_are_complete()
     ensures { DoneSweepsAreComplete }
 {}
@@ -55,6 +55,13 @@ pub fn swept_pings_arrive()
 #[tactic(auto, using(crate::proofs::Example::some_sweep_is_whole))]
 pub fn some_sweep_is_whole()
     ensures { SomeSweepIsWhole }
+{}
+
+/// Such sweeps there are, too, in which a manager is silent: on that fabric, where the last request,
+/// for SMInfo, is lost and given up.
+#[tactic(auto, using(crate::proofs::Example::some_manager_is_silent))]
+pub fn some_manager_is_silent()
+    ensures { SomeManagerIsSilent }
 {}
 
 /// A manager that was just made waits for nothing and has nothing to send, so the laws below can
@@ -79,9 +86,9 @@ pub fn written_plans_are_held()
     ensures { WrittenPlansAreHeld }
 {}
 
-/// When a manager that holds no facts, at whatever floor, has swept, with every answer and nothing
-/// out of reach, and the plan of what it was told is written, each ping from an end port of what the
-/// manager's seat is joined to, for each LID of the plan, reaches the end port that owns the LID.
+/// When a manager that holds no facts, at whatever floor, has swept, with every answer but other managers' and nothing
+/// out of reach, and the plan of what it was told is written, each ping from an end port of what the manager's seat is
+/// joined to, for each LID of the plan, reaches the end port that owns the LID.
 pub fn pings_arrive_once_written()
     ensures { PingsArriveOnceWritten }
 {}

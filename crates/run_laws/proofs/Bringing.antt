@@ -1,7 +1,7 @@
 -- A run with one manager that sweeps and then writes is one that brings its subnet up.
 use Rattle.std.proofs.Common.{◌≡◌, ℕ, cond, List, [], ◌∷◌, refl, sym, ap, ◌∙◌, subst}
 use Rattle.std.proofs.lemmas.List.Elements.{All-nil}
-use Rattle.std.specs.Prelude.{◌-◌, ◌^◌, ◌==◌, if◌then◌else◌, All, Option, Some, None, is_none}
+use Rattle.std.specs.Prelude.{◌-◌, ◌^◌, ◌==◌, if◌then◌else◌, All, Option, Some, None, is_none, slice_get}
 use Rattle.topo_file.specs.declared.node.Node.{Node}
 use Rattle.schedule_file.specs.Schedule.{SeatCommand}
 use Rattle.schedule_file.specs.declared.command.Ask.TheVariants as ask
@@ -26,6 +26,7 @@ use Rattle.run_laws.specs.Alone.{BringsUpAlone, IsOnly, KeepsLines, RunsOfOneAre
 use Rattle.run_laws.specs.Reached.{EachPingSaysReached}
 use Rattle.run_laws.proofs.Lived.{Lives, as_world, commands_live, goes_on, managing_of, seated_as, sends_live}
 use Rattle.run_laws.proofs.Printed.{written_plans_are_reached}
+use Rattle.run_laws.proofs.WrittenLines.{written_lines_tell}
 
 abbrev world_with : WorldValue → List SeatedValue → WorldValue
 world_with w managers = record w { managers = managers }
@@ -134,6 +135,9 @@ module _ (nodes : List Node) (w : WorldValue) (s : SeatedValue) (between after :
   end_so : as_world s.name m4 ≡ at_end nodes w between after
   end_so = wrote.ends ∙ ap (λ x. (after_commands nodes x after).now) steps_so
 
+  seated_then : slice_get (at_end nodes w between after).managers 0 ≡ Some (record s { manager = b.writer })
+  seated_then = ap (λ (ms : List SeatedValue). slice_get ms 0) b.only_at_end
+
   writer_is : m4.manager ≡ b.writer
   writer_is = manager_is s.name m4 (at_end nodes w between after) s b.writer end_so b.only_at_end
 
@@ -169,7 +173,7 @@ module _ (nodes : List Node) (w : WorldValue) (s : SeatedValue) (between after :
         sweep = b.sweep;
         is_last = ap (λ (x : Manager). x.sweep) swept_is ∙ b.is_last;
         whole = b.whole;
-        written = ap is_written writer_is ∙ b.written;
+        written = ap is_written writer_is ∙ (written_lines_tell (at_end nodes w between after) 0 (record s { manager = b.writer }) seated_then).0 b.written;
       }
 
   reached : EachPingSaysReached plan (at_end nodes w between after) s.at

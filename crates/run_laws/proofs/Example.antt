@@ -40,7 +40,8 @@ use Rattle.manager_laws.proofs.ExampleFabric.{distinct_by, is_alone, nodes, port
 use Rattle.manager_laws.proofs.Generations.{nothing_newest}
 use Rattle.schedule_world.specs.Commands.{after_ask_line, after_commands, after_hand_up, after_packet_line, after_step, after_take_and_send}
 use Rattle.schedule_world.specs.World.{SeatedValue, WorldValue, after_manager_call, after_send}
-use Rattle.run_laws.specs.Alone.{BringsUpAlone, KeepsLines, KeepsStep, KeepsSteps, SomeRunOfOne, after_first, at_first_steps, at_writing, first_serial}
+use Rattle.run_laws.specs.Alone.{BringsUpAlone, KeepsLines, KeepsStep, KeepsSteps, SomeRunOfOne, after_first, at_end, at_first_steps, at_writing, first_serial}
+use Rattle.run_laws.proofs.WrittenLines.{written_lines_tell}
 
 -- the world ------------------------------------------------------------------------------------------------------
 
@@ -255,6 +256,9 @@ keeps =
     keep_by (at_first_steps nodes world between) writing swept in_pairs (Some the_sweep) cells planning_is known its_phases first_steps
     (steps_keep (plan_of up_and_down 1 cells) phases writing 80 kept, tt)
 
+at_end_alone : (at_end nodes world between after).managers ≡ seated_with writer ∷ []
+at_end_alone = ap (λ (w : WorldValue). (after_commands nodes w after).now.managers) first_steps ∙ alone_at_end
+
 brings_up : BringsUpAlone nodes world (seated_with new) between after
 unfolding cabled_at fresh_agent
 brings_up =
@@ -278,8 +282,9 @@ brings_up =
       begins = may_write;
       keeps = keeps;
       writer = writer;
-      only_at_end = ap (λ (w : WorldValue). (after_commands nodes w after).now.managers) first_steps ∙ alone_at_end;
-      written = is_written_then;
+      only_at_end = at_end_alone;
+      written = (written_lines_tell (at_end nodes world between after) 0 (seated_with writer) (ap (λ (ms : List SeatedValue). slice_get ms 0) at_end_alone)).1
+          is_written_then;
     }
 
 pub some_run_of_one : SomeRunOfOne

@@ -6,3 +6,4 @@ pub mod Lived
 pub mod Printed
 pub mod Repeated
 pub mod Seats
+pub mod WrittenLines

@@ -6,6 +6,7 @@ use Rattle.schedule_file.specs.Schedule.{SeatCommand}
 use Rattle.schedule_file.specs.declared.command.Ask.TheVariants as ask
 use Rattle.schedule_file.specs.declared.command.Command.TheVariants as command
 use Rattle.schedule_file.specs.declared.command.Fate.TheVariants as fate
+use Rattle.schedule_file.specs.declared.command.Shown.TheVariants.{Written}
 use Rattle.fabric_sim.specs.Simulation.{IsSimulation, Simulation, fabric_of, is_seat_at}
 use Rattle.fact_store.specs.View.{cells_of}
 use Rattle.lft_blocks.specs.Plan.{PlanValue, plan_of}
@@ -13,12 +14,13 @@ use Rattle.sweep.specs.Sweep.{Sweep}
 use Rattle.lft_blocks.specs.Planning.{Planning}
 use Rattle.sm_manager.specs.Manager.{Manager, new_manager}
 use Rattle.sm_manager.specs.Plans.{writing_fault}
-use Rattle.sm_manager.specs.Writing.{is_written, phases_by}
+use Rattle.sm_manager.specs.Writing.{phases_by}
 use Rattle.manager_laws.specs.Scene as around
 use Rattle.manager_laws.specs.Truth.{AreGuidsDistinct}
 use Rattle.manager_laws.specs.Complete.{IsWhole}
 use Rattle.manager_laws.specs.Sets.{IsOwnSet, KeepsPlan, OwnSets}
-use Rattle.schedule_world.specs.Commands.{after_command, after_commands, after_step}
+use Rattle.schedule_lines.specs.Lines.{written_line}
+use Rattle.schedule_world.specs.Commands.{after_command, after_commands, after_step, shown_of}
 use Rattle.schedule_world.specs.Flights.{serial_of}
 use Rattle.schedule_world.specs.World.{SeatedValue, WorldValue}
 use Rattle.run_laws.specs.Reached.{EachPingSaysReached}
@@ -110,10 +112,10 @@ pub record BringsUpAlone (nodes : List Node) (w : WorldValue) (s : SeatedValue) 
   pub keeps : KeepsLines (plan_of swept.planning.rule swept.planning.lmc (cells_of swept.store))
       (IsOwnSet (fabric_of w.fabric) s.at (phases_by swept swept.sweep)) nodes
       (at_first_steps nodes w between) after
-  -- and it is finished in the end
+  -- and in the end the line `written` says that it is written
   pub writer : Manager
   pub only_at_end : IsOnly (at_end nodes w between after) s writer
-  pub written : is_written writer ≡ true
+  pub written : shown_of (at_end nodes w between after) 0 Written ≡ written_line s.name true
 
 -- then each `ping` from an end port of what its port is joined to, for each LID of the plan, says that it reached the
 -- owner

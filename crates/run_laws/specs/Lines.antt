@@ -1,13 +1,15 @@
 -- What managers that took in the same print.
 use Rattle.lft_blocks.specs.Planning.{Planning}
-use Rattle.std.specs.Prelude.{◌≡◌, ◌<◌, ℕ, List, [], ◌∷◌, ◌++◌, length}
+use Rattle.std.specs.Prelude.{◌≡◌, ◌↔◌, ◌<◌, ℕ, true, List, [], ◌∷◌, ◌++◌, length, slice_get, Some}
 use Rattle.topo_file.specs.Topology.{Layout}
 use Rattle.schedule_file.specs.Schedule.{Script, SeatCommand}
 use Rattle.schedule_file.specs.declared.command.Command.TheVariants.{Merge, Show}
-use Rattle.schedule_file.specs.declared.command.Shown.TheVariants.{Facts, Plan}
+use Rattle.schedule_file.specs.declared.command.Shown.TheVariants.{Facts, Plan, Written}
 use Rattle.fact_store.specs.Seen.{HaveSameMembers}
+use Rattle.sm_manager.specs.Writing.{is_written}
+use Rattle.schedule_lines.specs.Lines.{written_line}
 use Rattle.schedule_world.specs.Commands.{after_commands, script_text, shown_of}
-use Rattle.schedule_world.specs.World.{WorldValue}
+use Rattle.schedule_world.specs.World.{SeatedValue, WorldValue}
 use Rattle.run_laws.specs.Accounts.{account_after, world_after}
 
 -- these lines stand behind a schedule
@@ -61,3 +63,9 @@ MergedManagersPlanAlike =
     (planning : Planning) (topology : Layout) (script : Script) (seat other : ℕ) → seat < length script.seats → other
     < length script.seats
     → PrintsPlansAlike planning topology (and_lines script (Merge seat other ∷ Merge other seat ∷ [])) seat other
+
+-- `written` prints `yes` exactly where the manager's plan is written then
+abbrev pub WrittenLinesTell : Type 0
+WrittenLinesTell =
+    (w : WorldValue) (seat : ℕ) (s : SeatedValue) → slice_get w.managers seat ≡ Some s
+    → (shown_of w seat Written ≡ written_line s.name true) ↔ (is_written s.manager ≡ true)

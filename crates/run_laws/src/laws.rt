@@ -2,7 +2,7 @@
 ghost use Rattle.run_laws.specs.Accounts.{RunsAreAccountedFor};
 ghost use Rattle.run_laws.specs.Alone.{RunsOfOneAreReached, SomeRunOfOne};
 ghost use Rattle.run_laws.specs.Lines.{LaterLinesComeBehind, MergedManagersPlanAlike, SameTakenInPlansAlike};
-ghost use Rattle.run_laws.specs.Lines.{SameTakenInSameLines};
+ghost use Rattle.run_laws.specs.Lines.{SameTakenInSameLines, WrittenLinesTell};
 ghost use Rattle.run_laws.specs.Reached.{HeldPlansAreReached, WrittenPlansAreReached};
 ghost use Rattle.run_laws.specs.Repeats.{TextsDecideOutput};
 
@@ -48,6 +48,13 @@ pub fn merged_managers_plan_alike()
     ensures { MergedManagersPlanAlike }
 {}
 
+/// The line `written` prints `yes` exactly where the plan of the manager is written then: where its last writing's
+/// LIDs, blocks and tops were each answered, and as done.
+#[tactic(auto, using(crate::proofs::WrittenLines::written_lines_tell))]
+pub fn written_lines_tell()
+    ensures { WrittenLinesTell }
+{}
+
 /// Where facts agree with what an end port of a world's fabric is joined to, and their plan is held
 /// there, each `ping` from an end port there for a LID of the plan prints that it reached the port of
 /// the LID's owner.
@@ -62,9 +69,9 @@ pub fn written_plans_are_reached()
 {}
 
 /// And so it prints behind each schedule that begins a sweep of the only manager, which is new, and
-/// some lines later a writing, where the sweep has every answer when the writing begins, the plan is
-/// written in the end, no cable moves, and each Set that an agent takes is one of the writing's own
-/// or carries the plan's values.
+/// some lines later a writing, where the sweep has every answer when the writing begins, the line
+/// `written` prints `yes` in the end, no cable moves, and each Set that an agent takes is one of the
+/// writing's own or carries the plan's values.
 pub fn runs_of_one_are_reached()
     ensures { RunsOfOneAreReached }
 {}

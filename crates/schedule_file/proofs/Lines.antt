@@ -15,7 +15,7 @@ use Rattle.schedule_file.specs.declared.command.Command.TheVariants as command
 use Rattle.schedule_file.specs.declared.command.Fate.{Fate}
 use Rattle.schedule_file.specs.declared.command.Fate.TheVariants.{Deliver, Lose, Repeat}
 use Rattle.schedule_file.specs.declared.command.Shown.{Shown}
-use Rattle.schedule_file.specs.declared.command.Shown.TheVariants.{Facts, Plan, Progress, State}
+use Rattle.schedule_file.specs.declared.command.Shown.TheVariants.{Facts, Plan, Progress, Silent, State, Written}
 use Rattle.schedule_file.specs.declared.command.Which.{Which}
 use Rattle.schedule_file.specs.declared.command.Which.TheVariants.{Last, Serial}
 use Rattle.schedule_file.specs.declared.line.NewManager.{NewManager}
@@ -143,7 +143,9 @@ to_manager_range word name =
     (either IsNamed (bytes_eq word (codes "facts")) _ _ (show_range Facts name)
     (either IsNamed (bytes_eq word (codes "plan")) _ _ (show_range Plan name)
     (either IsNamed (bytes_eq word (codes "progress")) _ _ (show_range Progress name)
-    (either IsNamed (bytes_eq word (codes "state")) _ None (show_range State name) tt)))))))
+    (either IsNamed (bytes_eq word (codes "silent")) _ _ (show_range Silent name)
+    (either IsNamed (bytes_eq word (codes "written")) _ _ (show_range Written name)
+    (either IsNamed (bytes_eq word (codes "state")) _ None (show_range State name) tt)))))))))
 
 one_range : (word arg : List ℕ) → IfSome (of_one word arg) IsNamed
 one_range word arg =
@@ -254,6 +256,8 @@ shown_is_word : (what : Shown) → IsWord (shown_word what)
 shown_is_word Facts = keyword (codes "facts") (omega arith) refl refl
 shown_is_word Plan = keyword (codes "plan") (omega arith) refl refl
 shown_is_word Progress = keyword (codes "progress") (omega arith) refl refl
+shown_is_word Silent = keyword (codes "silent") (omega arith) refl refl
+shown_is_word Written = keyword (codes "written") (omega arith) refl refl
 shown_is_word State = keyword (codes "state") (omega arith) refl refl
 
 pub named_are_words : (named : NamedCommand) → IsNamed named → AllByRecursion IsWord (named_words named)
@@ -340,6 +344,8 @@ named_in (command.Merge one other) is = rw (manager_read one is.0, manager_read 
 named_in (command.Show name Facts) is = rw (manager_read name is) refl
 named_in (command.Show name Plan) is = rw (manager_read name is) refl
 named_in (command.Show name Progress) is = rw (manager_read name is) refl
+named_in (command.Show name Silent) is = rw (manager_read name is) refl
+named_in (command.Show name Written) is = rw (manager_read name is) refl
 named_in (command.Show name State) is = rw (manager_read name is) refl
 named_in (command.Packet Last Deliver) is = refl
 named_in (command.Packet Last Lose) is = refl

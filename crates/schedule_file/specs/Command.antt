@@ -13,7 +13,7 @@ use Rattle.schedule_file.specs.declared.command.Command.TheVariants as command
 use Rattle.schedule_file.specs.declared.command.Fate.{Fate}
 use Rattle.schedule_file.specs.declared.command.Fate.TheVariants.{Deliver, Lose, Repeat}
 use Rattle.schedule_file.specs.declared.command.Shown.{Shown}
-use Rattle.schedule_file.specs.declared.command.Shown.TheVariants.{Facts, Plan, Progress, State}
+use Rattle.schedule_file.specs.declared.command.Shown.TheVariants.{Facts, Plan, Progress, Silent, State, Written}
 use Rattle.schedule_file.specs.declared.command.Which.{Which}
 use Rattle.schedule_file.specs.declared.command.Which.TheVariants.{Last, Serial}
 use Rattle.schedule_file.specs.declared.line.ScheduleLine.{ScheduleLine}
@@ -89,6 +89,8 @@ to_manager word name =
     else if bytes_eq word (codes "facts") then show Facts name
     else if bytes_eq word (codes "plan") then show Plan name
     else if bytes_eq word (codes "progress") then show Progress name
+    else if bytes_eq word (codes "silent") then show Silent name
+    else if bytes_eq word (codes "written") then show Written name
     else if bytes_eq word (codes "state") then show State name
     else None
 
@@ -153,6 +155,8 @@ abbrev pub shown_word : Shown → List ℕ
 shown_word Facts = codes "facts"
 shown_word Plan = codes "plan"
 shown_word Progress = codes "progress"
+shown_word Silent = codes "silent"
+shown_word Written = codes "written"
 shown_word State = codes "state"
 
 abbrev pub ask_words : Ask → List ℕ → List (List ℕ)

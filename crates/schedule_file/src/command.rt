@@ -55,6 +55,10 @@ pub enum Shown {
     Plan,
     /// How far it is with its sweep.
     Progress,
+    /// How many managers did not answer its sweep.
+    Silent,
+    /// Whether its plan is written.
+    Written,
     /// Its state.
     State,
 }

@@ -87,6 +87,10 @@ fn to_manager(word: &[u8], name: &[u8]) -> Option<NamedCommand>
         show(Shown::Plan, name)
     } else if is_word(word, "progress") {
         show(Shown::Progress, name)
+    } else if is_word(word, "silent") {
+        show(Shown::Silent, name)
+    } else if is_word(word, "written") {
+        show(Shown::Written, name)
     } else if is_word(word, "state") {
         show(Shown::State, name)
     } else {

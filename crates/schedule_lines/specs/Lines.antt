@@ -1,5 +1,5 @@
 -- The lines that commands print.
-use Rattle.std.specs.Prelude.{ℕ, List, ◌++◌, codes, decimal}
+use Rattle.std.specs.Prelude.{ℕ, Bool, true, false, List, ◌++◌, codes, decimal, Option, None, Some}
 use Rattle.fabric_model.specs.declared.cable.NodePort.{NodePort}
 use Rattle.text_words.specs.Printed.{bracketed_text, quoted_text}
 use Rattle.topo_file.specs.declared.node.Node.{Node}
@@ -27,6 +27,23 @@ stage_text (Done unanswered too_far) = codes " done" ++ counts_text unanswered t
 -- how far the manager of a name is with its sweep
 abbrev pub progress_line : List ℕ → Progress → List ℕ
 progress_line manager progress = codes "progress " ++ manager ++ stage_text progress ++ codes "\n"
+
+-- how many managers did not answer a sweep
+abbrev pub silent_text : Option ℕ → List ℕ
+silent_text None = codes " never"
+silent_text (Some silent) = count_text (codes " ") silent
+
+-- how many managers did not answer the last sweep of the manager of a name
+abbrev pub silent_line : List ℕ → Option ℕ → List ℕ
+silent_line manager silent = codes "silent " ++ manager ++ silent_text silent ++ codes "\n"
+
+abbrev pub answer_word : Bool → List ℕ
+answer_word true = codes "yes"
+answer_word false = codes "no"
+
+-- whether the plan of the manager of a name is written
+abbrev pub written_line : List ℕ → Bool → List ℕ
+written_line manager written = codes "written " ++ manager ++ codes " " ++ answer_word written ++ codes "\n"
 
 -- the manager of a name is in this state
 abbrev pub state_line : List ℕ → SmState → List ℕ

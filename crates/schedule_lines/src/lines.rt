@@ -5,6 +5,7 @@ ghost use Rattle.text_words.specs.Printed.{named_text, quoted_text};
 ghost use Rattle.topo_file.specs.Printed.{name_at};
 ghost use Rattle.schedule_lines.specs.Lines.{count_text, counts_text, end_text, flight_line, ping_line};
 ghost use Rattle.schedule_lines.specs.Lines.{port_text, progress_line, start_text, stage_text, state_line};
+ghost use Rattle.schedule_lines.specs.Lines.{answer_word, silent_line, silent_text, written_line};
 
 use byte_io::{Sink, WriteFault, write_number};
 use fabric_model::{NodeId, NodePort};
@@ -58,6 +59,48 @@ fn write_stage<W: Sink>(sink: &mut W, progress: Progress) -> Result<(), WriteFau
             write_counts(sink, unanswered, too_far)
         }
     }
+}
+
+/// Prints how many managers did not answer a manager's last sweep.
+pub fn write_silent<W: Sink>(
+    sink: &mut W,
+    manager: &str,
+    silent: Option<u64>,
+) -> Result<(), WriteFault>
+    ensures writes { Writes W.written W.has_failed result sink.old sink.new
+        (silent_line manager.now silent) }
+{
+    write_pair(sink, b"silent ", manager.as_bytes())?;
+    write_how_many(sink, silent)?;
+    sink.write(b"\n")
+}
+
+fn write_how_many<W: Sink>(sink: &mut W, silent: Option<u64>) -> Result<(), WriteFault>
+    ensures writes { Writes W.written W.has_failed result sink.old sink.new (silent_text silent) }
+{
+    match silent {
+        None => sink.write(b" never"),
+        Some(silent) => write_count(sink, b" ", silent),
+    }
+}
+
+/// Prints whether a manager's plan is written.
+pub fn write_written<W: Sink>(
+    sink: &mut W,
+    manager: &str,
+    written: bool,
+) -> Result<(), WriteFault>
+    ensures writes { Writes W.written W.has_failed result sink.old sink.new
+        (written_line manager.now written) }
+{
+    write_between(sink, b"written ", manager.as_bytes(), b" ")?;
+    write_pair(sink, answer_word(written).as_bytes(), b"\n")
+}
+
+fn answer_word(answer: bool) -> &'static str
+    ensures { result.now ≡ answer_word answer }
+{
+    if answer { "yes" } else { "no" }
 }
 
 /// Prints a manager's state.

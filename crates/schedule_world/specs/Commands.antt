@@ -15,7 +15,7 @@ use Rattle.schedule_file.specs.declared.command.Command.TheVariants as command
 use Rattle.schedule_file.specs.declared.command.Fate.{Fate}
 use Rattle.schedule_file.specs.declared.command.Fate.TheVariants.{Deliver, Lose, Repeat}
 use Rattle.schedule_file.specs.declared.command.Shown.{Shown}
-use Rattle.schedule_file.specs.declared.command.Shown.TheVariants.{Facts, Plan, Progress, State}
+use Rattle.schedule_file.specs.declared.command.Shown.TheVariants.{Facts, Plan, Progress, Silent, State, Written}
 use Rattle.schedule_file.specs.declared.command.Which.{Which}
 use Rattle.schedule_file.specs.declared.fault.ScheduleFault.{ScheduleFault}
 use Rattle.schedule_file.specs.declared.schedule.Seat.{Seat}
@@ -39,12 +39,12 @@ use Rattle.record_file.specs.FactsText.{facts_text}
 use Rattle.sm_manager.specs.declared.fault.ManagerFault.{ManagerFault}
 use Rattle.sm_manager.specs.Election.{after_handover, handover_fault, poll_fault, after_poll}
 use Rattle.lft_blocks.specs.Planning.{Planning}
-use Rattle.sm_manager.specs.Manager.{Manager, begin_fault, after_raise_floor, after_merge, new_manager, outstanding, progress_of, after_begin_sweep}
+use Rattle.sm_manager.specs.Manager.{Manager, begin_fault, after_raise_floor, after_merge, new_manager, outstanding, progress_of, after_begin_sweep, silent_in}
 use Rattle.sm_manager.specs.Packets as manager
 use Rattle.sm_manager.specs.Plans.{plan_fault, writing_fault}
-use Rattle.sm_manager.specs.Writing.{after_write_steps}
+use Rattle.sm_manager.specs.Writing.{after_write_steps, is_written}
 use Rattle.schedule_world.specs.Flights.{serial_of}
-use Rattle.schedule_lines.specs.Lines.{flight_line, ping_line, progress_line, state_line}
+use Rattle.schedule_lines.specs.Lines.{flight_line, ping_line, progress_line, silent_line, state_line, written_line}
 use Rattle.schedule_lines.specs.Refusals.{refusal_line}
 use Rattle.schedule_lines.specs.Tables.{tables_text}
 use Rattle.schedule_lines.specs.Outcome.{Outcome, and_then, quiet, shows}
@@ -184,13 +184,15 @@ abbrev pub plan_or_refusal : Planning → Cells → Option ManagerFault → List
 plan_or_refusal planning cells None = plan_text (plan_of planning.rule planning.lmc cells)
 plan_or_refusal planning cells (Some fault) = manager_line fault
 
--- what `facts`, `plan`, `progress` or `state` show of a manager
+-- what `facts`, `plan`, `progress`, `silent`, `written` or `state` show of a manager
 abbrev pub text_of : Shown → SeatedValue → List ℕ
 text_of Facts s = facts_text s.manager.store
 text_of Plan s =
     plan_or_refusal s.manager.planning (cells_of s.manager.store)
     (plan_fault s.manager.planning.lmc (cells_of s.manager.store))
 text_of Progress s = progress_line s.name (progress_of s.manager.sweep)
+text_of Silent s = silent_line s.name (silent_in s.manager.sweep)
+text_of Written s = written_line s.name (is_written s.manager)
 text_of State s = state_line s.name s.manager.standing.state
 
 -- of the manager of a seat

@@ -12,7 +12,8 @@ use lft_blocks::write_plan;
 use record_file::write_facts;
 use schedule_file::Shown;
 use schedule_lines::{
-    RunFault, refuse_fabric, refuse_manager, write_flight, write_ping, write_progress, write_state,
+    RunFault, refuse_fabric, refuse_manager, write_flight, write_ping, write_progress, write_silent,
+    write_state, write_written,
 };
 use sm_manager::Manager;
 use smp_bytes::Lid;
@@ -88,6 +89,14 @@ impl Seated<'_> {
             Shown::Plan => return show_plan(sink, &self.manager),
             Shown::Progress => {
                 write_progress(sink, self.seat.name.as_str(), self.manager.progress())?
+            }
+            Shown::Silent => write_silent(
+                sink,
+                self.seat.name.as_str(),
+                self.manager.silent_managers(),
+            )?,
+            Shown::Written => {
+                write_written(sink, self.seat.name.as_str(), self.manager.written())?
             }
             Shown::State => write_state(sink, self.seat.name.as_str(), self.manager.state())?,
         }

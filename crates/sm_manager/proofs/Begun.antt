@@ -41,7 +41,7 @@ room_there lmc m h none = absurd (cc (sym none ∙ no_room_there (is_no_room lmc
     no_room_there false why h = refl
 
 -- numbers are wanting where there are not so many, also where 64 bits do not hold how many
-unless_so_many : (n most : ℕ) → unless_numbers (nat_le (n + min most (2 ^ 64 - 1)) (2 ^ 32)) ≡ number_fault (n + most)
+pub unless_so_many : (n most : ℕ) → unless_numbers (nat_le (n + min most (2 ^ 64 - 1)) (2 ^ 32)) ≡ number_fault (n + most)
 unless_so_many n most = grind (arith, nat_tests)
 
 -- where nothing forbids a writing, it is refused as its plan is, or numbers are wanting

@@ -1,7 +1,7 @@
 -- Where there is room, each end port has a LID.
 use Rattle.std.proofs.Common.{◌≡◌, ℕ, ◌+◌, Bool, true, false, cond, List, [], ◌∷◌, ◌++◌, refl, sym, ap, ◌∙◌, subst}
 use Rattle.std.proofs.lemmas.Option.{same_Some}
-use Rattle.std.specs.Prelude.{Contains, IsSome, None, Option, Some, option_and_then}
+use Rattle.std.specs.Prelude.{◌^◌, Contains, IsSome, None, Option, Some, if◌then◌else◌, is_none, nat_le, option_and_then}
 use Rattle.fact_store.specs.View.{Facts, cells_of}
 use Rattle.subnet_view.specs.declared.end_port.EndPort.{EndPort}
 use Rattle.subnet_view.specs.EndPorts.{end_ports, is_end_port}
@@ -21,9 +21,12 @@ use Rattle.sm_manager.specs.declared.pending.Pending.{Pending}
 use Rattle.sm_manager.specs.declared.pending.Purpose.TheVariants.{Control}
 use Rattle.sm_state.specs.declared.standing.Standing.{Standing}
 use Rattle.sm_state.specs.declared.election.SeenManager.{SeenManager}
-use Rattle.sm_manager.specs.Election.{control_out, control_sent, after_handover, handover_move, successor_lid, info_pending, port_seen, after_message}
+use Rattle.sm_manager.specs.declared.fault.ManagerFault.{ManagerFault}
+use Rattle.sm_manager.specs.Election.{control_out, control_sent, after_handover, handover_move, successor, successor_fault, successor_lid, successor_port, info_pending, port_seen, after_message, unless_lid}
 use Rattle.sm_manager.specs.Manager.{Manager}
-use Rattle.sm_manager.specs.Plans.{plan_fault, room_fault}
+use Rattle.sm_manager.specs.Plans.{number_fault, or_else, plan_fault, room_fault, unless_numbers}
+use Rattle.sm_manager.specs.declared.fault.ManagerFault.TheVariants.{Nobody}
+use Rattle.sm_manager.proofs.Begun.{unless_so_many}
 use Rattle.sm_state.specs.Standing.{moved_to}
 
 has_room : (lmc : ℕ) (facts : Facts) → no_room lmc (cells_of facts) ≡ None → ¬ (IsNoRoom lmc (cells_of facts))
@@ -59,6 +62,37 @@ seen_is_end cells (Some s) e h = by_test (is_end_port cells s.guid s.port) refl 
     by_test true t i = let same : record { node = s.guid; port = s.port } ≡ e =
         same_Some _ _ i in subst (λ (x : EndPort). is_end_port cells x.node x.port ≡ true) same t
     by_test false t i = absurd (cc)
+
+-- a port that is an end port has a LID of the plan, if there is one
+pub with_lid : (lmc : ℕ) (facts : Facts) (p : EndPort) (later : Option ManagerFault) → is_end_port (cells_of facts) p.node p.port ≡ true
+    → or_else (plan_fault lmc (cells_of facts)) later
+    ≡ or_else (plan_fault lmc (cells_of facts)) (or_else (unless_lid (lid_of (lids lmc (cells_of facts)) p)) later)
+with_lid lmc facts p later is = by_fault (plan_fault lmc (cells_of facts)) refl
+  where
+    given : (o : Option ℕ) → IsSome o → later ≡ or_else (unless_lid o) later
+    given None e = absurd (cc e)
+    given (Some lid) e = refl
+
+    by_fault : (o : Option ManagerFault) → plan_fault lmc (cells_of facts) ≡ o
+        → or_else o later ≡ or_else o (or_else (unless_lid (lid_of (lids lmc (cells_of facts)) p)) later)
+    by_fault None e = given (lid_of (lids lmc (cells_of facts)) p) (end_port_has_lid lmc facts p e is)
+    by_fault (Some why) e = refl
+
+-- where the successor was seen at an end port, it is refused as the plan is, or numbers are wanting
+pub judged_with_lid : (before m : Manager) (s : SeenManager) (p : EndPort) (are_numbers : Bool) → before ≡ m → successor m ≡ Some s
+    → port_seen (cells_of m.store) s ≡ Some p → are_numbers ≡ nat_le (before.counter + 1) (2 ^ 32)
+    → or_else (plan_fault m.planning.lmc (cells_of m.store)) (unless_numbers are_numbers) ≡ successor_fault m
+judged_with_lid before m s p are_numbers same there seen enough =
+    let cells = cells_of m.store in
+    let plan = plan_fault m.planning.lmc cells in
+    let number = number_fault (m.counter + 1) in
+    let port : successor_port m ≡ Some p = ap (option_and_then (port_seen cells)) there ∙ seen in
+    let lid : successor_lid m ≡ lid_of (lids m.planning.lmc cells) p = ap (option_and_then (lid_of (lids m.planning.lmc cells))) port in
+    ap (λ (b : Bool). or_else plan (unless_numbers b)) (enough ∙ ap (λ (x : Manager). nat_le (x.counter + 1) (2 ^ 32)) same)
+    ∙ ap (or_else plan) (unless_so_many m.counter 1)
+    ∙ with_lid m.planning.lmc m.store p number (seen_is_end cells (successor m) p port)
+    ∙ ap (λ o. or_else plan (or_else (unless_lid o) number)) (sym lid)
+    ∙ sym (ap (λ (o : Option SeenManager). if is_none o then Some Nobody else or_else plan (or_else (unless_lid (successor_lid m)) number)) there)
 
 -- what goes to the successor
 pub handed_is : (m : Manager) (lid : ℕ) (message : Message) → successor_lid m ≡ Some lid → (handover_move m).message ≡ Some message

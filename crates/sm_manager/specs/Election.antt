@@ -114,11 +114,18 @@ successor_port m = option_and_then (port_seen (cells_of m.store)) (successor m)
 abbrev pub successor_lid : Manager → Option ℕ
 successor_lid m = option_and_then (lid_of (lids m.planning.lmc (cells_of m.store))) (successor_port m)
 
--- why a master hands nothing over, out of memory aside
+-- there is no LID to send to
+abbrev pub unless_lid : Option ℕ → Option ManagerFault
+unless_lid None = Some fault.Nobody
+unless_lid (Some lid) = None
+
+-- why a master hands nothing over, out of memory aside: none of those that were seen is to take over, there is no plan,
+-- the plan gives that one's port no LID, or no number is left
 abbrev pub successor_fault : Manager → Option ManagerFault
 successor_fault m =
-    if is_none (successor_port m) then Some fault.Nobody
-    else or_else (plan_fault m.planning.lmc (cells_of m.store)) (number_fault (m.counter + 1))
+    if is_none (successor m) then Some fault.Nobody
+    else or_else (plan_fault m.planning.lmc (cells_of m.store))
+    (or_else (unless_lid (successor_lid m)) (number_fault (m.counter + 1)))
 
 -- where the table of states has nothing to say to the successor, it is no master
 abbrev pub handover_fault : Manager → Option ManagerFault

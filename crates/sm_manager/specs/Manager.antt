@@ -153,6 +153,11 @@ transactions_of (Some s) = map (λ r. transaction_of s.generation r.number) s.ou
 abbrev pub outstanding : Manager → List ℕ
 outstanding m = map (λ p. p.number) m.pending ++ transactions_of m.sweep
 
+-- how many of its unanswered requests were for SMInfo
+abbrev pub silent_in : Option Sweep → Option ℕ
+silent_in None = None
+silent_in (Some s) = Some s.silent_managers
+
 -- how its last sweep goes
 abbrev pub progress_of : Option Sweep → Progress
 progress_of None = Never

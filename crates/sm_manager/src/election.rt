@@ -6,14 +6,14 @@ ghost use Rattle.lid_assign.specs.Lids.{lid_of, lids};
 ghost use Rattle.subnet_view.specs.EndPorts.{is_end_port};
 ghost use Rattle.smp_bytes.specs.Judges.{JudgesButFor};
 ghost use Rattle.sm_manager.specs.Election.{after_handover, handover_fault, successor_fault, successor_lid};
-ghost use Rattle.sm_manager.specs.Election.{successor_port, port_seen};
+ghost use Rattle.sm_manager.specs.Election.{port_seen};
 ghost use Rattle.sm_manager.specs.Election.{control_out, info_pending, poll_fault, poll_out, after_poll};
 ghost use Rattle.sm_manager.specs.Election.{message_count, message_out, message_pending};
 ghost use Rattle.sm_manager.specs.declared.pending.Purpose.TheVariants.{Control as ForControl, Poll as ForPoll};
 ghost use Rattle.sm_state.specs.Controls.{modifier_of_control};
 ghost use Rattle.sm_manager.specs.Fault.{is_memory};
 ghost use Rattle.sm_manager.specs.Manager.{after_verdict};
-ghost use Rattle.sm_manager.specs.Plans.{plan_fault};
+ghost use Rattle.sm_manager.specs.Plans.{or_else, plan_fault};
 
 use crate::fault::ManagerFault;
 use crate::manager::Manager;
@@ -23,7 +23,7 @@ use crate::pending::Purpose;
 use crate::write_steps::where_numbered;
 use attr_codec::Attribute;
 use fact_store::Store;
-use lid_assign::{LidFault, LidMap, assign};
+use lid_assign::{LidFault, LidMap, assign, no_room};
 use sm_state::{
     Control, Event, Message, SeenManager, SmState, Standing, step, successor, sweep_verdict,
 };
@@ -65,8 +65,8 @@ impl Manager {
     ///
     /// # Errors
     ///
-    /// `NotMaster`; `Nobody`, where there is no such manager, or its port is not known to be an end port; `NoRoom`;
-    /// `SequenceSpent`; `Memory`.
+    /// `NotMaster`; `Nobody`, where there is no such manager; `NoRoom`; `Nobody`, where the plan gives its port no LID,
+    /// since that is not known to be an end port; `SequenceSpent`; `Memory`, in this order.
     pub fn handover(&mut self) -> Result<(), ManagerFault>
         ensures judged { JudgesButFor is_memory result (handover_fault self.old) }
         ensures ok { OnOk result (self.new ≡ after_handover self.old) }
@@ -95,18 +95,24 @@ impl Manager {
         ensures lid { IfOk result (λ lid. successor_lid self.now ≡ Some lid) }
         ensures number { OnOk result (self.now.counter < 2 ^ 32) }
     {
-        let Some(port) = self.successor_port() else {
+        let Some(successor) = successor(&self.standing.info(), &self.seen) else {
             return Err(ManagerFault::Nobody);
+        };
+        let Some(port) = port_seen(&self.store, &successor) else {
+            return Err(self.lidless_fault());
         };
         where_numbered(self.planned_lid(port), self.requests.has_numbers(1))
     }
 
-    /// The end port where that manager was seen.
-    fn successor_port(&self) -> Option<EndPort>
-        ensures { result ≡ successor_port self.now }
+    /// Why nothing goes to a port that is no end port: there is no plan, or none has a LID for it. Takes no memory.
+    fn lidless_fault(&self) -> ManagerFault
+        ensures { Some result
+            ≡ or_else (plan_fault self.now.planning.lmc (cells_of self.now.store)) (Some ManagerFault.Nobody) }
     {
-        let successor = successor(&self.standing.info(), &self.seen)?;
-        port_seen(&self.store, &successor)
+        match no_room(&self.store, self.planning.lmc) {
+            Some(why) => ManagerFault::NoRoom(why),
+            None => ManagerFault::Nobody,
+        }
     }
 
     /// The LID that the plan gives to an end port.

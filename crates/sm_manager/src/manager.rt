@@ -4,7 +4,7 @@ ghost use Rattle.lft_blocks.specs.Arrival.{EveryPacketArrives};
 ghost use Rattle.lft_blocks.specs.Plan.{plan_of};
 ghost use Rattle.sm_manager.specs.Manager.{begin_fault, after_raise_floor, after_merge, new_manager};
 ghost use Rattle.sm_manager.specs.Manager.{outstanding, progress_of, after_begin_sweep, after_take_outgoing};
-ghost use Rattle.sm_manager.specs.Manager.{is_running};
+ghost use Rattle.sm_manager.specs.Manager.{is_running, silent_in};
 ghost use Rattle.smp_bytes.specs.Judges.{JudgesButFor};
 ghost use Rattle.sm_manager.specs.Fault.{is_memory};
 ghost use Rattle.sm_manager.specs.Plans.{plan_fault};
@@ -222,6 +222,17 @@ impl Manager {
                     }
                 }
             }
+        }
+    }
+
+    /// How many of the unanswered requests of the last sweep were for SMInfo: of managers that are there, as their
+    /// ports say, and silent. None before any sweep.
+    pub fn silent_managers(&self) -> Option<u64>
+        ensures { result ≡ silent_in self.now.sweep }
+    {
+        match &self.sweep {
+            None => None,
+            Some(sweep) => Some(sweep.silent_managers()),
         }
     }
 

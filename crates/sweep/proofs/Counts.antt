@@ -16,11 +16,11 @@ use Rattle.sweep.specs.Sweep.{AreRising, Sweep, first_question, numbered, reques
 use Rattle.sweep.proofs.Asked.{length_numbered}
 use Rattle.sweep.proofs.Numbers.{ordered_first, rising_asked, rising_ordered, rising_without, without_at}
 
-abbrev Rises : Sweep → Type 0
+abbrev pub Rises : Sweep → Type 0
 Rises s = AreRising 0 (s.outstanding ++ s.queued) s.next
 
 -- what is found stands somewhere
-found_somewhere : {T : Type 0} (p : T → Bool) (xs : List T) (x : T) → find p xs ≡ Some x → (i : ℕ) × (slice_get xs i ≡ Some x)
+pub found_somewhere : {T : Type 0} (p : T → Bool) (xs : List T) (x : T) → find p xs ≡ Some x → (i : ℕ) × (slice_get xs i ≡ Some x)
 found_somewhere p [] x e = absurd (cc)
 found_somewhere {T} p (y ∷ ys) x e = by (p y) refl (found_somewhere p ys x)
   where
@@ -29,11 +29,11 @@ found_somewhere {T} p (y ∷ ys) x e = by (p y) refl (found_somewhere p ys x)
     by false f rest = let later = rest (sym (cond-false _ _ _ f) ∙ e) in (suc later.0, later.1)
 
 -- without one that waits there is one less, and numbers rise
-record HasLess (s : Sweep) (r : Request) : Type 0 where
-  less : length (without_number r.number s.outstanding) + 1 ≡ length s.outstanding
-  rising : AreRising 0 (without_number r.number s.outstanding ++ s.queued) s.next
+pub record HasLess (s : Sweep) (r : Request) : Type 0 where
+  pub less : length (without_number r.number s.outstanding) + 1 ≡ length s.outstanding
+  pub rising : AreRising 0 (without_number r.number s.outstanding ++ s.queued) s.next
 
-less : (s : Sweep) (r : Request) (i : ℕ) → Rises s → slice_get s.outstanding i ≡ Some r → HasLess s r
+pub less : (s : Sweep) (r : Request) (i : ℕ) → Rises s → slice_get s.outstanding i ≡ Some r → HasLess s r
 less s r i rising at =
     let within : i < length s.outstanding = slice_get_within s.outstanding i r at in
     let gone : without_number r.number s.outstanding ≡ remove s.outstanding i =
@@ -47,14 +47,14 @@ less s r i rising at =
     }
 
 -- one step, with so many replies taken in it
-record Steps (s t : Sweep) (taken : ℕ) : Type 0 where
-  rising : Rises t
-  count : unended t + taken + s.next ≡ unended s + t.next
+pub record Steps (s t : Sweep) (taken : ℕ) : Type 0 where
+  pub rising : Rises t
+  pub count : unended t + taken + s.next ≡ unended s + t.next
 
 stays : (s : Sweep) → Rises s → Steps s s 0
 stays s rising = record { rising = rising; count = omega arith }
 
-sends : (s : Sweep) (q : List Request) → s.queued ≡ q → Rises s → Steps s (after_next_request_of s q).sweep 0
+pub sends : (s : Sweep) (q : List Request) → s.queued ≡ q → Rises s → Steps s (after_next_request_of s q).sweep 0
 sends s [] e rising = stays s rising
 sends s (r ∷ q) e rising =
     let more = length-append s.outstanding (r ∷ []) in
@@ -63,7 +63,7 @@ sends s (r ∷ q) e rising =
       count = omega (arith, more, ap length e);
     }
 
-replies : (s : Sweep) (packet : List ℕ) (r : Request) → Rises s → request_of s packet ≡ Some r → Steps s (after_reply_to s packet (Some r)) 1
+pub replies : (s : Sweep) (packet : List ℕ) (r : Request) → Rises s → request_of s packet ≡ Some r → Steps s (after_reply_to s packet (Some r)) 1
 replies s packet r rising e =
     let at = found_somewhere (belongs s.generation packet) s.outstanding r e in
     let one = less s r at.0 rising at.1 in
@@ -83,11 +83,11 @@ hears_as s packet (Some why) o e answer ok rising = absurd (cc)
 hears_as s packet None None e answer ok rising = absurd (cc (ap (judged_for s packet) e, ok))
 hears_as s packet None (Some r) e answer ok rising = replies s packet r rising e
 
-hears : (s : Sweep) (packet : List ℕ) (j : Result Answer SweepFault) → judged s packet ≡ j → Rises s → Steps s (heard s packet j) (taken_by j)
+pub hears : (s : Sweep) (packet : List ℕ) (j : Result Answer SweepFault) → judged s packet ≡ j → Rises s → Steps s (heard s packet j) (taken_by j)
 hears s packet (Ok answer) e rising = hears_as s packet (fault_of packet) (request_of s packet) refl answer e rising
 hears s packet (Err why) e rising = stays s rising
 
-times_out : (s : Sweep) (transaction : ℕ) (o : Option Request) → request_with s.generation transaction s.outstanding ≡ o → Rises s
+pub times_out : (s : Sweep) (transaction : ℕ) (o : Option Request) → request_with s.generation transaction s.outstanding ≡ o → Rises s
     → Steps s (after_timeout_of s o) 0
 times_out s transaction None e rising = stays s rising
 times_out s transaction (Some r) e rising =

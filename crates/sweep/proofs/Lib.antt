@@ -8,3 +8,4 @@ pub mod Judged
 pub mod Taken
 pub mod Runs
 pub mod Counts
+pub mod Managers

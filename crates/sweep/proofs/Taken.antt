@@ -160,4 +160,5 @@ module _ (s : Sweep) (packet : List ℕ) (accepted : Accepted) (ok : IsAccepted 
         states = subst (AreInOrder state_key) (sym (put.states ∙ ap (with_state accepted.finding) ready.states))
             (states_ordered accepted.finding s.states valid.states);
         counted = let once = too_far_once accepted.finding in omega (arith, put.too_far, ready.too_far, once);
+        silent = valid.silent;
       })

@@ -18,6 +18,7 @@ pub record IsMoved (s t : Sweep) : Type 0 where
   pub reached : t.reached ≡ s.reached
   pub states : t.states ≡ s.states
   pub unanswered : t.unanswered ≡ s.unanswered
+  pub silent_managers : t.silent_managers ≡ s.silent_managers
   pub too_far : t.too_far ≡ s.too_far
 
 pub valid_moved : (s t : Sweep) → IsSweep s → IsMoved s t → IsSweep t
@@ -33,6 +34,7 @@ valid_moved s t valid moved =
       reached = subst (AreInOrder vertex_key) (sym moved.reached) valid.reached;
       states = subst (AreInOrder state_key) (sym moved.states) valid.states;
       counted = omega (arith, ap length same, moved.next, moved.unanswered, moved.too_far, valid.counted);
+      silent = omega (arith, moved.unanswered, moved.silent_managers, valid.silent);
     }
 
 -- a request that waited has ended, and questions came up
@@ -45,6 +47,7 @@ pub record HasEnded (s t : Sweep) (index : ℕ) (r : Request) (asked : List Aski
   pub reached : AreInOrder vertex_key t.reached
   pub states : AreInOrder state_key t.states
   pub counted : t.unanswered + t.too_far ≤ s.unanswered + s.too_far + 1
+  pub silent : t.silent_managers ≤ t.unanswered
 
 pub valid_ended : (s t : Sweep) (index : ℕ) (r : Request) (asked : List Asking) → IsSweep s → HasEnded s t index r asked → IsSweep t
 valid_ended s t index r asked valid ended =
@@ -70,4 +73,5 @@ valid_ended s t index r asked valid ended =
       reached = ended.reached;
       states = ended.states;
       counted = omega (arith, ap length all, less, more, count, ended.next, ended.counted, valid.counted);
+      silent = ended.silent;
     }

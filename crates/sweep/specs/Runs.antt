@@ -1,11 +1,12 @@
 -- Runs of a sweep: requests go out, replies come, and requests time out, in any order.
 use Rattle.std.specs.Prelude.{◌≡◌, ℕ, ◌+◌, ◌<◌, List, [], ◌∷◌, ◌++◌, length, Result, Ok, Err}
 use Rattle.sweep.specs.declared.answer.Answer.{Answer}
+use Rattle.sweep.specs.declared.answer.Answer.TheVariants.{Facts, Seen}
 use Rattle.sweep.specs.declared.fault.SweepFault.{SweepFault}
 use Rattle.sweep.specs.declared.request.Request.{Request}
 use Rattle.request_table.specs.Order.{AreOrdered}
 use Rattle.sweep.specs.Replies.{judged, after_reply}
-use Rattle.sweep.specs.Sweep.{Sweep, after_next_request, started, after_timeout}
+use Rattle.sweep.specs.Sweep.{Sweep, after_next_request, managers_asked, started, after_timeout}
 
 -- the next request goes out; these bytes come; a TransactionID times out
 pub data Event : Type 0 where
@@ -73,3 +74,49 @@ EachCounts =
     (origin generation first : ℕ) (events : List Event) →
     first + replies_taken (started origin generation first) events
     + unended (after (started origin generation first) events) ≡ (after (started origin generation first) events).next
+
+-- managers that are asked ----------------------------------------------------------------------
+
+-- how many of these requests are for SMInfo
+abbrev pub managers_in : List Request → ℕ
+managers_in [] = 0
+managers_in (r ∷ requests) = managers_asked r.question + managers_in requests
+
+abbrev pub manager_in_first : List Request → ℕ
+manager_in_first [] = 0
+manager_in_first (r ∷ queued) = managers_asked r.question
+
+-- the requests for SMInfo that go out
+abbrev pub manager_sent : Sweep → Event → ℕ
+manager_sent s Sends = manager_in_first s.queued
+manager_sent s (Hears packet) = 0
+manager_sent s (TimesOut transaction) = 0
+
+abbrev pub managers_sent : Sweep → List Event → ℕ
+managers_sent s [] = 0
+managers_sent s (e ∷ events) = manager_sent s e + managers_sent (step s e) events
+
+-- the managers that tell of themselves, by replies that are taken
+abbrev pub manager_told : Result Answer SweepFault → ℕ
+manager_told (Ok (Facts report)) = 0
+manager_told (Ok (Seen guid port info)) = 1
+manager_told (Err fault) = 0
+
+abbrev pub manager_heard : Sweep → Event → ℕ
+manager_heard s Sends = 0
+manager_heard s (Hears packet) = manager_told (judged s packet)
+manager_heard s (TimesOut transaction) = 0
+
+abbrev pub managers_heard : Sweep → List Event → ℕ
+managers_heard s [] = 0
+managers_heard s (e ∷ events) = manager_heard s e + managers_heard (step s e) events
+
+-- each request for SMInfo that went out is of a manager that told of itself, that may do so yet, or that counts as
+-- silent
+abbrev pub EachManagerCounts : Type 0
+EachManagerCounts =
+    (origin generation first : ℕ) (events : List Event) →
+    managers_heard (started origin generation first) events
+    + (managers_in (after (started origin generation first) events).outstanding
+    + (after (started origin generation first) events).silent_managers)
+    ≡ managers_sent (started origin generation first) events

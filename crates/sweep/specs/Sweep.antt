@@ -18,8 +18,8 @@ use Rattle.sweep.specs.Order.{AreInOrder, found_at}
 
 -- The port that it goes out by and its generation; the number of the next request; the requests that are to be sent and
 -- those that wait for a reply, both first in, first out; the vertices that were reached and the states of ports that
--- were seen, in the order of GUIDs and ports; how many requests were not answered, and how many ports lead further than
--- a path.
+-- were seen, in the order of GUIDs and ports; how many requests were not answered, how many of these were for SMInfo,
+-- and how many ports lead further than a path.
 pub record Sweep : Type 0 where
   pub origin : ℕ
   pub generation : ℕ
@@ -29,6 +29,7 @@ pub record Sweep : Type 0 where
   pub reached : List Vertex
   pub states : List SeenState
   pub unanswered : ℕ
+  pub silent_managers : ℕ
   pub too_far : ℕ
 
 -- requests as packets ---------------------------------------------------------------------
@@ -44,6 +45,13 @@ modifier_asked ask.Node = 0
 modifier_asked ask.Switch = 0
 modifier_asked (ask.Port port) = port
 modifier_asked (ask.Manager guid port) = 0
+
+-- how many managers are asked for SMInfo
+abbrev pub managers_asked : Question → ℕ
+managers_asked ask.Node = 0
+managers_asked ask.Switch = 0
+managers_asked (ask.Port port) = 0
+managers_asked (ask.Manager guid port) = 1
 
 -- the generation in the high half, the sequence number in the low half
 abbrev pub transaction_of : ℕ → ℕ → ℕ
@@ -85,6 +93,7 @@ empty_sweep origin generation first =
       reached = [];
       states = [];
       unanswered = 0;
+      silent_managers = 0;
       too_far = 0;
     }
 
@@ -131,9 +140,13 @@ timeout_fault s transaction =
 abbrev pub after_timeout_of : Sweep → Option Request → Sweep
 after_timeout_of s None = s
 after_timeout_of s (Some r) =
-    record s { outstanding = without_number r.number s.outstanding; unanswered = s.unanswered + 1 }
+    record s {
+      outstanding = without_number r.number s.outstanding;
+      unanswered = s.unanswered + 1;
+      silent_managers = s.silent_managers + managers_asked r.question;
+    }
 
--- a request that timed out waits no more, and counts as one that was not answered
+-- a request that timed out waits no more, and counts as one that was not answered; a manager that was asked, as silent
 abbrev pub after_timeout : Sweep → ℕ → Sweep
 after_timeout s transaction = after_timeout_of s (request_with s.generation transaction s.outstanding)
 
@@ -182,10 +195,11 @@ abbrev pub AreRising : ℕ → List Request → ℕ → Type 0
 AreRising least requests next = numbers.AreRising (λ r. r.number) least requests next
 
 -- No number is used twice, since those of the requests that wait and then of the queue rise, and the next is above all;
--- what was found is in order; and each request counts once.
+-- what was found is in order; each request counts once, and of those that were not answered some were for SMInfo.
 pub record IsSweep (s : Sweep) : Type 0 where
   pub rising : AreRising 0 (s.outstanding ++ s.queued) s.next
   pub next : s.next ≤ 2 ^ 32
   pub reached : AreInOrder vertex_key s.reached
   pub states : AreInOrder state_key s.states
   pub counted : s.unanswered + s.too_far + length (s.outstanding ++ s.queued) ≤ s.next
+  pub silent : s.silent_managers ≤ s.unanswered

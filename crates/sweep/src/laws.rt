@@ -1,5 +1,5 @@
 //! What holds of every run of a sweep.
-ghost use Rattle.sweep.specs.Runs.{EachCounts, NumbersRise};
+ghost use Rattle.sweep.specs.Runs.{EachCounts, EachManagerCounts, NumbersRise};
 
 /// Whatever comes to a sweep, and in whatever order, the numbers of the requests that go out rise:
 /// none is used twice.
@@ -11,4 +11,11 @@ pub fn numbers_rise()
 /// sent; so when nothing waits or is to be sent, each was answered or counts as unanswered.
 pub fn each_request_counts()
     ensures { EachCounts }
+{}
+
+/// Each request for SMInfo that went out was answered, waits, or counts as a silent manager; so in a
+/// sweep that is done each manager that was asked told of itself or counts as silent.
+#[tactic(auto, using(crate::proofs::Managers::each_manager_counts))]
+pub fn each_manager_counts()
+    ensures { EachManagerCounts }
 {}

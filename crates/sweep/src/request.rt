@@ -1,6 +1,7 @@
-ghost use Rattle.std.specs.Prelude.{◌≡◌, ◌-◌, ◌*◌, ◌^◌};
+ghost use Rattle.std.specs.Prelude.{◌≡◌, ◌≤◌, ◌-◌, ◌*◌, ◌^◌};
 ghost use Rattle.sweep.specs.Replies.{belongs};
-ghost use Rattle.sweep.specs.Sweep.{attribute_asked, modifier_asked, packet_of, transaction_of};
+ghost use Rattle.sweep.specs.Sweep.{attribute_asked, managers_asked, modifier_asked, packet_of};
+ghost use Rattle.sweep.specs.Sweep.{transaction_of};
 
 use fact_store::Context;
 use request_table::Numbered;
@@ -73,6 +74,17 @@ impl Question {
         match self {
             Question::Node | Question::Switch | Question::Manager(..) => 0,
             Question::Port(port) => u32::from(port.number()),
+        }
+    }
+
+    /// How many managers it asks for SMInfo.
+    pub(crate) fn managers_asked(self) -> u64
+        ensures count { result ≡ managers_asked self }
+        ensures within { result ≤ 1 }
+    {
+        match self {
+            Question::Node | Question::Switch | Question::Port(_) => 0,
+            Question::Manager(..) => 1,
         }
     }
 }

@@ -1,4 +1,4 @@
-ghost use Rattle.std.specs.Prelude.{◌≡◌, IfOk, OnOk, OnErr, option_copied};
+ghost use Rattle.std.specs.Prelude.{◌≡◌, ◌≤◌, IfOk, OnOk, OnErr, option_copied};
 ghost use Rattle.smp_bytes.specs.Judges.{Judges};
 ghost use Rattle.sweep.specs.Sweep.{is_done, outstanding_at, path_to, seen_state, after_next_request, started};
 ghost use Rattle.sweep.specs.Sweep.{after_timeout, timeout_fault};
@@ -24,6 +24,8 @@ pub struct Sweep {
     pub(crate) requests: SweepRequests,
     pub(crate) found: Discovered,
     pub(crate) unanswered: u64,
+    /// How many of the unanswered requests were for SMInfo.
+    pub(crate) silent_managers: u64,
 }
 
 impl Model for Sweep {
@@ -40,6 +42,7 @@ impl Model for Sweep {
       reached = a.found.reached;
       states = a.found.states;
       unanswered = a.unanswered;
+      silent_managers = a.silent_managers;
       too_far = a.found.too_far;
     } };
 
@@ -54,6 +57,7 @@ impl Model for Sweep {
       states =
           a.found.states;
       unanswered = a.unanswered;
+      silent_managers = a.silent_managers;
       too_far = a.found.too_far;
     }) };
 }
@@ -78,6 +82,7 @@ impl Sweep {
             requests,
             found: Discovered::new(alloc),
             unanswered: 0,
+            silent_managers: 0,
         })
     }
 
@@ -103,8 +108,9 @@ impl Sweep {
         let Some(index) = self.requests.index_of(self.generation, transaction) else {
             return Err(SweepFault::NotOutstanding);
         };
-        self.requests.end(index);
+        let ended = self.requests.end(index);
         self.unanswered += 1;
+        self.silent_managers += ended.question.managers_asked();
         Ok(())
     }
 
@@ -136,6 +142,15 @@ impl Sweep {
         ensures { result ≡ self.now.unanswered }
     {
         self.unanswered
+    }
+
+    /// How many of these requests were for SMInfo: the managers that are there, as their ports say,
+    /// and did not answer.
+    pub fn silent_managers(&self) -> u64
+        ensures count { result ≡ self.now.silent_managers }
+        ensures within { result ≤ self.now.unanswered }
+    {
+        self.silent_managers
     }
 
     /// How many ports lead to a node that is more than 63 hops away, which was not asked.

@@ -1,6 +1,6 @@
--- A manager that takes over: on an adapter, at a switch to which another adapter is wired, where another manager sits. Both adapters and the switch hold
--- LIDs, and the switch a forwarding table.
-use Rattle.std.proofs.Common.{◌≡◌, ◌≢◌, ℕ, zero, suc, ◌+◌, ◌*◌, ◌-◌, ◌^◌, ◌<◌, Bool, true, List, [], ◌∷◌, ◌++◌, length, map, replicate}
+-- A manager that takes over: on an adapter, at a switch to which another adapter is wired, whose port says that a manager sits there, which is silent. Both
+-- adapters and the switch hold LIDs, and the switch a forwarding table.
+use Rattle.std.proofs.Common.{◌≡◌, ℕ, zero, suc, ◌+◌, ◌*◌, ◌-◌, ◌^◌, ◌<◌, Bool, true, List, [], ◌∷◌, ◌++◌, length, map, replicate}
 use Rattle.std.proofs.Common.{refl, sym, ap, ◌∙◌, subst, arith}
 use Rattle.std.proofs.Math.ListN.{get_or-map}
 use Rattle.std.proofs.lemmas.Option.{same_Some}
@@ -36,18 +36,17 @@ use Rattle.plan_steps.specs.Phases.{Phase, phases_of}
 use Rattle.fabric_sim.specs.declared.flight.Flight.{Flight}
 use Rattle.fabric_sim.specs.Simulation.{Simulation, fabric_of, flight_with}
 use Rattle.fabric_sim.specs.Delivery.{outcome_of, after_deliver}
-use Rattle.fabric_sim.specs.Changes.{after_inject, cabled_at}
+use Rattle.fabric_sim.specs.Changes.{after_inject, after_lose, cabled_at}
 use Rattle.sweep.specs.Sweep.{started}
 use Rattle.sm_manager.specs.Manager.{begin_fault, new_manager, after_begin_sweep, with_sweep}
 use Rattle.lft_blocks.specs.Planning.{Planning}
 use Rattle.lft_blocks.specs.Rules.{up_and_down}
-use Rattle.manager_laws.specs.Scene.{Answer, Deliver, Lose, Repeat, Send as SendFrom}
+use Rattle.manager_laws.specs.Scene.{Deliver, Lose, Repeat, Send as SendFrom}
 use Rattle.sm_state.specs.Standing.{active_once_more}
 use Rattle.sm_manager.specs.declared.fault.ManagerFault.TheVariants.{GenerationsSpent}
 use Rattle.sm_manager.specs.Plans.{writing_fault}
 use Rattle.sm_manager.specs.Writing.{begun_with}
 use Rattle.manager_laws.specs.Complete.{IsWhole}
-use Rattle.manager_laws.proofs.Lists.{all_append}
 use Rattle.manager_laws.specs.Managing.{Managing, ManagerEvent, Around, Begin, Write, Take, Send, Hear, TimeOut, Raise, Merge, Poll, HandOver}
 use Rattle.manager_laws.proofs.Computed.{all_can_be, all_keep, are_kept, fault_is, fault_with, joined_told, keeps_by, merged_with, no_sweeps, one, one_view}
 use Rattle.manager_laws.proofs.Computed.{sweep_in, sweep_there}
@@ -111,11 +110,9 @@ deliveries hops serial = replicate (hops + 1) (Around (Deliver serial))
 abbrev trip : ℕ → ℕ → List ManagerEvent
 trip number hops = Take ∷ Send number ∷ (deliveries hops (2 * number) ++ (deliveries hops (2 * number + 1) ++ Hear number ∷ []))
 
--- the last request is handed up to the other manager, which answers it
+-- the last request goes to the other manager; it is lost, and given up
 abbrev to_manager : List ManagerEvent
-to_manager =
-    Take ∷ Send 9
-    ∷ (deliveries 2 18 ++ Around (SendFrom (port 2 1) (Answer 9 0 (replicate 64 0))) ∷ (deliveries 2 19 ++ Hear 10 ∷ []))
+to_manager = Take ∷ Send 9 ∷ Around (Lose 18) ∷ TimeOut (2 ^ 32 + 10) ∷ []
 
 abbrev pub between : List ManagerEvent
 between =
@@ -125,7 +122,7 @@ abbrev pub swept : Managing
 swept = after_manager_events between (sweeping_with 1)
 
 whole : IsWhole (sweep_in swept.manager.sweep)
-unfolding cabled_at fresh_agent after_inject after_deliver outcome_of after_answer get_of set_of changed_port with_bytes
+unfolding cabled_at fresh_agent after_inject after_deliver after_lose outcome_of after_answer get_of set_of changed_port with_bytes
 whole = record { done = refl; answered = refl; near = refl }
 
 -- what it was told ----------------------------------------------------------------------------------------------
@@ -140,10 +137,10 @@ replies =
     ∷ (one (PortKey 32 1) (Up true) ∷ one (Claim 32 1) (Lid 0) ∷ [])
     ∷ (one (PortKey 32 2) (Up true) ∷ one (Claim 32 2) (Lid 0) ∷ [])
     ∷ (one (NodeKey 48) (Kind ChannelAdapter 1) ∷ one (PortGuid 48 1) (Guid 49) ∷ one (Link 48 1) (Peer 32 2) ∷ one (Link 32 2) (Peer 48 1) ∷ [])
-    ∷ (one (PortKey 48 1) (Up true) ∷ one (Claim 48 1) (Lid 7) ∷ []) ∷ [] ∷ []
+    ∷ (one (PortKey 48 1) (Up true) ∷ one (Claim 48 1) (Lid 7) ∷ []) ∷ []
 
 merged_all : swept.manager.store ≡ merged_with no_facts replies
-unfolding cabled_at fresh_agent after_inject after_deliver outcome_of after_answer get_of set_of changed_port with_bytes
+unfolding cabled_at fresh_agent after_inject after_deliver after_lose outcome_of after_answer get_of set_of changed_port with_bytes
 merged_all = refl
 
 abbrev pub all_told : Sightings
@@ -276,7 +273,7 @@ no_sets_carry some_plan (event ∷ events) w e =
     (no_set_carries some_plan w event parts.0, no_sets_carry some_plan events (after_manager_event w event) parts.1)
 
 between_sets_none : are_no_sets between (sweeping_with 1) ≡ true
-unfolding cabled_at fresh_agent after_inject after_deliver outcome_of after_answer get_of set_of changed_port with_bytes
+unfolding cabled_at fresh_agent after_inject after_deliver after_lose outcome_of after_answer get_of set_of changed_port with_bytes
 between_sets_none = refl
 
 -- the LIDs of the ports of all agents
@@ -308,7 +305,7 @@ lids_stay f (event ∷ events) w e = (
 )
 
 between_lids : lids_after between (sweeping_with 1) ≡ replicate (length between) (lids_in network)
-unfolding cabled_at fresh_agent after_inject after_deliver outcome_of after_answer get_of set_of changed_port with_bytes
+unfolding cabled_at fresh_agent after_inject after_deliver after_lose outcome_of after_answer get_of set_of changed_port with_bytes
 between_lids = refl
 
 -- its writing: the first step gives its own port the LID that it has ---------------------------------------------------
@@ -322,15 +319,15 @@ abbrev writing_by : List Phase → Managing
 writing_by phases = record swept { manager = begun_with swept.manager phases }
 
 pub planning_is : swept.manager.planning ≡ its_planning
-unfolding cabled_at fresh_agent after_inject after_deliver outcome_of after_answer get_of set_of changed_port with_bytes
+unfolding cabled_at fresh_agent after_inject after_deliver after_lose outcome_of after_answer get_of set_of changed_port with_bytes
 planning_is = refl
 
 has_swept : is_some swept.manager.sweep ≡ true
-unfolding cabled_at fresh_agent after_inject after_deliver outcome_of after_answer get_of set_of changed_port with_bytes
+unfolding cabled_at fresh_agent after_inject after_deliver after_lose outcome_of after_answer get_of set_of changed_port with_bytes
 has_swept = refl
 
 no_fault : fault_with its_planning swept.manager (Some (sweep_in swept.manager.sweep)) cells ≡ None
-unfolding cabled_at fresh_agent after_inject after_deliver outcome_of after_answer get_of set_of changed_port with_bytes
+unfolding cabled_at fresh_agent after_inject after_deliver after_lose outcome_of after_answer get_of set_of changed_port with_bytes
 no_fault = refl
 
 may_write : writing_fault swept.manager ≡ None
@@ -338,10 +335,10 @@ may_write =
     fault_is swept.manager its_planning (Some (sweep_in swept.manager.sweep)) cells planning_is (sweep_there swept.manager.sweep has_swept) known ∙ no_fault
 
 abbrev pub after : List ManagerEvent
-after = Take ∷ Send 10 ∷ Around (Deliver 20) ∷ Around (Deliver 21) ∷ Hear 11 ∷ []
+after = Take ∷ Send 10 ∷ Around (Deliver 19) ∷ Around (Deliver 20) ∷ Hear 9 ∷ []
 
 kept : are_kept plan (fabric_of network) (port 0 1) (phases_from cells) after (writing_by (phases_from cells)) ≡ true
-unfolding cabled_at fresh_agent after_inject after_deliver outcome_of after_answer get_of set_of changed_port with_bytes
+unfolding cabled_at fresh_agent after_inject after_deliver after_lose outcome_of after_answer get_of set_of changed_port with_bytes
 kept = refl
 
 keeps : AllKeep plan (IsOwnSet (fabric_of network) (port 0 1) (phases_from cells)) after (writing_by (phases_from cells))
@@ -349,21 +346,8 @@ keeps = all_keep plan (fabric_of network) (port 0 1) (phases_from cells) after (
 
 -- the takeover ------------------------------------------------------------------------------------------------------
 
-abbrev to_agents : List ManagerEvent
-to_agents =
-    trip 0 0 ++ (trip 1 0
-    ++ (trip 2 1 ++ (trip 3 1 ++ (trip 4 1 ++ (trip 5 1 ++ (trip 6 1 ++ (trip 7 2 ++ (trip 8 2 ++ (Take ∷ Send 9 ∷ deliveries 2 18)))))))))
-
-abbrev answers_it : ManagerEvent
-answers_it = Around (SendFrom (port 2 1) (Answer 9 0 (replicate 64 0)))
-
 between_can : AllByRecursion (CanBe (port 0 1)) between
-between_can =
-    all_append (CanBe (port 0 1)) to_agents (answers_it ∷ (deliveries 2 19 ++ Hear 10 ∷ [])) (all_can_be (port 0 1) to_agents refl)
-    (((omega arith, refl), elsewhere), all_can_be (port 0 1) (deliveries 2 19 ++ Hear 10 ∷ []) refl)
-  where
-    elsewhere : port 2 1 ≢ port 0 1
-    elsewhere e = let same : 2 ≡ 0 = ap (λ (p : NodePort). p.node) e in omega (arith, same)
+between_can = all_can_be (port 0 1) between refl
 
 pub at_is : at_writing beginning [] between ≡ swept
 at_is = ap (after_manager_events between) begun

@@ -85,9 +85,9 @@ pub fn pings_arrive_throughout()
 {}
 
 /// Such takeovers there are: by a manager that was just made, on an adapter, which is wired to a
-/// switch, as is another adapter, where another manager sits and answers it. They hold LIDs of their
-/// own choice, and the switch a table; nine requests to agents, one to the manager, and the first
-/// Set of the writing, with their answers.
+/// switch, as is another adapter, whose port says that a manager sits there, which is silent. They
+/// hold LIDs of their own choice, and the switch a table; nine requests to agents and the first Set
+/// of the writing, with their answers, and the request to the manager, which is lost and given up.
 pub fn some_manager_takes_over()
     ensures { SomeManagerTakesOver }
 {}

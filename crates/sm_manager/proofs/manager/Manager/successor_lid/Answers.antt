@@ -1,9 +1,21 @@
-use Rattle.std.proofs.Common.{sym, ◌∙◌}
+use Rattle.std.proofs.Common.{◌≡◌, Some, sym, ap, ◌∙◌, subst}
+use Rattle.smp_bytes.specs.Judges.{JudgesButFor}
 use Rattle.fact_store.specs.View.{cells_of}
-use Rattle.sm_manager.specs.Election.{successor}
-use Rattle.sm_manager.proofs.SuccessorLids.{seen_is_end}
+use Rattle.sm_state.specs.Election.{successor_of}
+use Rattle.sm_manager.specs.Election.{port_seen, successor}
+use Rattle.sm_manager.specs.Fault.{is_memory}
+use Rattle.sm_manager.specs.Manager.{Manager}
+use Rattle.sm_manager.specs.Plans.{plan_fault}
+use Rattle.sm_manager.proofs.SuccessorLids.{judged_with_lid}
 use Rattle.sm_manager.proofs.manager.Manager.successor_lid.Goals as goal
 
-pub planned_lid-requires : goal.planned_lid-requires
-planned_lid-requires c =
-    seen_is_end (cells_of c.args.self.now.store) (successor c.args.self.now) c.in-Some.port (sym c.successor_port.ensures ∙ c.in-Some.is)
+pub returns-clause-judged : goal.returns-clause-judged
+returns-clause-judged c =
+    let m : Manager = c.args.self.now in
+    let there : successor m ≡ Some c.in-Some.successor =
+    sym (c.successor.ensures ∙ (λ i. successor_of (c.info.ensures i) (c.deref.ensures.value i)) ∙ ap successor c.self.view_is) ∙ c.in-Some.is in
+    let seen : port_seen (cells_of m.store) c.in-Some.successor ≡ Some c.in-Some-port_seen.port =
+    sym (c.port_seen.ensures ∙ ap (λ (x : Manager). port_seen (cells_of x.store) c.in-Some.successor) c.self.view_is) ∙ c.in-Some-port_seen.is in
+    subst (JudgesButFor is_memory c.where_numbered.result)
+    (judged_with_lid _ m c.in-Some.successor c.in-Some-port_seen.port c.has_numbers.result c.self.view_is there seen c.has_numbers.ensures.enough)
+    (c.where_numbered.ensures.judged (plan_fault m.planning.lmc (cells_of m.store)) c.planned_lid.ensures.judged)

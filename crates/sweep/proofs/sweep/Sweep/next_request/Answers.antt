@@ -15,6 +15,7 @@ invariant_of-self c =
       reached = refl;
       states = refl;
       unanswered = refl;
+      silent_managers = refl;
       too_far = refl;
     })
 
