@@ -122,15 +122,19 @@ class Costs:
         with concurrent.futures.ThreadPoolExecutor(os.cpu_count() if self.counter.is_exact else 1) as pool:
             self.known.update(zip(runs, pool.map(self.measure, runs, [(ends or {}).get(it, 0) for it in runs])))
 
-    def allocations(self, words):
-        """How often a run asks for memory: what is done twice mostly asks twice."""
-        library, count = self.folder / "count.so", self.log()
-        if not library.exists():
-            source = paths.ROOT / "tests/refuse/refuse.c"
-            subprocess.run(["cc", "-O2", "-shared", "-fPIC", "-o", library, source, "-ldl"], check=True)
-        env = {"LD_PRELOAD": library, "REFUSE": "alloc", "REFUSE_AT": "0", "REFUSE_COUNT": count}
-        subprocess.run([self.program, *words], cwd=self.folder, env=env, **NOWHERE)
-        return int(count.read_text())
+    def allocations(self, runs):
+        """How often each run asks for memory: what is done twice mostly asks twice."""
+        library, source = self.folder / "count.so", paths.ROOT / "tests/refuse/refuse.c"
+        subprocess.run(["cc", "-O2", "-shared", "-fPIC", "-o", library, source, "-ldl"], check=True)
+
+        def count(words):
+            told = self.log()
+            env = {"LD_PRELOAD": library, "REFUSE": "alloc", "REFUSE_AT": "0", "REFUSE_COUNT": told}
+            subprocess.run([self.program, *words], cwd=self.folder, env=env, **NOWHERE)
+            return int(told.read_text())
+
+        with concurrent.futures.ThreadPoolExecutor(os.cpu_count()) as pool:
+            return list(pool.map(count, runs))
 
     def at_most(self, cost, other, times, what, spare=0):
         """A cost is at most so many times another. By processor time more is allowed, and so is what is to spare."""
@@ -227,9 +231,13 @@ def swept(costs, adapters):
     return costs.put(f"swept{adapters}", made)
 
 
-def row(costs, switches):
-    """So many switches in a row, in which ways are long."""
-    return costs.put(f"row{switches}", lambda: make.store(*chain(switches, 0).cells()))
+def row(costs, switches, hosts=0):
+    """So many switches in a row, in which ways are long, and adapters at each."""
+    return costs.put(f"row{switches}by{hosts}", lambda: make.store(*chain(switches, hosts).cells()))
+
+
+def row_planned(costs, switches, hosts):
+    return costs.put(f"row_plan{switches}by{hosts}", lambda: chain(switches, hosts).plan())
 
 
 def roots(costs, count):
@@ -288,6 +296,7 @@ GROWING = (
     Row("audit by adapters, packets lost", lambda c, n: ("audit", holed(c, 40, n), known(c, 40, n)), 6, SQUARED, 1),
     Row("audit by adapters, none delivered", lambda c, n: ("audit", holed(c, 8, n, 9), known(c, 8, n)), 30, SQUARED, 1),
     Row("audit by switches", lambda c, n: ("audit", planned(c, n, 4), known(c, n, 4)), 60, SQUARED),
+    Row("audit of switches in a row", lambda c, n: ("audit", row_planned(c, n, 4), row(c, n, 4)), 40, SQUARED),
     Row("next by adapters", lambda c, n: ("next", planned(c, 8, n), known(c, 8, n)), 100, LINEAR),
     Row("next by adapters of many switches", lambda c, n: ("next", planned(c, 40, n), known(c, 40, n)), 25, LINEAR),
     Row("next by adapters, claimed LIDs", lambda c, n: ("next", printed(c, "plan", claimed(c, n)), claimed(c, n)), 100, LINEAR),
@@ -321,10 +330,10 @@ def check_all(program, folder, noted):
     costs = Costs(program, folder)
     growing = [(row, row.words(costs, row.size), row.words(costs, 2 * row.size)) for row in GROWING]
     costs.take([words for _, *both in growing for words in both], {words: row.status for row, *both in growing for words in both})
-    for row, one, two in growing:
+    for (row, one, two), count in zip(growing, costs.allocations([two for _, _, two in growing])):
         costs.at_most(costs.known[two], costs.known[one], row.limit, f"{row.title}, of twice the size")
         noted.find(INSTRUCTIONS, row.title, costs.known[two] / 10**6)
-        noted.find(ALLOCATIONS, row.title, costs.allocations(two))
+        noted.find(ALLOCATIONS, row.title, count)
     check_apart(costs)
     check_steady(costs)
     return costs.counter.name, len(costs.known)
