@@ -1,15 +1,18 @@
-"""How the cost of commands grows, for `tests/at-scale`: each at a size and at twice the size, by counted instructions. `perf` counts
-them where the machine has it, else `valgrind`. Where neither does, processor time is taken, the least of some runs, and twice as
+"""How the cost of commands grows, for `tests/at-scale`: each at a size and at twice the size, by counted instructions. `valgrind` counts
+them where the machine has it, else `perf`. Where neither does, processor time is taken, the least of some runs, and twice as
 much is allowed; the bounds on instructions are left out then."""
+import collections
 import concurrent.futures
 import itertools
 import os
 import re
 import subprocess
 
-import paths  # noqa: F401
+import paths
 import record_files as make
-from scale import Fabric, Tree, check
+from built_program import ENTRIES
+from noted_costs import ALLOCATIONS, INSTRUCTIONS
+from scale import Fabric, Tree, chain, check
 
 # What twice the size may cost: as much again, and a third for what grows by the logarithm; and the square of that.
 LINEAR, SQUARED = 2 * 4 / 3, 4 * 4 / 3
@@ -87,8 +90,8 @@ class Costs:
     """What runs cost beside starting the program, each run once."""
 
     def __init__(self, program, folder):
-        self.folder, self.numbers, self.known, self.files = folder, itertools.count(1), {}, set()
-        for kind in Perf, Valgrind, Clock:
+        self.program, self.folder, self.numbers, self.known, self.files = program, folder, itertools.count(1), {}, set()
+        for kind in Valgrind, Perf, Clock:
             try:
                 self.counter = kind(program, folder)
                 status, self.start = self.counter.cost(["--version"], self.log())
@@ -108,16 +111,30 @@ class Costs:
             (self.folder / name).write_bytes(data.encode() if isinstance(data, str) else data)
         return name
 
-    def measure(self, words):
+    def measure(self, words, wanted):
         status, cost = self.counter.cost(words, self.log())
-        check(status == 0 and cost is not None, f"{' '.join(words)}: exit status {status}, cost {cost}")
+        check(status == wanted and cost is not None, f"{' '.join(words)}: exit status {status}, cost {cost}")
         return max(1, (cost or 0) - self.start)
 
-    def take(self, runs):
-        """Finds what each of these costs; side by side where it does not count how long that takes."""
+    def take(self, runs, ends=None):
+        """Finds what each of these costs, side by side where it does not count how long that takes; `ends` tells which end not with 0."""
         runs = [words for words in dict.fromkeys(runs) if words not in self.known]
         with concurrent.futures.ThreadPoolExecutor(os.cpu_count() if self.counter.is_exact else 1) as pool:
-            self.known.update(zip(runs, pool.map(self.measure, runs)))
+            self.known.update(zip(runs, pool.map(self.measure, runs, [(ends or {}).get(it, 0) for it in runs])))
+
+    def allocations(self, runs):
+        """How often each run asks for memory: what is done twice mostly asks twice."""
+        library, source = self.folder / "count.so", paths.ROOT / "tests/refuse/refuse.c"
+        subprocess.run(["cc", "-O2", "-shared", "-fPIC", "-o", library, source, "-ldl"], check=True)
+
+        def count(words):
+            told = self.log()
+            env = {"LD_PRELOAD": library, "REFUSE": "alloc", "REFUSE_AT": "0", "REFUSE_COUNT": told}
+            subprocess.run([self.program, *words], cwd=self.folder, env=env, **NOWHERE)
+            return int(told.read_text())
+
+        with concurrent.futures.ThreadPoolExecutor(os.cpu_count()) as pool:
+            return list(pool.map(count, runs))
 
     def at_most(self, cost, other, times, what, spare=0):
         """A cost is at most so many times another. By processor time more is allowed, and so is what is to spare."""
@@ -166,6 +183,63 @@ def mesh(costs, switches):
     return costs.put(f"mesh{switches}", made)
 
 
+def holed(costs, switches, hosts, without=1):
+    """The tables of a tree, of which the last so many switches lead nowhere."""
+    def made():
+        parts = tree_of(switches, hosts).plan().split(b"switch ")
+        return b"switch ".join([*parts[:-without], *(re.sub(rb"(block \d+ ).*", lambda it: it[1] + b"ff" * ENTRIES, it) for it in parts[-without:])])
+
+    return costs.put(f"holes{without}of{switches}by{hosts}", made)
+
+
+def claimed(costs, hosts):
+    """What is known of a tree whose adapters' ports claim LIDs from 16,384 on."""
+    def made():
+        tree = tree_of(8, hosts)
+        claims = [make.cell(make.CLAIM, guid, port, (16384 + at).to_bytes(2, "big")) for at, (guid, port, _, _) in enumerate(tree.ends)]
+        cells = tree.cells()
+        first = next(at for at, it in enumerate(cells) if it[0] == make.CAP)
+        return make.store(*cells[:first], *claims, *cells[first:])
+
+    return costs.put(f"claimed{hosts}", made)
+
+
+def apart(costs, switches, hosts):
+    """What is known of a tree, and of a switch that no wire leads to."""
+    def made():
+        more = (make.NODE, bytes([make.SWITCH, 1])), (make.PORT_GUID, LONE.to_bytes(8, "big")), (make.CAP, (49152).to_bytes(2, "big"))
+        cells = [*tree_of(switches, hosts).cells(), *(make.cell(kind, LONE, 0, value) for kind, value in more)]
+        return make.store(*sorted(cells, key=lambda it: (it[0], it[8:16], it[2])))
+
+    return costs.put(f"apart{switches}by{hosts}", made)
+
+
+def printed(costs, *words):
+    """What the program prints."""
+    return costs.put("".join(words), lambda: subprocess.run([costs.program, *words], cwd=costs.folder, capture_output=True).stdout)
+
+
+def swept(costs, adapters):
+    """A sweep that comes to adapters at fifty switches in turn, and then to all of them again."""
+    def made():
+        fabric = Fabric(2, 50, 130, adapters)
+        path = costs.folder / f"replies_of_adapters{adapters}"
+        fabric.reports(path)
+        data = path.read_bytes()
+        return data + data.removeprefix(make.NO_REPORTS)
+
+    return costs.put(f"swept{adapters}", made)
+
+
+def row(costs, switches, hosts=0):
+    """So many switches in a row, in which ways are long, and adapters at each."""
+    return costs.put(f"row{switches}by{hosts}", lambda: make.store(*chain(switches, hosts).cells()))
+
+
+def row_planned(costs, switches, hosts):
+    return costs.put(f"row_plan{switches}by{hosts}", lambda: chain(switches, hosts).plan())
+
+
 def roots(costs, count):
     """The first so many switches of a mesh."""
     return costs.put(f"roots{count}", lambda: "".join(f"0x{0x1000 + it:x}\n" for it in range(count)))
@@ -194,33 +268,48 @@ def scheduled(costs, hosts, line, times, ending=""):
     return "run", topology, costs.put(f"schedule{len(costs.files)}of{hosts}", lambda: text)
 
 
-# Commands, each by a number, what twice that may cost, and how many millions of instructions that may take at most: about a third
-# more than it took when the row was written.
+# A command by a number, which takes so much, and at twice the number so much more; and how it ends.
+Row = collections.namedtuple("Row", "title words size limit status", defaults=[0])
 GROWING = (
-    ("facts of replies", lambda c, n: ("facts", replies(c, n)), 4000, LINEAR, 115),
-    ("join of replies", lambda c, n: ("join", replies(c, n)), 4000, LINEAR, 81),
-    ("facts of a store file", lambda c, n: ("facts", claims(c, n)), 10000, LINEAR, 101),
-    ("join of a store file with a floor", lambda c, n: ("join", "--floor", "2", claims(c, n)), 10000, LINEAR, 75),
-    ("join of two that alternate", lambda c, n: ("join", claims(c, n), claims(c, n, 2)), 10000, LINEAR, 150),
-    ("join of two with different floors", lambda c, n: ("join", claims(c, n, 1, 2), claims(c, n, 2, 3)), 10000, LINEAR, 180),
-    ("facts of one file many times", lambda c, n: ("facts", *[claims(c, 10)] * n), 400, LINEAR, 111),
-    ("plan by adapters", lambda c, n: ("plan", known(c, 8, n)), 100, LINEAR, 65),
-    ("plan by adapters, spread", lambda c, n: ("plan", *SPREAD, known(c, 8, n)), 100, LINEAR, 67),
-    ("plan by adapters, LMC 3", lambda c, n: ("plan", "--lmc", "3", known(c, 8, n)), 50, LINEAR, 90),
-    ("plan by switches", lambda c, n: ("plan", mesh(c, n)), 150, SQUARED, 303),
-    ("plan by switches, spread", lambda c, n: ("plan", *SPREAD, mesh(c, n)), 150, SQUARED, 746),
-    ("plan by switches, spread from roots", lambda c, n: ("plan", *SPREAD, "--roots", roots(c, n // 10), mesh(c, n)), 150, SQUARED, 743),
-    ("audit by adapters", lambda c, n: ("audit", planned(c, 8, n), known(c, 8, n)), 100, LINEAR, 180),
-    ("audit by adapters of many switches", lambda c, n: ("audit", planned(c, 40, n), known(c, 40, n)), 25, LINEAR, 355),
-    ("audit by adapters, LMC 3", lambda c, n: ("audit", planned(c, 40, n, 3), known(c, 40, n)), 6, LINEAR, 108),
-    ("audit by switches", lambda c, n: ("audit", planned(c, n, 4), known(c, n, 4)), 60, SQUARED, 192),
-    ("next by adapters", lambda c, n: ("next", planned(c, 8, n), known(c, 8, n)), 100, LINEAR, 200),
-    ("next by adapters of many switches", lambda c, n: ("next", planned(c, 40, n), known(c, 40, n)), 25, LINEAR, 400),
-    ("next by switches", lambda c, n: ("next", planned(c, n, 4), known(c, n, 4)), 60, SQUARED, 350),
-    ("audit of tables by comments", lambda c, n: ("audit", remarked(c, n), known(c, 8, 10)), 5000, LINEAR, 18),
-    ("run by adapters", lambda c, n: scheduled(c, n, "state A", 1), 60, LINEAR, 245),
-    ("run by pings", lambda c, n: scheduled(c, 10, "ping SEAT LID", n), 4000, LINEAR, 103),
-    ("run of a topology of comments", lambda c, n: ("run", remarks(c, n), remarks(c, 1)), 5000, LINEAR, 18),
+    Row("facts of replies", lambda c, n: ("facts", replies(c, n)), 4000, LINEAR),
+    Row("facts of a sweep", lambda c, n: ("facts", mesh(c, n)), 150, LINEAR),
+    Row("join of a sweep by adapters", lambda c, n: ("join", swept(c, n)), 1500, LINEAR),
+    Row("join of replies", lambda c, n: ("join", replies(c, n)), 4000, LINEAR),
+    Row("facts of a store file", lambda c, n: ("facts", claims(c, n)), 10000, LINEAR),
+    Row("join of a store file with a floor", lambda c, n: ("join", "--floor", "2", claims(c, n)), 10000, LINEAR),
+    Row("join of two that alternate", lambda c, n: ("join", claims(c, n), claims(c, n, 2)), 10000, LINEAR),
+    Row("join of two with different floors", lambda c, n: ("join", claims(c, n, 1, 2), claims(c, n, 2, 3)), 10000, LINEAR),
+    Row("facts of one file many times", lambda c, n: ("facts", *[claims(c, 10)] * n), 400, LINEAR),
+    Row("plan by adapters", lambda c, n: ("plan", known(c, 8, n)), 100, LINEAR),
+    Row("plan by adapters, spread", lambda c, n: ("plan", *SPREAD, known(c, 8, n)), 100, LINEAR),
+    Row("plan by adapters, LMC 3", lambda c, n: ("plan", "--lmc", "3", known(c, 8, n)), 50, LINEAR),
+    Row("plan by adapters, claimed LIDs", lambda c, n: ("plan", claimed(c, n)), 100, LINEAR),
+    Row("plan by switches", lambda c, n: ("plan", mesh(c, n)), 150, SQUARED),
+    Row("plan by switches, spread", lambda c, n: ("plan", *SPREAD, mesh(c, n)), 150, SQUARED),
+    Row("plan by switches, spread from roots", lambda c, n: ("plan", *SPREAD, "--roots", roots(c, n // 10), mesh(c, n)), 150, SQUARED),
+    Row("plan of switches in a row", lambda c, n: ("plan", row(c, n)), 150, SQUARED),
+    Row("plan of switches in a row, spread", lambda c, n: ("plan", *SPREAD, row(c, n)), 150, SQUARED),
+    Row("audit by adapters", lambda c, n: ("audit", planned(c, 8, n), known(c, 8, n)), 100, LINEAR),
+    Row("audit by adapters of many switches", lambda c, n: ("audit", planned(c, 40, n), known(c, 40, n)), 25, LINEAR),
+    Row("audit by adapters, LMC 3", lambda c, n: ("audit", planned(c, 40, n, 3), known(c, 40, n)), 6, LINEAR),
+    Row("audit by adapters, claimed LIDs", lambda c, n: ("audit", printed(c, "plan", claimed(c, n)), claimed(c, n)), 100, LINEAR),
+    Row("audit by adapters, packets lost", lambda c, n: ("audit", holed(c, 40, n), known(c, 40, n)), 6, SQUARED, 1),
+    Row("audit by adapters, none delivered", lambda c, n: ("audit", holed(c, 8, n, 9), known(c, 8, n)), 30, SQUARED, 1),
+    Row("audit by switches", lambda c, n: ("audit", planned(c, n, 4), known(c, n, 4)), 60, SQUARED),
+    Row("audit of switches in a row", lambda c, n: ("audit", row_planned(c, n, 4), row(c, n, 4)), 40, SQUARED),
+    Row("next by adapters", lambda c, n: ("next", planned(c, 8, n), known(c, 8, n)), 100, LINEAR),
+    Row("next by adapters of many switches", lambda c, n: ("next", planned(c, 40, n), known(c, 40, n)), 25, LINEAR),
+    Row("next by adapters, claimed LIDs", lambda c, n: ("next", printed(c, "plan", claimed(c, n)), claimed(c, n)), 100, LINEAR),
+    Row("next by adapters, from nothing", lambda c, n: ("next", "/dev/null", known(c, 40, n)), 25, LINEAR),
+    Row("next by adapters, from tables with holes", lambda c, n: ("next", holed(c, 40, n), known(c, 40, n)), 25, LINEAR),
+    Row("next by adapters, a switch apart", lambda c, n: ("next", printed(c, "plan", apart(c, 8, n)), apart(c, 8, n)), 50, LINEAR),
+    Row("next by switches", lambda c, n: ("next", planned(c, n, 4), known(c, n, 4)), 60, SQUARED),
+    Row("next by switches, from the other rule", lambda c, n: ("next", printed(c, "plan", *SPREAD, mesh(c, n)), mesh(c, n)), 50, SQUARED),
+    Row("next by switches, to the other rule", lambda c, n: ("next", *SPREAD, printed(c, "plan", mesh(c, n)), mesh(c, n)), 50, SQUARED),
+    Row("audit of tables by comments", lambda c, n: ("audit", remarked(c, n), known(c, 8, 10)), 5000, LINEAR),
+    Row("run by adapters", lambda c, n: scheduled(c, n, "state A", 1), 60, LINEAR),
+    Row("run by pings", lambda c, n: scheduled(c, 10, "ping SEAT LID", n), 4000, LINEAR),
+    Row("run of a topology of comments", lambda c, n: ("run", remarks(c, n), remarks(c, 1)), 5000, LINEAR),
 )
 
 # Lines of a schedule that cost the same in a fabric of any size, or only what a search among its ports does.
@@ -238,33 +327,24 @@ STEADY = (
 )
 
 
-def check_all(program, folder):
-    """Checks all, and says by what costs were counted."""
+def check_all(program, folder, noted):
+    """Checks all, and says by what costs were counted. What each command of the larger size costs is held against what is noted."""
     costs = Costs(program, folder)
-    growing = [(title, words(costs, size), words(costs, 2 * size), limit, most) for title, words, size, limit, most in GROWING]
-    costs.take(words for _, *both, _, _ in growing for words in both)
-    for title, one, two, limit, most in growing:
-        cost = costs.known[two]
-        costs.at_most(cost, costs.known[one], limit, f"{title}, of twice the size")
-        if costs.counter.is_exact:
-            check(cost <= most * 10**6, f"{title}: {cost} instructions in place of {most} millions by {costs.counter.name}")
+    growing = [(row, row.words(costs, row.size), row.words(costs, 2 * row.size)) for row in GROWING]
+    costs.take([words for _, *both in growing for words in both], {words: row.status for row, *both in growing for words in both})
+    for (row, one, two), count in zip(growing, costs.allocations([two for _, _, two in growing])):
+        costs.at_most(costs.known[two], costs.known[one], row.limit, f"{row.title}, of twice the size")
+        noted.find(INSTRUCTIONS, row.title, costs.known[two] / 10**6)
+        noted.find(ALLOCATIONS, row.title, count)
     check_apart(costs)
     check_steady(costs)
-    return f"at-scale: {len(costs.known)} costs by {costs.counter.name}"
+    return costs.counter.name, len(costs.known)
 
 
 def check_apart(costs):
     """A switch more that no wire leads to costs a plan no more than its own table."""
-    whole = known(costs, 40, 25)
-
-    def made():
-        more = (make.NODE, bytes([make.SWITCH, 1])), (make.PORT_GUID, LONE.to_bytes(8, "big")), (make.CAP, (49152).to_bytes(2, "big"))
-        cells = [*tree_of(40, 25).cells(), *(make.cell(kind, LONE, 0, value) for kind, value in more)]
-        return make.store(*sorted(cells, key=lambda it: (it[0], it[8:16], it[2])))
-
-    apart = costs.put("apart", made)
     for options in (), SPREAD:
-        one, two = ("plan", *options, whole), ("plan", *options, apart)
+        one, two = ("plan", *options, known(costs, 40, 25)), ("plan", *options, apart(costs, 40, 25))
         costs.take([one, two])
         costs.at_most(costs.known[two], costs.known[one], 1.1, f"a plan by {options}, with a switch apart")
 

@@ -5,6 +5,7 @@ import itertools
 import paths  # noqa: F401
 import record_files as make
 import sample_audits as audits
+from noted_costs import MEMORY
 from scale import Fabric, Run, Tree, chain, check, levels
 
 # More than 2^16 lines, cells or commands, than 2^20 cells, and than 2^22 bytes of a text.
@@ -15,14 +16,16 @@ SPREAD = "--routing", "spread"
 class Room:
     """A folder to run the program in."""
 
-    def __init__(self, program, folder):
-        self.program, self.folder, self.numbers = program, folder, itertools.count(1)
+    def __init__(self, program, folder, noted):
+        self.program, self.folder, self.noted, self.numbers = program, folder, noted, itertools.count(1)
 
     def put(self, name, data):
         (self.folder / name).write_bytes(data.encode() if isinstance(data, str) else data)
 
     def run(self, *words, status=0):
-        return Run(self.program, list(words), self.folder, f"printed{next(self.numbers)}", status).printed()
+        run = Run(self.program, list(words), self.folder, f"printed{next(self.numbers)}", status)
+        self.noted.find(MEMORY, run.what, run.memory / 10**6)
+        return run.printed()
 
     def prints(self, wanted, *words, status=0):
         """A run prints this, and nothing else."""
@@ -174,7 +177,7 @@ def padded(text, count):
     return (text.ljust(PADDED - 1, "-") + "\n").encode() * count
 
 
-def check_all(program, folder):
-    room = Room(program, folder)
+def check_all(program, folder, noted):
+    room = Room(program, folder, noted)
     for part in check_tree, check_ranges, check_cells, check_switches, check_managers, check_writing, check_rooted_run, check_lines:
         part(room)

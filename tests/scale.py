@@ -1,7 +1,9 @@
 """Runs of the program on large inputs, for `tests/at-scale`: what they print and cost, and fabrics whose answers are known."""
 import itertools
+import json
 import os
 import subprocess
+import sys
 
 import paths  # noqa: F401
 import record_files as make
@@ -14,6 +16,19 @@ LEAST_SECONDS = 0.02
 TRIES = 4
 MOST_LIDS = 49151
 
+# Runs a command for each line of words, and tells its exit status, processor time and peak of memory. What starts a process counts to the
+# peak of its memory, so it is a process of its own that stays small.
+STARTER = """
+import json, os, sys
+for line in sys.stdin:
+    command, folder, *streams = json.loads(line)
+    actions = [(os.POSIX_SPAWN_OPEN, number, path, flags, 0o600) for number, (path, flags) in enumerate(streams)]
+    os.chdir(folder)
+    _, status, used = os.wait4(os.posix_spawn(command[0], command, os.environ, file_actions=actions), 0)
+    print(json.dumps([os.waitstatus_to_exitcode(status), used.ru_utime + used.ru_stime, used.ru_maxrss * 1024]), flush=True)
+"""
+starters = []
+
 failures = []
 
 
@@ -21,6 +36,17 @@ def check(holds, text):
     if not holds:
         failures.append(text)
         print(f"at-scale: FAILED: {text}")
+
+
+def started(command, folder, stdout, stderr):
+    """The exit status of a command, its processor time and the peak of its memory."""
+    if not starters:
+        starters.append(subprocess.Popen([sys.executable, "-S", "-E", "-c", STARTER], stdin=subprocess.PIPE, stdout=subprocess.PIPE, text=True))
+    written = os.O_WRONLY | os.O_CREAT | os.O_TRUNC
+    streams = (os.devnull, os.O_RDONLY), (str(stdout), written), (str(stderr), written)
+    starters[0].stdin.write(json.dumps([[str(it) for it in command], str(folder), *streams]) + "\n")
+    starters[0].stdin.flush()
+    return json.loads(starters[0].stdout.readline())
 
 
 class Run:
@@ -37,17 +63,14 @@ class Run:
     def cost(self):
         """Runs the command, and tells its processor time and the peak of its memory."""
         said = self.path.with_suffix(".said")
-        with open(self.path, "wb") as stdout, open(said, "wb") as stderr:
-            process = subprocess.Popen(self.command, cwd=self.path.parent, stdin=subprocess.DEVNULL, stdout=stdout, stderr=stderr)
-            _, status, used = os.wait4(process.pid, 0)
-            process.returncode = os.waitstatus_to_exitcode(status)
+        status, seconds, memory = started(self.command, self.path.parent, self.path, said)
         text = said.read_text(errors="replace").strip()
-        is_right = process.returncode == self.wanted
-        check(is_right, f"{self.what}: exit status {process.returncode}; {text[:200]}")
+        is_right = status == self.wanted
+        check(is_right, f"{self.what}: exit status {status}; {text[:200]}")
         # Of the steps here none can make a credit loop.
         said = "credit loop none" if self.command[1] == "next" else ""
         check(not is_right or text == said, f"{self.what}: says on standard error: {text[:200]}")
-        return used.ru_utime + used.ru_stime, used.ru_maxrss * 1024
+        return seconds, memory
 
     def again(self):
         self.seconds = min(self.seconds, self.cost()[0])

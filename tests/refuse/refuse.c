@@ -2,7 +2,7 @@
  * A library to be loaded before a program (LD_PRELOAD): it refuses one of the program's calls, or cuts it short.
  *
  * REFUSE names what, and REFUSE_AT the number of the call, from 1, or `K+N`, N calls from the K-th on, or `every`: `alloc` has an allocation answer that there
- * is no memory, `read`, `write` and `open` fail, `again-read` and `again-write` fail since they would have to wait, `late-read`
+ * is no memory, `memory-open` an opening, `read`, `write` and `open` fail, `again-read` and `again-write` fail since they would have to wait, `late-read`
  * and `late-write` since they took too long, `interrupted-read` and `interrupted-write` are interrupted before a byte is
  * moved, `empty-write` takes none, `short-read` and `short-write` move one byte. What is written is standard output; `say`,
  * `again-say`, `late-say`, `interrupted-say`, `empty-say` and `short-say` are the same of standard error. At the end the number of calls
@@ -168,10 +168,11 @@ ssize_t writev(int fd, const struct iovec *from, int count)
 
 static int refused_open(void)
 {
-	if (!is_now("open"))
-		return 0;
-	errno = EACCES;
-	return 1;
+	int refused = is_now("open"), memoryless = is_now("memory-open");
+
+	if (refused || memoryless)
+		errno = refused ? EACCES : ENOMEM;
+	return refused || memoryless;
 }
 
 int open(const char *path, int flags, ...)
