@@ -1,5 +1,5 @@
 """What runs cost, as `tests/costs.table` notes it, for `tests/at-scale`: instructions and allocations of those in growth.py, and memory of
-those in past_sizes.py. A run asks for memory no more often than noted. Valgrind counts instructions exactly, and alike on all machines
+those in past_sizes.py. A run asks for memory no more often than noted. Valgrind counts instructions alike on each run, and on all machines
 but for what the C library chooses by the processor, so a run may take a tenth more than noted. The processor's own counter counts some
 besides, and memory goes by pages: there it may be more."""
 import pathlib
