@@ -1,5 +1,5 @@
 """What runs cost, as `tests/costs.table` notes it, for `tests/at-scale`: instructions and allocations of those in growth.py, and memory of
-those in past_sizes.py. A run asks for memory no more often than noted. Valgrind counts instructions exactly, and alike on all machines
+those in past_sizes.py. A run asks for memory no more often than noted. Valgrind counts instructions alike on each run, and on all machines
 but for what the C library chooses by the processor, so a run may take a tenth more than noted. The processor's own counter counts some
 besides, and memory goes by pages: there it may be more."""
 import pathlib
@@ -15,6 +15,11 @@ MORE = {"valgrind": 1.1, "perf": 4 / 3, ALLOCATIONS: 1, MEMORY: 1.25}
 LEAST = 16
 # Below so much of what was noted the note is too old to bound anything.
 LESS = 0.8
+
+
+def told(number):
+    """A number with at most two digits behind the point."""
+    return f"{number:.2f}".rstrip("0").rstrip(".")
 
 
 class Noted:
@@ -41,11 +46,11 @@ class Noted:
             for title, number in found.items():
                 noted = self.noted[kind].get(title)
                 if noted is None:
-                    check(False, f"{title}: {number:g} {kind}, and none are noted: at-scale --write notes them")
+                    check(False, f"{title}: {told(number)} {kind}, and none are noted: at-scale --write notes them")
                 else:
-                    check(number <= more * noted, f"{title}: {number:g} {kind} in place of {noted}")
+                    check(number <= more * noted, f"{title}: {told(number)} {kind} in place of {told(noted)}")
                     if number < LESS * noted:
-                        print(f"at-scale: {title}: {number:g} {kind} in place of {noted}: at-scale --write notes that")
+                        print(f"at-scale: {title}: {told(number)} {kind} in place of {told(noted)}: at-scale --write notes that")
             for title in self.noted[kind].keys() - found.keys():
                 check(False, f"{title}: {kind} are noted of a run that is none")
 
@@ -55,5 +60,5 @@ class Noted:
             self.found[INSTRUCTIONS] = self.noted[INSTRUCTIONS]
         lines = [HEAD]
         for kind, found in self.found.items():
-            lines += [f"{kind}\n", *(f"  {title}: {number:g}\n" for title, number in found.items())]
+            lines += [f"{kind}\n", *(f"  {title}: {told(number)}\n" for title, number in found.items())]
         PATH.write_text("".join(lines))
