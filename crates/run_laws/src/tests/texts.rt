@@ -3,11 +3,12 @@ use byte_io::{ReadError, WriteFault};
 use fabric_sim::FabricFault;
 use fact_store::{IngestFault, Refused, ReportFault};
 use lid_assign::{LidFault, NoRoom};
+use next_tables::StepFault;
 use record_file::FileFault;
 use schedule_file::ScheduleFault;
 use sm_cli::{Fault, TextFault};
 use sm_manager::ManagerFault;
-use smp_bytes::{Guid, SmpFault};
+use smp_bytes::{Guid, Lid, SmpFault};
 use std::alloc::Global;
 use std::fmt::Display;
 use sweep::SweepFault;
@@ -162,6 +163,19 @@ fn no_switch() -> [(TextFault, &'static str); 1] {
     )]
 }
 
+/// A LID that moves.
+fn moved() -> [(TextFault, &'static str); 1] {
+    [(TextFault::Moves(Lid::new(49151)), "lid 49151 moves")]
+}
+
+/// Why there are no next tables.
+fn steps() -> [(StepFault, &'static str); 2] {
+    [
+        (StepFault::Moves(Lid::new(258)), "lid 258 moves"),
+        (StepFault::Memory, "out of memory"),
+    ]
+}
+
 /// The first text that is not what `{}` says of the fault beside it.
 fn untold<T: Display>(alloc: Global, rows: &[(T, &'static str)]) -> Option<&'static str> {
     for (fault, text) in rows {
@@ -189,6 +203,8 @@ fn faults_are_told(rt: HostRuntime) {
         untold(alloc, &WRITES),
         untold(alloc, &TEXTS),
         untold(alloc, &no_switch()),
+        untold(alloc, &moved()),
+        untold(alloc, &steps()),
         untold(alloc, &RUNS),
     ] {
         assert!(rt; untold == None);
