@@ -56,18 +56,21 @@ module _ {start : Simulation} {seat : NodePort} (cables : AreCables start) (coun
     where
       by_queue : (queue : List Request) → s.queued ≡ queue → CoversSoFar (after_next_request_of s queue).sweep told
       by_queue [] e = h
-      by_queue (r ∷ queue) e = (h.0, λ answered near.
-          let c = h.1 answered near in
-          let same : s.outstanding ++ s.queued ≡ (s.outstanding ++ r ∷ []) ++ queue =
-          ap (λ l. s.outstanding ++ l) e ∙ sym (append_assoc s.outstanding (r ∷ []) queue) in
-          record {
-            rising = subst (λ rs. AreRising 0 rs s.next) same c.rising;
-            rooted = subst (λ rs. AllByRecursion (λ (x : Request). IsRooted (fabric_of start) seat s.reached x.context) rs) same c.rooted;
-            vertices = subst (λ rs. AllByRecursion (Covers (fabric_of start) seat (record { requests = rs; reached = s.reached; told = told })) s.reached)
-                same c.vertices;
-            joined = c.joined;
-            start = subst (λ rs. (IsPending rs first_question × (s.reached ≡ [])) ⊎ Has (IsOrigin (fabric_of start) seat) s.reached) same c.start;
-          })
+      by_queue (r ∷ queue) e = (
+        h.0,
+        λ answered near.
+            let c = h.1 answered near in
+            let same : s.outstanding ++ s.queued ≡ (s.outstanding ++ r ∷ []) ++ queue =
+            ap (λ l. s.outstanding ++ l) e ∙ sym (append_assoc s.outstanding (r ∷ []) queue) in
+            record {
+              rising = subst (λ rs. AreRising 0 rs s.next) same c.rising;
+              rooted = subst (λ rs. AllByRecursion (λ (x : Request). IsRooted (fabric_of start) seat s.reached x.context) rs) same c.rooted;
+              vertices = subst (λ rs. AllByRecursion (Covers (fabric_of start) seat (record { requests = rs; reached = s.reached; told = told })) s.reached)
+                  same c.vertices;
+              joined = c.joined;
+              start = subst (λ rs. (IsPending rs first_question × (s.reached ≡ [])) ⊎ Has (IsOrigin (fabric_of start) seat) s.reached) same c.start;
+            },
+      )
 
   -- a request that has timed out waits no more
   abbrev given_up : Sweep → Request → ℕ → Sweep
@@ -93,7 +96,10 @@ module _ {start : Simulation} {seat : NodePort} (cables : AreCables start) (coun
         rising = subst (λ rs. AreRising 0 rs s.next) requests (subst (AreRising 0 (without_number r.number s.outstanding ++ (s.queued ++ []))) next then.rising);
         rooted = subst (λ rs. AllByRecursion (λ (x : Request). IsRooted (fabric_of start) seat s.reached x.context) rs) requests then.rooted;
         vertices = subst (λ told. AllByRecursion (Covers (fabric_of start) seat (record {
-          requests = without_number r.number s.outstanding ++ s.queued; reached = s.reached; told = told })) s.reached) kept
+          requests = without_number r.number s.outstanding ++ s.queued;
+          reached = s.reached;
+          told = told;
+        })) s.reached) kept
             (subst (λ rs. AllByRecursion (Covers (fabric_of start) seat (record { requests = rs; reached = s.reached; told = told ++ [] })) s.reached)
             requests then.vertices);
         joined = subst (λ told. AllByRecursion (IsJoinedSighting (fabric_of start) seat) told) kept then.joined;
@@ -114,7 +120,7 @@ module _ {start : Simulation} {seat : NodePort} (cables : AreCables start) (coun
           let few = h.0 in (
             omega (arith, few),
             λ answered near. silent_covers s told (h.1 (omega (arith, answered)) near) sound r
-            (λ (x : Request). transaction_of s.generation x.number == transaction) found guid port e,
+                (λ (x : Request). transaction_of s.generation x.number == transaction) found guid port e,
           )
 
       by_request : (m : Option Request) → request_with s.generation transaction s.outstanding ≡ m → CoversSoFar (after_timeout_of s m) told
@@ -127,18 +133,20 @@ module _ {start : Simulation} {seat : NodePort} (cables : AreCables start) (coun
       → judged s bytes ≡ Ok answer → CoversSoFar s told → CoversSoFar (after_reply s bytes) (told ++ sightings_by answer)
   reply_covers s told sound bytes is answer taken h =
       let a = swept.accepted_as cables counts can cabled s sound bytes is answer taken in
-      subst (λ m. CoversSoFar (after_reply_to s bytes m) (told ++ sightings_by answer)) (sym a.belongs)
-      (h.0, λ answered near.
-      let c = h.1 answered (omega (arith, near)) in
-      let found = swept.found cables counts can cabled s sound bytes is answer taken in
-      subst (Covered (fabric_of start) seat (after_reply_to s bytes (Some a.request))) (ap (λ x. told ++ sightings_by x) (sym a.answer_is))
-      (by_question can s told c sound a.request (belongs s.generation bytes) a.belongs cabled bytes
-      (swept.told cables counts can cabled s sound bytes is answer taken).end
-      (swept.leads cables counts can cabled s sound bytes is answer taken)
-      (swept.says cables counts can cabled s sound bytes is answer taken)
-      (swept.for cables counts can cabled s sound bytes is answer taken)
-      (swept.node_good cables counts can cabled s sound bytes is answer taken)
-      a.request.question refl a.request.context refl found.sound.sound near))
+      subst (λ m. CoversSoFar (after_reply_to s bytes m) (told ++ sightings_by answer)) (sym a.belongs) (
+        h.0,
+        λ answered near.
+            let c = h.1 answered (omega (arith, near)) in
+            let found = swept.found cables counts can cabled s sound bytes is answer taken in
+            subst (Covered (fabric_of start) seat (after_reply_to s bytes (Some a.request))) (ap (λ x. told ++ sightings_by x) (sym a.answer_is))
+            (by_question can s told c sound a.request (belongs s.generation bytes) a.belongs cabled bytes
+            (swept.told cables counts can cabled s sound bytes is answer taken).end
+            (swept.leads cables counts can cabled s sound bytes is answer taken)
+            (swept.says cables counts can cabled s sound bytes is answer taken)
+            (swept.for cables counts can cabled s sound bytes is answer taken)
+            (swept.node_good cables counts can cabled s sound bytes is answer taken)
+            a.request.question refl a.request.context refl found.sound.sound near),
+      )
 
   -- events ------------------------------------------------------------------------------------------------------
 

@@ -85,11 +85,7 @@ fn write_how_many<W: Sink>(sink: &mut W, silent: Option<u64>) -> Result<(), Writ
 }
 
 /// Prints whether a manager's plan is written.
-pub fn write_written<W: Sink>(
-    sink: &mut W,
-    manager: &str,
-    written: bool,
-) -> Result<(), WriteFault>
+pub fn write_written<W: Sink>(sink: &mut W, manager: &str, written: bool) -> Result<(), WriteFault>
     ensures writes { Writes W.written W.has_failed result sink.old sink.new
         (written_line manager.now written) }
 {

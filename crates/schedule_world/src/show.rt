@@ -12,8 +12,8 @@ use lft_blocks::write_plan;
 use record_file::write_facts;
 use schedule_file::Shown;
 use schedule_lines::{
-    RunFault, refuse_fabric, refuse_manager, write_flight, write_ping, write_progress, write_silent,
-    write_state, write_written,
+    RunFault, refuse_fabric, refuse_manager, write_flight, write_ping, write_progress,
+    write_silent, write_state, write_written,
 };
 use sm_manager::Manager;
 use smp_bytes::Lid;

@@ -269,7 +269,7 @@ module _ (w : Sweeping) (generation first : ℕ) (begins : Begins w generation f
       subst (λ (s : Sweep). s.silent_managers ≤ s.unanswered) (sym begins.sweep) (omega arith) in
       let covered = (all_covered begins.quiet.fabric.cables (few_ports_there w generation first begins) can
       (cabled_there w generation first begins) events w (goes_first w generation first begins) all
-        (few, λ answered near. at_first)).1 whole.answered whole.near in
+      (few, λ answered near. at_first)).1 whole.answered whole.near in
       let none = none_pending ended.sweep whole.done in
       let is_fabric = simulations_are_fabrics start begins.quiet.fabric in
       let origin : Has (IsOrigin f w.seat) ended.sweep.reached = elim covered.start [ inl k ↦ absurd (none _ k.0) | inr k ↦ k ] in
