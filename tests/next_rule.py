@@ -30,11 +30,12 @@ class Tables:
                 self.blocks[at][int(first)] = bytes.fromhex(rest[0])
 
     def owners(self):
-        """The ends that hold each LID."""
+        """The ends that hold each LID, each once."""
         found = collections.defaultdict(list)
         for first, end, lmc in self.ranges:
             for lid in range(first, first + 2**lmc):
-                found[lid].append(end)
+                if end not in found[lid]:
+                    found[lid].append(end)
         return found
 
     def entry(self, guid, lid):

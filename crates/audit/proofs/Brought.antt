@@ -6,6 +6,7 @@ use Rattle.subnet_view.specs.declared.end_port.EndPort.{EndPort}
 use Rattle.subnet_view.specs.Reading.{Cells, switches}
 use Rattle.subnet_view.specs.EndPorts.{end_ports}
 use Rattle.plan_file.specs.declared.held.HeldSwitch.{HeldSwitch}
+use Rattle.plan_file.specs.declared.held.HeldLid.{HeldLid}
 use Rattle.plan_file.specs.Held.{HeldPlan}
 use Rattle.audit.specs.declared.end.End.{End}
 use Rattle.held_tables.specs.declared.chains.Chains.{Chains}
@@ -69,10 +70,11 @@ module _ (cells : Cells) (held : HeldPlan) (lid number : ℕ) (rows : List (List
   }
 
   pub brought_is : (nodes : List AuditedSwitch) (sources : List Sender) (owners : List EndPort) (steps ends : List NextHop) (result : List (Option End))
-      (firsts : List (Option ℕ)) (begin : Bool) (chains : Chains) (by_lid : List Owner) → IsNetwork cells held nodes sources firsts begin chains by_lid
+      (firsts : List (Option ℕ)) (begin : Bool) (chains : Chains) (lines : List HeldLid) (by_lid : List Owner)
+      → IsNetwork cells held nodes sources firsts begin chains lines by_lid
       → owners ≡ owners_of held lid → steps ≡ map (next_hop_of owners rows lid) nodes → HaveEnded steps ends
       → result ≡ map (λ source. end_of (onward ends (first_hop owners source))) sources → AreBrought cells held lid result
-  brought_is nodes sources owners steps ends result firsts begin chains by_lid network own are ended result_is =
+  brought_is nodes sources owners steps ends result firsts begin chains lines by_lid network own are ended result_is =
       let all : steps ≡ next_hops_of cells held lid =
       are ∙ ap (λ o. map (next_hop_of o rows lid) nodes) own ∙ ap (map (next_hop_of (owners_of held lid) rows lid)) network.nodes_are
       ∙ steps_are (switches cells) in

@@ -41,7 +41,6 @@ seen_whole seen = record {
   covers = covers seen.agrees;
   holds = record {
     lids = λ port node lid here some. seen.holds.lids port node lid here.node_there here.end_port some;
-    tops = λ port node here kind. seen.holds.tops port.node node here.node_there kind;
     entries = λ port node lid here kind. seen.holds.entries port.node node lid here.node_there kind;
   };
 }

@@ -125,11 +125,11 @@ module _ (by : RuleValue) (lmc : ℕ) (facts : Facts) (range : AreInRange facts)
   owned = line_owned lmc facts has_room line is_held
 
   owner_holds : is_owner owners owner ≡ true
-  owner_holds = line_owner held.lids line is_held
+  owner_holds = line_owner held line is_held
 
   only_owner : (e : EndPort) → is_owner owners e ≡ true → e ≡ owner
   only_owner e h =
-      let l = owner_line held.lids lid e h in
+      let l = owner_line held lid e h in
       let its = line_owned lmc facts has_room l.line l.is_held in
       sym l.port_is ∙ same_Some l.line.port owner (sym its ∙ ap (owner_of (lids lmc cells)) l.lid_is ∙ owned)
 

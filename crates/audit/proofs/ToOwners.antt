@@ -26,8 +26,8 @@ use Rattle.audit.specs.LidSets.{has}
 use Rattle.held_tables.specs.Switches.{all_begin, first_by, first_switch, is_among, node_of, sender_of}
 use Rattle.held_tables.specs.Blocks.{AreBlocks}
 use Rattle.audit.specs.NextHops.{IsBrought, LineArrives, next_hop_of, next_hops_of, sent}
-use Rattle.held_tables.specs.Owners.{AreOwners, holders, owner_among, sole_among, is_sole}
-use Rattle.held_tables.specs.Tables.{is_owner, is_same_end, owners_of}
+use Rattle.held_tables.specs.Owners.{AreOwners, owner_among, sole_among, is_sole}
+use Rattle.held_tables.specs.Tables.{holders, is_owner, is_same_end, lines_of, owners_of}
 use Rattle.audit.specs.WalkEnds.{IsEndOf}
 use Rattle.audit.proofs.Arrivals.{sole_owner}
 use Rattle.audit.proofs.Brought.{steps_are}
@@ -44,11 +44,11 @@ alone [] port h = absurd (cc)
 alone (e ∷ []) port h = ap (λ (x : EndPort). x ∷ []) (same_Some e port h)
 alone (e ∷ x ∷ es) port h = absurd (cc)
 
-holds_alone : (held : HeldPlan) (owners : List Owner) (lid : ℕ) (port : EndPort) → AreOwners held.lids owners
+holds_alone : (held : HeldPlan) (owners : List Owner) (lid : ℕ) (port : EndPort) → AreOwners (lines_of held) owners
     → sole_among (slice_index_or owners lid Several) ≡ Some port → owners_of held lid ≡ port ∷ []
 holds_alone held owners lid port h told =
     elim (cases_lt lid (length owners)) [
-      | inl within ↦ alone (holders held.lids lid) port (sym (ap sole_among (h.each lid within)) ∙ told)
+      | inl within ↦ alone (holders (lines_of held) lid) port (sym (ap sole_among (h.each lid within)) ∙ told)
       | inr past ↦
           let none : ◌≡◌ {A = Option EndPort} None (Some port) = sym (ap sole_among (told_past owners lid past)) ∙ told in
           absurd (cc)
@@ -56,7 +56,7 @@ holds_alone held owners lid port h told =
 
 -- what the switches do with packets for the LIDs of a number is what the tables say
 pub are_deliveries : (cells : Cells) (held : HeldPlan) (number : ℕ) (rows : List (List ℕ)) (nodes : List AuditedSwitch) (owners : List Owner) (lids : LidSet)
-    → AreBlocks held number rows → nodes ≡ map (node_of cells held) (switches cells) → AreOwners held.lids owners → AreDelivered nodes owners rows number lids
+    → AreBlocks held number rows → nodes ≡ map (node_of cells held) (switches cells) → AreOwners (lines_of held) owners → AreDelivered nodes owners rows number lids
     → AreDeliveries cells held (record { number = number; lids = lids })
 are_deliveries cells held number rows nodes owners lids blocks nodes_are owners_are h = λ lid is.
     let parts = and_parts (lid / 64 == number) (has lids (lid % 64)) is in

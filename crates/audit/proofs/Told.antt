@@ -31,7 +31,7 @@ use Rattle.audit.specs.declared.next_hop.NextHop.TheVariants.{To, Ends}
 use Rattle.audit.specs.Fabrics.{IsSeenIn, EndsAs, PacketsEndAsTold, PacketsEndAsToldInParts}
 use Rattle.held_tables.specs.Switches.{index_in, far_at, far_to, far_of, row_of, sender_of}
 use Rattle.audit.specs.NextHops.{IsBrought, at_port, over, cause_of, by_entry, next_hops_of, sent, first_hop}
-use Rattle.held_tables.specs.Tables.{owners_of, is_owner, counted, entry_for, top_of}
+use Rattle.held_tables.specs.Tables.{owners_of, is_owner, entry_for}
 use Rattle.audit.specs.WalkEnds.{onward, after, IsEndOf}
 use Rattle.audit.proofs.FabricParts.{InFabric, as_part, seen_whole, vertex_part, switch_end, listed, indexed, wire_told, told_wire}
 use Rattle.audit.proofs.FarRows.{has, lacks, no_far, no_port, row_at}
@@ -240,8 +240,7 @@ module _ (part : Part) (facts : Facts) (held : HeldPlan) (f : Fabric) (seen : Is
       let k = st.at.node in
       let here = switch_end part facts held f seen k node at kind within in
       switch_enters f lid st node at kind
-      ∙ ap (λ n. entry_course node.ports k (counted lid n (f.entry k lid))) (seen.holds.tops (port_at k 0) node here kind)
-      ∙ ap (λ n. entry_course node.ports k (counted lid (top_of held node.guid) n)) (seen.holds.entries (port_at k 0) node lid here kind)
+      ∙ ap (entry_course node.ports k) (seen.holds.entries (port_at k 0) node lid here kind)
 
   -- a switch does as its step says
   switch_leads : (i : ℕ) (st : Standing) (a : At i st) → Leads st (by_entry owners a.node.guid (why a.node) (row_of cells a.node.guid) (entry a.node))

@@ -14,17 +14,16 @@ use Rattle.plan_file.specs.Held.{HeldPlan}
 use Rattle.audit.specs.declared.end.End.{End}
 use Rattle.audit.specs.declared.end.End.TheVariants.{Taken, Lost}
 use Rattle.audit.specs.NextHops.{IsBrought}
-use Rattle.held_tables.specs.Tables.{owners_of, is_owner, top_of, entry_of}
+use Rattle.held_tables.specs.Tables.{owners_of, is_owner, counted, entry_for}
 
--- an end port owns a LID where a line says that it holds it; a switch has the top and the entries of its lines, a top
--- of 0 where it has none, and 255 at each LID of a block that it has no line for
+-- an end port owns a LID where a line says that it holds it; the entry of a switch that counts, by the top and the table
+-- of its agent, is the one that counts by its lines: 255 for LIDs over the top of these, and for those of a block without
+-- a line. What else its table has is open
 pub record HoldsTables (held : HeldPlan) (f : Fabric) : Type 0 where
   pub lids : (port : NodePort) (node : Node) (lid : ℕ) → IsNodeAt f port.node node → IsEndPort f port → 1 ≤ lid
       → owns f port lid ≡ is_owner (owners_of held lid) (record { node = node.guid; port = port.port })
-  pub tops : (id : ℕ) (node : Node) → IsNodeAt f id node → IsTrue (is_switch node.kind) → f.top id
-      ≡ top_of held node.guid
-  pub entries : (id : ℕ) (node : Node) (lid : ℕ) → IsNodeAt f id node → IsTrue (is_switch node.kind) → f.entry id lid
-      ≡ entry_of held node.guid lid
+  pub entries : (id : ℕ) (node : Node) (lid : ℕ) → IsNodeAt f id node → IsTrue (is_switch node.kind)
+      → counted lid (f.top id) (f.entry id lid) ≡ entry_for held lid node.guid
 
 -- a fabric that is as the facts say, and holds the tables
 pub record IsSeen (cells : Cells) (held : HeldPlan) (f : Fabric) : Type 0 where
@@ -36,10 +35,8 @@ pub record IsSeen (cells : Cells) (held : HeldPlan) (f : Fabric) : Type 0 where
 pub record HoldsTablesIn (part : Part) (held : HeldPlan) (f : Fabric) : Type 0 where
   pub lids : (port : NodePort) (node : Node) (lid : ℕ) → IsEndPortIn part f port node → 1 ≤ lid
       → owns f port lid ≡ is_owner (owners_of held lid) (record { node = node.guid; port = port.port })
-  pub tops : (port : NodePort) (node : Node) → IsEndPortIn part f port node → IsTrue (is_switch node.kind)
-      → f.top port.node ≡ top_of held node.guid
   pub entries : (port : NodePort) (node : Node) (lid : ℕ) → IsEndPortIn part f port node → IsTrue (is_switch node.kind)
-      → f.entry port.node lid ≡ entry_of held node.guid lid
+      → counted lid (f.top port.node) (f.entry port.node lid) ≡ entry_for held lid node.guid
 
 -- a fabric of which a part is as the facts say, whatever else they tell, and holds the tables
 pub record IsSeenIn (part : Part) (cells : Cells) (held : HeldPlan) (f : Fabric) : Type 0 where

@@ -7,8 +7,9 @@ use Rattle.std.specs.Prelude.{refl}
 use Rattle.fact_store.specs.View.{Facts}
 use Rattle.fact_store.specs.Coded.{facts_code}
 use Rattle.plan_file.specs.contracts.held.Held as held
+use Rattle.plan_file.specs.declared.held.HeldLid.{HeldLid}
 use Rattle.plan_file.specs.Held.{HeldPlan}
-use Rattle.held_tables.specs.Tables.{number_of}
+use Rattle.held_tables.specs.Tables.{lines_of, number_of}
 use Rattle.held_tables.specs.Chains.{AreChains}
 use Rattle.held_tables.specs.Owners.{AreOwners}
 use Rattle.held_tables.specs.Switches.{all_begin, first_switch, node_of, sender_of}
@@ -29,12 +30,14 @@ seen_code = code_by (Facts
     record { facts = p.0; held = p.1 }) (λ _. refl)
 
 -- the usable switches by rising GUID, the end ports as sources, in their order, the switches to which their packets
--- come first, whether each has one, the chains of the blocks' numbers, and who holds each LID
+-- come first, whether each has one, the chains of the blocks' numbers, the LIDs that are held, and who holds each
 pub record IsNetwork (cells : Cells) (held : HeldPlan) (nodes : List AuditedSwitch) (sources : List Sender)
-    (firsts : List (Option ℕ)) (begin : Bool) (chains : Chains) (owners : List Owner) : Type 0 where
-  pub nodes_are : nodes ≡ map (node_of cells held) (switches cells)
-  pub sources_are : sources ≡ map (sender_of cells) (end_ports cells)
-  pub firsts_are : firsts ≡ map first_switch sources
-  pub begin_is : begin ≡ all_begin (length nodes) firsts
-  pub chains_are : AreChains (map number_of held.blocks) chains
-  pub owners_are : AreOwners held.lids owners
+    (firsts : List (Option ℕ)) (begin : Bool) (chains : Chains) (lines : List HeldLid) (owners : List Owner) : Type 0
+  where
+    pub nodes_are : nodes ≡ map (node_of cells held) (switches cells)
+    pub sources_are : sources ≡ map (sender_of cells) (end_ports cells)
+    pub firsts_are : firsts ≡ map first_switch sources
+    pub begin_is : begin ≡ all_begin (length nodes) firsts
+    pub chains_are : AreChains (map number_of held.blocks) chains
+    pub lines_are : lines ≡ lines_of held
+    pub owners_are : AreOwners lines owners

@@ -1,6 +1,7 @@
 //! The laws of what tables do.
 ghost use Rattle.audit.specs.Fabrics.{PacketsEndAsTold, PacketsEndAsToldInParts};
 ghost use Rattle.audit.specs.NextHops.{EndsAreFound};
+ghost use Rattle.held_tables.specs.Owners.{SoleOwnersAreAlone};
 
 /// After as many steps as there are usable switches a packet has ended, or goes round for ever: it has one end, and
 /// that is where it is then.
@@ -18,4 +19,10 @@ pub fn packets_end_as_told()
 /// tables, whatever the rest of the fabric is.
 pub fn packets_end_as_told_in_parts()
     ensures law { PacketsEndAsToldInParts }
+{}
+
+/// Where an end port owns a LID by tables, and no other end port does, it is the one owner that the LID has, however many
+/// lines tell it.
+pub fn sole_owners_are_alone()
+    ensures law { SoleOwnersAreAlone }
 {}

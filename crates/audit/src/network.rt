@@ -6,12 +6,11 @@ ghost use Rattle.lid_assign.specs.Lids.{greatest};
 ghost use Rattle.subnet_view.specs.Reading.{switches};
 ghost use Rattle.audit.specs.Deliveries.{AreDeliveries};
 ghost use Rattle.audit.specs.Edges.{edges_of, greatest_top};
-ghost use Rattle.held_tables.specs.Chains.{AreChains};
 ghost use Rattle.held_tables.specs.Switches.{far_by, node_of, sender_of};
 ghost use Rattle.held_tables.specs.Blocks.{AreBlocks};
 ghost use Rattle.audit.specs.NextHops.{AreBrought, LineArrives, entry_by, switch_step};
 ghost use Rattle.held_tables.specs.Owners.{AreOwners, is_told_twice, is_sole};
-ghost use Rattle.held_tables.specs.Tables.{entry_for, number_of, owners_of, top_of};
+ghost use Rattle.held_tables.specs.Tables.{entry_for, lines_of, owners_of, top_of};
 
 use crate::block_walks::delivered;
 use crate::deliveries::Deliveries;
@@ -23,7 +22,7 @@ use crate::walk_ends::ends;
 use fact_store::{Refused, Store};
 use held_tables::{
     AuditedSwitch, Chains, Far, Owner, Sender, all_begin, block_chains, block_rows, firsts,
-    is_sole_owner, is_told_twice, lid_owners, nodes, owners_of, sources,
+    is_sole_owner, is_told_twice, lid_owners, lines_of, nodes, owners_of, sources,
 };
 use plan_file::{Held, HeldLid};
 use port_graph::Edge;
@@ -47,6 +46,8 @@ pub struct Network<'a> {
     begin: bool,
     /// Where the next block of each number is among those that are held.
     chains: Chains,
+    /// The LIDs that are held, with each end port of one once.
+    lines: Vec<HeldLid>,
     /// Who holds each LID.
     owners: Vec<Owner>,
 }
@@ -62,7 +63,7 @@ impl<'a> Model for Network<'a> {
     ghost view = { λ a. record { facts = a.store.now; held = a.held.now } };
 
     ghost invariant = { λ a. IsNetwork (cells_of a.store.now) a.held.now a.nodes.items a.sources.items a.firsts.items
-        a.begin a.chains a.owners.items };
+        a.begin a.chains a.lines.items a.owners.items };
 }
 
 /// The blocks of a number that switches hold.
@@ -83,7 +84,8 @@ impl<'a> Network<'a> {
         let (nodes, sources) = nodes_and_sources(alloc, store, held)?;
         let firsts = firsts(alloc, &sources)?;
         let begin = all_begin(nodes.len(), &firsts);
-        let (chains, owners) = chains_and_owners(alloc, held)?;
+        let chains = block_chains(alloc, held)?;
+        let (lines, owners) = lines_and_owners(alloc, held)?;
         Ok(Network {
             store,
             held,
@@ -92,6 +94,7 @@ impl<'a> Network<'a> {
             firsts,
             begin,
             chains,
+            lines,
             owners,
         })
     }
@@ -132,7 +135,7 @@ impl<'a> Network<'a> {
         ensures { IfOk result (λ ended. AreBrought (cells_of self.now.facts) self.now.held line.now.lid ended.ends
             × (ended.port ≡ line.now.port)) }
     {
-        let owners = owners_of(alloc, self.held, &self.owners, line.lid)?;
+        let owners = owners_of(alloc, &self.lines, &self.owners, line.lid)?;
         let steps = steps(alloc, &self.nodes, &owners, &blocks.rows, line.lid)?;
         let walks = ends(steps);
         Ends::new(
@@ -159,7 +162,7 @@ impl<'a> Network<'a> {
         ensures { IfOk result (λ steps. steps.items
             ≡ map (switch_step (cells_of self.now.facts) self.now.held lid) (switches (cells_of self.now.facts))) }
     {
-        let owners = owners_of(alloc, self.held, &self.owners, lid)?;
+        let owners = owners_of(alloc, &self.lines, &self.owners, lid)?;
         switch_steps(alloc, &self.nodes, &owners, &blocks.rows, lid)
     }
 
@@ -225,7 +228,7 @@ impl<'a> Network<'a> {
     pub fn owners(&self, alloc: Global, lid: Lid) -> Result<Vec<EndPort>, AllocError>
         ensures { IfOk result (λ owners. owners.items ≡ owners_of self.now.held lid) }
     {
-        owners_of(alloc, self.held, &self.owners, lid)
+        owners_of(alloc, &self.lines, &self.owners, lid)
     }
 
     /// Whether no other end port holds the LID of a line. It takes no memory, and a step or two where there are not
@@ -233,15 +236,14 @@ impl<'a> Network<'a> {
     pub fn is_sole_owner(&self, line: &HeldLid) -> bool
         ensures { result ≡ is_sole line.now.port (owners_of self.now.held line.now.lid) }
     {
-        is_sole_owner(self.held, &self.owners, line)
+        is_sole_owner(&self.lines, &self.owners, line)
     }
 
-    /// Whether more than one port holds a LID. It takes no memory, and a step or two where there are not several, and
-    /// else a walk over the LIDs that are held.
+    /// Whether more than one port holds a LID. It takes no memory, and a step or two.
     pub fn is_told_twice(&self, lid: Lid) -> bool
-        ensures { result ≡ is_told_twice self.now.held.lids lid }
+        ensures { result ≡ is_told_twice (lines_of self.now.held) lid }
     {
-        is_told_twice(self.held, &self.owners, lid)
+        is_told_twice(&self.lines, &self.owners, lid)
     }
 
     /// What the view says of the subnet.
@@ -326,11 +328,12 @@ impl<'a> Network<'a> {
         &self.sources
     }
 
-    /// The LIDs that are held, with their end ports.
+    /// The LIDs that are held, each with the end ports that hold it, which are told once each, in the order of the
+    /// lines.
     pub fn lids(&self) -> &[HeldLid]
-        ensures { result.now ≡ self.now.held.lids }
+        ensures { result.now ≡ lines_of self.now.held }
     {
-        self.held.lids()
+        &self.lines
     }
 
     /// The entry by which a usable switch forwards packets for a LID, where 255 is none; None for another node. Takes
@@ -373,14 +376,14 @@ fn sources_of(alloc: Global, wires: &Wires, guids: &[Guid]) -> Result<Vec<Sender
     Ok(sources(alloc, wires, guids, &ports)?)
 }
 
-/// The chains of the blocks' numbers, and who holds each LID.
-fn chains_and_owners(alloc: Global, held: &Held) -> Result<(Chains, Vec<Owner>), AllocError>
-    ensures chains { IfOk result (λ both. AreChains (map number_of held.now.blocks) both.0) }
-    ensures owners { IfOk result (λ both. AreOwners held.now.lids both.1.items) }
+/// The LIDs that are held, with each end port of one once, and who holds each.
+fn lines_and_owners(alloc: Global, held: &Held) -> Result<(Vec<HeldLid>, Vec<Owner>), AllocError>
+    ensures lines { IfOk result (λ both. both.0.items ≡ lines_of held.now) }
+    ensures owners { IfOk result (λ both. AreOwners both.0.items both.1.items) }
 {
-    let chains = block_chains(alloc, held)?;
-    let owners = lid_owners(alloc, held)?;
-    Ok((chains, owners))
+    let lines = lines_of(alloc, held)?;
+    let owners = lid_owners(alloc, &lines)?;
+    Ok((lines, owners))
 }
 
 /// The greatest of the switches' tops, and 0 where there is none.

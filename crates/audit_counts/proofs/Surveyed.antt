@@ -16,7 +16,7 @@ use Rattle.audit.specs.declared.end.End.{End}
 use Rattle.audit.specs.declared.end.End.TheVariants.{Taken}
 use Rattle.held_tables.specs.Blocks.{AreBlocks}
 use Rattle.audit.specs.NextHops.{AreBrought, LineArrives, end_for, is_at}
-use Rattle.held_tables.specs.Tables.{is_owner}
+use Rattle.held_tables.specs.Tables.{is_owner, lines_of}
 use Rattle.audit.proofs.Arrivals.{all_there}
 use Rattle.audit.proofs.InTime.{end_found, found_at}
 use Rattle.audit.proofs.Judged.{at_contains, same_itself}
@@ -216,6 +216,6 @@ module _ (cells : Cells) (held : HeldPlan) (lines : List HeldLid) where
   }
 
   pub all_surveyed : (number : ℕ) (rows : List (List ℕ)) (n : ℕ) (tally : PacketTally) → AreSurveyed cells held lines number rows n tally
-      → lines ≡ held.lids → length lines ≤ n → IsTally (packets_of cells held) tally
+      → lines ≡ lines_of held → length lines ≤ n → IsTally (packets_of cells held) tally
   all_surveyed number rows n tally h are past =
       subst (λ (ls : List HeldLid). IsTally (flat_map (packets_for cells held) ls) tally) (take_all n lines past ∙ are) h.counted

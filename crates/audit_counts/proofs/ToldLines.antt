@@ -7,6 +7,7 @@ use Rattle.std.proofs.lemmas.Option.{same_Some, slice_get-get_or}
 use Rattle.subnet_view.specs.Reading.{Cells}
 use Rattle.plan_file.specs.declared.held.HeldLid.{HeldLid}
 use Rattle.plan_file.specs.Held.{HeldPlan}
+use Rattle.held_tables.specs.Tables.{lines_of}
 use Rattle.audit_ways.specs.Ways.{AllComeTo, AreTold}
 
 last_of : (told : List Bool) (all : Bool) → slice_index_or (told ++ all ∷ []) (length told) false ≡ all
@@ -47,7 +48,7 @@ module _ (cells : Cells) (held : HeldPlan) (lines : List HeldLid) where
                 (come (sym (last_of told all) ∙ ap (λ i. slice_index_or (told ++ all ∷ []) i false) (many ∙ sym same) ∙ h)))
           ]
 
-  pub all_told : (n : ℕ) (told : List Bool) → ToldSoFar n told → lines ≡ held.lids → AreTold cells held told
+  pub all_told : (n : ℕ) (told : List Bool) → ToldSoFar n told → lines ≡ lines_of held → AreTold cells held told
   all_told n told so are k line at h =
       let many = so.as_many in
       elim (cases_lt k n) [

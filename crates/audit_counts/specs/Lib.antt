@@ -5,4 +5,5 @@ pub mod PacketTally
 pub mod Packets
 pub mod Pairs
 pub mod Sites
+pub mod Unclear
 pub mod Unmatched

@@ -9,7 +9,7 @@ use Rattle.plan_file.specs.Held.{HeldPlan}
 use Rattle.audit.specs.declared.end.End.{End}
 use Rattle.audit.specs.declared.end.End.TheVariants.{Taken, Lost}
 use Rattle.audit.specs.NextHops.{end_for, is_at}
-use Rattle.held_tables.specs.Tables.{is_owner}
+use Rattle.held_tables.specs.Tables.{is_owner, lines_of}
 use Rattle.audit_counts.specs.declared.sent_packet.SentPacket.{SentPacket}
 use Rattle.audit_counts.specs.Sites.{are_adapters, in_one_component}
 
@@ -28,7 +28,7 @@ packets_for cells held line = if is_owner (end_ports cells) line.port then sent_
 
 -- for each LID that is held
 abbrev pub packets_of : Cells → HeldPlan → List SentPacket
-packets_of cells held = flat_map (packets_for cells held) held.lids
+packets_of cells held = flat_map (packets_for cells held) (lines_of held)
 
 -- it is delivered at the end port that holds its LID
 abbrev pub arrives : SentPacket → Bool

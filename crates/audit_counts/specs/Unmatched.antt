@@ -1,4 +1,4 @@
--- Where the tables that are held and the facts of the subnet differ.
+-- Where the tables that are held and the facts of the subnet differ, and what the facts do not tell.
 use Rattle.std.specs.Prelude.{◌≡◌, ℕ, Bool, not, ◌==◌, List, map}
 use Rattle.std.specs.List.{list_any}
 use Rattle.subnet_view.specs.declared.end_port.EndPort.{EndPort}
@@ -7,21 +7,26 @@ use Rattle.subnet_view.specs.Reading.{Cells, is_usable, switches}
 use Rattle.plan_file.specs.declared.held.HeldLid.{HeldLid}
 use Rattle.plan_file.specs.Held.{HeldPlan}
 use Rattle.held_tables.specs.Owners.{is_told_twice}
-use Rattle.held_tables.specs.Tables.{is_owner, is_same_end}
+use Rattle.held_tables.specs.Tables.{is_owner, is_same_end, lines_of}
 use Rattle.audit_counts.specs.declared.unmatched.Unmatched.{Unmatched}
 use Rattle.audit_counts.specs.FirstFew.{Listed, listed_of}
+use Rattle.audit_counts.specs.Unclear.{unjoined, unusable}
+
+-- of some lines those with ports that are no end ports of the facts
+abbrev pub unowned_among : Cells → List HeldLid → Listed HeldLid
+unowned_among cells lines = listed_of (λ line. not (is_owner (end_ports cells) line.port)) lines
 
 -- LIDs with ports that are no end ports of the facts
 abbrev pub unowned : Cells → HeldPlan → Listed HeldLid
-unowned cells held = listed_of (λ line. not (is_owner (end_ports cells) line.port)) held.lids
+unowned cells held = unowned_among cells (lines_of held)
 
 -- more than one port holds the LID
 abbrev pub is_twice : HeldPlan → HeldLid → Bool
-is_twice held line = is_told_twice held.lids line.lid
+is_twice held line = is_told_twice (lines_of held) line.lid
 
 -- such LIDs, with each of these ports
 abbrev pub twice : HeldPlan → Listed HeldLid
-twice held = listed_of (is_twice held) held.lids
+twice held = listed_of (is_twice held) (lines_of held)
 
 -- switches with tables that are no usable switches of the facts
 abbrev pub unknown : Cells → HeldPlan → Listed ℕ
@@ -57,4 +62,6 @@ pub record IsUnmatched (cells : Cells) (held : HeldPlan) (found : Unmatched) : T
   pub twice_are : found.twice ≡ twice held
   pub unknown_are : found.unknown ≡ unknown cells held
   pub tableless_are : found.tableless ≡ tableless cells held
+  pub unusable_are : found.unusable ≡ unusable cells
   pub lidless_are : found.lidless ≡ lidless cells held
+  pub unjoined_are : found.unjoined ≡ unjoined cells

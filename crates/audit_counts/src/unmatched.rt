@@ -1,10 +1,11 @@
-//! Where the tables that are held and the facts of the subnet differ.
+//! Where the tables that are held and the facts of the subnet differ, and what the facts do not tell.
 ghost use Rattle.std.specs.Prelude.{◌≡◌, IfOk};
 ghost use Rattle.fact_store.specs.View.{cells_of};
 ghost use Rattle.audit_counts.specs.Unmatched.{IsUnmatched, has_lid, is_held, lidless, lidless_among, tableless};
-ghost use Rattle.audit_counts.specs.Unmatched.{tableless_among, twice, unknown, unowned};
+ghost use Rattle.audit_counts.specs.Unmatched.{tableless_among, twice, unknown, unowned, unowned_among};
 
 use crate::first_few::FirstFew;
+use crate::unclear::unclear;
 use audit::{Network, is_same_end};
 use fact_store::{Refused, Store};
 use plan_file::{Held, HeldLid};
@@ -12,7 +13,7 @@ use smp_bytes::Guid;
 use std::alloc::{AllocError, Global};
 use subnet_view::{EndPort, end_ports, is_end_port, is_usable, switches};
 
-/// Where tables and facts differ.
+/// Where tables and facts differ, and what the facts do not tell.
 #[derive(Drop)]
 pub struct Unmatched {
     /// LIDs with ports that are no end ports of the facts.
@@ -23,25 +24,32 @@ pub struct Unmatched {
     pub unknown: FirstFew<Guid>,
     /// Usable switches without tables.
     pub tableless: FirstFew<Guid>,
+    /// Nodes of the facts whose type is not known, and switches whose table room is not.
+    pub unusable: FirstFew<Guid>,
     /// End ports of the facts without a LID.
     pub lidless: FirstFew<EndPort>,
+    /// Ports that are up, and from which no wire leads on.
+    pub unjoined: FirstFew<EndPort>,
 }
 
 impl Unmatched {
-    /// Those of each kind. Takes two searches for each LID that is held, and a walk over the LIDs where several ports
-    /// hold it; a walk over the switches that are held for each switch; and one over the LIDs for each end port.
+    /// Those of each kind. Takes two searches for each LID that is held; a walk over the switches that are held for each
+    /// switch; one over the LIDs for each end port; and what `unclear` takes.
     pub fn of(alloc: Global, network: &Network) -> Result<Self, Refused>
         ensures { IfOk result (IsUnmatched (cells_of network.now.facts) network.now.held) }
     {
         let (unowned, twice) = unowned_and_twice(alloc, network)?;
         let (unknown, tableless) = unknown_and_tableless(alloc, network)?;
         let lidless = lidless_of(alloc, network)?;
+        let (unusable, unjoined) = unclear(alloc, network.store())?;
         Ok(Unmatched {
             unowned,
             twice,
             unknown,
             tableless,
+            unusable,
             lidless,
+            unjoined,
         })
     }
 }
@@ -54,7 +62,7 @@ fn unowned_and_twice(
     ensures unowned { IfOk result (λ both. both.0 ≡ unowned (cells_of network.now.facts) network.now.held) }
     ensures twice { IfOk result (λ both. both.1 ≡ twice network.now.held) }
 {
-    let unowned = unowned(alloc, network.held(), network.store())?;
+    let unowned = unowned(alloc, network.lids(), network.store())?;
     let twice = twice(alloc, network)?;
     Ok((unowned, twice))
 }
@@ -88,12 +96,12 @@ fn lidless_of(alloc: Global, network: &Network) -> Result<FirstFew<EndPort>, Ref
     Ok(lidless(alloc, network.held(), &ports)?)
 }
 
-/// LIDs with ports that are no end ports of the facts.
-fn unowned(alloc: Global, held: &Held, store: &Store) -> Result<FirstFew<HeldLid>, AllocError>
-    ensures { IfOk result (λ few. few ≡ unowned (cells_of store.now) held.now) }
+/// Those of some lines with ports that are no end ports of the facts.
+fn unowned(alloc: Global, lines: &[HeldLid], store: &Store) -> Result<FirstFew<HeldLid>, AllocError>
+    ensures { IfOk result (λ few. few ≡ unowned_among (cells_of store.now) lines.now) }
 {
     let mut few = FirstFew::new(alloc);
-    for line in held.lids() {
+    for line in lines {
         if !is_end_port(store, line.port.node, line.port.port) {
             few.add(*line)?;
         }
@@ -106,7 +114,7 @@ fn twice(alloc: Global, network: &Network) -> Result<FirstFew<HeldLid>, AllocErr
     ensures { IfOk result (λ few. few ≡ twice network.now.held) }
 {
     let mut few = FirstFew::new(alloc);
-    for line in network.held().lids() {
+    for line in network.lids() {
         if network.is_told_twice(line.lid) {
             few.add(*line)?;
         }

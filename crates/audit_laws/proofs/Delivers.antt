@@ -252,7 +252,7 @@ passing_audits_deliver facts held f origin is_end seen passes source target a b 
     let told : IsTold cells f origin = record { is_fabric = seen.is_fabric; covers = seen.covers; is_graph = graph_law facts; listed = usable_switch facts } in
     let e = name source a in
     let x = name target b in
-    let l = owner_line held.lids lid x (sym (seen.holds.lids target b lid into some) ∙ own) in
+    let l = owner_line held lid x (sym (seen.holds.lids target b lid into some) ∙ own) in
     let owner : l.line.port ≡ x = l.port_is in
     let joined : in_one_component cells e x ≡ true =
     of_meeting told source target a b from into (joined_meet told is_end source target from.in_part into.in_part) in

@@ -1,3 +1,4 @@
 pub mod Delivers
+pub mod Known
 pub mod PlansArrive
 pub mod PlansRise

@@ -1,11 +1,18 @@
 //! The laws of audits.
-ghost use Rattle.audit_laws.specs.Laws.{MissedPacketsMiss, PassingAuditsDeliver, PlansPass};
+ghost use Rattle.audit_laws.specs.Laws.{MissedPacketsMiss, PassingAuditsDeliver, PassingAuditsKnowAll, PlansPass};
 
-/// The plan of each view with room, by each rule and under each LMC, passes an audit by its own text: each end port has
-/// a LID and each usable switch tables, each packet that an end port sends to a LID of its component arrives, and
-/// channels can be numbered so that the numbers rise on every way.
+/// The plan of each view with room in which each node's type and each switch's table room are known, by each rule and
+/// under each LMC, passes an audit by its own text: each end port has a LID and each switch tables, each packet that an
+/// end port sends to a LID of its component arrives, and channels can be numbered so that the numbers rise on every way.
 pub fn plans_pass()
     ensures law { PlansPass }
+{}
+
+/// Where tables pass an audit by facts, these tell of each node that they know of its type and the number of its ports,
+/// and of a switch its table room; and of each port that is up a wire, as both ends tell it, or of port 0 that it is a
+/// switch's end port, but for the ports that lines `unjoined` name and count.
+pub fn passing_audits_know_all()
+    ensures law { PassingAuditsKnowAll }
 {}
 
 /// Where tables pass an audit by facts, each packet between end ports of what is joined to an end port of a fabric is

@@ -15,7 +15,8 @@ use Rattle.plan_file.proofs.Lists.{in_lists, from_lists}
 use Rattle.audit.specs.declared.end.End.TheVariants.{Taken}
 use Rattle.audit.specs.Network.{Seen}
 use Rattle.audit.specs.NextHops.{end_for, is_at}
-use Rattle.held_tables.specs.Tables.{is_owner, is_same_end}
+use Rattle.held_tables.specs.Tables.{is_owner, is_same_end, lines_of}
+use Rattle.held_tables.proofs.Once.{once_from, once_has}
 use Rattle.audit.proofs.InTime.{end_found, end_is}
 use Rattle.audit.proofs.Judged.{same_ends, same_itself, at_is}
 use Rattle.audit_channels.specs.Waiting.{NoneShorter}
@@ -70,7 +71,7 @@ module _ (cells : Cells) (held : HeldPlan) where
       let sent : Contains (sent_to cells held line) (packet_of cells held line e) =
       contains_map (packet_of cells held line) (filter (λ x. in_one_component cells x line.port) (end_ports cells)) e
       (contains_filter (λ x. in_one_component cells x line.port) (end_ports cells) e is_end joined) in
-      in_lists (packets_for cells held) held.lids line (packet_of cells held line e) is_held
+      in_lists (packets_for cells held) (lines_of held) line (packet_of cells held line e) (once_has held.lids line is_held)
       (subst (λ (t : Bool). Contains (cond t (sent_to cells held line) []) (packet_of cells held line e)) (sym (owned line.port there)) sent)
 
   pub record IsSent (p : SentPacket) : Type 0 where
@@ -94,7 +95,8 @@ module _ (cells : Cells) (held : HeldPlan) where
       ] refl h
 
   from_packets : (p : SentPacket) → Contains (packets_of cells held) p → IsSent p
-  from_packets p h = let i = from_lists (packets_for cells held) held.lids p h in of_line i.0 p i.1 i.2
+  from_packets p h =
+      let i = from_lists (packets_for cells held) (lines_of held) p h in of_line i.0 p (once_from held.lids i.0 i.1) i.2
 
   -- a packet comes to where it ends
   pub brought : (p : SentPacket) → Contains (packets_of cells held) p → IsBrought cells held p.line.lid p.source p.end

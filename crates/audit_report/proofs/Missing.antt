@@ -25,8 +25,9 @@ use Rattle.held_tables.specs.Tables.{is_same_end}
 use Rattle.held_tables.proofs.HeldPlans.{made}
 use Rattle.audit.proofs.Judged.{same_ends, same_itself}
 use Rattle.audit_counts.specs.declared.unmatched.Unmatched.{Unmatched}
-use Rattle.audit_report.specs.Passing.{EachHasTables, EachHoldsLid, HoldsLid, HoldsTables, IsWholeFor}
+use Rattle.audit_report.specs.Passing.{EachHasTables, EachHoldsLid, EachIsClear, HoldsLid, HoldsTables, IsWholeFor}
 use Rattle.audit_counts.specs.FirstFew.{Listed}
+use Rattle.audit_counts.specs.Unclear.{is_clear_node, told_nodes, unusable}
 use Rattle.audit_counts.specs.Unmatched.{IsUnmatched, has_lid, is_held, lidless, tableless}
 
 -- all of a list pass exactly where none is counted that does not
@@ -111,8 +112,17 @@ module _ (cells : Cells) (held : HeldPlan) where
         λ w. is ∙ ap (λ n. (n == 0) || (length (end_ports cells) == 0)) many ∙ some_tables (end_ports cells) w,
       )
 
+  pub nodes_is : (found : Unmatched) → IsUnmatched cells held found → IsTrue (found.unusable.count == 0) ↔ EachIsClear cells
+  nodes_is found differ =
+      let many = ap (λ (l : Listed ℕ). l.count) differ.unusable_are in (
+        λ t g there.
+            let none : (unusable cells).count ≡ 0 = sym many ∙ eqb-true found.unusable.count 0 t in
+            none_left (is_clear_node cells) (told_nodes cells) none g there,
+        λ w. eq-eqb found.unusable.count 0 (many ∙ all_pass (is_clear_node cells) (told_nodes cells) w),
+      )
+
 -- a plan has a LID for each end port, and tables for each usable switch
-module _ (by : RuleValue) (lmc : ℕ) (facts : Facts) (has_room : ¬ (IsNoRoom lmc (cells_of facts))) where
+module _ (by : RuleValue) (lmc : ℕ) (facts : Facts) (has_room : ¬ (IsNoRoom lmc (cells_of facts))) (clear : EachIsClear (cells_of facts)) where
   abbrev its_cells : Cells
   its_cells = cells_of facts
 
@@ -152,6 +162,11 @@ module _ (by : RuleValue) (lmc : ℕ) (facts : Facts) (has_room : ¬ (IsNoRoom l
         | None ↦ λ none. record {
           lids = λ e there. (let (first, listed) = given_port e there in absurd (no_top given.ports (e, first) none listed));
           tables = λ e g there switch. (let (first, listed) = given_port e there in absurd (no_top given.ports (e, first) none listed));
+          nodes = clear;
         }
-        | Some top ↦ λ is. record { lids = λ e there. lid_there e top there; tables = λ e g there switch. table_there g top switch }
+        | Some top ↦ λ is. record {
+          lids = λ e there. lid_there e top there;
+          tables = λ e g there switch. table_there g top switch;
+          nodes = clear;
+        }
       ] refl

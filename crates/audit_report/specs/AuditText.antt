@@ -26,6 +26,7 @@ use Rattle.audit_counts.specs.Disputed.{disputed}
 use Rattle.audit_counts.specs.Packets.{arrives, goes_round, is_between, is_lost, is_misdelivered, packets_of}
 use Rattle.audit_report.specs.Passing.{Audited}
 use Rattle.audit_counts.specs.FirstFew.{Listed, listed_of, more_of}
+use Rattle.audit_counts.specs.Unclear.{unjoined, unusable}
 use Rattle.audit_counts.specs.Unmatched.{lidless, tableless, twice, unknown, unowned}
 
 -- of some packets, which words tell, how many there are, and how many arrive
@@ -115,11 +116,11 @@ abbrev pub lid_line : List ℕ → HeldLid → List ℕ
 lid_line word line =
     word ++ codes " " ++ decimal line.lid ++ codes " " ++ port_text line.port.node line.port.port ++ codes "\n"
 
--- a word, and a switch
+-- a word, and a switch or another node
 abbrev pub switch_line : List ℕ → ℕ → List ℕ
 switch_line word guid = word ++ codes " " ++ guid_text guid ++ codes "\n"
 
--- a word, and an end port
+-- a word, and an end port or another port
 abbrev pub port_line : List ℕ → EndPort → List ℕ
 port_line word e = word ++ codes " " ++ port_text e.node e.port ++ codes "\n"
 
@@ -165,13 +166,15 @@ tally_text cells held tally =
     pairs_text tally.all tally.between ++ missed_line tally.causes tally.misdelivered.count tally.round.count
     ++ missed_text cells held tally.lost tally.misdelivered tally.round
 
--- where tables and facts differ
+-- where tables and facts differ, and what the facts do not tell
 abbrev pub unmatched_text : Unmatched → List ℕ
 unmatched_text found =
     kind_text lid_line (codes "unowned") found.unowned ++ kind_text lid_line (codes "twice") found.twice
     ++ kind_text switch_line (codes "unknown") found.unknown
     ++ kind_text switch_line (codes "tableless") found.tableless
+    ++ kind_text switch_line (codes "unusable") found.unusable
     ++ kind_text port_line (codes "lidless") found.lidless
+    ++ kind_text port_line (codes "unjoined") found.unjoined
 
 -- how many facts are disputed, where some are
 abbrev pub disputed_line : ℕ → List ℕ
@@ -195,13 +198,15 @@ packets_told cells held packets =
     ++ missed_text cells held (listed_of is_lost packets) (listed_of is_misdelivered packets)
     (listed_of goes_round packets)
 
--- the first of each kind in which tables and facts differ
+-- the first of each kind in which tables and facts differ, or that the facts do not tell
 abbrev pub unmatched_told : Cells → HeldPlan → List ℕ
 unmatched_told cells held =
     kind_text lid_line (codes "unowned") (unowned cells held) ++ kind_text lid_line (codes "twice") (twice held)
     ++ kind_text switch_line (codes "unknown") (unknown cells held)
     ++ kind_text switch_line (codes "tableless") (tableless cells held)
+    ++ kind_text switch_line (codes "unusable") (unusable cells)
     ++ kind_text port_line (codes "lidless") (lidless cells held)
+    ++ kind_text port_line (codes "unjoined") (unjoined cells)
 
 -- how far packets go between adapter ports, and how evenly they load the channels
 abbrev pub ways_told : Cells → HeldPlan → List ℕ

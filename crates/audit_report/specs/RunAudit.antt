@@ -4,6 +4,7 @@ use Rattle.std.specs.Prelude.{◌↔◌, ◌⊎◌, ℕ, Bool, List, IsTrue}
 use Rattle.byte_io.specs.Source.{SourceState}
 use Rattle.fact_store.specs.View.{Facts, cells_of}
 use Rattle.plan_file.specs.Held.{HeldPlan}
+use Rattle.audit_channels.specs.Waiting.{NoneShorter}
 use Rattle.audit_report.specs.AuditText.{audit_text}
 use Rattle.audit_report.specs.Passing.{Passes, IsCycle}
 use Rattle.sm_cli.specs.declared.fault.Fault.{Fault}
@@ -11,10 +12,12 @@ use Rattle.sm_cli.specs.declared.fault.Fault.TheVariants.{Write, Memory}
 use Rattle.sm_cli.specs.InputTables.{AreNoTablesAndFiles, AreTablesAndFiles}
 use Rattle.sm_cli.specs.declared.input_tables.TablesAndFacts.{TablesAndFacts}
 
--- this holds of what was written, which says how packets fare, and whether they pass is told
+-- this holds of what was written, which says how packets fare, with a shortest credit loop where there is one, and
+-- whether they pass is told
 pub record IsAudited (facts : Facts) (held : HeldPlan) (prints : List ℕ → Type 0) (passed : Bool) : Type 0 where
   pub cycle : List ℕ
   pub waits : IsCycle (cells_of facts) held cycle
+  pub shortest : NoneShorter (cells_of facts) held cycle
   pub answered : prints (audit_text (record { facts = facts; held = held; cycle = cycle }))
   pub judged : IsTrue passed ↔ Passes (cells_of facts) held
 

@@ -282,7 +282,7 @@ fn write_entry<W: Sink>(sink: &mut W, entry: Option<u8>) -> Result<(), WriteFaul
     }
 }
 
-/// Writes where tables and facts differ.
+/// Writes where tables and facts differ, and what the facts do not tell.
 fn write_unmatched<W: Sink>(sink: &mut W, unmatched: &Unmatched) -> Result<(), WriteFault>
     ensures { WritesPart W.written W.has_failed result sink.old sink.new (unmatched_text unmatched.now) }
 {
@@ -290,7 +290,9 @@ fn write_unmatched<W: Sink>(sink: &mut W, unmatched: &Unmatched) -> Result<(), W
     write_lids(sink, "twice", &unmatched.twice)?;
     write_switches(sink, "unknown", &unmatched.unknown)?;
     write_switches(sink, "tableless", &unmatched.tableless)?;
-    write_ports(sink, "lidless", &unmatched.lidless)
+    write_switches(sink, "unusable", &unmatched.unusable)?;
+    write_ports(sink, "lidless", &unmatched.lidless)?;
+    write_ports(sink, "unjoined", &unmatched.unjoined)
 }
 
 /// Writes LIDs that are few, and how many more there are.

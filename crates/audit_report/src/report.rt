@@ -5,8 +5,8 @@ ghost use Rattle.audit_ways.specs.Ways.{AreTold, IsToldOfWays};
 ghost use Rattle.audit_counts.specs.Packets.{packets_of};
 ghost use Rattle.audit_counts.specs.PacketTally.{IsTally};
 ghost use Rattle.audit_counts.specs.Unmatched.{IsUnmatched};
-ghost use Rattle.audit_report.specs.Passing.{EachHasTables, EachHoldsLid, IsCycle, IsFound, IsSound, IsWholeFor};
-ghost use Rattle.audit_report.specs.Passing.{Passes};
+ghost use Rattle.audit_report.specs.Passing.{EachHasTables, EachHoldsLid, EachIsClear, IsCycle, IsFound, IsSound};
+ghost use Rattle.audit_report.specs.Passing.{IsWholeFor, Passes};
 
 use audit::Network;
 use audit_channels::{ChannelOrder, channel_order};
@@ -75,11 +75,19 @@ impl<'a> Audit<'a> {
         self.is_whole() && self.is_sound()
     }
 
-    /// Whether each end port of the view holds a LID and, where there is one, each usable switch has tables.
+    /// Whether each end port of the view holds a LID; each usable switch has tables, where there is an end port; and of
+    /// each node the type is known, and of a switch its table room.
     fn is_whole(&self) -> bool
         ensures { IsTrue result ↔ IsWholeFor (cells_of self.now.facts) self.now.held }
     {
-        self.has_lids() && self.has_tables()
+        self.has_lids() && self.has_tables() && self.has_nodes()
+    }
+
+    /// Whether of each node of the view the type is known, and of a switch its table room.
+    fn has_nodes(&self) -> bool
+        ensures { IsTrue result ↔ EachIsClear (cells_of self.now.facts) }
+    {
+        self.findings.unmatched.unusable.count() == 0
     }
 
     /// Whether each end port of the view holds a LID.

@@ -7,6 +7,7 @@ use Rattle.std.proofs.lemmas.List.Sums.{sum_by-append}
 use Rattle.subnet_view.specs.Reading.{Cells, switches}
 use Rattle.plan_file.specs.declared.held.HeldLid.{HeldLid}
 use Rattle.plan_file.specs.Held.{HeldPlan}
+use Rattle.held_tables.specs.Tables.{lines_of}
 use Rattle.held_tables.specs.Blocks.{AreBlocks}
 use Rattle.audit_ways.specs.declared.way_tally.WayTally.{WayTally}
 use Rattle.audit_ways.specs.WayTally.{IsCounted, IsCountedMore}
@@ -62,7 +63,7 @@ module _ (cells : Cells) (held : HeldPlan) (lines : List HeldLid) where
   }
 
   pub all_surveyed : (number : ℕ) (rows : List (List ℕ)) (n : ℕ) (tally : WayTally) → AreSurveyed cells held lines number rows n tally
-      → lines ≡ held.lids → length lines ≤ n → IsCounted channels (λ f. sum_by f (ways_of cells held)) tally
+      → lines ≡ lines_of held → length lines ≤ n → IsCounted channels (λ f. sum_by f (ways_of cells held)) tally
   all_surveyed number rows n tally h are past =
       counted_as channels (λ f. sum_by f (first n)) (λ f. sum_by f (ways_of cells held)) tally
       (λ f. ap (λ ls. sum_by f (flat_map (ways_for cells held) ls)) (take_all n lines past ∙ are)) h.counted

@@ -16,7 +16,7 @@ use Rattle.held_tables.specs.declared.far_end.Far.TheVariants.{Nothing, Switch, 
 use Rattle.audit.specs.Edges.{edges_of}
 use Rattle.held_tables.specs.Switches.{far_by, far_of}
 use Rattle.audit.specs.NextHops.{end_for, is_at}
-use Rattle.held_tables.specs.Tables.{is_owner, is_same_end}
+use Rattle.held_tables.specs.Tables.{is_owner, is_same_end, lines_of}
 use Rattle.audit_ways.specs.declared.ways.WayFigures.{WayFigures}
 use Rattle.audit_ways.specs.Figures.{figures_of}
 
@@ -74,7 +74,7 @@ AllComeTo cells held line =
 
 -- so it is of those lines of which it is told, by their indices
 abbrev pub AreTold : Cells → HeldPlan → List Bool → Type 0
-AreTold cells held told = (index : ℕ) (line : HeldLid) → slice_get held.lids index ≡ Some line
+AreTold cells held told = (index : ℕ) (line : HeldLid) → slice_get (lines_of held) index ≡ Some line
     → slice_index_or told index false ≡ true → AllComeTo cells held line
 
 -- the way of a packet for the LID of a line
@@ -94,7 +94,7 @@ ways_for cells held line = if is_target cells line.port then ways_to cells held 
 
 -- from each adapter port to each LID of another one
 abbrev pub ways_of : Cells → HeldPlan → List Way
-ways_of cells held = flat_map (ways_for cells held) held.lids
+ways_of cells held = flat_map (ways_for cells held) (lines_of held)
 
 -- how many wires each takes
 abbrev pub hops_of : Cells → HeldPlan → List ℕ

@@ -1,16 +1,17 @@
 -- Who holds each LID: by one line more, and what is told of a LID.
-use Rattle.std.proofs.Common.{◌≡◌, ◌⊎◌, ◌<◌, ℕ, Bool, false, List, [], ◌∷◌, ◌++◌, length, map, cond, nat_lt, replicate, refl, sym, ap, ◌∙◌, arith, inl, inr}
+use Rattle.std.proofs.Common.{◌≡◌, ◌<◌, ℕ, Bool, List, [], ◌∷◌, ◌++◌, length, map, cond, nat_lt, replicate, refl, sym, ap, ◌∙◌, arith, inl, inr}
 use Rattle.std.specs.Prelude.{count_by, filter, slice_index_or, slice_set, ◌==◌}
 use Rattle.std.proofs.lemmas.Grind.{get_or-set_at}
-use Rattle.std.proofs.lemmas.List.{append-nil, get_or-replicate, get_or-set_other, get_or_past, length-map, length-replicate, length-set, map-append}
+use Rattle.std.proofs.lemmas.List.{append-nil, get_or-replicate, get_or-set_other, length-map, length-replicate, length-set, map-append}
 use Rattle.std.proofs.lemmas.List.Elements.{filter-append}
 use Rattle.std.proofs.lemmas.List.Sums.{length-filter}
-use Rattle.std.proofs.lemmas.Bool.{cases_eq, cases_lt, eq-eqb, ne_eqb}
+use Rattle.std.proofs.lemmas.Bool.{cases_eq, eq-eqb, lt-ltb, ne_eqb}
 use Rattle.subnet_view.specs.declared.end_port.EndPort.{EndPort}
 use Rattle.plan_file.specs.declared.held.HeldLid.{HeldLid}
 use Rattle.held_tables.specs.declared.owners.Owner.{Owner}
-use Rattle.held_tables.specs.declared.owners.Owner.TheVariants.{Nobody, Sole, Several}
-use Rattle.held_tables.specs.Owners.{AreOwners, holders, is_told_twice, owner_among, owner_more}
+use Rattle.held_tables.specs.declared.owners.Owner.TheVariants.{Nobody, Several}
+use Rattle.held_tables.specs.Owners.{AreOwners, is_several, is_told_twice, owner_among, owner_more}
+use Rattle.held_tables.specs.Tables.{holders}
 
 port_more : (es : List EndPort) (e : EndPort) → owner_among (es ++ e ∷ []) ≡ owner_more (owner_among es) e
 port_more [] e = refl
@@ -66,20 +67,13 @@ as_many lines lid =
     let tells : HeldLid → Bool = λ line. line.lid == lid in
     sym (length-filter tells lines) ∙ sym (length-map (filter tells lines) (λ line. line.port))
 
-one_at_most : (es : List EndPort) → (owner_among es ≡ Several → ⊥) → nat_lt 1 (length es) ≡ false
-one_at_most [] h = refl
-one_at_most (e ∷ []) h = refl
-one_at_most (e ∷ x ∷ es) h = absurd (h refl)
+several_told : (es : List EndPort) → is_several (owner_among es) ≡ nat_lt 1 (length es)
+several_told [] = refl
+several_told (e ∷ []) = refl
+several_told (e ∷ x ∷ es) = sym (lt-ltb 1 (length (e ∷ x ∷ es)) (omega arith))
 
--- nobody is not several, and neither is one end port alone
-pub not_several : (owner : Owner) → (owner ≡ Nobody) ⊎ ((port : EndPort) × (owner ≡ Sole port)) → owner ≡ Several → ⊥
-not_several owner (inl nobody) several = cc
-not_several owner (inr (port, sole)) several = cc
-
--- a LID of which it is not told that several hold it is told by one line at most
-pub told_once : (lines : List HeldLid) (owners : List Owner) (lid : ℕ) → AreOwners lines owners → (slice_index_or owners lid Several ≡ Several → ⊥)
-    → is_told_twice lines lid ≡ false
-told_once lines owners lid h apart = elim (cases_lt lid (length owners)) [
-  | inl less ↦ (ap (nat_lt 1) (as_many lines lid) ∙ one_at_most (holders lines lid) (λ several. apart (h.each lid less ∙ several)))
-  | inr past ↦ absurd (apart (get_or_past owners lid Several past))
-]
+-- several hold a LID where more than one line tells it
+pub told_twice : (lines : List HeldLid) (owners : List Owner) (lid : ℕ) (owner : Owner) → AreOwners lines owners → lid < length owners
+    → owner ≡ slice_index_or owners lid Several → is_several owner ≡ is_told_twice lines lid
+told_twice lines owners lid owner h less is =
+    ap is_several (is ∙ h.each lid less) ∙ several_told (holders lines lid) ∙ ap (nat_lt 1) (sym (as_many lines lid))

@@ -1,9 +1,10 @@
 -- Who holds each LID, in one step.
-use Rattle.std.specs.Prelude.{◌≡◌, ◌<◌, ◌==◌, ℕ, Bool, List, [], ◌∷◌, Option, None, Some, count_by, filter, length, map, nat_lt, slice_index_or}
+use Rattle.std.specs.Prelude.{◌≡◌, ◌↔◌, ◌<◌, ◌==◌, ℕ, Bool, true, false, List, [], ◌∷◌, Option, None, Some, count_by, length, nat_lt, slice_index_or, IsTrue}
 use Rattle.std.specs.List.{list_all}
 use Rattle.subnet_view.specs.declared.end_port.EndPort.{EndPort}
 use Rattle.plan_file.specs.declared.held.HeldLid.{HeldLid}
-use Rattle.held_tables.specs.Tables.{is_same_end}
+use Rattle.plan_file.specs.Held.{HeldPlan}
+use Rattle.held_tables.specs.Tables.{holders, is_owner, is_same_end, owners_of}
 use Rattle.held_tables.specs.declared.owners.Owner.{Owner}
 use Rattle.held_tables.specs.declared.owners.Owner.TheVariants.{Nobody, Sole, Several}
 
@@ -19,21 +20,29 @@ sole_among Nobody = None
 sole_among (Sole e) = Some e
 sole_among Several = None
 
+-- more than one
+abbrev pub is_several : Owner → Bool
+is_several Nobody = false
+is_several (Sole e) = false
+is_several Several = true
+
 -- with one more
 abbrev pub owner_more : Owner → EndPort → Owner
 owner_more Nobody e = Sole e
 owner_more (Sole x) e = Several
 owner_more Several e = Several
 
--- of these lines the end ports that hold a LID
-abbrev pub holders : List HeldLid → ℕ → List EndPort
-holders lines lid = map (λ x. x.port) (filter (λ x. x.lid == lid) lines)
-
 -- no other end port is one of these
 abbrev pub is_sole : EndPort → List EndPort → Bool
 is_sole port owners = list_all (is_same_end port) owners
 
--- more than one of these lines tells the LID
+-- an owner beside which is no other is the only one: whichever way it is asked, one end port alone holds the LID
+abbrev pub SoleOwnersAreAlone : Type 0
+SoleOwnersAreAlone =
+    (held : HeldPlan) (lid : ℕ) (port : EndPort) → IsTrue (is_owner (owners_of held lid) port)
+    → IsTrue (is_sole port (owners_of held lid)) ↔ (owners_of held lid ≡ port ∷ [])
+
+-- more than one of these lines tells the LID: where each tells something else, more than one end port holds it
 abbrev pub is_told_twice : List HeldLid → ℕ → Bool
 is_told_twice lines lid = nat_lt 1 (count_by (λ (line : HeldLid). line.lid == lid) lines)
 

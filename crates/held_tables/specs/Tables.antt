@@ -1,17 +1,35 @@
 -- What the tables held say: who holds a LID, and by which port a switch sends a packet on.
-use Rattle.std.specs.Prelude.{ℕ, ◌/◌, ◌%◌, ◌==◌, ◌&&◌, ◌||◌, Bool, List, Option, map, filter, option_and_then, nat_lt, slice_get, slice_index_or, reverse, if◌then◌else◌}
+use Rattle.std.specs.Prelude.{ℕ, ◌/◌, ◌%◌, ◌==◌, ◌&&◌, ◌||◌, Bool, not, List, [], ◌∷◌, Option, map, filter, option_and_then, nat_lt, slice_get, slice_index_or, reverse, if◌then◌else◌}
 use Rattle.std.specs.Option.{option_map_or}
 use Rattle.std.specs.List.{find, list_any, position}
 use Rattle.subnet_view.specs.declared.end_port.EndPort.{EndPort}
 use Rattle.plan_file.specs.declared.held.HeldBlock.{HeldBlock}
+use Rattle.plan_file.specs.declared.held.HeldLid.{HeldLid}
 use Rattle.plan_file.specs.Held.{HeldPlan}
-
--- the end ports that hold a LID
-abbrev pub owners_of : HeldPlan → ℕ → List EndPort
-owners_of held lid = map (λ x. x.port) (filter (λ x. x.lid == lid) held.lids)
 
 abbrev pub is_same_end : EndPort → EndPort → Bool
 is_same_end e x = x.node == e.node && x.port == e.port
+
+-- two lines tell one LID of one end port
+abbrev pub is_same_line : HeldLid → HeldLid → Bool
+is_same_line x y = y.lid == x.lid && is_same_end x.port y.port
+
+-- of some lines the first of those that tell the same
+abbrev pub told_once : List HeldLid → List HeldLid
+told_once [] = []
+told_once (x ∷ xs) = x ∷ filter (λ y. not (is_same_line x y)) (told_once xs)
+
+-- the LIDs that are held, each with the end ports that hold it, which are told once each, in the order of the lines
+abbrev pub lines_of : HeldPlan → List HeldLid
+lines_of held = told_once held.lids
+
+-- of some lines the end ports of those that tell a LID
+abbrev pub holders : List HeldLid → ℕ → List EndPort
+holders lines lid = map (λ x. x.port) (filter (λ x. x.lid == lid) lines)
+
+-- the owners of a LID: the end ports that hold it, each once
+abbrev pub owners_of : HeldPlan → ℕ → List EndPort
+owners_of held lid = holders (lines_of held) lid
 
 -- the end port is one of these
 abbrev pub is_owner : List EndPort → EndPort → Bool

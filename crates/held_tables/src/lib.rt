@@ -7,6 +7,7 @@ mod blocks;
 mod chains;
 mod far_end;
 mod far_ends;
+mod lines;
 mod owners;
 mod senders;
 
@@ -15,6 +16,7 @@ pub use blocks::{block_chains, block_rows};
 pub use chains::Chains;
 pub use far_end::Far;
 pub use far_ends::FarEnds;
+pub use lines::lines_of;
 pub use owners::{
     Owner, is_same_end, is_sole_owner, is_told_twice, lid_owners, owners_of, sole_owner,
 };

@@ -1,10 +1,10 @@
 //! Who holds each LID.
 ghost use Rattle.std.specs.Prelude.{◌≡◌, [], ◌∷◌, IfOk, slice_index_or, slice_set};
 ghost use Rattle.held_tables.specs.declared.owners.Owner.TheVariants.{Several};
-ghost use Rattle.held_tables.specs.Owners.{AreOwners, is_told_twice, owner_more, sole_among, is_sole};
-ghost use Rattle.held_tables.specs.Tables.{is_same_end, owners_of};
+ghost use Rattle.held_tables.specs.Owners.{AreOwners, is_several, is_sole, is_told_twice, owner_more, sole_among};
+ghost use Rattle.held_tables.specs.Tables.{holders, is_same_end};
 
-use plan_file::{Held, HeldLid};
+use plan_file::HeldLid;
 use smp_bytes::Lid;
 use std::alloc::{AllocError, Global};
 use subnet_view::EndPort;
@@ -23,12 +23,12 @@ pub enum Owner {
 /// More than the greatest LID that an end port can hold.
 const LIDS: usize = Lid::UNICAST_END as usize;
 
-/// Who holds each LID. Takes a step for each that is held.
-pub fn lid_owners(alloc: Global, held: &Held) -> Result<Vec<Owner>, AllocError>
-    ensures { IfOk result (λ owners. AreOwners held.now.lids owners.items) }
+/// Who holds each LID by these lines. Takes a step for each.
+pub fn lid_owners(alloc: Global, lines: &[HeldLid]) -> Result<Vec<Owner>, AllocError>
+    ensures { IfOk result (λ owners. AreOwners lines.now owners.items) }
 {
     let mut owners = vec![in alloc; Owner::Nobody; LIDS]?;
-    for line in held.lids() {
+    for line in lines {
         add_owner(&mut owners, line);
     }
     Ok(owners)
@@ -55,21 +55,21 @@ fn owner_more(owner: Owner, port: EndPort) -> Owner
     }
 }
 
-/// The end ports that hold a LID, by who holds each. Takes a step or two where there are not several, and else a walk
-/// over all LIDs that are held.
+/// The end ports that hold a LID by these lines, by who holds each. Takes a step or two where there are not several,
+/// and else a walk over all lines.
 pub fn owners_of(
     alloc: Global,
-    held: &Held,
+    lines: &[HeldLid],
     owners: &[Owner],
     lid: Lid,
 ) -> Result<Vec<EndPort>, AllocError>
-    requires { AreOwners held.now.lids owners.now }
-    ensures { IfOk result (λ ports. ports.items ≡ owners_of held.now lid) }
+    requires { AreOwners lines.now owners.now }
+    ensures { IfOk result (λ ports. ports.items ≡ holders lines.now lid) }
 {
     match owner_at(owners, lid) {
         Owner::Nobody => Ok(Vec::new(alloc)),
         Owner::Sole(port) => one(alloc, port),
-        Owner::Several => all_owners_of(alloc, held, lid),
+        Owner::Several => all_owners_of(alloc, lines, lid),
     }
 }
 
@@ -102,57 +102,66 @@ fn one(alloc: Global, port: EndPort) -> Result<Vec<EndPort>, AllocError>
     Ok(ports)
 }
 
-/// The end ports that hold a LID. Takes a walk over all LIDs that are held.
-fn all_owners_of(alloc: Global, held: &Held, lid: Lid) -> Result<Vec<EndPort>, AllocError>
-    ensures { IfOk result (λ owners. owners.items ≡ owners_of held.now lid) }
+/// The end ports that hold a LID by these lines. Takes a walk over all lines.
+fn all_owners_of(alloc: Global, lines: &[HeldLid], lid: Lid) -> Result<Vec<EndPort>, AllocError>
+    ensures { IfOk result (λ owners. owners.items ≡ holders lines.now lid) }
 {
-    held.lids()
+    lines
         .iter()
-        .filter(|held| held.lid == lid)
-        .map(|held| held.port)
+        .filter(|line| line.lid == lid)
+        .map(|line| line.port)
         .collect(alloc)
 }
 
-/// Whether more than one line tells a LID, by who holds each. Takes a step or two where there are not several, and else
-/// a walk over all LIDs that are held.
-pub fn is_told_twice(held: &Held, owners: &[Owner], lid: Lid) -> bool
-    requires { AreOwners held.now.lids owners.now }
-    ensures { result ≡ is_told_twice held.now.lids lid }
+/// Whether more than one of these lines tells a LID, by who holds each. Takes a step or two.
+pub fn is_told_twice(lines: &[HeldLid], owners: &[Owner], lid: Lid) -> bool
+    requires { AreOwners lines.now owners.now }
+    ensures { result ≡ is_told_twice lines.now lid }
 {
-    match owner_at(owners, lid) {
-        Owner::Nobody | Owner::Sole(_) => false,
-        Owner::Several => is_told_twice_by(held, lid),
+    match owners.get(usize::from(lid.number())) {
+        Some(owner) => is_several(owner),
+        None => is_told_twice_by(lines, lid),
     }
 }
 
-/// Whether more than one line tells a LID. Takes a walk over all LIDs that are held.
-fn is_told_twice_by(held: &Held, lid: Lid) -> bool
-    ensures { result ≡ is_told_twice held.now.lids lid }
+/// Whether more than one end port holds a LID.
+fn is_several(owner: &Owner) -> bool
+    ensures { result ≡ is_several owner.now }
 {
-    1 < held.lids().iter().filter(|line| line.lid == lid).count()
+    match owner {
+        Owner::Several => true,
+        _ => false,
+    }
 }
 
-/// Whether no other end port holds the LID of a line, by who holds each. Takes a step or two where there are not
-/// several, and else a walk over all LIDs that are held.
-pub fn is_sole_owner(held: &Held, owners: &[Owner], line: &HeldLid) -> bool
-    requires { AreOwners held.now.lids owners.now }
-    ensures { result ≡ is_sole line.now.port (owners_of held.now line.now.lid) }
+/// Whether more than one of these lines tells a LID. Takes a walk over all lines.
+fn is_told_twice_by(lines: &[HeldLid], lid: Lid) -> bool
+    ensures { result ≡ is_told_twice lines.now lid }
+{
+    1 < lines.iter().filter(|line| line.lid == lid).count()
+}
+
+/// Whether by these lines no other end port holds the LID of one, by who holds each. Takes a step or two where there
+/// are not several, and else a walk over all lines.
+pub fn is_sole_owner(lines: &[HeldLid], owners: &[Owner], line: &HeldLid) -> bool
+    requires { AreOwners lines.now owners.now }
+    ensures { result ≡ is_sole line.now.port (holders lines.now line.now.lid) }
 {
     match owner_at(owners, line.lid) {
         Owner::Nobody => true,
         Owner::Sole(port) => is_same_end(&line.port, &port),
-        Owner::Several => is_sole_of_all(held, line),
+        Owner::Several => is_sole_of_all(lines, line),
     }
 }
 
-/// Whether no other end port holds the LID of a line. Takes a walk over all LIDs that are held.
-fn is_sole_of_all(held: &Held, line: &HeldLid) -> bool
-    ensures { result ≡ is_sole line.now.port (owners_of held.now line.now.lid) }
+/// Whether by these lines no other end port holds the LID of one. Takes a walk over all lines.
+fn is_sole_of_all(lines: &[HeldLid], line: &HeldLid) -> bool
+    ensures { result ≡ is_sole line.now.port (holders lines.now line.now.lid) }
 {
-    held.lids()
+    lines
         .iter()
-        .filter(|held| held.lid == line.lid)
-        .map(|held| held.port)
+        .filter(|other| other.lid == line.lid)
+        .map(|other| other.port)
         .all(|owner| is_same_end(&line.port, &owner))
 }
 

@@ -1,7 +1,7 @@
 -- While top and blocks of a switch are written, in any order, its entry is the held one or the next one, or the held one drops the packet.
-use Rattle.std.proofs.Common.{◌≡◌, ℕ, ◌≤◌, true, false, cond, ◌||◌, refl, sym, ap, ◌∙◌, subst, arith, inl, inr, ◌⊎◌}
+use Rattle.std.proofs.Common.{◌≡◌, ℕ, ◌≤◌, ◌<◌, true, false, cond, ◌||◌, refl, sym, ap, ◌∙◌, subst, arith, inl, inr, ◌⊎◌}
 use Rattle.std.specs.Prelude.{Contains, max, nat_lt, ◌==◌}
-use Rattle.std.proofs.lemmas.Bool.{le-ltb, ltb-false}
+use Rattle.std.proofs.lemmas.Bool.{lt-ltb, ltb-true}
 use Rattle.std.proofs.lemmas.List.{get_or_past}
 use Rattle.std.proofs.lemmas.List.FromFn.{length-map-range_with_len}
 use Rattle.fabric_model.specs.declared.cable.NodePort.{NodePort}
@@ -27,32 +27,46 @@ use Rattle.next_tables.specs.NextTables.{next_tables, next_top}
 use Rattle.next_tables.specs.ChangingFabric.{entry_now, IsLooseEntry, IsBeingWritten, IsInChange, WrittenTablesAreInChange}
 use Rattle.next_tables.proofs.Whole.{top_next}
 
--- a LID that is not above a top is not above a greater one
-still_counts : (lid top greater : ℕ) → top ≤ greater → (lid == 0 || nat_lt top lid) ≡ false → (lid == 0 || nat_lt greater lid) ≡ false
-still_counts lid top greater h e =
-    elim (lid == 0) as (λ t. (t || nat_lt top lid) ≡ false → (t || nat_lt greater lid) ≡ false) [
+-- a LID that is above a top is above a lesser one
+above_too : (lid top greater : ℕ) → top ≤ greater → (lid == 0 || nat_lt greater lid) ≡ true → (lid == 0 || nat_lt top lid) ≡ true
+above_too lid top greater h e =
+    elim (lid == 0) as (λ t. (t || nat_lt greater lid) ≡ true → (t || nat_lt top lid) ≡ true) [
       | true ↦ λ k. k
-      | false ↦ λ k. let most : lid ≤ top = ltb-false top lid k in le-ltb greater lid (omega arith)
+      | false ↦ λ k. let past : greater < lid = ltb-true greater lid k in lt-ltb top lid (omega arith)
     ] e
 
-abbrev Either : ℕ → ℕ → ℕ → ℕ → ℕ → ℕ → Type 0
-Either lid top greater entry later n = (n ≡ counted lid top entry) ⊎ ((n ≡ counted lid greater later) ⊎ (counted lid top entry ≡ 255))
+-- the entry that counts is the held one, which is that of the switch before, or the next one, or none is held
+abbrev Either : ℕ → ℕ → ℕ → ℕ → ℕ → Type 0
+Either lid held greater later n = (n ≡ held) ⊎ ((n ≡ counted lid greater later) ⊎ (held ≡ 255))
 
-counted_either : (lid top greater entry later now x : ℕ) → top ≤ greater → (now ≡ top) ⊎ (now ≡ greater) → (x ≡ entry) ⊎ (x ≡ later)
-    → Either lid top greater entry later (counted lid now x)
-counted_either lid top greater entry later now x h (inl p) (inl q) = inl (λ i. counted lid (p i) (q i))
-counted_either lid top greater entry later now x h (inr p) (inr q) = inr (inl (λ i. counted lid (p i) (q i)))
-counted_either lid top greater entry later now x h (inl p) (inr q) =
-    elim (lid == 0 || nat_lt top lid) as (λ t. (lid == 0 || nat_lt top lid) ≡ t → Either lid top greater entry later (counted lid now x)) [
-      | true ↦ λ e. inr (inr (ap (λ t. cond t 255 entry) e))
-      | false ↦ λ e. inr (inl ((λ i. counted lid (p i) (q i)) ∙ ap (λ t. cond t 255 later) e
-          ∙ sym (ap (λ t. cond t 255 later) (still_counts lid top greater h e))))
-    ] refl
-counted_either lid top greater entry later now x h (inr p) (inl q) =
-    elim (lid == 0 || nat_lt top lid) as (λ t. (lid == 0 || nat_lt top lid) ≡ t → Either lid top greater entry later (counted lid now x)) [
-      | true ↦ λ e. inr (inr (ap (λ t. cond t 255 entry) e))
-      | false ↦ λ e. inl ((λ i. counted lid (p i) (q i)) ∙ ap (λ t. cond t 255 entry) (still_counts lid top greater h e) ∙ sym (ap (λ t. cond t 255 entry) e))
-    ] refl
+module _ (lid top greater entry later old was held : ℕ) (h : top ≤ greater) (holds : counted lid old was ≡ held) (is_held : held ≡ counted lid top entry)
+  where
+    none_held : (lid == 0 || nat_lt old lid) ≡ true → held ≡ 255
+    none_held e = sym holds ∙ ap (λ t. cond t 255 was) e
+
+    counted_either : (now x : ℕ) → (now ≡ old) ⊎ (now ≡ greater) → (x ≡ was) ⊎ (x ≡ later) → Either lid held greater later (counted lid now x)
+    counted_either now x (inl p) (inl q) = inl ((λ i. counted lid (p i) (q i)) ∙ holds)
+    counted_either now x (inr p) (inr q) = inr (inl (λ i. counted lid (p i) (q i)))
+    counted_either now x (inl p) (inr q) =
+        elim (lid == 0 || nat_lt old lid) as (λ t. (lid == 0 || nat_lt old lid) ≡ t → Either lid held greater later (counted lid now x)) [
+          | true ↦ λ e. inr (inr (none_held e))
+          | false ↦ λ e.
+              let is : counted lid now x ≡ later = (λ i. counted lid (p i) (q i)) ∙ ap (λ t. cond t 255 later) e in
+              elim (lid == 0 || nat_lt greater lid) as (λ t. (lid == 0 || nat_lt greater lid) ≡ t → Either lid held greater later (counted lid now x)) [
+                | true ↦ λ k. inr (inr (is_held ∙ ap (λ t. cond t 255 entry) (above_too lid top greater h k)))
+                | false ↦ λ k. inr (inl (is ∙ sym (ap (λ t. cond t 255 later) k)))
+              ] refl
+        ] refl
+    counted_either now x (inr p) (inl q) =
+        elim (lid == 0 || nat_lt greater lid) as (λ t. (lid == 0 || nat_lt greater lid) ≡ t → Either lid held greater later (counted lid now x)) [
+          | true ↦ λ e. inr (inl ((λ i. counted lid (p i) (q i)) ∙ ap (λ t. cond t 255 was) e ∙ sym (ap (λ t. cond t 255 later) e)))
+          | false ↦ λ e.
+              let is : counted lid now x ≡ was = (λ i. counted lid (p i) (q i)) ∙ ap (λ t. cond t 255 was) e in
+              elim (lid == 0 || nat_lt old lid) as (λ t. (lid == 0 || nat_lt old lid) ≡ t → Either lid held greater later (counted lid now x)) [
+                | true ↦ λ k. inr (inr (none_held k))
+                | false ↦ λ k. inl (is ∙ sym (ap (λ t. cond t 255 was) k) ∙ holds)
+              ] refl
+        ] refl
 
 -- a switch without an entry drops the packet
 no_entry : (cells : Cells) (held : HeldPlan) (lid g : ℕ) → entry_for held lid g ≡ 255 → step_at cells held lid g ≡ Ends (Lost g (cause_of cells held lid g))
@@ -62,7 +76,7 @@ no_entry cells held lid g e =
     (get_or_past (row_of cells g) 255 Nothing (omega (arith, length-map-range_with_len (far_of cells g) 0 255)))
 
 module _ (part : Part) (facts : Facts) (held plan : HeldPlan) (lid : ℕ) (f now : Fabric) (seen : IsSeenIn part (cells_of facts) held f)
-    (is : IsBeingWritten part held (next_tables (cells_of facts) held plan) lid f now) where
+    (is : IsBeingWritten part (next_tables (cells_of facts) held plan) lid f now) where
   abbrev cells : Cells
   cells = cells_of facts
 
@@ -82,8 +96,9 @@ module _ (part : Part) (facts : Facts) (held plan : HeldPlan) (lid : ℕ) (f now
       let g = node.guid in
       let top_is : top_of next g ≡ next_top held plan g = top_next cells held plan g (known port node here kind) in
       let greater : top_of held g ≤ top_of next g = subst (λ (n : ℕ). top_of held g ≤ n) (sym top_is) (at_least (top_of held g) (top_of plan g)) in
-      elim (counted_either lid (top_of held g) (top_of next g) (entry_of held g lid) (entry_of next g lid) (now.top port.node) (now.entry port.node lid)
-      greater (is.tops port node here kind) (is.entries port node here kind)) [
+      elim (counted_either lid (top_of held g) (top_of next g) (entry_of held g lid) (entry_of next g lid) (f.top port.node) (f.entry port.node lid)
+      (entry_for held lid g) greater (seen.holds.entries port node lid here kind) refl (now.top port.node) (now.entry port.node lid)
+      (is.tops port node here kind) (is.entries port node here kind)) [
         | inl e ↦ inl e
         | inr (inl e) ↦ inr (inl e)
         | inr (inr e) ↦ inr (inr (g, cause_of cells held lid g, no_entry cells held lid g e))

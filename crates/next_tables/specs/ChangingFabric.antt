@@ -52,14 +52,14 @@ abbrev pub ChangesMeanwhile : Part → Cells → HeldPlan → HeldPlan → ℕ �
 ChangesMeanwhile part cells held next lid before fabrics =
     (k : ℕ) → IsInChange part cells held next lid before (fabrics k)
 
--- while it is written, a switch has the top of the held tables or of the next ones, and either's block with the LID:
+-- while it is written, a switch has the top that it had or that of the next tables, and either's entry for the LID:
 -- which of these is written first is open
-pub record IsBeingWritten (part : Part) (held next : HeldPlan) (lid : ℕ) (before now : Fabric) : Type 0 where
+pub record IsBeingWritten (part : Part) (next : HeldPlan) (lid : ℕ) (before now : Fabric) : Type 0 where
   pub still : StandsStill part lid before now
   pub tops : (port : NodePort) (node : Node) → IsEndPortIn part before port node → IsTrue (is_switch node.kind)
-      → (now.top port.node ≡ top_of held node.guid) ⊎ (now.top port.node ≡ top_of next node.guid)
+      → (now.top port.node ≡ before.top port.node) ⊎ (now.top port.node ≡ top_of next node.guid)
   pub entries : (port : NodePort) (node : Node) → IsEndPortIn part before port node → IsTrue (is_switch node.kind)
-      → (now.entry port.node lid ≡ entry_of held node.guid lid)
+      → (now.entry port.node lid ≡ before.entry port.node lid)
       ⊎ (now.entry port.node lid ≡ entry_of next node.guid lid)
 
 -- a packet goes from one standing to another over these wires in turn, and each node does with it what it does in the
@@ -111,6 +111,6 @@ abbrev pub WrittenTablesAreInChange : Type 0
 WrittenTablesAreInChange =
     (facts : Facts) (held plan : HeldPlan) (lid : ℕ) (before now : Fabric) (origin : NodePort)
     → IsSeenIn (IsJoinedTo before origin) (cells_of facts) held before
-    → IsBeingWritten (IsJoinedTo before origin) held (next_tables (cells_of facts) held plan) lid before now
+    → IsBeingWritten (IsJoinedTo before origin) (next_tables (cells_of facts) held plan) lid before now
     → IsInChange (IsJoinedTo before origin) (cells_of facts) held (next_tables (cells_of facts) held plan) lid before
     now

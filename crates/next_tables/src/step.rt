@@ -40,7 +40,8 @@ pub fn next_tables(alloc: Global, held: &Network, plan: &Network) -> Result<Held
 fn first_moved(held: &Network, plan: &Network) -> Option<Lid>
     ensures { result ≡ first_moved held.now.held plan.now.held }
 {
-    plan.lids()
+    plan.held()
+        .lids()
         .iter()
         .find(|line| moves(held, line))
         .map(|line| line.lid)
@@ -59,7 +60,7 @@ fn tables(alloc: Global, held: &Network, plan: &Network) -> Result<Held, AllocEr
     ensures { IfOk result (λ next.
         next ≡ next_tables (cells_of held.now.facts) held.now.held plan.now.held) }
 {
-    let lids = Vec::from_slice(alloc, plan.lids())?;
+    let lids = Vec::from_slice(alloc, plan.held().lids())?;
     let switches = next_switches(alloc, held, plan)?;
     let columns = columns(alloc, held, plan, most_blocks(held, plan))?;
     let blocks = all_blocks(alloc, &columns, &switches)?;

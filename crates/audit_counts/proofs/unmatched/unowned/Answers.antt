@@ -5,7 +5,6 @@ use Rattle.fact_store.specs.View.{cells_of}
 use Rattle.plan_file.specs.declared.held.HeldLid.{HeldLid}
 use Rattle.subnet_view.specs.EndPorts.{end_ports}
 use Rattle.held_tables.specs.Tables.{is_owner}
-use Rattle.audit_counts.specs.FirstFew.{listed_of}
 use Rattle.audit_counts.proofs.Firsts.{told_more, told_same, told_all}
 use Rattle.audit.proofs.Judged.{listed}
 use Rattle.audit_counts.proofs.unmatched.unowned.Goals as goal
@@ -13,7 +12,7 @@ use Rattle.audit_counts.proofs.unmatched.unowned.Goals.{then-not-is_end_port+in_
 
 pub loop-line-preserved : goal.loop-line-preserved
 loop-line-preserved c =
-    let lines = c.lids-line-items.result.now in
+    let lines = c.args.lines.now in
     let cells = cells_of c.args.store.now in
     let p : HeldLid → Bool = λ line. not (is_owner (end_ports cells) line.port) in
     let line = c.line-item.result in
@@ -30,5 +29,4 @@ loop-line-preserved c =
 pub returns : goal.returns
 returns c =
     let p : HeldLid → Bool = λ line. not (is_owner (end_ports (cells_of c.args.store.now)) line.port) in
-    told_all p c.lids-line-items.result.now c.loop-line.line-index c.loop-line.few c.loop-line.invariant (omega arith)
-    ∙ ap (listed_of p) c.lids-line-items.ensures
+    told_all p c.args.lines.now c.loop-line.line-index c.loop-line.few c.loop-line.invariant (omega arith)

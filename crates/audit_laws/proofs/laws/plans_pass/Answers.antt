@@ -5,8 +5,8 @@ use Rattle.audit_laws.proofs.laws.plans_pass.Goals as goal
 
 pub returns : goal.returns
 returns c = record {
-  law = λ rule lmc facts range room. record {
-    whole = plan_whole rule lmc facts room;
+  law = λ rule lmc facts range room clear. record {
+    whole = plan_whole rule lmc facts room clear;
     sound = record { arrive = plans_arrive rule lmc facts range room; rise = plans_rise rule lmc facts range room };
   };
 }

@@ -17,6 +17,7 @@ returns-in-Ok-clause-audited g c =
     IfOk-weaker c.tell.result _ _ (λ passed told. record {
       cycle = c.in-Ok.audit.cycle;
       waits = found.cycle;
+      shortest = found.shortest;
       answered = subst (λ (x : Audited). Appends (written c.args.sink.now) (written c.tell.new.sink) (audit_text x)) same told.0;
       judged = subst (λ (x : Audited). IsTrue passed ↔ Passes (cells_of x.facts) x.held) same told.1;
     }) c.tell.ensures.told

@@ -41,7 +41,9 @@ returns-clause-writes g c =
     ++ kind_text lid_line (codes "twice") (differ.twice_are i)
     ++ kind_text switch_line (codes "unknown") (differ.unknown_are i)
     ++ kind_text switch_line (codes "tableless") (differ.tableless_are i)
-    ++ kind_text port_line (codes "lidless") (differ.lidless_are i)) in
+    ++ kind_text switch_line (codes "unusable") (differ.unusable_are i)
+    ++ kind_text port_line (codes "lidless") (differ.lidless_are i)
+    ++ kind_text port_line (codes "unjoined") (differ.unjoined_are i)) in
     let whole : ((((tally ++ unmatched) ++ disputed) ++ ways) ++ cycle) ≡ text_of cells held f.cycle.items =
     (λ i. ((((counted i) ++ differs i) ++ disputed_line (found.count_is i))
     ++ ways_text (found.told.hops i) (found.told.load i)) ++ cycle_line cells (c.deref.ensures.value i)) in

@@ -3,6 +3,7 @@ use Rattle.std.proofs.Common.{◌+◌, ◌∙◌, List, ap, get_or, length, sym,
 use Rattle.std.proofs.lemmas.Option.{slice_get_read}
 use Rattle.fact_store.specs.View.{cells_of}
 use Rattle.held_tables.specs.declared.senders.Sender.{Sender}
+use Rattle.held_tables.specs.Tables.{lines_of}
 use Rattle.audit_ways.specs.declared.sender_groups.Groups.{Groups}
 use Rattle.audit_ways.specs.declared.way_tally.WayTally.{WayTally}
 use Rattle.audit_ways.specs.Groups.{AreGrouped, IsRoster, adapters}
@@ -59,6 +60,6 @@ add_ways-requires-clause-told c = λ told.
     let index = c.loop-index.index in
     let line = c.line-item.result in
     c.requires index line
-    (slice_get_read c.args.network.now.held.lids (length lines) index line (ap length c.lids-line-items.ensures) c.loop-index-test.true
+    (slice_get_read (lines_of c.args.network.now.held) (length lines) index line (ap length c.lids-line-items.ensures) c.loop-index-test.true
     (c.line-item.is ∙ ap (λ xs. get_or xs index line) c.lids-line-items.ensures))
     (sym c.is_told.ensures ∙ told)

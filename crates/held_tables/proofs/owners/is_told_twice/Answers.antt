@@ -1,9 +1,13 @@
--- Where not several hold a LID, one line at most tells it.
-use Rattle.std.proofs.Common.{sym, ◌∙◌}
-use Rattle.held_tables.proofs.Owned.{not_several, told_once}
+-- Several hold a LID where more than one line tells it.
+use Rattle.std.proofs.Common.{◌∙◌, ap}
+use Rattle.held_tables.specs.declared.owners.Owner.TheVariants.{Several}
+use Rattle.held_tables.specs.Owners.{is_told_twice}
+use Rattle.held_tables.proofs.Owned.{told_twice}
 use Rattle.held_tables.proofs.owners.is_told_twice.Goals as goal
 
-pub returns-in-Nobody : goal.returns-in-Nobody
-returns-in-Nobody c =
-    sym (told_once c.args.held.now.lids c.args.owners.now c.args.lid c.requires
-    (λ several. not_several c.owner_at.result c.in-Nobody.is (c.owner_at.ensures ∙ several)))
+pub returns-in-Some : goal.returns-in-Some
+returns-in-Some c =
+    let lines = c.args.lines.now in
+    let there = c.in-Some.ensures.lookup in
+    c.is_several.ensures ∙ told_twice lines c.args.owners.now c.from.result c.in-Some.owner.now c.requires there.3.0 (there.3.1 Several)
+    ∙ ap (is_told_twice lines) (c.from.ensures ∙ c.number.ensures)

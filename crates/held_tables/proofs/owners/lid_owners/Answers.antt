@@ -11,7 +11,7 @@ loop-line-init c = no_owners c.in_ok-owners.owners.items 0xC000 (c.in_ok-owners.
 
 pub loop-line-preserved : goal.loop-line-preserved
 loop-line-preserved c =
-    let lines = c.lids-line-items.result.now in
+    let lines = c.args.lines.now in
     let k = c.loop-line.line-index in
     let line = c.line-item.result in
     let more : take (k + 1) lines ≡ take k lines ++ line ∷ [] =

@@ -3,6 +3,8 @@ use Rattle.std.proofs.Common.{◌∙◌, ℕ, List, Vec, Global, ap, map, max}
 use Rattle.std.specs.Prelude.{Some}
 use Rattle.fact_store.specs.View.{Facts, cells_of}
 use Rattle.lft_blocks.specs.Entries.{block_count}
+use Rattle.plan_file.specs.Held.{HeldPlan}
+use Rattle.plan_file.specs.Held.{HeldPlan}
 use Rattle.audit.specs.Edges.{greatest_top}
 use Rattle.next_tables.specs.Assembled.{all_blocks}
 use Rattle.next_tables.proofs.Whole.{put_together}
@@ -17,6 +19,6 @@ returns c =
     c.of.ensures
     ∙ put_together cells held plan c.in_ok-lids.lids.items c.in_ok-switches.switches.items c.in_ok-blocks.blocks.items (entries c.in_ok-columns.columns.items)
     c.most_blocks.result
-    (c.in_ok-lids.ensures.items ∙ c.lids.ensures) c.in_ok-switches.ensures c.in_ok-columns.ensures
+    (c.in_ok-lids.ensures.items ∙ c.lids.ensures ∙ ap (λ (h : HeldPlan). h.lids) c.held.ensures) c.in_ok-switches.ensures c.in_ok-columns.ensures
     (c.most_blocks.ensures.count ∙ ap (λ (f : Facts). block_count (Some (max (greatest_top cells held) (greatest_top (cells_of f) plan)))) c.requires.facts)
     (c.in_ok-blocks.ensures ∙ (λ i. all_blocks (entries (c.deref.ensures.value i)) 0 (c.deref-2.ensures.value i)))

@@ -6,7 +6,9 @@ use Rattle.held_tables.specs.declared.owners.Owner.{Owner}
 use Rattle.audit.specs.BlockWalks.{AreDelivered}
 use Rattle.audit.specs.Deliveries.{AreDeliveries}
 use Rattle.audit.specs.Network.{Seen}
+use Rattle.plan_file.specs.declared.held.HeldLid.{HeldLid}
 use Rattle.held_tables.specs.Blocks.{AreBlocks}
+use Rattle.held_tables.specs.Owners.{AreOwners}
 use Rattle.audit.proofs.ToOwners.{are_deliveries}
 use Rattle.audit.proofs.network.Network.deliveries.Goals as goal
 
@@ -26,5 +28,6 @@ returns c =
     c.in_ok-lids.ensures in
     let by_owners = subst (λ (os : List Owner). AreDelivered nodes os c.deref-3.result.now number lids) c.deref-2.ensures.value by_nodes in
     let by_rows = subst (λ (rs : List (List ℕ)). AreDelivered nodes owners rs number lids) c.deref-3.ensures.value by_owners in
+    let owners_are = subst (λ (ls : List HeldLid). AreOwners ls owners) c.self.invariant.lines_are c.self.invariant.owners_are in
     subst Found c.self.view_is
-    (are_deliveries cells inside.held number rows nodes owners lids blocks c.self.invariant.nodes_are c.self.invariant.owners_are by_rows)
+    (are_deliveries cells inside.held number rows nodes owners lids blocks c.self.invariant.nodes_are owners_are by_rows)

@@ -5,6 +5,7 @@ use Rattle.fact_store.specs.View.{cells_of}
 use Rattle.subnet_view.specs.Reading.{switches}
 use Rattle.audit.specs.Network.{Seen}
 use Rattle.held_tables.specs.Blocks.{AreBlocks}
+use Rattle.held_tables.specs.Tables.{holders}
 use Rattle.audit.specs.NextHops.{switch_step, switch_step_of}
 use Rattle.audit.proofs.Brought.{switch_steps_are, if_ok}
 use Rattle.audit.proofs.network.Network.switch_steps.Goals as goal
@@ -22,11 +23,12 @@ returns c =
     let nodes = c.self.inside.nodes.items in
     subst Found c.self.view_is
     (if_ok
-    (λ found. found.items ≡ map (switch_step_of c.deref-3.result.now c.deref-4.result.now a.lid) c.deref-2.result.now)
+    (λ found. found.items ≡ map (switch_step_of c.deref-4.result.now c.deref-5.result.now a.lid) c.deref-3.result.now)
     (λ found. found.items ≡ map (switch_step cells inside.held a.lid) (switches cells))
     c.switch_steps.result
     c.switch_steps.ensures
     (λ found e.
-    e ∙ (λ i. map (switch_step_of (c.deref-3.ensures.value i) (c.deref-4.ensures.value i) a.lid) (c.deref-2.ensures.value i))
-    ∙ ap (λ o. map (switch_step_of o rows a.lid) nodes) c.in_ok-owners.ensures
+    e ∙ (λ i. map (switch_step_of (c.deref-4.ensures.value i) (c.deref-5.ensures.value i) a.lid) (c.deref-3.ensures.value i))
+    ∙ ap (λ o. map (switch_step_of o rows a.lid) nodes)
+    (c.in_ok-owners.ensures ∙ ap (λ ls. holders ls a.lid) (c.deref.ensures.value ∙ c.self.invariant.lines_are))
     ∙ switch_steps_are cells inside.held a.lid a.blocks.now.number rows blocks c.requires.number nodes (switches cells) c.self.invariant.nodes_are))

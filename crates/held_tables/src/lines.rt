@@ -1,0 +1,22 @@
+//! The LIDs that are held, with the end ports that hold each.
+ghost use Rattle.std.specs.Prelude.{◌≡◌, IfOk};
+ghost use Rattle.held_tables.specs.Tables.{lines_of};
+
+use plan_file::{Held, HeldLid};
+use std::alloc::{AllocError, Global};
+use std::collections::BTreeSet;
+
+/// The LIDs that are held, each with the end ports that hold it, which are told once each, in the order of the lines.
+/// Takes a search for each line.
+pub fn lines_of(alloc: Global, held: &Held) -> Result<Vec<HeldLid>, AllocError>
+    ensures { IfOk result (λ lines. lines.items ≡ lines_of held.now) }
+{
+    let mut lines = Vec::new(alloc);
+    let mut told = BTreeSet::new(alloc);
+    for line in held.lids() {
+        if told.insert((line.lid, (line.port.node, line.port.port)))? {
+            lines.push(*line)?;
+        }
+    }
+    Ok(lines)
+}
