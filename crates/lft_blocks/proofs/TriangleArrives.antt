@@ -30,10 +30,10 @@ use Rattle.lft_blocks.proofs.FabricCases.{HasOneEnd, end_of, end_cases, indexed_
 use Rattle.lft_blocks.proofs.Triangle.{switch, adapter, cables, tables, triangle}
 use Rattle.lft_blocks.proofs.Triangle.{NamedWire, wires, nodes_told, ports_told, link_told, up_told, caps_told, cells, facts, facts_have}
 
-one_end : EachIndexed (λ k n. HasOneEnd n) triangle.nodes
+pub one_end : EachIndexed (λ k n. HasOneEnd n) triangle.nodes
 one_end = next (λ e. absurd (cc)) (next (λ e. absurd (cc)) (next (λ e. absurd (cc)) (next (λ e. refl) (next (λ e. refl) tt))))
 
-is_fabric : IsFabric triangle
+pub is_fabric : IsFabric triangle
 is_fabric =
     record {
       counts = indexed_at (λ k n. (1 ≤ n.ports) × (n.ports ≤ 254)) triangle.nodes
@@ -52,7 +52,7 @@ is_fabric =
           (next (refl, refl) (next (refl, refl) (next (refl, refl) (next (refl, refl) (next (refl, refl) tt)))));
     }
 
-of_16 : IsEndPort triangle (port_at 0 0)
+pub of_16 : IsEndPort triangle (port_at 0 0)
 of_16 = (switch 16, refl, refl)
 
 of_32 : IsEndPort triangle (port_at 1 0)
@@ -61,7 +61,7 @@ of_32 = (switch 32, refl, refl)
 of_48 : IsEndPort triangle (port_at 2 0)
 of_48 = (switch 48, refl, refl)
 
-of_first : IsEndPort triangle (port_at 3 1)
+pub of_first : IsEndPort triangle (port_at 3 1)
 of_first = (adapter 256, refl, (omega arith, omega arith))
 
 of_second : IsEndPort triangle (port_at 4 1)
@@ -195,7 +195,7 @@ abbrev index_of : ℕ → ℕ
 index_of g = cond (g == 16) 0 (cond (g == 32) 1 (cond (g == 48) 2 (cond (g == 256) 3 4)))
 
 module _ (part : Part) (all : (v : NodePort) → IsEndPort triangle v → part v) where
-  agrees : AgreesOn part cells triangle
+  pub agrees : AgreesOn part cells triangle
   agrees =
       agreement part cells triangle one_end index_of
       (next (refl, record { kind = refl; port_guid = refl; cap = λ e. refl })

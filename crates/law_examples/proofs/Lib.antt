@@ -1,0 +1,4 @@
+pub mod Changed
+pub mod Detour
+pub mod Travelled
+pub mod Weaker
