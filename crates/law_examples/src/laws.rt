@@ -1,4 +1,4 @@
-//! That there are fabrics, tables and packets of which laws speak, and what laws say beyond weaker ones.
+//! Fabrics, tables and packets that meet the premises of laws, and what laws say beyond weaker ones.
 ghost use Rattle.law_examples.specs.Examples.{SomeFabricIsSeen, SomePacketTravels, SomeTablesChange};
 ghost use Rattle.law_examples.specs.Weaker.{FloorsStayInGroupings, NoSwitchTwice};
 

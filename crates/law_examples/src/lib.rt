@@ -1,4 +1,4 @@
-//! That premises of laws can be met: fabrics, tables and packets of which they speak, which the checker computes.
+//! Examples that the checker computes: premises of laws that are met, and what laws say beyond weaker ones.
 #![tactic(auto)]
 
 pub mod laws;
