@@ -33,8 +33,8 @@ pub struct Unmatched {
 }
 
 impl Unmatched {
-    /// Those of each kind. Takes two searches for each LID that is held; a walk over the switches that are held for each
-    /// switch; one over the LIDs for each end port; and what `unclear` takes.
+    /// Returns those of each kind. Takes two searches for each LID that is held; a walk over the switches that are held
+    /// for each switch; one over the LIDs for each end port; and what `unclear` takes.
     pub fn of(alloc: Global, network: &Network) -> Result<Self, Refused>
         ensures { IfOk result (IsUnmatched (cells_of network.now.facts) network.now.held) }
     {
