@@ -96,7 +96,7 @@ fn lidless_of(alloc: Global, network: &Network) -> Result<FirstFew<EndPort>, Ref
     Ok(lidless(alloc, network.held(), &ports)?)
 }
 
-/// Those of some lines with ports that are no end ports of the facts.
+/// Returns those of some lines with ports that are no end ports of the facts.
 fn unowned(alloc: Global, lines: &[HeldLid], store: &Store) -> Result<FirstFew<HeldLid>, AllocError>
     ensures { IfOk result (λ few. few ≡ unowned_among (cells_of store.now) lines.now) }
 {
@@ -135,7 +135,7 @@ fn unknown(alloc: Global, held: &Held, store: &Store) -> Result<FirstFew<Guid>, 
     Ok(few)
 }
 
-/// Those of some switches that have no tables.
+/// Returns those of some switches that have no tables.
 fn tableless(alloc: Global, held: &Held, guids: &[Guid]) -> Result<FirstFew<Guid>, AllocError>
     ensures { IfOk result (λ few. few ≡ tableless_among guids.now held.now) }
 {
@@ -155,7 +155,7 @@ fn is_held(held: &Held, guid: Guid) -> bool
     held.switches().iter().any(|switch| switch.guid == guid)
 }
 
-/// Those of some end ports that hold no LID.
+/// Returns those of some end ports that hold no LID.
 fn lidless(alloc: Global, held: &Held, ports: &[EndPort]) -> Result<FirstFew<EndPort>, AllocError>
     ensures { IfOk result (λ few. few ≡ lidless_among ports.now held.now) }
 {
