@@ -1,4 +1,4 @@
--- When a fabric is as the facts say and holds the tables, and what then becomes of packets there. InfiniBand
+-- When facts describe a fabric that holds tables, and what then becomes of packets there. InfiniBand
 -- Architecture Specification, Volume 1: subnet management, PortInfo (LID), SwitchInfo (LinearFDBTop) and
 -- LinearForwardingTable; switches, unicast forwarding by the linear forwarding table.
 use Rattle.std.specs.Prelude.{◌≡◌, ◌≤◌, ℕ, List, Option, None, Some, IsTrue}
@@ -16,16 +16,16 @@ use Rattle.audit.specs.declared.end.End.TheVariants.{Taken, Lost}
 use Rattle.audit.specs.NextHops.{IsBrought}
 use Rattle.held_tables.specs.Tables.{owners_of, is_owner, counted, entry_for}
 
--- an end port owns a LID where a line says that it holds it; the entry of a switch that counts, by the top and the table
--- of its agent, is the one that counts by its lines: 255 for LIDs over the top of these, and for those of a block without
--- a line. What else its table has is open
+-- an end port owns a LID where a line says that it holds it; the entry of a switch that counts, by the top and the
+-- table of its agent, is the one that counts by its lines: 255 for LIDs over the top of these, and for those of a block
+-- without a line. What else its table has is open
 pub record HoldsTables (held : HeldPlan) (f : Fabric) : Type 0 where
   pub lids : (port : NodePort) (node : Node) (lid : ℕ) → IsNodeAt f port.node node → IsEndPort f port → 1 ≤ lid
       → owns f port lid ≡ is_owner (owners_of held lid) (record { node = node.guid; port = port.port })
   pub entries : (id : ℕ) (node : Node) (lid : ℕ) → IsNodeAt f id node → IsTrue (is_switch node.kind)
       → counted lid (f.top id) (f.entry id lid) ≡ entry_for held lid node.guid
 
--- a fabric that is as the facts say, and holds the tables
+-- a fabric that the facts describe exactly, and that holds the tables
 pub record IsSeen (cells : Cells) (held : HeldPlan) (f : Fabric) : Type 0 where
   pub is_fabric : IsFabric f
   pub agrees : AgreesOn WholeFabric cells f
@@ -38,7 +38,7 @@ pub record HoldsTablesIn (part : Part) (held : HeldPlan) (f : Fabric) : Type 0 w
   pub entries : (port : NodePort) (node : Node) (lid : ℕ) → IsEndPortIn part f port node → IsTrue (is_switch node.kind)
       → counted lid (f.top port.node) (f.entry port.node lid) ≡ entry_for held lid node.guid
 
--- a fabric of which a part is as the facts say, whatever else they tell, and holds the tables
+-- a fabric of which the facts describe a part, whatever else they tell, which holds the tables
 pub record IsSeenIn (part : Part) (cells : Cells) (held : HeldPlan) (f : Fabric) : Type 0 where
   pub is_fabric : IsFabric f
   pub covers : Covers part cells f
@@ -59,8 +59,8 @@ PacketsEndAsTold = (facts : Facts) (held : HeldPlan) (f : Fabric) → IsSeen (ce
     → IsBrought (cells_of facts) held lid (record { node = node.guid; port = source.port }) end
     → EndsAs f lid source end
 
--- and so do those of the end ports that are joined to one, where what is joined to it is as the facts say and holds the
--- tables
+-- and so do those of the end ports that are joined to one, if the facts describe what is joined to it, and that holds
+-- the tables
 abbrev pub PacketsEndAsToldInParts : Type 0
 PacketsEndAsToldInParts = (facts : Facts) (held : HeldPlan) (f : Fabric) (origin : NodePort) → IsEndPort f origin
     → IsSeenIn (IsJoinedTo f origin) (cells_of facts) held f

@@ -9,20 +9,20 @@ pub fn ends_are_found()
     ensures law { EndsAreFound }
 {}
 
-/// In each fabric that is as the facts say and holds the tables, a packet for a LID that an end port sends is
+/// In each fabric that facts describe exactly and that holds the tables, a packet for a LID that an end port sends is
 /// delivered at the port where `Network::ends` says that it ends, and lost where it says that it ends at none.
 pub fn packets_end_as_told()
     ensures law { PacketsEndAsTold }
 {}
 
-/// The same of the end ports that are joined to one, where what is joined to it is as the facts say and holds the
+/// The same of the end ports that are joined to one, if the facts describe what is joined to it, and that holds the
 /// tables, whatever the rest of the fabric is.
 pub fn packets_end_as_told_in_parts()
     ensures law { PacketsEndAsToldInParts }
 {}
 
-/// Where an end port owns a LID by tables, and no other end port does, it is the one owner that the LID has, however many
-/// lines tell it.
+/// Where an end port owns a LID by tables, and no other end port does, it is the one owner that the LID has, however
+/// many lines tell it.
 pub fn sole_owners_are_alone()
     ensures law { SoleOwnersAreAlone }
 {}

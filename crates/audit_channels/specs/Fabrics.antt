@@ -49,8 +49,8 @@ pub record Travels (part : Part) (f : Fabric) (hops : List Hop) : Type 0 where
   pub end : Standing
   pub goes : Goes f lid (sent_from source) hops end
 
--- where what is joined to an end port is as the facts say and holds the tables, the numbers rise from each channel to
--- the next
+-- if the facts describe what is joined to an end port, and that holds the tables, the numbers rise from each channel
+-- to the next
 abbrev pub ChannelsRise : Type 0
 ChannelsRise =
     (facts : Facts) (held : HeldPlan) (f : Fabric) (origin : NodePort) (numbers : List ℕ) → IsEndPort f origin

@@ -13,9 +13,9 @@ pub fn never_both()
     ensures law { NeverBoth }
 {}
 
-/// Where numbers of channels rise by facts and tables, and what is joined to an end port of a fabric is as the facts
-/// say and holds the tables, each packet that is sent there for any LID takes channels whose numbers rise, wire after
-/// wire.
+/// Where numbers of channels rise by facts and tables, and the facts describe what is joined to an end port of a
+/// fabric, which holds the tables, each packet that is sent there for any LID takes channels whose numbers rise, wire
+/// after wire.
 pub fn channels_rise()
     ensures law { ChannelsRise }
 {}

@@ -38,13 +38,13 @@ abbrev pub IsKnownNode : Cells → ℕ → Type 0
 IsKnownNode cells g = (kind : NodeType) × (ports : ℕ) × IsNodeWith cells g kind ports
     × MatchBool (is_switch kind) (IsSome (cap_of cells g)) (Unit {0})
 
--- of a port it is known where it leads: port 0 is the end port of a switch, and any other has a wire, both ends of which
--- are known to be ports that can have one
+-- of a port it is known where it leads: port 0 is the end port of a switch, and any other has a wire, both ends of
+-- which are known to be ports that can have one
 abbrev pub IsKnownPort : Cells → ℕ → ℕ → Type 0
 IsKnownPort cells g p = ((p ≡ 0) × IsEndPortOf cells g p) ⊎ ((h q : ℕ) × IsWire cells g p h q)
 
--- each node that the facts tell of is known; and so is each port that is up, or it is one of those that lines `unjoined`
--- name and count
+-- each node that the facts tell of is known; and so is each port that is up, or it is one of those that lines
+-- `unjoined` name and count
 pub record KnowsAll (cells : Cells) : Type 0 where
   pub nodes : (g : ℕ) (cell : Cell Value) → Contains cells ((NodeKey g), cell) → IsKnownNode cells g
   pub ports : (g p : ℕ) → IsTrue (is_up cells g p)
@@ -60,8 +60,8 @@ EachArrivesIn part f = (source target : NodePort) (from into : Node) (lid : ℕ)
     → IsEndPortIn part f target into → 1 ≤ lid
     → IsTrue (owns f target lid) → ArrivesAt f source target lid
 
--- where tables pass by facts, that is so in each fabric of what is joined to an end port, if that is as the facts say
--- and holds the tables
+-- where tables pass by facts, that is so in each fabric of what is joined to an end port, if the facts describe that,
+-- and it holds the tables
 abbrev pub PassingAuditsDeliver : Type 0
 PassingAuditsDeliver =
     (facts : Facts) (held : HeldPlan) (f : Fabric) (origin : NodePort) → IsEndPort f origin

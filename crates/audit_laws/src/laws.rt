@@ -3,7 +3,8 @@ ghost use Rattle.audit_laws.specs.Laws.{MissedPacketsMiss, PassingAuditsDeliver,
 
 /// The plan of each view with room in which each node's type and each switch's table room are known, by each rule and
 /// under each LMC, passes an audit by its own text: each end port has a LID and each switch tables, each packet that an
-/// end port sends to a LID of its component arrives, and channels can be numbered so that the numbers rise on every way.
+/// end port sends to a LID of its component arrives, and channels can be numbered so that the numbers rise on every
+/// way.
 pub fn plans_pass()
     ensures law { PlansPass }
 {}
@@ -16,13 +17,13 @@ pub fn passing_audits_know_all()
 {}
 
 /// Where tables pass an audit by facts, each packet between end ports of what is joined to an end port of a fabric is
-/// delivered at the end port that holds its LID, if that part is as the facts say and holds the tables.
+/// delivered at the end port that holds its LID, if the facts describe that part, and it holds the tables.
 pub fn passing_audits_deliver()
     ensures law { PassingAuditsDeliver }
 {}
 
 /// Where an audit by facts counts a packet between end ports of what is joined to an end port of a fabric that does not
-/// arrive, it is not delivered at the end port that holds its LID, if that part is as the facts say and holds the
+/// arrive, it is not delivered at the end port that holds its LID, if the facts describe that part, and it holds the
 /// tables.
 pub fn missed_packets_miss()
     ensures law { MissedPacketsMiss }

@@ -1,4 +1,5 @@
--- The triangle with one way that is longer than it has to be: packets for the second adapter leave the first switch for the second one.
+-- The triangle with one way that is longer than it has to be: packets for the second adapter leave the first switch for
+-- the second one.
 use Rattle.std.proofs.Common.{◌≡◌, ◌≤◌, ◌+◌, ◌==◌, ◌||◌, ℕ, zero, suc, true, false, List, [], ◌∷◌, ◌++◌, replicate, cond, refl, sym, ap, ◌∙◌, subst, arith, inl, inr}
 use Rattle.std.specs.Prelude.{IsTrue, slice_index_or, nat_lt}
 use Rattle.fabric_model.specs.declared.cable.NodePort.{NodePort}

@@ -12,7 +12,7 @@ use Rattle.audit_channels.specs.Fabrics.{TakeInTurn, Travels}
 use Rattle.next_tables.specs.ChangingFabric.{IsInChange, entry_now}
 use Rattle.next_tables.specs.NextTables.{IsKept, next_tables}
 
--- what is joined to an end port is as facts say and holds tables
+-- facts describe what is joined to an end port, and that holds tables
 pub record PartSeen : Type 0 where
   pub facts : Facts
   pub held : HeldPlan

@@ -1,4 +1,5 @@
--- In the triangle the plan is in force, so a packet from one adapter arrives at the other: what 'every packet arrives' supposes can be.
+-- In the triangle the plan is in force, so a packet from one adapter arrives at the other: what 'every packet arrives'
+-- supposes can be.
 use Rattle.std.proofs.Common.{◌≡◌, ◌≤◌, ℕ, zero, suc, [], ◌++◌, inl, refl, sym, ap, ◌∙◌, subst, arith, cond, ◌==◌, length, map}
 use Rattle.std.proofs.lemmas.List.{get_or_past}
 use Rattle.std.proofs.lemmas.Option.{same_Some}

@@ -34,13 +34,13 @@ pub record HoldsPlanAt (plan : PlanValue) (f : Fabric) (port : NodePort) (node :
 abbrev pub HoldsPlan : Part → PlanValue → Fabric → Type 0
 HoldsPlan part plan f = (port : NodePort) (node : Node) → IsEndPortIn part f port node → HoldsPlanAt plan f port node
 
--- a part of a fabric that is as the facts say, and where the plan is in force
+-- a part of a fabric that the facts describe exactly, and where the plan is in force
 pub record IsInForce (part : Part) (cells : Cells) (plan : PlanValue) (f : Fabric) : Type 0 where
   pub is_fabric : IsFabric f
   pub agrees : AgreesOn part cells f
   pub holds : HoldsPlan part plan f
 
--- a part of a fabric that the facts cover, and where the plan is in force
+-- a part of a fabric that the facts describe, and where the plan is in force
 pub record IsInForceWithin (part : Part) (cells : Cells) (plan : PlanValue) (f : Fabric) : Type 0 where
   pub is_fabric : IsFabric f
   pub covers : Covers part cells f
@@ -113,7 +113,7 @@ PacketsArriveByEachRouting = (lmc : ℕ) (facts : Facts) (rule : Routing) → Is
     → ¬ (IsNoRoom lmc (cells_of facts))
     → EveryPacketArrivesBy rule (cells_of facts) (plan_by rule lmc (cells_of facts))
 
--- and where the facts cover what an end port is joined to, whatever else they tell, so does a packet for each LID of
+-- and where the facts describe what an end port is joined to, whatever else they tell, so does a packet for each LID of
 -- the plan that an end port there owns
 abbrev pub PacketsArriveWhereCovered : Type 0
 PacketsArriveWhereCovered =

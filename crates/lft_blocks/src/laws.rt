@@ -27,21 +27,21 @@ pub fn blocks_are_of_switches()
     ensures { BlocksAreOfSwitches }
 {}
 
-/// Where what an end port is joined to is as a view with room says, and holds the plan of that view by a rule of
-/// routing, a packet from each end port there for each LID of the plan is delivered at the end port that owns the
-/// LID, over as many wires between switches as the rule's cost, past no switch twice, and over rising channels.
-/// This hangs on nothing else of the rule.
+/// If a view with room describes exactly what an end port is joined to, and that holds the plan of the view by a rule
+/// of routing, a packet from each end port there for each LID of the plan is delivered at the end port that owns the
+/// LID, over as many wires between switches as the rule's cost, past no switch twice, and over rising channels. This
+/// hangs on nothing else of the rule.
 pub fn packets_arrive_by_each_routing()
     ensures { PacketsArriveByEachRouting }
 {}
 
-/// The same where a view covers what the end port is joined to, and may tell of more, such as of nodes that are gone:
+/// The same if a view describes what the end port is joined to, and may tell of more, such as of nodes that are gone:
 /// then a packet for each LID of the plan that an end port there owns arrives.
 pub fn packets_arrive_where_covered()
     ensures { PacketsArriveWhereCovered }
 {}
 
-/// Where a connected fabric is as a view with room says, and holds the plan of that view, a packet
+/// If a view with room describes a connected fabric exactly, and that holds the plan of the view, a packet
 /// from each end port for each LID of the plan is delivered at the end port that owns the LID.
 /// `Plan::of` promises the same of what is joined to one end port, of any fabric.
 pub fn packets_arrive_if_connected()

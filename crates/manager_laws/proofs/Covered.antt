@@ -1,5 +1,6 @@
--- What a sweep has covered, as long as nothing but SMInfo is left unanswered and nothing is too far: each question that a vertex brings up waits, is
--- to be sent or has its facts, and each cable that leads on from there is asked across or crossed.
+-- What a sweep has covered, as long as nothing but SMInfo is left unanswered and nothing is too far: each question that
+-- a vertex brings up waits, is to be sent or has its facts, and each cable that leads on from there is asked across or
+-- crossed.
 use Rattle.std.proofs.Common.{◌≡◌, ◌⊎◌, inl, inr, ℕ, ◌≤◌, Bool, true, not, ◌&&◌, ◌||◌, List, [], ◌∷◌, ◌++◌}
 use Rattle.std.specs.Prelude.{Some, slice_get, MatchBool, ◌==◌}
 use Rattle.std.specs.Option.{option_map_or}

@@ -1,5 +1,5 @@
--- A sweep that has every answer: on an adapter, a switch with a loop in its third port, and an adapter that has a port without
--- a cable and at its other port a manager, which is asked for SMInfo.
+-- A sweep that has every answer: on an adapter, a switch with a loop in its third port, and an adapter that has a port
+-- without a cable and at its other port a manager, which is asked for SMInfo.
 use Rattle.std.proofs.Common.{◌≡◌, ℕ, zero, suc, ◌+◌, ◌*◌, ◌^◌, List, [], ◌∷◌, ◌++◌, replicate, refl, ap, ◌∙◌, arith}
 use Rattle.std.proofs.lemmas.Option.{slice_get-map}
 use Rattle.std.proofs.lemmas.List.Elements.{All-from_recursion}

@@ -44,8 +44,8 @@ pub record HasWay (f : Fabric) (seat : NodePort) (s : Sweep) (guid port : ℕ) :
   pub named : node.guid ≡ guid
   pub vertex : vertex_of f end ≡ record { node = end.node; port = port }
 
--- they agree with the fabric as it was when the sweep began, and as it is when the sweep has ended, and the sweep has a
--- way to each of their end ports
+-- they describe the seat's part of the fabric exactly, as it was when the sweep began, and as it is when the sweep has
+-- ended, and the sweep has a way to each of their end ports
 pub record HasFoundAll (begun ended : Sweeping) : Type 0 where
   pub at_first : AgreeWith ended.reports begun.scene.fabric begun.seat
   pub at_last : AgreeWith ended.reports ended.scene.fabric begun.seat

@@ -30,7 +30,7 @@ EachPingArrives rule cells plan s origin =
     → (lid : ℕ) (owner : EndPort) → owner_of plan.given lid ≡ Some owner
     → PingArrives rule (IsJoinedTo (fabric_of s) origin) cells s lid source owner
 
--- where the facts agree with what an end port is joined to, and their plan is held there, pings arrive there
+-- if the facts describe exactly what an end port is joined to, and their plan is held there, pings arrive there
 abbrev pub PingsArrive : Type 0
 PingsArrive = (rule : RuleValue) (lmc : ℕ) (facts : Facts) (s : Simulation) (origin : NodePort)
     → ¬ (IsNoRoom lmc (cells_of facts)) → IsSimulation s → IsEndPort (fabric_of s) origin

@@ -25,17 +25,17 @@ pub fn accepted_facts_are_true()
     ensures { AcceptedFactsAreTrue }
 {}
 
-/// Where a simulated fabric is as a view with room says, as far as an end port is joined to, and holds the plan of that
-/// view there, a ping from each end port of that part for each LID of the plan reaches the end port that owns the LID.
+/// If a view with room describes exactly what an end port of a simulated fabric is joined to, and that holds the plan
+/// of the view, a ping from each end port there for each LID of the plan reaches the end port that owns the LID.
 pub fn pings_arrive()
     ensures { PingsArrive }
 {}
 
 /// When a sweep is done, with each of its requests but those for SMInfo answered and none wanted over a path that is
-/// too long, the facts of its reports agree with the part of the fabric that is joined to its seat, as it was when the
-/// sweep began and as it is then: they tell its end ports, its switches and its wires, and no others. And the path that
-/// the sweep has for each of these end ports leads there. So it is on every fabric whose nodes have different GUIDs,
-/// whatever other managers send of what `manager_laws::laws::answers_tell` names, whatever is lost, copied and
+/// too long, the facts of its reports describe exactly the part of the fabric that is joined to its seat, as it was
+/// when the sweep began and as it is then: they tell its end ports, switches and wires, and no others. And the path
+/// that the sweep has for each of these end ports leads there. So it is on every fabric whose nodes have different
+/// GUIDs, whatever other managers send of what `manager_laws::laws::answers_tell` names, whatever is lost, copied and
 /// reordered, and however often or late a request of the sweep is sent or a reply is given to it. A manager that is
 /// asked for SMInfo may answer anything, or nothing at all.
 pub fn done_sweeps_are_complete()

@@ -87,9 +87,9 @@ pub record ArrivesMeanwhile (fabrics : ℕ → Fabric) (lid : ℕ) (source : Nod
   pub nowhere_else : (others : List Hop) (other : NodePort) → IsDeliveredMeanwhile fabrics lid source others other
       → other ≡ target
 
--- what is joined to an end port is as the facts say and holds the tables held, and goes over to the next tables towards
--- a plan, each switch at its own time: a packet that the tables held deliver at the end port that alone holds its LID,
--- in these and in the plan, is delivered there meanwhile
+-- the facts describe what is joined to an end port, which holds the tables held, and goes over to the next tables
+-- towards a plan, each switch at its own time: a packet that the tables held deliver at the end port that alone holds
+-- its LID, in these and in the plan, is delivered there meanwhile
 abbrev pub PacketsArriveWhileTablesChange : Type 0
 PacketsArriveWhileTablesChange =
     (facts : Facts) (held plan : HeldPlan) (line : HeldLid) (before : Fabric) (origin : NodePort)

@@ -82,9 +82,9 @@ pub fn steps_heal_in_two()
 {}
 
 /// In a fabric whose switches go over to what `next_tables` answers, each at its own time, a packet that the tables
-/// held deliver at the end port that alone holds its LID, in these and in the plan, is delivered there meanwhile: where
-/// what is joined to an end port is as the facts say, and held the tables when the change began. It takes at most twice
-/// as many wires as there are usable switches, and one more.
+/// held deliver at the end port that alone holds its LID, in these and in the plan, is delivered there meanwhile: if
+/// the facts describe what is joined to an end port, and that held the tables when the change began. It takes at most
+/// twice as many wires as there are usable switches, and one more.
 pub fn packets_arrive_while_tables_change()
     ensures law { PacketsArriveWhileTablesChange }
 {}

@@ -1,5 +1,5 @@
--- A run with one manager that brings a subnet up: on an adapter at a switch, to which another adapter is wired. LIDs come in pairs, and a
--- request is copied and lost.
+-- A run with one manager that brings a subnet up: on an adapter at a switch, to which another adapter is wired. LIDs
+-- come in pairs, and a request is copied and lost.
 use Rattle.std.proofs.Common.{◌≡◌, ℕ, zero, suc, ◌+◌, ◌-◌, ◌^◌, ◌&&◌, Bool, true, List, [], ◌∷◌, refl, sym, ap, ◌∙◌, subst, arith}
 use Rattle.std.proofs.lemmas.Bool.{and_parts}
 use Rattle.std.proofs.lemmas.Option.{same_Some}
@@ -199,7 +199,8 @@ unfolding after_send after_packet_line after_take_and_send after_hand_up after_s
     cabled_at fresh_agent after_inject after_lose after_repeat after_deliver outcome_of after_answer get_of set_of changed_port with_bytes
 is_written_then = refl
 
--- each Set that an agent takes is one of its own: by a test -------------------------------------------------------------
+-- each Set that an agent takes is one of its own: by a test
+-- -------------------------------------------------------------
 
 module _ (plan : PlanValue) (phases : List Phase) where
   abbrev own : OwnSets

@@ -34,7 +34,7 @@ EachPingSaysReached plan w origin = (nodes : List Node) (source : NodePort) → 
     → IsJoinedTo (fabric_of w.fabric) origin source
     → (lid : ℕ) (owner : EndPort) → owner_of plan.given lid ≡ Some owner → SaysReached nodes w source lid owner
 
--- so it is where facts agree with what an end port of a world's fabric is joined to, and their plan is held there
+-- so it is if facts describe exactly what an end port of a world's fabric is joined to, and their plan is held there
 abbrev pub HeldPlansAreReached : Type 0
 HeldPlansAreReached = (rule : RuleValue) (lmc : ℕ) (facts : Facts) (w : WorldValue) (origin : NodePort)
     → ¬ (IsNoRoom lmc (cells_of facts)) → IsSimulation w.fabric

@@ -55,8 +55,8 @@ pub fn written_lines_tell()
     ensures { WrittenLinesTell }
 {}
 
-/// Where facts agree with what an end port of a world's fabric is joined to, and their plan is held
-/// there, each `ping` from an end port there for a LID of the plan prints that it reached the port of
+/// Where facts describe exactly what an end port of a world's fabric is joined to, and their plan is
+/// held there, each `ping` from an end port there for a LID of the plan prints that it reached the port of
 /// the LID's owner.
 pub fn held_plans_are_reached()
     ensures { HeldPlansAreReached }

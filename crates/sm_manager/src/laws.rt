@@ -11,9 +11,9 @@ pub fn knows_what_it_took_in()
 {}
 
 /// So two managers that took in the same sightings and have the same greatest floor hold equal facts and plan equal
-/// LIDs and forwarding blocks, whatever else befell them; and where what an end port is joined to is as these facts
-/// say, and holds that plan, each packet from each end port there for each LID of the plan arrives at the end port that
-/// owns it.
+/// LIDs and forwarding blocks, whatever else befell them; and if these facts describe exactly what an end port is
+/// joined to, and that holds the plan, each packet from each end port there for each LID of the plan arrives at the end
+/// port that owns it.
 #[tactic(auto, using(crate::proofs::Lives::same_taken_in_same_plan))]
 pub fn same_taken_in_same_plan()
     ensures { SameTakenInSamePlan }

@@ -1,5 +1,5 @@
--- A manager that takes over: on an adapter, at a switch to which another adapter is wired, whose port says that a manager sits there, which is silent. Both
--- adapters and the switch hold LIDs, and the switch a forwarding table.
+-- A manager that takes over: on an adapter, at a switch to which another adapter is wired, whose port says that a
+-- manager sits there, which is silent. Both adapters and the switch hold LIDs, and the switch a forwarding table.
 use Rattle.std.proofs.Common.{◌≡◌, ℕ, zero, suc, ◌+◌, ◌*◌, ◌-◌, ◌^◌, ◌<◌, Bool, true, List, [], ◌∷◌, ◌++◌, length, map, replicate}
 use Rattle.std.proofs.Common.{refl, sym, ap, ◌∙◌, subst, arith}
 use Rattle.std.proofs.Math.ListN.{get_or-map}
@@ -231,7 +231,8 @@ holds_plan q node is =
     let (other, there, number) = is.end_port in
     holds_at q.node q.port node is.node_there (subst (λ (n : fabric.Node). IsEndPortNumber n q.port) (same_Some _ _ (sym there ∙ is.node_there)) number)
 
--- until it writes, no packet that is delivered is a Set, and no LID changes ---------------------------------------------
+-- until it writes, no packet that is delivered is a Set, and no LID changes
+-- ---------------------------------------------
 
 abbrev is_no_set : Managing → ManagerEvent → Bool
 is_no_set w (Around (Deliver n)) = option_map_or (λ (f : Flight). not (number_in method f.packet.bytes == set)) (flight_with w.scene.fabric.flights n) true
@@ -308,7 +309,8 @@ between_lids : lids_after between (sweeping_with 1) ≡ replicate (length betwee
 unfolding cabled_at fresh_agent after_inject after_deliver after_lose outcome_of after_answer get_of set_of changed_port with_bytes
 between_lids = refl
 
--- its writing: the first step gives its own port the LID that it has ---------------------------------------------------
+-- its writing: the first step gives its own port the LID that it has
+-- ---------------------------------------------------
 
 abbrev phases_from : Cells → List Phase
 phases_from known_cells =

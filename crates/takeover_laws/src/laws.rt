@@ -32,19 +32,19 @@ pub fn known_plans_stay()
     ensures { KnownPlansStay }
 {}
 
-/// Two views that agree with one part of a fabric and have the same claims of its end ports have
-/// one plan.
+/// Two views that describe one part of a fabric exactly and have the same claims of its end ports
+/// have one plan.
 pub fn who_sees_the_same_plans_the_same()
     ensures { WhoSeesTheSamePlansTheSame }
 {}
 
-/// So have two views that agree with it and whose claims are the LIDs that its ports have.
+/// So have two views that describe it exactly and whose claims are the LIDs that its ports have.
 pub fn who_sees_the_truth_plans_the_same()
     ensures { WhoSeesTheTruthPlansTheSame }
 {}
 
-/// Where a part of a fabric holds the plan of facts that agree with it, other facts that agree with
-/// it and claim the LIDs that its ports have give the same plan: the same LIDs, and each block as
+/// Where a part of a fabric holds the plan of facts that describe it exactly, other facts that do so
+/// too, and claim the LIDs that its ports have, give the same plan: the same LIDs, and each block as
 /// it is.
 pub fn held_plans_are_planned()
     ensures { HeldPlansArePlanned }
@@ -63,8 +63,8 @@ pub fn swept_claims_are_true()
     ensures { SweptClaimsAreTrue }
 {}
 
-/// Where all that is joined to a seat holds the plan of facts that agree with it, a sweep from this
-/// seat that has every answer while no port gets another LID gives the same plan: the same LIDs,
+/// Where all that is joined to a seat holds the plan of facts that describe it exactly, a sweep from
+/// this seat that has every answer while no port gets another LID gives the same plan: the same LIDs,
 /// and each block as it is. It does not matter who planned it, in which generations, or from where.
 pub fn takeovers_change_nothing()
     ensures { TakeoversChangeNothing }
