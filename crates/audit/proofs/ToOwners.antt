@@ -56,7 +56,8 @@ holds_alone held owners lid port h told =
 
 -- what the switches do with packets for the LIDs of a number is what the tables say
 pub are_deliveries : (cells : Cells) (held : HeldPlan) (number : ℕ) (rows : List (List ℕ)) (nodes : List AuditedSwitch) (owners : List Owner) (lids : LidSet)
-    → AreBlocks held number rows → nodes ≡ map (node_of cells held) (switches cells) → AreOwners (lines_of held) owners → AreDelivered nodes owners rows number lids
+    → AreBlocks held number rows → nodes ≡ map (node_of cells held) (switches cells) → AreOwners (lines_of held) owners
+    → AreDelivered nodes owners rows number lids
     → AreDeliveries cells held (record { number = number; lids = lids })
 are_deliveries cells held number rows nodes owners lids blocks nodes_are owners_are h = λ lid is.
     let parts = and_parts (lid / 64 == number) (has lids (lid % 64)) is in

@@ -58,7 +58,8 @@ module _ (cells : Cells) where
       let e : EndPort = record { node = g; port = p } in
       elim (is_joined cells e) as (λ t. is_joined cells e ≡ t → IsKnownPort cells g p ⊎ Contains (unjoined_ports cells) e) [
         | true ↦ λ k. inl (known_port g p k)
-        | false ↦ λ k. inr (contains_filter (λ x. not (is_joined cells x)) (ports_up cells) e (listed_up g p (find key_cmp (Port g p) cells) refl up) (ap not k))
+        | false ↦ λ k. inr (contains_filter (λ x. not (is_joined cells x)) (ports_up cells) e (listed_up g p (find key_cmp (Port g p) cells) refl up)
+            (ap not k))
       ] refl
 
 pub passing_audits_know_all : PassingAuditsKnowAll

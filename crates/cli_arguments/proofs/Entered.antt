@@ -71,10 +71,11 @@ module _ (s : Shape) (names : Names) (takes_help : s.disable_help_subcommand ≡
     where
       named : (o : Option Text) → other_fault s o word h ≡ [] → StepIsNotHelp (subcommand_or_other s.rules o waiting position word h).1
       named (Some name) f = not_help (is_help name) f
-      named None f = elim (bytes_eq word (45 ∷ 45 ∷ [])) as (λ b. StepIsNotHelp (if b then (h, trailing position) else long_or_other s.rules waiting word (long_of word) h).1) [
-        | true ↦ tt
-        | false ↦ other_step s.rules waiting word (long_of word) h
-      ]
+      named None f = elim (bytes_eq word (45 ∷ 45 ∷ [])) as
+          (λ b. StepIsNotHelp (if b then (h, trailing position) else long_or_other s.rules waiting word (long_of word) h).1) [
+            | true ↦ tt
+            | false ↦ other_step s.rules waiting word (long_of word) h
+          ]
 
   stepped : (w : Walk) (word : Text) (h : Held) (step : Step) → IsNotHelp w.stopped → StepIsNotHelp step → IsNotHelp (after_step s.rules word w h step).stopped
   unfolding IsNotHelp StepIsNotHelp
@@ -207,7 +208,8 @@ module _ (c : List Rule) (name : Text) where
   unfolding IsPassed AreTaken
   word_passes id a [] is h = tt
   word_passes id a (r ∷ rs) is h =
-      elim (bytes_eq r.id id) as (λ b. bytes_eq r.id id ≡ b → IsPassed a (option_and_then (λ values. slice_get values 0) (option_map (λ x. x.values) (if b then Some r else find (λ x. bytes_eq x.id id) rs)))) [
+      elim (bytes_eq r.id id) as (λ b. bytes_eq r.id id ≡ b
+      → IsPassed a (option_and_then (λ values. slice_get values 0) (option_map (λ x. x.values) (if b then Some r else find (λ x. bytes_eq x.id id) rs)))) [
         | true ↦ λ e.
             let same : r.id ≡ id = (bytes_eq-Decides r.id id).0 e in
             let one : Some h.0.0 ≡ Some a = sym h.0.1 ∙ ap (arg_by_id c) same ∙ is in
@@ -226,7 +228,8 @@ module _ (c : List Rule) (name : Text) where
   unfolding AreTaken
   given_word id a [] is wants h g = absurd (cc)
   given_word id a (r ∷ rs) is wants h g =
-      elim (bytes_eq r.id id) as (λ b. bytes_eq r.id id ≡ b → option_map_or (λ x. explicit_source x.source) (if b then Some r else find (λ x. bytes_eq x.id id) rs) false ≡ true
+      elim (bytes_eq r.id id) as (λ b. bytes_eq r.id id ≡ b
+      → option_map_or (λ x. explicit_source x.source) (if b then Some r else find (λ x. bytes_eq x.id id) rs) false ≡ true
       → is_some (option_and_then (λ values. slice_get values 0) (option_map (λ x. x.values) (if b then Some r else find (λ x. bytes_eq x.id id) rs))) ≡ true) [
         | true ↦ λ e f.
             let same : r.id ≡ id = (bytes_eq-Decides r.id id).0 e in

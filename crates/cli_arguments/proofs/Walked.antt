@@ -129,7 +129,8 @@ module _ (c : List Rule) (again : Bool) where
 
   used_as_taken : (x : ArgAction) (a : Rule) (vs : List Text) (rows : List Row) → is_plain_action x ≡ true → IsPlainIn c a → AreTaken c rows
       → (not (wants_some a) || has_some vs) ≡ true → action_fault x again a vs rows ≡ [] → AreTaken c (used_as x a.id (reading_by a) vs rows)
-  used_as_taken Set a vs rows is p h some e = valued CommandLine a vs (without a.id rows) p (without_taken c a.id rows h) ((or_none _ (values_fault a vs) e).1, some)
+  used_as_taken Set a vs rows is p h some e = valued CommandLine a vs (without a.id rows) p (without_taken c a.id rows h)
+      ((or_none _ (values_fault a vs) e).1, some)
   used_as_taken Append a vs rows is p h some e = valued CommandLine a vs rows p h (e, some)
   used_as_taken SetTrue a vs rows is p h some e = absurd (cc)
   used_as_taken SetFalse a vs rows is p h some e = absurd (cc)
@@ -258,7 +259,8 @@ module _ (c : List Rule) (again : Bool) (plain_rules : ArePlainIn c c) where
       short (Some flags) f =
           flag_taken waiting word (bundle c flags h).0 (bundle c flags h).1 (bundle_taken (length flags) flags h.skip plain (record h { skip = 0 }) t f)
 
-  met_taken : (s : Shape) (names : Names) (is_trailing : Bool) (waiting : Waiting) (position : ℕ) (word : Text) (h : Held) → s.rules ≡ c → s.args_override_self ≡ again
+  met_taken : (s : Shape) (names : Names) (is_trailing : Bool) (waiting : Waiting) (position : ℕ) (word : Text) (h : Held) → s.rules ≡ c
+      → s.args_override_self ≡ again
       → AreTaken c h.rows → word_fault s names is_trailing waiting word h ≡ [] → AreTaken c (word_met c names is_trailing waiting position word h).0.rows
   met_taken s names true waiting position word h is same t e = t
   met_taken s names false waiting position word h is same t e = named (subcommand_met names waiting word) e
@@ -279,12 +281,14 @@ module _ (c : List Rule) (again : Bool) (plain_rules : ArePlainIn c c) where
   stepped_taken s w word h (trailing position) is same t e = t
   stepped_taken s w word h (subcommand name) is same t e = t
   stepped_taken s w word h value is same t e =
-      taken (arg_by_index c w.position) (subst (λ (x : List Rule × Bool). option_map_or (λ a. positional_fault x.0 x.1 a h) (arg_by_index x.0 w.position) (stray_fault s) ≡ []) (λ i. (is i, same i)) e)
+      taken (arg_by_index c w.position) (subst (λ (x : List Rule × Bool). option_map_or (λ a. positional_fault x.0 x.1 a h) (arg_by_index x.0 w.position)
+      (stray_fault s) ≡ []) (λ i. (is i, same i)) e)
     where
       taken : (o : Option Rule) → option_map_or (λ a. positional_fault c again a h) o (stray_fault s) ≡ [] → AreTaken c (to_positional c o word w h).held.rows
       taken None f = t
       taken (Some a) f =
-          elim (is_pending a h.pending && takes_several a) as (λ b. (if b then [] else settle_fault c again h) ≡ [] → AreTaken c (if b then h else settled c h).rows) [
+          elim (is_pending a h.pending && takes_several a) as
+          (λ b. (if b then [] else settle_fault c again h) ≡ [] → AreTaken c (if b then h else settled c h).rows) [
             | true ↦ λ g. t
             | false ↦ λ g. settled_taken h.pending h.rows t g
           ] f

@@ -30,7 +30,8 @@ module _ (routings : Bor (List (Bor Text))) (known : AreRoutings routings) (c : 
   abbrev word : Text → Option Text
   word = word_behind (Some (name, rows))
 
-  number_read : (least most : ℕ) (a : Rule) → a.parser ≡ Some (Signed (pos least) (pos most)) → (o : Option Text) → IsPassed c name a o → IsNumberWithin least most o
+  number_read : (least most : ℕ) (a : Rule) → a.parser ≡ Some (Signed (pos least) (pos most)) → (o : Option Text) → IsPassed c name a o
+      → IsNumberWithin least most o
   unfolding IsPassed
   number_read least most a is None h = tt
   number_read least most a is (Some v) h =
@@ -39,13 +40,15 @@ module _ (routings : Bor (List (Bor Text))) (known : AreRoutings routings) (c : 
 
   two_named : (xs : List (Bor Text)) (v : Text) → map (λ word. word.now) xs ≡ codes "updown" ∷ codes "spread" ∷ [] → list_any (λ x. bytes_eq x.now v) xs ≡ true
       → IsRouting (Some v)
-  two_named xs v is h = either (subst (λ (texts : List Text). list_any (λ t. bytes_eq t v) texts ≡ true) is (sym (list_any-map (λ t. bytes_eq t v) (λ x. x.now) xs) ∙ h))
+  two_named xs v is h = either (subst (λ (texts : List Text). list_any (λ t. bytes_eq t v) texts ≡ true) is
+      (sym (list_any-map (λ t. bytes_eq t v) (λ x. x.now) xs) ∙ h))
     where
       either : (bytes_eq (codes "updown") v || (bytes_eq (codes "spread") v || false)) ≡ true → IsRouting (Some v)
-      either e = elim (bytes_eq (codes "updown") v) as (λ b. bytes_eq (codes "updown") v ≡ b → (b || (bytes_eq (codes "spread") v || false)) ≡ true → IsRouting (Some v)) [
-        | true ↦ λ f g. inl (sym ((bytes_eq-Decides (codes "updown") v).0 f))
-        | false ↦ λ f g. inr (sym ((bytes_eq-Decides (codes "spread") v).0 (last (bytes_eq (codes "spread") v) g)))
-      ] refl e
+      either e = elim (bytes_eq (codes "updown") v) as
+          (λ b. bytes_eq (codes "updown") v ≡ b → (b || (bytes_eq (codes "spread") v || false)) ≡ true → IsRouting (Some v)) [
+            | true ↦ λ f g. inl (sym ((bytes_eq-Decides (codes "updown") v).0 f))
+            | false ↦ λ f g. inr (sym ((bytes_eq-Decides (codes "spread") v).0 (last (bytes_eq (codes "spread") v) g)))
+          ] refl e
         where
           last : (b : Bool) → (b || false) ≡ true → b ≡ true
           last true e = refl
@@ -67,7 +70,11 @@ module _ (routings : Bor (List (Bor Text))) (known : AreRoutings routings) (c : 
   names_files : (f : Rule) → arg_by_id c (codes "floor") ≡ Some f → f.parser ≡ Some (Signed (pos 1) (pos 4294967295)) → is_given (codes "FILE") rows ≡ true
       → NamesFiles word (values_in (codes "FILE") rows)
   names_files f is parser given =
-      record { named = files_named given; floor = number_read 1 4294967295 f parser (word (codes "floor")) (word_passes c name (codes "floor") f rows is taken) }
+      record {
+        named = files_named given;
+        floor = number_read 1 4294967295 f parser (word (codes "floor"))
+            (word_passes c name (codes "floor") f rows is taken);
+      }
 
   names_planning : (l r : Rule) → arg_by_id c (codes "lmc") ≡ Some l → l.parser ≡ Some (Signed (pos 0) (pos 7)) → arg_by_id c (codes "routing") ≡ Some r
       → r.parser ≡ Some (Names routings) → r.ignore_case ≡ false → has_conflict word ≡ false → NamesPlanning word
@@ -174,7 +181,8 @@ pub read_is_well_formed : (routings : Bor (List (Bor Text))) (words : List Text)
 read_is_well_formed routings words matches known read =
     let there = enters (command_line routings) words refl refl read.1 in
     let fits = found_has Fits (λ s. answers_to there.name (label_of s)) (shapes routings) there.shape (all_fit routings known) there.is_named in
-    let flat = found_has (λ (s : Shape). ArePlainIn s.rules s.rules) (λ s. answers_to there.name (label_of s)) (shapes routings) there.shape (all_plain routings) there.is_named in
+    let flat = found_has (λ (s : Shape). ArePlainIn s.rules s.rules) (λ s. answers_to there.name (label_of s)) (shapes routings) there.shape
+    (all_plain routings) there.is_named in
     let rows = rows_after there.shape.rules [] there.rest in
     let taken = level_taken there.shape.rules there.shape.args_override_self flat.0 there.shape [] there.rest false [] refl refl there.no_fault in
     let rows_are : subcommand_rows_of matches ≡ Some (there.shape.name, rows) = read.0 ∙ there.is_read in

@@ -58,7 +58,8 @@ module _ (ds : List ℕ) where
   plain_read (Ok x) h = ap (option_and_then (within 0 4294967295)) (number_from 10 ds h.0.0.0 h.0.0.1) ∙ ap natural (sym h.1)
   plain_read (Err e) h =
       some_digits (λ o. option_and_then (within 0 4294967295) o ≡ None) refl
-      (λ numeral. over 0 4294967295 (digits_value 10 ds) (elim (leb (digits_value 10 ds) 4294967295) as (λ b. leb (digits_value 10 ds) 4294967295 ≡ b → 4294967295 < digits_value 10 ds) [
+      (λ numeral. over 0 4294967295 (digits_value 10 ds)
+      (elim (leb (digits_value 10 ds) 4294967295) as (λ b. leb (digits_value 10 ds) 4294967295 ≡ b → 4294967295 < digits_value 10 ds) [
         | true ↦ λ f. absurd (h (numeral, fits_pos (digits_value 10 ds) (omega (arith, leb-true (digits_value 10 ds) 4294967295 f))))
         | false ↦ λ f. omega (arith, leb-false (digits_value 10 ds) 4294967295 f)
       ] refl))
@@ -67,12 +68,15 @@ module _ (ds : List ℕ) where
   negative_is zero = refl
   negative_is (suc v) = ap (option_and_then (within 0 4294967295)) (over 0 0 (suc v) (omega arith))
 
-  negative_read : {E : Type 0} (r : Result ℤ E) → OkIff r (IsNumeral 10 ds × FitsSigned w64 (neg_ℤ (pos (digits_value 10 ds)))) (neg_ℤ (pos (digits_value 10 ds)))
+  negative_read : {E : Type 0} (r : Result ℤ E) → OkIff r (IsNumeral 10 ds × FitsSigned w64 (neg_ℤ (pos (digits_value 10 ds))))
+      (neg_ℤ (pos (digits_value 10 ds)))
       → option_and_then (within 0 4294967295) (option_and_then (within 0 0) (number_of 10 ds)) ≡ option_and_then natural (result_ok r)
   negative_read (Ok x) h =
-      ap (λ o. option_and_then (within 0 4294967295) (option_and_then (within 0 0) o)) (number_from 10 ds h.0.0.0 h.0.0.1) ∙ negative_is (digits_value 10 ds) ∙ ap natural (sym h.1)
+      ap (λ o. option_and_then (within 0 4294967295) (option_and_then (within 0 0) o)) (number_from 10 ds h.0.0.0 h.0.0.1)
+      ∙ negative_is (digits_value 10 ds) ∙ ap natural (sym h.1)
   negative_read (Err e) h =
-      some_digits (λ o. option_and_then (within 0 4294967295) (option_and_then (within 0 0) o) ≡ None) refl (λ numeral. none (digits_value 10 ds) (λ fits. h (numeral, fits)))
+      some_digits (λ o. option_and_then (within 0 4294967295) (option_and_then (within 0 0) o) ≡ None) refl
+      (λ numeral. none (digits_value 10 ds) (λ fits. h (numeral, fits)))
     where
       none : (v : ℕ) → (FitsSigned w64 (neg_ℤ (pos v)) → ⊥) → option_and_then (within 0 4294967295) (within 0 0 v) ≡ None
       none zero fails = absurd (fails (fits_pos 0 (omega arith)))

@@ -48,8 +48,12 @@ module _ (word : List ℕ → Option (List ℕ)) (files : Option (List (List ℕ
   planning_there : NamesPlanning word → (by : ℕ × RuleAsked) × (planning_asked word ≡ Some by) × (is_some (texts_of_rule word by.1) ≡ true)
   planning_there h =
       let lmc = known (lmc_asked (word (codes "lmc"))) (lmc_there (word (codes "lmc")) h.lmc) in
-      let rule = rule_there (word (codes "routing")) (word (codes "roots")) h.routing h.apart in
-      ((lmc.0, rule.0), both (lmc_asked (word (codes "lmc"))) lmc.0 lmc.1 (rule_asked (word (codes "routing")) (is_some (word (codes "roots")))) rule.0 rule.1, rule.2 word refl)
+      let rule = rule_there (word (codes "routing")) (word (codes "roots")) h.routing h.apart in (
+        (lmc.0, rule.0),
+        both (lmc_asked (word (codes "lmc"))) lmc.0 lmc.1
+            (rule_asked (word (codes "routing")) (is_some (word (codes "roots")))) rule.0 rule.1,
+        rule.2 word refl,
+      )
     where
       both : (o : Option ℕ) (lmc : ℕ) → o ≡ Some lmc → (r : Option RuleAsked) (rule : RuleAsked) → r ≡ Some rule
           → option_and_then {U = ℕ × RuleAsked} (λ lmc. option_map {U = ℕ × RuleAsked} (λ rule. (lmc, rule)) r) o ≡ Some (lmc, rule)
@@ -117,7 +121,8 @@ module _ (word : List ℕ → Option (List ℕ)) (files : Option (List (List ℕ
 
 -- so do well-formed words
 pub well_formed_asks : (matches : ArgMatches) → IsWellFormed matches
-    → is_some (option_and_then (names_in (word_named matches) (files_named matches)) (option_and_then (task_behind (word_named matches)) (subcommand_name_of matches))) ≡ true
+    → is_some (option_and_then (names_in (word_named matches) (files_named matches))
+    (option_and_then (task_behind (word_named matches)) (subcommand_name_of matches))) ≡ true
 well_formed_asks matches h =
     ap (λ o. is_some (option_and_then (names_in (word_named matches) (files_named matches)) (option_and_then (task_behind (word_named matches)) o))) h.named
     ∙ words_ask (word_named matches) (files_named matches) h.name h.words

@@ -33,13 +33,15 @@ module _ (least most : ℕ) where
   behind_minus (suc v) low = absurd low.le
 
 -- a word that writes a number within the bounds has one
-pub number_within : (least most : ℕ) (word : List ℕ) → IsSignedIn (pos least) (pos most) word → is_some (option_and_then (within least most) (number_in word)) ≡ true
+pub number_within : (least most : ℕ) (word : List ℕ) → IsSignedIn (pos least) (pos most) word
+    → is_some (option_and_then (within least most) (number_in word)) ≡ true
 number_within least most word h =
     elim (starts_with_minus word) as (λ b.
     let ds = cond b (drop 1 word) (without_leading_plus word) in
     let z = cond b (neg_ℤ (pos (digits_value 10 ds))) (pos (digits_value 10 ds)) in
     IsNumeral 10 ds × FitsSigned w64 z × (pos least ≤ℤ z) × (z ≤ℤ pos most)
-    → is_some (option_and_then (within least most) (if b then option_and_then (within 0 0) (number_of 10 (drop 1 word)) else number_of 10 (without_leading_plus word))) ≡ true) [
+    → is_some (option_and_then (within least most)
+    (if b then option_and_then (within 0 0) (number_of 10 (drop 1 word)) else number_of 10 (without_leading_plus word))) ≡ true) [
       | true ↦ λ f.
           ap (λ o. is_some (option_and_then (within least most) (option_and_then (within 0 0) o))) (number_from 10 (drop 1 word) f.0.0 f.0.1)
           ∙ behind_minus least most (digits_value 10 (drop 1 word)) f.2

@@ -47,11 +47,13 @@ all_loose =
     (next (λ e. absurd (cc))
     (next (λ e. absurd (cc)) tt))))
 
-changes : IsInChange (IsJoinedTo detour origin) (cells_of facts) (held_by longer) (next_tables (cells_of facts) (held_by longer) (held_by tables)) 6 detour triangle
+changes : IsInChange (IsJoinedTo detour origin) (cells_of facts) (held_by longer)
+    (next_tables (cells_of facts) (held_by longer) (held_by tables)) 6 detour triangle
 changes = record {
   still = record { nodes = refl; cables = λ p. refl; owners = λ port node e. refl };
   entries = λ port node e is.
-      indexed_at (Loose (cells_of facts)) detour.nodes (subst (λ (c : Cells). EachIndexed (Loose c) detour.nodes) (sym facts_have) all_loose) port.node node e.node_there is;
+      indexed_at (Loose (cells_of facts)) detour.nodes
+      (subst (λ (c : Cells). EachIndexed (Loose c) detour.nodes) (sym facts_have) all_loose) port.node node e.node_there is;
 }
 
 pub some_tables_change : SomeTablesChange

@@ -130,7 +130,8 @@ counts_at : (k : ℕ) (n : Node) → top_of (held_by longer) n.guid ≡ 7
 counts_at k n top same is lid =
     elim (cases_lt 7 lid) [
       | inl more ↦ ap (λ t. cond t 255 (detour.entry k lid)) (above lid (omega (arith, more)))
-          ∙ sym (ap (λ t. counted lid t (entry_of (held_by longer) n.guid lid)) top ∙ ap (λ t. cond t 255 (entry_of (held_by longer) n.guid lid)) (above lid (omega (arith, more))))
+          ∙ sym (ap (λ t. counted lid t (entry_of (held_by longer) n.guid lid)) top
+          ∙ ap (λ t. cond t 255 (entry_of (held_by longer) n.guid lid)) (above lid (omega (arith, more))))
       | inr low ↦ same lid (omega (arith, low)) ∙ ap (λ t. counted lid t (entry_of (held_by longer) n.guid lid)) (sym top)
     ]
 
@@ -141,9 +142,12 @@ up_to_seven P a b c d e f g h lid =
 
 all_count : EachIndexed Counts detour.nodes
 all_count =
-    next (counts_at 0 (switch 16) refl (up_to_seven (λ lid. counted lid 7 (detour.entry 0 lid) ≡ counted lid 7 (entry_of (held_by longer) 16 lid)) refl refl refl refl refl refl refl refl))
-    (next (counts_at 1 (switch 32) refl (up_to_seven (λ lid. counted lid 7 (detour.entry 1 lid) ≡ counted lid 7 (entry_of (held_by longer) 32 lid)) refl refl refl refl refl refl refl refl))
-    (next (counts_at 2 (switch 48) refl (up_to_seven (λ lid. counted lid 7 (detour.entry 2 lid) ≡ counted lid 7 (entry_of (held_by longer) 48 lid)) refl refl refl refl refl refl refl refl))
+    next (counts_at 0 (switch 16) refl (up_to_seven
+    (λ lid. counted lid 7 (detour.entry 0 lid) ≡ counted lid 7 (entry_of (held_by longer) 16 lid)) refl refl refl refl refl refl refl refl))
+    (next (counts_at 1 (switch 32) refl (up_to_seven
+    (λ lid. counted lid 7 (detour.entry 1 lid) ≡ counted lid 7 (entry_of (held_by longer) 32 lid)) refl refl refl refl refl refl refl refl))
+    (next (counts_at 2 (switch 48) refl (up_to_seven
+    (λ lid. counted lid 7 (detour.entry 2 lid) ≡ counted lid 7 (entry_of (held_by longer) 48 lid)) refl refl refl refl refl refl refl refl))
     (next (λ e. absurd (cc))
     (next (λ e. absurd (cc)) tt))))
 

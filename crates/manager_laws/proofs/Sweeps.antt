@@ -93,7 +93,8 @@ module _ {start : Simulation} {seat : NodePort} (cables : AreCables start) (coun
       ap (λ l. without_number r.number s.outstanding ++ l) queue in
       let next : s.next + 0 ≡ s.next = omega arith in
       record {
-        rising = subst (λ rs. AreRising 0 rs s.next) requests (subst (AreRising 0 (without_number r.number s.outstanding ++ (s.queued ++ []))) next then.rising);
+        rising = subst (λ rs. AreRising 0 rs s.next) requests
+            (subst (AreRising 0 (without_number r.number s.outstanding ++ (s.queued ++ []))) next then.rising);
         rooted = subst (λ rs. AllByRecursion (λ (x : Request). IsRooted (fabric_of start) seat s.reached x.context) rs) requests then.rooted;
         vertices = subst (λ told. AllByRecursion (Covers (fabric_of start) seat (record {
           requests = without_number r.number s.outstanding ++ s.queued;

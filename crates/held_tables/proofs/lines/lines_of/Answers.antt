@@ -22,7 +22,9 @@ loop-line-preserved c =
             ap (λ (v : Vec HeldLid Global). v.items) w.lines-is ∙ w.in_ok-push.ensures.items ∙ ap (λ xs. xs ++ line ∷ []) so_far
             ∙ sym (line_kept before line c.loop-line.told are (sym c.in_ok-insert.ensures.added ∙ w.if-branch.true))
         | else-branch w ↦
-            ap (λ (v : Vec HeldLid Global). v.items) w.lines-is ∙ so_far ∙ sym (line_left before line c.loop-line.told are (sym c.in_ok-insert.ensures.added ∙ w.if-branch.false))
+            ap (λ (v : Vec HeldLid Global). v.items) w.lines-is ∙ so_far
+            ∙ sym (line_left before line c.loop-line.told are (sym c.in_ok-insert.ensures.added ∙ w.if-branch.false))
       ]) ∙ ap told_once (sym more),
-      subst (λ (xs : List HeldLid). AreKeys xs c.insert.new.self) (sym more) (keys_more before c.loop-line.told c.insert.new.self line are c.in_ok-insert.ensures.updates),
+      subst (λ (xs : List HeldLid). AreKeys xs c.insert.new.self) (sym more)
+          (keys_more before c.loop-line.told c.insert.new.self line are c.in_ok-insert.ensures.updates),
     )
