@@ -2,8 +2,8 @@
 ghost use Rattle.std.specs.Prelude.{◌≡◌, IfOk, Some};
 ghost use Rattle.reply_facts.specs.Known.{up_in, value_in};
 ghost use Rattle.fact_store.specs.View.{cells_of};
-ghost use Rattle.audit_counts.specs.Unclear.{is_clear_node, is_joined, is_said, ports_up, told_node, told_nodes, told_up};
-ghost use Rattle.audit_counts.specs.Unclear.{unjoined, unjoined_among, unusable, unusable_among};
+ghost use Rattle.audit_counts.specs.Unclear.{is_clear_node, is_joined, is_said, ports_up, told_node, told_nodes};
+ghost use Rattle.audit_counts.specs.Unclear.{told_up, unjoined, unjoined_among, unusable, unusable_among};
 
 use crate::first_few::FirstFew;
 use fact_store::{Key, Refused, Sighting, Store, Value};

@@ -1,8 +1,8 @@
 //! What the words of the command line ask for.
 ghost use Rattle.std.specs.Prelude.{◌≡◌, IfOk, codes, is_some, map, option_and_then, option_map};
 ghost use Rattle.clap.specs.Matches.{first_value, found_of, matched_of, raw_values};
-ghost use Rattle.cli_task.specs.Asked.{floor_asked, lmc_asked, number_in, number_or, planning_asked, rule_asked, within};
-ghost use Rattle.cli_task.specs.Asked.{output_asked, step_asked, task_asked, task_behind};
+ghost use Rattle.cli_task.specs.Asked.{floor_asked, lmc_asked, number_in, number_or, planning_asked, rule_asked};
+ghost use Rattle.cli_task.specs.Asked.{output_asked, step_asked, task_asked, task_behind, within};
 ghost use Rattle.cli_task.specs.Asked.{names_asked, names_in, rule_of_task, takes_files, texts_asked, texts_of_rule};
 
 use arrayvec::ArrayVec;

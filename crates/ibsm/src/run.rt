@@ -83,7 +83,8 @@ where
         (Appends (⟦<ToWrite<O> as Sink>⟧.written output.old) (⟦<ToWrite<O> as Sink>⟧.written output.new))
         (IsSaid ⟦<ToWrite<E> as Sink>⟧.written ⟦<ToWrite<E> as Sink>⟧.has_failed errors.old errors.new) passed) }
     ensures flushed { IfOk result (λ status. IsDone status → IsTrue (⟦<ToWrite<O> as Sink>⟧.is_flushed output.new)) }
-    ensures says_why { IfOk result (λ status. IsDone status ⊎ SaysWhyOfWords (R.answers rt.now) R.Opened.state matches.now
+    ensures says_why { IfOk result (λ status. IsDone status
+        ⊎ SaysWhyOfWords (R.answers rt.now) R.Opened.state matches.now
         (PrintsSome ⟦<ToWrite<O> as Sink>⟧.written ⟦<ToWrite<O> as Sink>⟧.has_failed output.old output.new)
         (⟦<ToWrite<O> as Sink>⟧.has_failed output.new) (output.new ≡ output.old) status
         (IsSaid ⟦<ToWrite<E> as Sink>⟧.written ⟦<ToWrite<E> as Sink>⟧.has_failed errors.old errors.new)) }
