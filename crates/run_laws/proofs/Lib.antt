@@ -6,4 +6,5 @@ pub mod Lived
 pub mod Printed
 pub mod Repeated
 pub mod Seats
+pub mod SweepLines
 pub mod WrittenLines

@@ -1,13 +1,16 @@
 -- What managers that took in the same print.
 use Rattle.lft_blocks.specs.Planning.{Planning}
-use Rattle.std.specs.Prelude.{◌≡◌, ◌↔◌, ◌<◌, ℕ, true, List, [], ◌∷◌, ◌++◌, length, slice_get, Some}
+use Rattle.std.specs.Prelude.{◌≡◌, ◌↔◌, ◌<◌, ◌^◌, ℕ, true, List, [], ◌∷◌, ◌++◌, length, slice_get, Some}
 use Rattle.topo_file.specs.Topology.{Layout}
 use Rattle.schedule_file.specs.Schedule.{Script, SeatCommand}
 use Rattle.schedule_file.specs.declared.command.Command.TheVariants.{Merge, Show}
-use Rattle.schedule_file.specs.declared.command.Shown.TheVariants.{Facts, Plan, Written}
+use Rattle.schedule_file.specs.declared.command.Shown.TheVariants.{Facts, Plan, Progress, Silent, Written}
 use Rattle.fact_store.specs.Seen.{HaveSameMembers}
+use Rattle.sweep.specs.Sweep.{IsSweep, Sweep}
+use Rattle.sm_manager.specs.declared.progress.Progress.TheVariants.{Done}
 use Rattle.sm_manager.specs.Writing.{is_written}
-use Rattle.schedule_lines.specs.Lines.{written_line}
+use Rattle.manager_laws.specs.Complete.{IsWhole}
+use Rattle.schedule_lines.specs.Lines.{progress_line, silent_line, written_line}
 use Rattle.schedule_world.specs.Commands.{after_commands, script_text, shown_of}
 use Rattle.schedule_world.specs.World.{SeatedValue, WorldValue}
 use Rattle.run_laws.specs.Accounts.{account_after, world_after}
@@ -69,3 +72,17 @@ abbrev pub WrittenLinesTell : Type 0
 WrittenLinesTell =
     (w : WorldValue) (seat : ℕ) (s : SeatedValue) → slice_get w.managers seat ≡ Some s
     → (shown_of w seat Written ≡ written_line s.name true) ↔ (is_written s.manager ≡ true)
+
+-- `progress` and `silent` print a sweep that is done, so many requests without an answer, all to managers, and no port
+-- that leads too far
+pub record SayAllAnswered (w : WorldValue) (seat : ℕ) (name : List ℕ) (unanswered : ℕ) : Type 0 where
+  pub few : unanswered < 2 ^ 64
+  pub progress : shown_of w seat Progress ≡ progress_line name (Done unanswered 0)
+  pub silent : shown_of w seat Silent ≡ silent_line name (Some unanswered)
+
+-- they do so exactly where the manager's last sweep has every answer then
+abbrev pub SweepLinesTell : Type 0
+SweepLinesTell =
+    (w : WorldValue) (seat : ℕ) (s : SeatedValue) (sweep : Sweep) → slice_get w.managers seat ≡ Some s
+    → s.manager.sweep ≡ Some sweep → IsSweep sweep
+    → ((unanswered : ℕ) × SayAllAnswered w seat s.name unanswered) ↔ IsWhole sweep

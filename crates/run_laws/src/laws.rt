@@ -2,7 +2,7 @@
 ghost use Rattle.run_laws.specs.Accounts.{RunsAreAccountedFor};
 ghost use Rattle.run_laws.specs.Alone.{RunsOfOneAreReached, SomeRunOfOne};
 ghost use Rattle.run_laws.specs.Lines.{LaterLinesComeBehind, MergedManagersPlanAlike, SameTakenInPlansAlike};
-ghost use Rattle.run_laws.specs.Lines.{SameTakenInSameLines, WrittenLinesTell};
+ghost use Rattle.run_laws.specs.Lines.{SameTakenInSameLines, SweepLinesTell, WrittenLinesTell};
 ghost use Rattle.run_laws.specs.Reached.{HeldPlansAreReached, WrittenPlansAreReached};
 ghost use Rattle.run_laws.specs.Repeats.{TextsDecideOutput};
 
@@ -46,6 +46,12 @@ pub fn same_taken_in_plans_alike()
 #[tactic(auto, using(crate::proofs::Alike::merged_managers_plan_alike))]
 pub fn merged_managers_plan_alike()
     ensures { MergedManagersPlanAlike }
+{}
+
+/// The line `progress` prints a sweep that is done and no port that is too far, and as many requests without an answer
+/// as the line `silent` prints managers, exactly where the manager's last sweep has every answer then.
+pub fn sweep_lines_tell()
+    ensures { SweepLinesTell }
 {}
 
 /// The line `written` prints `yes` exactly where the plan of the manager is written then: where its last writing's
