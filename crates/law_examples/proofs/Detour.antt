@@ -25,11 +25,11 @@ use Rattle.audit.specs.Fabrics.{HoldsTablesIn, IsSeen, IsSeenIn}
 
 -- the fabric and its tables ------------------------------------------------------------------------------
 
--- the first switch sends packets for LIDs 6 and 7 on to the second one
+-- the first switch sends packets for LID 6 on to the second one, and neither has an entry for LID 7
 abbrev pub longer : List (List ℕ)
 longer =
-    (255 ∷ 0 ∷ 1 ∷ 2 ∷ 1 ∷ 1 ∷ 1 ∷ 1 ∷ [])
-    ∷ (255 ∷ 1 ∷ 0 ∷ 2 ∷ 3 ∷ 3 ∷ 2 ∷ 2 ∷ [])
+    (255 ∷ 0 ∷ 1 ∷ 2 ∷ 1 ∷ 1 ∷ 1 ∷ 255 ∷ [])
+    ∷ (255 ∷ 1 ∷ 0 ∷ 2 ∷ 3 ∷ 3 ∷ 2 ∷ 255 ∷ [])
     ∷ (255 ∷ 1 ∷ 2 ∷ 0 ∷ 2 ∷ 2 ∷ 3 ∷ 3 ∷ [])
     ∷ []
 

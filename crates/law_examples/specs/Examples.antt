@@ -1,12 +1,15 @@
 -- What is met: each says that there is such a thing.
-use Rattle.std.specs.Prelude.{◌≢◌, ℕ, List}
+use Rattle.std.specs.Prelude.{◌≢◌, ℕ, IsTrue, List}
+use Rattle.smp_bytes.specs.NodeType.{is_switch}
 use Rattle.fabric_model.specs.declared.cable.NodePort.{NodePort}
-use Rattle.fabric_model.specs.Fabric.{Fabric, IsEndPort}
+use Rattle.fabric_model.specs.Fabric.{Fabric, IsEndPort, Node}
 use Rattle.fabric_model.specs.FabricWalks.{IsJoinedTo}
 use Rattle.fabric_model.specs.Forwarding.{Hop}
 use Rattle.fact_store.specs.View.{Facts, cells_of}
+use Rattle.subnet_view.specs.Agreement.{IsEndPortIn}
 use Rattle.plan_file.specs.declared.held.HeldLid.{HeldLid}
 use Rattle.plan_file.specs.Held.{HeldPlan}
+use Rattle.held_tables.specs.Tables.{entry_for}
 use Rattle.audit.specs.Fabrics.{IsSeen, IsSeenIn}
 use Rattle.audit_channels.specs.Fabrics.{TakeInTurn, Travels}
 use Rattle.next_tables.specs.ChangingFabric.{IsInChange, entry_now}
@@ -36,8 +39,15 @@ pub record TravelsThere (part : PartSeen) : Type 0 where
 abbrev pub SomePacketTravels : Type 0
 SomePacketTravels = (part : PartSeen) × TravelsThere part
 
--- towards a plan a switch there has another entry than before for a LID that one end port keeps, and that is in the
--- change
+-- a switch there
+pub record SwitchThere (part : PartSeen) : Type 0 where
+  pub port : NodePort
+  pub node : Node
+  pub there : IsEndPortIn (IsJoinedTo part.fabric part.origin) part.fabric port node
+  pub kind : IsTrue (is_switch node.kind)
+
+-- in a change towards a plan one switch there has another entry than before for a LID that one end port keeps, and one
+-- has not its next entry yet
 pub record ChangesThere (part : PartSeen) : Type 0 where
   pub plan : HeldPlan
   pub line : HeldLid
@@ -45,8 +55,11 @@ pub record ChangesThere (part : PartSeen) : Type 0 where
   pub now : Fabric
   pub changes : IsInChange (IsJoinedTo part.fabric part.origin) (cells_of part.facts) part.held
       (next_tables (cells_of part.facts) part.held plan) line.lid part.fabric now
-  pub switch : ℕ
-  pub other : entry_now now line.lid switch ≢ entry_now part.fabric line.lid switch
+  pub changed : SwitchThere part
+  pub other : entry_now now line.lid changed.port.node ≢ entry_now part.fabric line.lid changed.port.node
+  pub waiting : SwitchThere part
+  pub behind : entry_now now line.lid waiting.port.node
+      ≢ entry_for (next_tables (cells_of part.facts) part.held plan) line.lid waiting.node.guid
 
 abbrev pub SomeTablesChange : Type 0
 SomeTablesChange = (part : PartSeen) × ChangesThere part

@@ -10,11 +10,11 @@ use Rattle.reply_facts.specs.declared.key.Key.TheVariants as key
 use Rattle.reply_facts.specs.declared.value.Value.{Value}
 use Rattle.reply_facts.specs.declared.value.Value.TheVariants.{Up}
 use Rattle.fact_store.specs.Merge.{merged, of_raised, of_sightings, of_two}
-use Rattle.fact_store.specs.View.{view_at}
+use Rattle.fact_store.specs.View.{cells_of}
 use Rattle.subnet_view.specs.Routing.{Routing}
 use Rattle.lft_blocks.specs.Arrival.{IsRoutedWay, switches_met}
 
--- a port was up, and is down two sweeps later
+-- a port was up, and two sweeps later another one is down
 abbrev pub up_before : Key × Cell Value
 up_before = (key.Port 16 1, Known 1 (Up true))
 
@@ -24,12 +24,12 @@ down_now = (key.Port 16 2, Known 3 (Up false))
 -- what one store forgot is not brought back by another one that tells it, whatever came first
 abbrev pub FloorsStayInGroupings : Type 0
 FloorsStayInGroupings =
-    (merged (of_two (of_raised (of_sightings (up_before ∷ [])) 2) (of_sightings (up_before ∷ down_now ∷ [])))
-    ≡ view_at 2 (up_before ∷ up_before ∷ down_now ∷ []))
-    × (merged (of_raised (of_two (of_sightings (up_before ∷ [])) (of_sightings (down_now ∷ []))) 2)
-    ≡ view_at 2 (up_before ∷ down_now ∷ []))
+    (cells_of (merged (of_two (of_raised (of_sightings (up_before ∷ [])) 2) (of_sightings (up_before ∷ down_now ∷ []))))
+    ≡ down_now ∷ [])
+    × (cells_of (merged (of_raised (of_two (of_sightings (up_before ∷ [])) (of_sightings (down_now ∷ []))) 2))
+    ≡ down_now ∷ [])
 
--- a way that meets a switch again is none of a rule
+-- a way that meets two switches and then the first of them again is none of a rule
 abbrev pub NoSwitchTwice : Type 0
 NoSwitchTwice =
     (rule : Routing) (f : Fabric) (source : NodePort) (hops : List Hop) (s t : ℕ) → switches_met f source hops

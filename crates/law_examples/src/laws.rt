@@ -2,7 +2,7 @@
 ghost use Rattle.law_examples.specs.Examples.{SomeFabricIsSeen, SomePacketTravels, SomeTablesChange};
 ghost use Rattle.law_examples.specs.Weaker.{FloorsStayInGroupings, NoSwitchTwice};
 
-/// A fabric is as facts say and holds tables, as a whole and in what is joined to an end port.
+/// Facts describe a fabric exactly, and what is joined to an end port of it, and it holds tables.
 pub fn some_fabric_is_seen()
     ensures law { SomeFabricIsSeen }
 {}
@@ -12,8 +12,8 @@ pub fn some_packet_travels()
     ensures law { SomePacketTravels }
 {}
 
-/// In such a part tables go over to the next ones for a LID that one end port keeps, and an entry is another one
-/// meanwhile.
+/// In such a part tables go over to the next ones for a LID that one end port keeps: one switch has another entry than
+/// before, and one has not its next entry yet.
 pub fn some_tables_change()
     ensures law { SomeTablesChange }
 {}
@@ -23,7 +23,7 @@ pub fn floors_stay_in_groupings()
     ensures law { FloorsStayInGroupings }
 {}
 
-/// A way that meets a switch again is none of a rule of routing.
+/// A way that meets two switches and then the first of them again is none of a rule of routing.
 pub fn no_switch_twice()
     ensures law { NoSwitchTwice }
 {}
