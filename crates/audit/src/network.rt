@@ -239,7 +239,7 @@ impl<'a> Network<'a> {
         is_sole_owner(&self.lines, &self.owners, line)
     }
 
-    /// Whether more than one port holds a LID. It takes no memory, and a step or two.
+    /// Whether more than one port holds a LID. It takes no memory, and a step or two if the LID is below 49152.
     pub fn is_told_twice(&self, lid: Lid) -> bool
         ensures { result ≡ is_told_twice (lines_of self.now.held) lid }
     {

@@ -43,7 +43,7 @@ IsKnownNode cells g = (kind : NodeType) × (ports : ℕ) × IsNodeWith cells g k
 abbrev pub IsKnownPort : Cells → ℕ → ℕ → Type 0
 IsKnownPort cells g p = ((p ≡ 0) × IsEndPortOf cells g p) ⊎ ((h q : ℕ) × IsWire cells g p h q)
 
--- each node that the facts tell of is known; and so is each port that is up, or it is one of those that lines
+-- each node whose NodeInfo the facts have is known; and so is each port that is up, or it is one of those that lines
 -- `unjoined` name and count
 pub record KnowsAll (cells : Cells) : Type 0 where
   pub nodes : (g : ℕ) (cell : Cell Value) → Contains cells ((NodeKey g), cell) → IsKnownNode cells g

@@ -9,9 +9,9 @@ pub fn plans_pass()
     ensures law { PlansPass }
 {}
 
-/// Where tables pass an audit by facts, these tell of each node that they know of its type and the number of its ports,
-/// and of a switch its table room; and of each port that is up a wire, as both ends tell it, or of port 0 that it is a
-/// switch's end port, but for the ports that lines `unjoined` name and count.
+/// Where tables pass an audit by facts, these tell of each node whose NodeInfo they have its type and the number of its
+/// ports, and of a switch its table room. Whether or not they pass, of each port that is up the facts tell a wire, as
+/// both ends tell it, or of port 0 that it is a switch's end port; or lines `unjoined` name and count it.
 pub fn passing_audits_know_all()
     ensures law { PassingAuditsKnowAll }
 {}

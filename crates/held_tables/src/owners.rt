@@ -113,7 +113,8 @@ fn all_owners_of(alloc: Global, lines: &[HeldLid], lid: Lid) -> Result<Vec<EndPo
         .collect(alloc)
 }
 
-/// Whether more than one of these lines tells a LID, by who holds each. Takes a step or two.
+/// Whether more than one of these lines tells a LID, by who holds each. Takes a step or two if the LID is below 49152,
+/// and else a walk over all lines.
 pub fn is_told_twice(lines: &[HeldLid], owners: &[Owner], lid: Lid) -> bool
     requires { AreOwners lines.now owners.now }
     ensures { result ≡ is_told_twice lines.now lid }

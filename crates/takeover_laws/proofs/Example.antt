@@ -125,6 +125,11 @@ whole : IsWhole (sweep_in swept.manager.sweep)
 unfolding cabled_at fresh_agent after_inject after_deliver after_lose outcome_of after_answer get_of set_of changed_port with_bytes
 whole = record { done = refl; answered = refl; near = refl }
 
+-- the manager at the second adapter did not answer
+is_silent : (sweep_in swept.manager.sweep).silent_managers ≡ 1
+unfolding cabled_at fresh_agent after_inject after_deliver after_lose outcome_of after_answer get_of set_of changed_port with_bytes
+is_silent = refl
+
 -- what it was told ----------------------------------------------------------------------------------------------
 
 abbrev replies : List Sightings
@@ -408,6 +413,7 @@ takes_over =
     }
 
 pub some_manager_takes_over : SomeManagerTakesOver
+unfolding takes_over sweeps
 some_manager_takes_over =
     record {
       managing = beginning;
@@ -425,4 +431,5 @@ some_manager_takes_over =
         carry_before = tt;
         carry_between = subst (AllCarry _ between) (sym begun) (no_sets_carry _ between (sweeping_with 1) between_sets_none);
       };
+      silent = omega (arith, is_silent);
     }

@@ -1,5 +1,5 @@
 -- A manager takes over a subnet that holds a plan: it sweeps while no LID changes, and comes to this plan.
-use Rattle.std.specs.Prelude.{◌≡◌, ℕ, true, List, [], ◌∷◌, Some}
+use Rattle.std.specs.Prelude.{◌≡◌, ◌≤◌, ℕ, true, List, [], ◌∷◌, Some}
 use Rattle.fabric_model.specs.Fabric.{Fabric}
 use Rattle.fabric_model.specs.FabricWalks.{IsJoinedTo}
 use Rattle.fact_store.specs.View.{Facts, cells_of}
@@ -131,7 +131,7 @@ PingsArriveThroughout =
     → TakesOverQuietly held w before between after
     → IsInUseThroughout held w before between after
 
--- there is a manager that takes over so: one that was just made
+-- there is a manager that takes over so: one that was just made, and that another one, which is there, does not answer
 pub record SomeManagerTakesOver : Type 0 where
   pub managing : Managing
   pub port_guid : ℕ
@@ -144,3 +144,4 @@ pub record SomeManagerTakesOver : Type 0 where
   pub between : List ManagerEvent
   pub after : List ManagerEvent
   pub takes : TakesOverQuietly held managing before between after
+  pub silent : 1 ≤ takes.takes.sweeps.sweep.silent_managers
