@@ -121,7 +121,7 @@ module _ (by : RuleValue) (lmc : ℕ) (facts : Facts) (range : AreInRange facts)
   why g = cause_of cells held lid g
 
   -- the owner alone holds the LID
-  owned : owner_of (lids lmc cells) lid ≡ Some owner
+  pub owned : owner_of (lids lmc cells) lid ≡ Some owner
   owned = line_owned lmc facts has_room line is_held
 
   owner_holds : is_owner owners owner ≡ true
@@ -223,11 +223,11 @@ module _ (by : RuleValue) (lmc : ℕ) (facts : Facts) (range : AreInRange facts)
     is_in_graph : (g : ℕ) → Contains (switches cells) g → IsSwitch graph g
     is_in_graph g h = subst (λ (xs : List ℕ). Contains xs g) (sym (graph_guids cells)) h
 
-    attachment_there : IsSwitch graph attachment.0
+    pub attachment_there : IsSwitch graph attachment.0
     attachment_there = is_in_graph attachment.0 (attachment_is_switch facts owner attachment attachment_is)
 
     -- from a switch of the component
-    from_switch : (s i : ℕ) → slice_get (switches cells) i ≡ Some s → in_one_component graph s attachment.0 ≡ true → Comes (To i)
+    pub from_switch : (s i : ℕ) → slice_get (switches cells) i ≡ Some s → in_one_component graph s attachment.0 ≡ true → Comes (To i)
     from_switch s i at together =
         let there = is_in_graph s (contains_at (switches cells) i s at) in
         let (n, cost) = (rules_are_routings by facts).reaches s attachment.0 there attachment_there together in

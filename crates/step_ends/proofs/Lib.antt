@@ -1,0 +1,4 @@
+pub mod Ended
+pub mod Reached
+pub mod Same
+pub mod Texts

@@ -1,0 +1,68 @@
+-- What is printed step after step.
+use Rattle.std.proofs.Common.{◌≡◌, ◌≤◌, ℕ, zero, suc, List, [], ◌∷◌, length, Some, refl, sym, ap, ◌∙◌, subst, arith}
+use Rattle.std.proofs.lemmas.List.{length-map}
+use Rattle.fact_store.specs.View.{Facts, cells_of, AreInRange}
+use Rattle.subnet_view.specs.Reading.{Cells, switches}
+use Rattle.lid_assign.specs.Lids.{IsNoRoom}
+use Rattle.lft_blocks.specs.Plan.{PlanValue, plan_of}
+use Rattle.lft_blocks.specs.Rules.{RuleValue}
+use Rattle.plan_file.specs.Held.{HeldPlan}
+use Rattle.plan_file.specs.Printed.{held_plan}
+use Rattle.plan_file.specs.Reading.{held_of}
+use Rattle.plan_file.specs.TablesText.{next_text}
+use Rattle.audit.specs.declared.end.End.TheVariants.{Taken}
+use Rattle.audit.specs.declared.next_hop.NextHop.{NextHop}
+use Rattle.audit.specs.declared.next_hop.NextHop.TheVariants.{To, Ends}
+use Rattle.audit.specs.NextHops.{next_hops_of}
+use Rattle.audit.specs.WalkEnds.{after, end_of}
+use Rattle.audit.proofs.InTime.{ends_in_time, one_end}
+use Rattle.next_tables.specs.Next.{step_at}
+use Rattle.next_tables.specs.NextTables.{next_tables}
+use Rattle.next_tables.specs.StepLaws.{stepped}
+use Rattle.next_tables.proofs.NextText.{step_texts_are_read}
+use Rattle.step_ends.specs.StepEnds.{MeetAtMost, PrintedStepsEnd, WaysMeetAtMostAll, printed}
+use Rattle.step_ends.proofs.Ended.{steps_end}
+use Rattle.step_ends.proofs.Reached.{plans_deliver_what_tables_can}
+
+module _ (rule : RuleValue) (lmc : ℕ) (facts : Facts) (text : List ℕ) (small : lmc ≤ 7) (range : AreInRange facts)
+    (has_room : ¬ (IsNoRoom lmc (cells_of facts))) where
+  abbrev plan : PlanValue
+  plan = plan_of rule lmc (cells_of facts)
+
+  abbrev S : ℕ → HeldPlan
+  S n = stepped (cells_of facts) (held_plan plan) (held_of text) n
+
+  -- what is printed says the tables of the step
+  read_again : (n : ℕ) → held_of (printed facts plan text n) ≡ S n
+  read_again zero = refl
+  read_again (suc n) =
+      (step_texts_are_read rule lmc facts (printed facts plan text n) small range has_room).1
+      ∙ ap (λ (held : HeldPlan). next_tables (cells_of facts) held (held_plan plan)) (read_again n)
+
+  printed_is : (n : ℕ) → printed facts plan text (suc n) ≡ next_text plan.given (S (suc n))
+  printed_is n = ap (λ (held : HeldPlan). next_text plan.given (next_tables (cells_of facts) held (held_plan plan))) (read_again n)
+
+  ends : (most n : ℕ) → MeetAtMost (cells_of facts) (held_plan plan) most → most ≤ n → 2 ≤ n
+      → printed facts plan text (suc n) ≡ printed facts plan text n
+  ends most zero meet le two = absurd (omega (arith, two))
+  ends most (suc n) meet le two =
+      printed_is (suc n)
+      ∙ ap (next_text plan.given) (steps_end (cells_of facts) (held_of text) (held_plan plan) most (suc n)
+      (plans_deliver_what_tables_can rule lmc facts range has_room) meet le two)
+      ∙ sym (printed_is n)
+
+pub printed_steps_end : PrintedStepsEnd
+printed_steps_end rule lmc facts text most n small range has_room = ends rule lmc facts text small range has_room most n
+
+-- a walk that ends does so within as many steps as there are switches
+pub ways_meet_at_most_all : WaysMeetAtMostAll
+ways_meet_at_most_all cells plan line own i m h =
+    let hops = next_hops_of cells plan line.lid in
+    let count : length hops ≡ length (switches cells) = length-map (switches cells) (step_at cells plan line.lid) in
+    let end : end_of (after (length hops) hops (To i)) ≡ Some (Taken line.port) =
+    one_end hops (To i) (end_of (after (length hops) hops (To i))) (Some (Taken line.port)) (ends_in_time hops (To i)) (m, h) in
+    subst (λ (k : ℕ). after k hops (To i) ≡ Ends (Taken line.port)) count (found (after (length hops) hops (To i)) end)
+  where
+    found : (s : NextHop) → end_of s ≡ Some (Taken line.port) → s ≡ Ends (Taken line.port)
+    found (To j) e = absurd (cc)
+    found (Ends e) k = cc

@@ -1,0 +1,67 @@
+-- When steps towards a plan end, of whole tables.
+use Rattle.std.specs.Prelude.{◌≡◌, ◌≤◌, ℕ, zero, suc, List, [], ◌∷◌, length}
+use Rattle.fact_store.specs.View.{Facts, cells_of, AreInRange}
+use Rattle.subnet_view.specs.Reading.{Cells, switches}
+use Rattle.lid_assign.specs.Lids.{IsNoRoom}
+use Rattle.lft_blocks.specs.Plan.{PlanValue, plan_of}
+use Rattle.lft_blocks.specs.Rules.{RuleValue}
+use Rattle.plan_file.specs.declared.held.HeldLid.{HeldLid}
+use Rattle.plan_file.specs.Held.{HeldPlan}
+use Rattle.plan_file.specs.Printed.{held_plan}
+use Rattle.plan_file.specs.Reading.{held_of}
+use Rattle.plan_file.specs.TablesText.{next_text}
+use Rattle.held_tables.specs.Tables.{owners_of}
+use Rattle.audit.specs.declared.end.End.TheVariants.{Taken}
+use Rattle.audit.specs.declared.next_hop.NextHop.TheVariants.{To, Ends}
+use Rattle.audit.specs.NextHops.{next_hops_of}
+use Rattle.audit.specs.WalkEnds.{after}
+use Rattle.next_tables.specs.NextTables.{IsKept, next_tables}
+use Rattle.next_tables.specs.StepLaws.{stepped}
+
+-- from each switch from which some tables deliver at the end port that alone holds a LID, in these and in the plan, the
+-- plan does so too
+abbrev pub DeliversWhatTablesCan : Cells → HeldPlan → Type 0
+DeliversWhatTablesCan cells plan =
+    (tables : HeldPlan) (line : HeldLid) → IsKept tables plan line
+    → (i n : ℕ) → after n (next_hops_of cells tables line.lid) (To i) ≡ Ends (Taken line.port)
+    → (m : ℕ) × (after m (next_hops_of cells plan line.lid) (To i) ≡ Ends (Taken line.port))
+
+-- no way of the plan to an end port that alone holds a LID meets more switches
+abbrev pub MeetAtMost : Cells → HeldPlan → ℕ → Type 0
+MeetAtMost cells plan most =
+    (line : HeldLid) → owners_of plan line.lid ≡ line.port ∷ []
+    → (i m : ℕ) → after m (next_hops_of cells plan line.lid) (To i) ≡ Ends (Taken line.port)
+    → after most (next_hops_of cells plan line.lid) (To i) ≡ Ends (Taken line.port)
+
+-- then, after so many steps and two at least, a step answers what it was given
+abbrev pub StepsEnd : Type 0
+StepsEnd =
+    (cells : Cells) (held plan : HeldPlan) (most n : ℕ) → DeliversWhatTablesCan cells plan → MeetAtMost cells plan most
+    → most ≤ n → 2 ≤ n
+    → stepped cells plan held (suc n) ≡ stepped cells plan held n
+
+-- the plan of a view with room does
+abbrev pub PlansDeliverWhatTablesCan : Type 0
+PlansDeliverWhatTablesCan =
+    (rule : RuleValue) (lmc : ℕ) (facts : Facts) → AreInRange facts → ¬ (IsNoRoom lmc (cells_of facts))
+    → DeliversWhatTablesCan (cells_of facts) (held_plan (plan_of rule lmc (cells_of facts)))
+
+-- what is printed when so many steps were taken from the tables of a text towards a plan, each from what was printed
+-- before
+abbrev pub printed : Facts → PlanValue → List ℕ → ℕ → List ℕ
+printed facts plan text zero = text
+printed facts plan text (suc n) =
+    next_text plan.given (next_tables (cells_of facts) (held_of (printed facts plan text n)) (held_plan plan))
+
+-- so towards it the text that is printed is in the end the one that was given, to the byte
+abbrev pub PrintedStepsEnd : Type 0
+PrintedStepsEnd =
+    (rule : RuleValue) (lmc : ℕ) (facts : Facts) (text : List ℕ) (most n : ℕ) → lmc ≤ 7 → AreInRange facts
+    → ¬ (IsNoRoom lmc (cells_of facts))
+    → MeetAtMost (cells_of facts) (held_plan (plan_of rule lmc (cells_of facts))) most → most ≤ n → 2 ≤ n
+    → printed facts (plan_of rule lmc (cells_of facts)) text (suc n)
+    ≡ printed facts (plan_of rule lmc (cells_of facts)) text n
+
+-- no way meets more switches than there are
+abbrev pub WaysMeetAtMostAll : Type 0
+WaysMeetAtMostAll = (cells : Cells) (plan : HeldPlan) → MeetAtMost cells plan (length (switches cells))

@@ -1,0 +1,24 @@
+//! When a step prints what it was given.
+ghost use Rattle.step_ends.specs.StepEnds.{PlansDeliverWhatTablesCan, PrintedStepsEnd, StepsEnd, WaysMeetAtMostAll};
+
+/// Repeated, `next_tables` answers what it was given, after as many steps as the longest way of the plan meets switches
+/// and two at least: if the plan delivers from each switch from which tables can.
+pub fn steps_end()
+    ensures law { StepsEnd }
+{}
+
+/// The plan of a view with room does, by each rule and under each LMC.
+pub fn plans_deliver_what_tables_can()
+    ensures law { PlansDeliverWhatTablesCan }
+{}
+
+/// So towards it what is printed is in the end what was given, byte for byte, whatever the text was: LIDs that are new or
+/// gone and entries without a way included.
+pub fn printed_steps_end()
+    ensures law { PrintedStepsEnd }
+{}
+
+/// No way meets more switches than there are.
+pub fn ways_meet_at_most_all()
+    ensures law { WaysMeetAtMostAll }
+{}
