@@ -17,7 +17,7 @@ use Rattle.audit.proofs.Ended.{after_ended}
 use Rattle.audit.proofs.Judged.{same_ends}
 use Rattle.audit.proofs.PlanSteps.{contains_at}
 use Rattle.next_tables.specs.Next.{agreed, agreed_at, comes_to, step_at}
-use Rattle.next_tables.specs.NextTables.{IsKept, if_owned, keeper, kept_by, next_at, next_for, next_tables, next_top}
+use Rattle.next_tables.specs.NextTables.{IsKept, keeper, kept_by, next_at, next_for, next_tables}
 use Rattle.next_tables.specs.StepLaws.{stepped}
 use Rattle.next_tables.proofs.Entries.{comes_false, comes_true, plain_mapped, steps_at, steps_long}
 use Rattle.next_tables.proofs.Mixtures.{at, in_range}
@@ -127,11 +127,11 @@ module _ (cells : Cells) (plan : HeldPlan) (lid : ℕ) (x : EndPort) (own : owne
           let kept : IsKept held plan line = record { in_plan = own; in_held = kept_alone x p (owners_of held lid) e } in
           λ i g at_g way. steps_end_in_the_plan cells held plan line kept i g most (suc m) at_g (meet line own i way.0 way.1) le
 
-      arrived : (m : ℕ) → most ≤ suc m → HasWays (S (suc m))
+      pub arrived : (m : ℕ) → most ≤ suc m → HasWays (S (suc m))
       arrived = arrived_by (keeper (x ∷ []) (owners_of held lid)) refl
 
     module _ (can : DeliversWhatTablesCan cells plan) where
-      emptied : (k i g : ℕ) → slice_get (switches cells) i ≡ Some g → (Way i → ⊥) → entry_for (S (suc (suc k))) lid g ≡ 255
+      pub emptied : (k i g : ℕ) → slice_get (switches cells) i ≡ Some g → (Way i → ⊥) → entry_for (S (suc (suc k))) lid g ≡ 255
       emptied k i g at_g none =
           let kept = kept_later k in
           elim (next_deliver_or_drop cells (S (suc k)) plan (S (suc (suc k))) line (kept_owners cells (S (suc k)) plan line kept)

@@ -1,10 +1,10 @@
 -- The plan of a view delivers from each switch from which some tables can: a way of theirs stays in the component of the
 -- end port's attachment.
 use Rattle.std.proofs.Common.{◌≡◌, ℕ, zero, suc, ◌≤◌, ◌<◌, ◌==◌, Bool, true, false, cond, List, [], ◌∷◌, length, Option, None, Some, refl, sym, ap, ◌∙◌, subst, arith, inl, inr}
-use Rattle.std.specs.Prelude.{Contains, map, option_map, option_and_then, slice_get, slice_index_or}
+use Rattle.std.specs.Prelude.{Contains, option_map, slice_get, slice_index_or}
 use Rattle.std.specs.Option.{option_map_or}
 use Rattle.std.specs.List.{find}
-use Rattle.std.proofs.lemmas.Bool.{and_parts, cases_lt, eqb-true}
+use Rattle.std.proofs.lemmas.Bool.{and_parts, cases_lt}
 use Rattle.std.proofs.lemmas.List.{get_or_past, length-map}
 use Rattle.std.proofs.lemmas.List.FromFn.{get_or-map-range_with_len, length-map-range_with_len}
 use Rattle.std.proofs.lemmas.Option.{same_Some}
@@ -16,7 +16,7 @@ use Rattle.subnet_view.specs.EndPorts.{end_ports}
 use Rattle.subnet_view.specs.Reading.{Cells, is_switch_node, is_usable, switches}
 use Rattle.subnet_view.specs.Wires.{across, attached}
 use Rattle.subnet_view.specs.SwitchEdges.{SwitchEdges}
-use Rattle.subnet_view.specs.Graph.{edges_at, graph_of, neighbors}
+use Rattle.subnet_view.specs.Graph.{edges_at, graph_of}
 use Rattle.subnet_view.specs.GraphLaws.{IsGraph, IsSwitch}
 use Rattle.subnet_view.specs.Components.{in_one_component}
 use Rattle.subnet_view.proofs.Attachments.{attached_law}
@@ -24,18 +24,16 @@ use Rattle.subnet_view.proofs.Components.{component_itself, component_trans, joi
 use Rattle.subnet_view.proofs.EdgeLists.{has_end}
 use Rattle.subnet_view.proofs.Graphs.{graph_law, wire_end, wire_is_edge}
 use Rattle.subnet_view.proofs.GraphSwitches.{graph_guids, switch_usable, usable_switch}
-use Rattle.subnet_view.proofs.Members.{contains_here, contains_later, contains_none}
+use Rattle.subnet_view.proofs.Members.{contains_here, contains_later}
 use Rattle.subnet_view.proofs.UsableSwitches.{usable_law}
 use Rattle.subnet_view.proofs.WireEnds.{across_back, linked}
 use Rattle.subnet_view.proofs.WireLaws.{wire_law}
 use Rattle.lid_assign.specs.Lids.{IsNoRoom, Given, has_number, lids, owner_of, top_of}
 use Rattle.lid_assign.proofs.LidLaws.{lids_law}
 use Rattle.lft_blocks.specs.Entries.{attachment_of}
-use Rattle.lft_blocks.specs.Plan.{plan_of}
 use Rattle.lft_blocks.specs.Rules.{RuleValue}
 use Rattle.plan_file.specs.declared.held.HeldLid.{HeldLid}
 use Rattle.plan_file.specs.Held.{HeldPlan, nothing_held}
-use Rattle.plan_file.specs.Printed.{held_plan}
 use Rattle.held_tables.specs.declared.far_end.Far.{Far}
 use Rattle.held_tables.specs.declared.far_end.Far.TheVariants.{Nothing, Port, Switch}
 use Rattle.held_tables.specs.Switches.{far_at, far_of, far_to, index_in, row_of}
@@ -43,7 +41,6 @@ use Rattle.held_tables.specs.Tables.{entry_for, is_owner, owners_of}
 use Rattle.held_tables.proofs.HeldPlans.{made}
 use Rattle.audit.specs.declared.end.Cause.{Cause}
 use Rattle.audit.specs.declared.end.Cause.TheVariants.{Foreign}
-use Rattle.audit.specs.declared.end.End.{End}
 use Rattle.audit.specs.declared.end.End.TheVariants.{Lost, Taken}
 use Rattle.audit.specs.declared.next_hop.NextHop.{NextHop}
 use Rattle.audit.specs.declared.next_hop.NextHop.TheVariants.{To, Ends}
@@ -57,7 +54,6 @@ use Rattle.audit.proofs.PlanPackets.{from_switch}
 use Rattle.plan_file.proofs.OwnedLids.{line_owned}
 use Rattle.audit.proofs.PlanSteps.{contains_at, index_is}
 use Rattle.next_tables.specs.Next.{step_at}
-use Rattle.next_tables.specs.NextTables.{IsKept}
 use Rattle.next_tables.proofs.Entries.{at_mapped, member}
 use Rattle.next_tables.proofs.Mixtures.{in_range}
 use Rattle.next_tables.proofs.Steps.{at_index}
@@ -137,7 +133,7 @@ find_listed p (y ∷ xs) x e =
     ] e
 
 -- an owner of a LID is an end port
-owner_listed : (lmc : ℕ) (facts : Facts) → ¬ (IsNoRoom lmc (cells_of facts)) → (lid : ℕ) (e : EndPort) → owner_of (lids lmc (cells_of facts)) lid ≡ Some e
+pub owner_listed : (lmc : ℕ) (facts : Facts) → ¬ (IsNoRoom lmc (cells_of facts)) → (lid : ℕ) (e : EndPort) → owner_of (lids lmc (cells_of facts)) lid ≡ Some e
     → Contains (end_ports (cells_of facts)) e
 owner_listed lmc facts has_room lid e is =
     let given : Given = lids lmc (cells_of facts) in

@@ -1,5 +1,5 @@
 -- Tables of the same tops and the same next entries have the same next tables.
-use Rattle.std.proofs.Common.{◌≡◌, ℕ, zero, suc, ◌+◌, ◌*◌, List, [], ◌∷◌, Some, refl}
+use Rattle.std.proofs.Common.{◌≡◌, ℕ, suc, ◌+◌, ◌*◌, List, [], ◌∷◌, Some, refl}
 use Rattle.std.specs.Prelude.{map, slice_get}
 use Rattle.std.specs.List.{range_with_len}
 use Rattle.subnet_view.specs.Reading.{Cells, switches}
@@ -9,12 +9,12 @@ use Rattle.plan_file.specs.Held.{HeldPlan}
 use Rattle.plan_file.specs.Printed.{blocks_of}
 use Rattle.next_tables.specs.NextTables.{next_at, next_switch, next_table, next_tables, next_top}
 
-same_mapped : {X : Type 0} (f h : ℕ → X) (xs : List ℕ) → ((i g : ℕ) → slice_get xs i ≡ Some g → f g ≡ h g) → map f xs ≡ map h xs
+pub same_mapped : {X : Type 0} (f h : ℕ → X) (xs : List ℕ) → ((i g : ℕ) → slice_get xs i ≡ Some g → f g ≡ h g) → map f xs ≡ map h xs
 same_mapped f h [] same = refl
 same_mapped f h (x ∷ xs) same = λ i. same 0 x refl i ∷ same_mapped f h xs (λ k g at. same (suc k) g at) i
 
 -- a switch's table, by its entries and its top
-abbrev table_by : ℕ → (ℕ → ℕ) → ℕ → SwitchTable
+abbrev pub table_by : ℕ → (ℕ → ℕ) → ℕ → SwitchTable
 table_by g entries top = record {
   guid = g;
   blocks = map (λ b. map (λ i. entries (64 * b + i)) (range_with_len 0 64)) (range_with_len 0 (block_count (Some top)));

@@ -1,8 +1,8 @@
 -- What is printed step after step.
-use Rattle.std.proofs.Common.{◌≡◌, ◌≤◌, ℕ, zero, suc, List, [], ◌∷◌, length, Some, refl, sym, ap, ◌∙◌, subst, arith}
+use Rattle.std.proofs.Common.{◌≡◌, ◌≤◌, ℕ, zero, suc, List, length, Some, refl, sym, ap, ◌∙◌, subst, arith}
 use Rattle.std.proofs.lemmas.List.{length-map}
 use Rattle.fact_store.specs.View.{Facts, cells_of, AreInRange}
-use Rattle.subnet_view.specs.Reading.{Cells, switches}
+use Rattle.subnet_view.specs.Reading.{switches}
 use Rattle.lid_assign.specs.Lids.{IsNoRoom}
 use Rattle.lft_blocks.specs.Plan.{PlanValue, plan_of}
 use Rattle.lft_blocks.specs.Rules.{RuleValue}
@@ -39,7 +39,7 @@ module _ (rule : RuleValue) (lmc : ℕ) (facts : Facts) (text : List ℕ) (small
       (step_texts_are_read rule lmc facts (printed facts plan text n) small range has_room).1
       ∙ ap (λ (held : HeldPlan). next_tables (cells_of facts) held (held_plan plan)) (read_again n)
 
-  printed_is : (n : ℕ) → printed facts plan text (suc n) ≡ next_text plan.given (S (suc n))
+  pub printed_is : (n : ℕ) → printed facts plan text (suc n) ≡ next_text plan.given (S (suc n))
   printed_is n = ap (λ (held : HeldPlan). next_text plan.given (next_tables (cells_of facts) held (held_plan plan))) (read_again n)
 
   ends : (most n : ℕ) → MeetAtMost (cells_of facts) (held_plan plan) most → most ≤ n → 2 ≤ n

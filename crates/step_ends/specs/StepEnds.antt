@@ -1,16 +1,17 @@
 -- When steps towards a plan end, of whole tables.
-use Rattle.std.specs.Prelude.{◌≡◌, ◌≤◌, ℕ, zero, suc, List, [], ◌∷◌, length}
+use Rattle.std.specs.Prelude.{◌≡◌, ◌≤◌, ℕ, zero, suc, Contains, List, [], ◌∷◌, Some, length}
 use Rattle.fact_store.specs.View.{Facts, cells_of, AreInRange}
 use Rattle.subnet_view.specs.Reading.{Cells, switches}
-use Rattle.lid_assign.specs.Lids.{IsNoRoom}
+use Rattle.lid_assign.specs.Lids.{IsNoRoom, lids, top_of as greatest_of}
 use Rattle.lft_blocks.specs.Plan.{PlanValue, plan_of}
+use Rattle.lft_blocks.specs.PlanText.{plan_text}
 use Rattle.lft_blocks.specs.Rules.{RuleValue}
 use Rattle.plan_file.specs.declared.held.HeldLid.{HeldLid}
 use Rattle.plan_file.specs.Held.{HeldPlan}
 use Rattle.plan_file.specs.Printed.{held_plan}
 use Rattle.plan_file.specs.Reading.{held_of}
 use Rattle.plan_file.specs.TablesText.{next_text}
-use Rattle.held_tables.specs.Tables.{owners_of}
+use Rattle.held_tables.specs.Tables.{owners_of, top_of}
 use Rattle.audit.specs.declared.end.End.TheVariants.{Taken}
 use Rattle.audit.specs.declared.next_hop.NextHop.TheVariants.{To, Ends}
 use Rattle.audit.specs.NextHops.{next_hops_of}
@@ -65,3 +66,12 @@ PrintedStepsEnd =
 -- no way meets more switches than there are
 abbrev pub WaysMeetAtMostAll : Type 0
 WaysMeetAtMostAll = (cells : Cells) (plan : HeldPlan) → MeetAtMost cells plan (length (switches cells))
+
+-- and where a LID is given, and no usable switch held a greater top than the greatest LID, that is what `plan` prints
+abbrev pub LastTextIsThePlans : Type 0
+LastTextIsThePlans =
+    (rule : RuleValue) (lmc : ℕ) (facts : Facts) (text : List ℕ) (most n top : ℕ) → lmc ≤ 7 → AreInRange facts
+    → ¬ (IsNoRoom lmc (cells_of facts)) → greatest_of (lids lmc (cells_of facts)) ≡ Some top
+    → ((g : ℕ) → Contains (switches (cells_of facts)) g → top_of (held_of text) g ≤ top)
+    → MeetAtMost (cells_of facts) (held_plan (plan_of rule lmc (cells_of facts))) most → most ≤ n → 2 ≤ n
+    → printed facts (plan_of rule lmc (cells_of facts)) text n ≡ plan_text (plan_of rule lmc (cells_of facts))

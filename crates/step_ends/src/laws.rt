@@ -1,5 +1,6 @@
 //! When a step prints what it was given.
-ghost use Rattle.step_ends.specs.StepEnds.{PlansDeliverWhatTablesCan, PrintedStepsEnd, StepsEnd, WaysMeetAtMostAll};
+ghost use Rattle.step_ends.specs.StepEnds.{LastTextIsThePlans, PlansDeliverWhatTablesCan, PrintedStepsEnd};
+ghost use Rattle.step_ends.specs.StepEnds.{StepsEnd, WaysMeetAtMostAll};
 
 /// Repeated, `next_tables` answers what it was given, after as many steps as the longest way of the plan meets switches
 /// and two at least: if the plan delivers from each switch from which tables can.
@@ -16,6 +17,11 @@ pub fn plans_deliver_what_tables_can()
 /// gone and entries without a way included.
 pub fn printed_steps_end()
     ensures law { PrintedStepsEnd }
+{}
+
+/// If an end port has a LID, and no usable switch held a greater top than the greatest LID, that is what `plan` prints.
+pub fn last_text_is_the_plans()
+    ensures law { LastTextIsThePlans }
 {}
 
 /// No way meets more switches than there are.

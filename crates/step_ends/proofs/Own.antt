@@ -1,0 +1,220 @@
+-- In the end the tables are the plan's, if no switch held a greater top.
+use Rattle.std.proofs.Common.{◌≡◌, ◌≤◌, ◌+◌, ◌*◌, ℕ, zero, suc, true, false, cond, List, [], ◌∷◌, Option, None, Some, refl, sym, ap, ◌∙◌, subst, arith}
+use Rattle.std.specs.Prelude.{Contains, ◌++◌, flat_map, map, option_and_then, slice_get, unwrap_or, ◌==◌}
+use Rattle.std.specs.List.{range_with_len}
+use Rattle.std.specs.Option.{option_map_or}
+use Rattle.std.proofs.lemmas.Bool.{eqb-true}
+use Rattle.fact_store.specs.View.{Facts, cells_of, AreInRange}
+use Rattle.port_graph.specs.declared.edge.Edge.{Edge}
+use Rattle.subnet_view.specs.declared.end_port.EndPort.{EndPort}
+use Rattle.subnet_view.specs.EndPorts.{end_ports}
+use Rattle.subnet_view.specs.Reading.{Cells, switches}
+use Rattle.subnet_view.specs.SwitchEdges.{SwitchEdges}
+use Rattle.subnet_view.specs.Graph.{edges_at, graph_of}
+use Rattle.subnet_view.specs.GraphLaws.{IsGraph, IsSwitch}
+use Rattle.subnet_view.specs.Components.{in_one_component}
+use Rattle.subnet_view.specs.Routing.{FollowsRule, Passes, Routing}
+use Rattle.subnet_view.proofs.Components.{component_itself, component_trans, joined, walk_joins}
+use Rattle.subnet_view.proofs.EdgeLists.{has_end}
+use Rattle.subnet_view.proofs.Graphs.{graph_law}
+use Rattle.subnet_view.proofs.GraphSwitches.{graph_guids}
+use Rattle.lid_assign.specs.Lids.{IsNoRoom, lids, owner_of, top_of as greatest_of}
+use Rattle.lft_blocks.specs.Entries.{attachment_of, block_count, port_to}
+use Rattle.lft_blocks.specs.Plan.{PlanValue, SwitchTable, plan_of}
+use Rattle.lft_blocks.specs.PlanText.{lids_text, table_text}
+use Rattle.lft_blocks.specs.Rules.{RuleValue, routing_by}
+use Rattle.lft_blocks.proofs.HeldEntries.{entry_by_attachment, entry_of as planned_entry}
+use Rattle.lft_blocks.proofs.RulesRoute.{rules_are_routings}
+use Rattle.plan_file.specs.declared.held.HeldLid.{HeldLid}
+use Rattle.plan_file.specs.Held.{HeldPlan, nothing_held}
+use Rattle.plan_file.specs.Printed.{blocks_of, held_plan, with_top}
+use Rattle.plan_file.specs.Reading.{held_of}
+use Rattle.plan_file.specs.TablesText.{next_text}
+use Rattle.plan_file.proofs.NextPorts.{next_has_cost}
+use Rattle.plan_file.proofs.OwnedLids.{line_owned, owner_listed as owner_has_line}
+use Rattle.plan_file.proofs.TablesText.{tables_are_text}
+use Rattle.held_tables.specs.Tables.{entry_for, is_owner, owners_of, top_of}
+use Rattle.held_tables.proofs.HeldPlans.{entry_counts, made, top_of_switch}
+use Rattle.audit.specs.declared.end.End.TheVariants.{Taken}
+use Rattle.audit.specs.declared.next_hop.NextHop.TheVariants.{To, Ends}
+use Rattle.audit.specs.NextHops.{next_hops_of}
+use Rattle.audit.specs.WalkEnds.{after}
+use Rattle.audit.proofs.Judged.{same_itself}
+use Rattle.audit.proofs.OwnerLines.{line_owner, owner_line}
+use Rattle.audit.proofs.PlanPackets.{attachment_there, from_switch}
+use Rattle.audit.proofs.PlanSteps.{contains_at}
+use Rattle.next_tables.specs.Next.{comes_to}
+use Rattle.next_tables.specs.NextTables.{keeper, next_at, next_for, next_switch, next_table, next_tables, next_top}
+use Rattle.next_tables.specs.StepLaws.{stepped}
+use Rattle.next_tables.proofs.Entries.{comes_false, comes_true}
+use Rattle.next_tables.proofs.Plain.{plain, plain_after, plain_taken}
+use Rattle.next_tables.proofs.Whole.{entry_next, top_next}
+use Rattle.step_ends.specs.StepEnds.{DeliversWhatTablesCan, LastTextIsThePlans, MeetAtMost}
+use Rattle.step_ends.proofs.Ended.{arrived, emptied}
+use Rattle.step_ends.proofs.Reached.{owner_listed, plans_deliver_what_tables_can}
+use Rattle.step_ends.proofs.Same.{same_mapped, table_by}
+use Rattle.step_ends.proofs.Texts.{printed_is}
+
+-- a way by wires stays in a component
+stays_in_one : (graph : List SwitchEdges) → IsGraph graph → (rule : Routing) (lid t : ℕ) (es : List Edge) (s : ℕ) → IsSwitch graph s
+    → FollowsRule rule lid t s es → Passes graph s es → in_one_component graph s t ≡ true
+stays_in_one graph good rule lid t [] s is_s follows passes =
+    subst (λ (x : ℕ). in_one_component graph s x ≡ true) follows (component_itself graph good s is_s)
+stays_in_one graph good rule lid t (e ∷ es) s is_s (apart, next, follows) (there, passes) =
+    let neighbor = has_end (edges_at graph s) e there in
+    let is_e = good.leads_to_switch s e.to neighbor in
+    let w = walk_joins graph good 1 s e.to is_s (e.to, neighbor, refl) in
+    component_trans graph good s e.to t is_s (joined graph good s e.to w.0 w.1) (stays_in_one graph good rule lid t es e.to is_e follows passes)
+
+mapped_twice : {X Y Z : Type 0} (f : Y → Z) (h : X → Y) (xs : List X) → map f (map h xs) ≡ map (λ x. f (h x)) xs
+mapped_twice f h [] = refl
+mapped_twice f h (x ∷ xs) = ap (λ zs. f (h x) ∷ zs) (mapped_twice f h xs)
+
+not_both : true ≡ false → ⊥
+not_both e = cc
+
+module _ (by : RuleValue) (lmc : ℕ) (facts : Facts) (range : AreInRange facts) (has_room : ¬ (IsNoRoom lmc (cells_of facts)))
+    (top : ℕ) (top_is : greatest_of (lids lmc (cells_of facts)) ≡ Some top) where
+  abbrev cells : Cells
+  cells = cells_of facts
+
+  abbrev graph : List SwitchEdges
+  graph = graph_of cells
+
+  abbrev rule : Routing
+  rule = routing_by by cells
+
+  abbrev P : HeldPlan
+  P = made by lmc cells top
+
+  abbrev own_entry : ℕ → ℕ → ℕ
+  own_entry g lid = planned_entry rule lmc cells g lid
+
+  is_switch : (i g : ℕ) → slice_get (switches cells) i ≡ Some g → IsSwitch graph g
+  is_switch i g at = subst (λ (xs : List ℕ). Contains xs g) (sym (graph_guids cells)) (contains_at (switches cells) i g at)
+
+  -- the line of an owner
+  line_of : (lid : ℕ) (x : EndPort) → is_owner (owners_of P lid) x ≡ true → Contains P.lids (record { lid = lid; port = x })
+  line_of lid x owner =
+      let l = owner_line P lid x owner in
+      let same : l.line ≡ (record { lid = lid; port = x }) = (λ j. record { lid = l.lid_is j; port = l.port_is j }) in
+      subst (λ (y : HeldLid). Contains P.lids y) same l.is_held
+
+  -- where the plan does not deliver it has no entry
+  none_there : (lid : ℕ) (x : EndPort) (is_held : Contains P.lids (record { lid = lid; port = x })) (i g : ℕ) → slice_get (switches cells) i ≡ Some g
+      → ((n : ℕ) × (after n (next_hops_of cells P lid) (To i) ≡ Ends (Taken x)) → ⊥) → own_entry g lid ≡ 255
+  none_there lid x is_held i g at none =
+      let owner : owner_of (lids lmc cells) lid ≡ Some x = line_owned lmc facts has_room (record { lid = lid; port = x }) is_held in
+      let is_end : Contains (end_ports cells) x = owner_listed lmc facts has_room lid x owner in
+      let is_g = is_switch i g at in
+      (elim (attachment_of cells x) as (λ o. attachment_of cells x ≡ o → own_entry g lid ≡ 255) [
+        | None ↦ λ e. ap (λ o. option_map_or (port_to rule.next lid g) o 255) (ap (option_and_then (attachment_of cells)) owner ∙ e)
+        | Some a ↦ λ e.
+            let its : in_one_component graph g a.0 ≡ true → ⊥ =
+            λ one. none (from_switch by lmc facts range has_room top top_is (record { lid = lid; port = x }) is_held is_end a e g i at one) in
+            entry_by_attachment rule lmc cells g lid x a owner e
+            ∙ (elim (a.0 == g) as (λ t. (a.0 == g) ≡ t → cond t a.1 (unwrap_or (rule.next lid g a.0) 255) ≡ 255) [
+              | true ↦ λ z.
+                  absurd (its (subst (λ (h : ℕ). in_one_component graph g h ≡ true) (sym (eqb-true a.0 g z)) (component_itself graph (graph_law facts) g is_g)))
+              | false ↦ λ z. (elim (rule.next lid g a.0) as (λ o. rule.next lid g a.0 ≡ o → unwrap_or o 255 ≡ 255) [
+                | None ↦ λ k. refl
+                | Some p ↦ λ k.
+                    let is_a = attachment_there by lmc facts range has_room top top_is (record { lid = lid; port = x }) is_held is_end a e in
+                    let has = next_has_cost by facts lid g a.0 p is_g is_a k in
+                    let way = (rules_are_routings by facts).leads lid g a.0 has.0 is_g has.1 in
+                    absurd (its (stays_in_one graph (graph_law facts) rule lid a.0 way.edges g is_g way.by_rule way.passes))
+              ] refl)
+            ] refl)
+      ]) refl
+
+  module _ (held : HeldPlan) (most : ℕ) (meet : MeetAtMost cells P most) where
+    abbrev S : ℕ → HeldPlan
+    S n = stepped cells P held n
+
+    first_owner : (x : EndPort) (owners : List EndPort) → is_owner (x ∷ owners) x ≡ true
+    first_owner x owners = rw (same_itself x) refl
+
+    -- an entry that counts is the plan's
+    counts : (i g lid : ℕ) (x : EndPort) → slice_get (switches cells) i ≡ Some g → is_owner (owners_of P lid) x ≡ true → entry_for P lid g ≡ own_entry g lid
+    counts i g lid x at owner =
+        entry_counts by lmc facts has_room top top_is g lid x (contains_at (switches cells) i g at)
+        (line_owned lmc facts has_room (record { lid = lid; port = x }) (line_of lid x owner))
+
+    own_at : (k i g lid : ℕ) (owners : List EndPort) → owners_of P lid ≡ owners → most ≤ suc (suc k) → slice_get (switches cells) i ≡ Some g
+        → next_at cells (S (suc k)) P lid g ≡ own_entry g lid
+    unfolding next_at
+    own_at k i g lid [] is le at =
+        (λ j. next_for cells (S (suc k)) P lid (is j) (keeper (is j) (owners_of (S (suc k)) lid)) g)
+        ∙ (elim (owner_of (lids lmc cells) lid) as (λ o. owner_of (lids lmc cells) lid ≡ o → 255 ≡ own_entry g lid) [
+          | None ↦ λ e. sym (ap (λ o. option_map_or (port_to rule.next lid g) (option_and_then (attachment_of cells) o) 255) e)
+          | Some x ↦ λ e.
+              let line : HeldLid = record { lid = lid; port = x } in
+              let owner : is_owner (owners_of P lid) x ≡ true = line_owner P line (owner_has_line lmc facts has_room x lid e) in
+              absurd (not_both (sym owner ∙ ap (λ (os : List EndPort). is_owner os x) is))
+        ] refl)
+    own_at k i g lid (x ∷ y ∷ owners) is le at =
+        (λ j. next_for cells (S (suc k)) P lid (is j) (keeper (is j) (owners_of (S (suc k)) lid)) g)
+        ∙ counts i g lid x at (ap (λ (os : List EndPort). is_owner os x) is ∙ first_owner x (y ∷ owners))
+    own_at k i g lid (x ∷ []) is le at =
+        let owner : is_owner (owners_of P lid) x ≡ true = ap (λ (os : List EndPort). is_owner os x) is ∙ first_owner x [] in
+        let hops = next_hops_of cells P lid in
+        sym (entry_next cells (S (suc k)) P g lid (contains_at (switches cells) i g at))
+        ∙ (elim (comes_to x hops (To i)) as (λ t. comes_to x hops (To i) ≡ t → entry_for (S (suc (suc k))) lid g ≡ own_entry g lid) [
+          | true ↦ λ e.
+              let c = comes_true x hops (To i) e in
+              let way = plain_taken (after c.0 hops (To i)) x (sym (plain_after c.0 hops (To i)) ∙ c.1) in
+              arrived cells P lid x is held most meet (suc k) le i g at (c.0, way) ∙ counts i g lid x at owner
+          | false ↦ λ e.
+              let none : ((n : ℕ) × (after n hops (To i) ≡ Ends (Taken x))) → ⊥ = λ way. comes_false x hops (To i) e (way.0, plain_after way.0 hops (To i) ∙ ap plain way.1) in
+              emptied cells P lid x is held can k i g at none ∙ sym (none_there lid x (line_of lid x owner) i g at none)
+        ] refl)
+      where
+        can : DeliversWhatTablesCan cells P
+        can = subst (λ (p : HeldPlan). DeliversWhatTablesCan cells p)
+            (ap (λ o. option_map_or (λ t. made by lmc cells t) o nothing_held) top_is) (plans_deliver_what_tables_can by lmc facts range has_room)
+
+    module _ (low : (g : ℕ) → Contains (switches cells) g → top_of held g ≤ top) where
+      low_at : (n g : ℕ) → Contains (switches cells) g → top_of (S n) g ≤ top
+      low_at zero g here = low g here
+      low_at (suc n) g here =
+          let own : top_of P g ≡ top = top_of_switch by lmc facts has_room top top_is g here in
+          omega (arith, low_at n g here, top_next cells (S n) P g here, own)
+
+      top_own : (n g : ℕ) → Contains (switches cells) g → next_top (S n) P g ≡ top
+      top_own n g here =
+          let own : top_of P g ≡ top = top_of_switch by lmc facts has_room top top_is g here in
+          omega (arith, low_at n g here, own)
+
+      -- a switch's table of the plan
+      abbrev blocks_by : ℕ → Option ℕ → List (List ℕ)
+      blocks_by g most_lid = map (λ b. map (λ i. own_entry g (64 * b + i)) (range_with_len 0 64)) (range_with_len 0 (block_count most_lid))
+
+      abbrev own_table : ℕ → SwitchTable
+      own_table g = record { guid = g; blocks = blocks_by g (greatest_of (lids lmc cells)) }
+
+      is_own : (k : ℕ) → most ≤ suc (suc k) → S (suc (suc k)) ≡ P
+      unfolding next_tables
+      is_own k le =
+          let switches_own = same_mapped (next_switch (S (suc k)) P) (λ g. record { guid = g; top = top }) (switches cells)
+          (λ i g at. λ j. record { guid = g; top = top_own (suc k) g (contains_at (switches cells) i g at) j })
+          ∙ sym (mapped_twice (with_top top) own_table (switches cells)) in
+          let tables_own = same_mapped (next_table cells (S (suc k)) P) own_table (switches cells)
+          (λ i g at. (λ j. table_by g (λ lid. own_at k i g lid (owners_of P lid) refl le at j)
+          (top_own (suc k) g (contains_at (switches cells) i g at) j))
+          ∙ (λ j. record { guid = g; blocks = blocks_by g (sym top_is j) })) in
+          λ j. record { lids = P.lids; switches = switches_own j; blocks = blocks_of 0 (tables_own j) }
+
+pub last_text_is_the_plans : LastTextIsThePlans
+last_text_is_the_plans rule lmc facts text most zero top small range has_room top_is low meet le two = absurd (omega (arith, two))
+last_text_is_the_plans rule lmc facts text most (suc zero) top small range has_room top_is low meet le two = absurd (omega (arith, two))
+last_text_is_the_plans rule lmc facts text most (suc (suc k)) top small range has_room top_is low meet le two =
+    let cells = cells_of facts in
+    let plan : PlanValue = plan_of rule lmc cells in
+    let same : held_plan plan ≡ made rule lmc cells top = ap (λ o. option_map_or (λ t. made rule lmc cells t) o nothing_held) top_is in
+    let own : stepped cells (held_plan plan) (held_of text) (suc (suc k)) ≡ made rule lmc cells top =
+    ap (λ (p : HeldPlan). stepped cells p (held_of text) (suc (suc k))) same
+    ∙ is_own rule lmc facts range has_room top top_is (held_of text) most (subst (λ (p : HeldPlan). MeetAtMost cells p most) same meet) low k le in
+    printed_is rule lmc facts text small range has_room (suc k)
+    ∙ ap (next_text plan.given) own
+    ∙ ap (λ ts. lids_text plan.given ++ ts) (tables_are_text (λ g. top) 0 plan.tables)
+    ∙ ap (λ o. lids_text plan.given ++ option_map_or (λ t. flat_map (table_text t) plan.tables) o []) (sym top_is)
