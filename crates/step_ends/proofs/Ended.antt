@@ -25,7 +25,7 @@ use Rattle.next_tables.proofs.Plain.{dropped, plain, plain_after, plain_taken}
 use Rattle.next_tables.proofs.StepLaws.{steps_end_in_the_plan}
 use Rattle.next_tables.proofs.Steps.{at_index, next_deliver_or_drop, planned_there}
 use Rattle.next_tables.proofs.Whole.{entry_next, is_next, kept_owners, owners_next, top_next}
-use Rattle.step_ends.proofs.Same.{AreAlikeAt, next_same}
+use Rattle.step_ends.proofs.Same.{AreAlikeAt, next_same, slice_at}
 use Rattle.step_ends.specs.StepEnds.{DeliversWhatTablesCan, MeetAtMost, StepsEnd}
 
 -- where a LID has a keeper, it is held by that end port alone
@@ -40,11 +40,6 @@ kept_alone x e (y ∷ z ∷ owners) h = absurd (cc)
 
 once_more : (a b : ℕ) → max (max a b) b ≡ max a b
 once_more a b = omega arith
-
-there : (xs : List ℕ) (i : ℕ) → i < length xs → slice_get xs i ≡ Some (slice_index_or xs i 0)
-there [] i less = absurd (omega arith)
-there (x ∷ xs) zero less = refl
-there (x ∷ xs) (suc i) less = there xs i (omega arith)
 
 module _ (cells : Cells) (plan : HeldPlan) (lid : ℕ) (x : EndPort) (own : owners_of plan lid ≡ x ∷ []) where
   abbrev line : HeldLid
@@ -78,7 +73,7 @@ module _ (cells : Cells) (plan : HeldPlan) (lid : ℕ) (x : EndPort) (own : owne
     agreed_there j less way =
         let g : ℕ = slice_index_or (switches cells) j 0 in
         let equal : (entry_for tables lid g == entry_for plan lid g) ≡ true =
-        eq-eqb (entry_for tables lid g) (entry_for plan lid g) (has j g (there (switches cells) j less) way) in
+        eq-eqb (entry_for tables lid g) (entry_for plan lid g) (has j g (slice_at (switches cells) j less) way) in
         plain_mapped cells tables plan next line same (is_next cells tables plan line kept) (agreed_at cells tables plan lid) j less
         ∙ ap (λ t. plain (cond t (step_at cells plan lid g) (dropped g))) equal
         ∙ sym (steps_at cells tables plan next line same (is_next cells tables plan line kept) plan j less)

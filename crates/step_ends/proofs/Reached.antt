@@ -57,6 +57,7 @@ use Rattle.next_tables.specs.Next.{step_at}
 use Rattle.next_tables.proofs.Entries.{at_mapped, member}
 use Rattle.next_tables.proofs.Mixtures.{in_range}
 use Rattle.next_tables.proofs.Steps.{at_index}
+use Rattle.step_ends.proofs.Same.{slice_at}
 use Rattle.step_ends.specs.StepEnds.{DeliversWhatTablesCan, PlansDeliverWhatTablesCan}
 
 -- what a step says of the far end of a wire ----------------------------------------------------------------
@@ -108,11 +109,6 @@ leads_home cells g p owners cause port (Port e) is h =
                 ((λ i. Some (let x = far i in (x.node, x.port))), subst (λ (x : EndPort). index_in (switches cells) x.node ≡ None) far at)
           ] refl f)
     ]) is
-
-slice_at : (xs : List ℕ) (i : ℕ) → i < length xs → slice_get xs i ≡ Some (slice_index_or xs i 0)
-slice_at [] i less = absurd (omega arith)
-slice_at (x ∷ xs) zero less = refl
-slice_at (x ∷ xs) (suc i) less = slice_at xs i (omega arith)
 
 true_not_false : true ≡ false → ⊥
 true_not_false e = cc
