@@ -15,8 +15,8 @@ pub fn packets_end_as_told()
     ensures law { PacketsEndAsTold }
 {}
 
-/// The same of the end ports that are joined to one, if the facts describe what is joined to it, and that holds the
-/// tables, whatever the rest of the fabric is.
+/// If the facts describe what is joined to an end port, and that holds the tables, packets that its end ports send end
+/// so too, whatever the rest of the fabric is.
 pub fn packets_end_as_told_in_parts()
     ensures law { PacketsEndAsToldInParts }
 {}

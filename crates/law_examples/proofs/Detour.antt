@@ -164,8 +164,18 @@ wire_was p q w = record { cable = w.cable; different = w.different }
 
 walks : (a b : NodePort) (n : ℕ) → Walk triangle a b n → Walk detour a b n
 walks a b zero w = w
-walks a b (suc n) (c, near, between, rest) =
-    (c, record { out = near.out; into = near.into; wire = wire_is near.out near.into near.wire; of_one = near.of_one; of_other = near.of_other }, between, walks c b n rest)
+walks a b (suc n) (c, near, between, rest) = (
+  c,
+  record {
+    out = near.out;
+    into = near.into;
+    wire = wire_is near.out near.into near.wire;
+    of_one = near.of_one;
+    of_other = near.of_other;
+  },
+  between,
+  walks c b n rest,
+)
 
 pub connected : (a b : NodePort) → IsEndPort triangle a → IsEndPort triangle b → IsJoinedTo detour a b
 connected a b at_a at_b = let j = is_connected a b at_a at_b in (j.0, walks a b j.0 j.1)

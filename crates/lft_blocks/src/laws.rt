@@ -35,8 +35,8 @@ pub fn packets_arrive_by_each_routing()
     ensures { PacketsArriveByEachRouting }
 {}
 
-/// The same if a view describes what the end port is joined to, and may tell of more, such as of nodes that are gone:
-/// then a packet for each LID of the plan that an end port there owns arrives.
+/// If a view describes what the end port is joined to, and tells of more, such as of nodes that are gone, a packet for
+/// each LID of the plan that an end port there owns arrives.
 pub fn packets_arrive_where_covered()
     ensures { PacketsArriveWhereCovered }
 {}

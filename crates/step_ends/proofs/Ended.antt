@@ -2,6 +2,7 @@
 use Rattle.std.proofs.Common.{◌≡◌, ◌<◌, ◌≤◌, ℕ, zero, suc, max, true, false, cond, List, [], ◌∷◌, length, Option, None, Some, refl, sym, ap, ◌∙◌, subst, arith, inl, inr}
 use Rattle.std.specs.Prelude.{map, slice_get, slice_index_or, ◌==◌}
 use Rattle.std.proofs.lemmas.Bool.{eq-eqb}
+use Rattle.std.proofs.lemmas.Option.{slice_get-get_or}
 use Rattle.subnet_view.specs.declared.end_port.EndPort.{EndPort}
 use Rattle.subnet_view.specs.Reading.{Cells, switches}
 use Rattle.plan_file.specs.declared.held.HeldLid.{HeldLid}
@@ -25,7 +26,7 @@ use Rattle.next_tables.proofs.Plain.{dropped, plain, plain_after, plain_taken}
 use Rattle.next_tables.proofs.StepLaws.{steps_end_in_the_plan}
 use Rattle.next_tables.proofs.Steps.{at_index, next_deliver_or_drop, planned_there}
 use Rattle.next_tables.proofs.Whole.{entry_next, is_next, kept_owners, owners_next, top_next}
-use Rattle.step_ends.proofs.Same.{AreAlikeAt, next_same, slice_at}
+use Rattle.step_ends.proofs.Same.{AreAlikeAt, next_same}
 use Rattle.step_ends.specs.StepEnds.{DeliversWhatTablesCan, MeetAtMost, StepsEnd}
 
 -- where a LID has a keeper, it is held by that end port alone
@@ -73,7 +74,7 @@ module _ (cells : Cells) (plan : HeldPlan) (lid : ℕ) (x : EndPort) (own : owne
     agreed_there j less way =
         let g : ℕ = slice_index_or (switches cells) j 0 in
         let equal : (entry_for tables lid g == entry_for plan lid g) ≡ true =
-        eq-eqb (entry_for tables lid g) (entry_for plan lid g) (has j g (slice_at (switches cells) j less) way) in
+        eq-eqb (entry_for tables lid g) (entry_for plan lid g) (has j g (slice_get-get_or (switches cells) j 0 less) way) in
         plain_mapped cells tables plan next line same (is_next cells tables plan line kept) (agreed_at cells tables plan lid) j less
         ∙ ap (λ t. plain (cond t (step_at cells plan lid g) (dropped g))) equal
         ∙ sym (steps_at cells tables plan next line same (is_next cells tables plan line kept) plan j less)

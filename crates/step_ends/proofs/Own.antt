@@ -165,7 +165,8 @@ module _ (by : RuleValue) (lmc : ℕ) (facts : Facts) (range : AreInRange facts)
               let way = plain_taken (after c.0 hops (To i)) x (sym (plain_after c.0 hops (To i)) ∙ c.1) in
               arrived cells P lid x is held most meet (suc k) le i g at (c.0, way) ∙ counts i g lid x at owner
           | false ↦ λ e.
-              let none : ((n : ℕ) × (after n hops (To i) ≡ Ends (Taken x))) → ⊥ = λ way. comes_false x hops (To i) e (way.0, plain_after way.0 hops (To i) ∙ ap plain way.1) in
+              let none : ((n : ℕ) × (after n hops (To i) ≡ Ends (Taken x))) → ⊥ =
+              λ way. comes_false x hops (To i) e (way.0, plain_after way.0 hops (To i) ∙ ap plain way.1) in
               emptied cells P lid x is held can k i g at none ∙ sym (none_there lid x (line_of lid x owner) i g at none)
         ] refl)
       where

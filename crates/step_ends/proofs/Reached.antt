@@ -7,7 +7,7 @@ use Rattle.std.specs.List.{find}
 use Rattle.std.proofs.lemmas.Bool.{and_parts, cases_lt}
 use Rattle.std.proofs.lemmas.List.{get_or_past, length-map}
 use Rattle.std.proofs.lemmas.List.FromFn.{get_or-map-range_with_len, length-map-range_with_len}
-use Rattle.std.proofs.lemmas.Option.{same_Some}
+use Rattle.std.proofs.lemmas.Option.{same_Some, slice_get-get_or}
 use Rattle.fact_store.specs.View.{Facts, cells_of, AreInRange}
 use Rattle.port_graph.specs.declared.edge.Edge.{Edge}
 use Rattle.port_graph.proofs.Lists.{contains_mapped}
@@ -57,7 +57,6 @@ use Rattle.next_tables.specs.Next.{step_at}
 use Rattle.next_tables.proofs.Entries.{at_mapped, member}
 use Rattle.next_tables.proofs.Mixtures.{in_range}
 use Rattle.next_tables.proofs.Steps.{at_index}
-use Rattle.step_ends.proofs.Same.{slice_at}
 use Rattle.step_ends.specs.StepEnds.{DeliversWhatTablesCan, PlansDeliverWhatTablesCan}
 
 -- what a step says of the far end of a wire ----------------------------------------------------------------
@@ -168,7 +167,7 @@ module _ (by : RuleValue) (lmc : ℕ) (facts : Facts) (range : AreInRange facts)
   is_end = owner_listed lmc facts has_room line.lid port (line_owned lmc facts has_room line is_held)
 
   there_at : (i : ℕ) → i < count → slice_get (switches cells) i ≡ Some (guid i)
-  there_at i less = slice_at (switches cells) i less
+  there_at i less = slice_get-get_or (switches cells) i 0 less
 
   is_switch : (i : ℕ) → i < count → IsSwitch graph (guid i)
   is_switch i less = subst (λ (xs : List ℕ). Contains xs (guid i)) (sym (graph_guids cells)) (member (switches cells) i less)

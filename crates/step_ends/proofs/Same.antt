@@ -1,6 +1,6 @@
 -- Tables of the same tops and the same next entries have the same next tables.
-use Rattle.std.proofs.Common.{◌≡◌, ◌<◌, ℕ, zero, suc, ◌+◌, ◌*◌, List, [], ◌∷◌, Some, arith, length, refl}
-use Rattle.std.specs.Prelude.{map, slice_get, slice_index_or}
+use Rattle.std.proofs.Common.{◌≡◌, ℕ, suc, ◌+◌, ◌*◌, List, [], ◌∷◌, Some, refl}
+use Rattle.std.specs.Prelude.{map, slice_get}
 use Rattle.std.specs.List.{range_with_len}
 use Rattle.subnet_view.specs.Reading.{Cells, switches}
 use Rattle.lft_blocks.specs.Entries.{block_count}
@@ -8,12 +8,6 @@ use Rattle.lft_blocks.specs.Plan.{SwitchTable}
 use Rattle.plan_file.specs.Held.{HeldPlan}
 use Rattle.plan_file.specs.Printed.{blocks_of}
 use Rattle.next_tables.specs.NextTables.{next_at, next_switch, next_table, next_tables, next_top}
-
--- what stands at an index
-pub slice_at : (xs : List ℕ) (i : ℕ) → i < length xs → slice_get xs i ≡ Some (slice_index_or xs i 0)
-slice_at [] i less = absurd (omega arith)
-slice_at (x ∷ xs) zero less = refl
-slice_at (x ∷ xs) (suc i) less = slice_at xs i (omega arith)
 
 pub same_mapped : {X : Type 0} (f h : ℕ → X) (xs : List ℕ) → ((i g : ℕ) → slice_get xs i ≡ Some g → f g ≡ h g) → map f xs ≡ map h xs
 same_mapped f h [] same = refl

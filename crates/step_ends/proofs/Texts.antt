@@ -33,17 +33,17 @@ module _ (rule : RuleValue) (lmc : ℕ) (facts : Facts) (text : List ℕ) (small
   S n = stepped (cells_of facts) (held_plan plan) (held_of text) n
 
   -- what is printed says the tables of the step
-  read_again : (n : ℕ) → held_of (printed facts plan text n) ≡ S n
+  read_again : (n : ℕ) → held_of (printed lmc rule facts text n) ≡ S n
   read_again zero = refl
   read_again (suc n) =
-      (step_texts_are_read rule lmc facts (printed facts plan text n) small range has_room).1
+      (step_texts_are_read rule lmc facts (printed lmc rule facts text n) small range has_room).1
       ∙ ap (λ (held : HeldPlan). next_tables (cells_of facts) held (held_plan plan)) (read_again n)
 
-  pub printed_is : (n : ℕ) → printed facts plan text (suc n) ≡ next_text plan.given (S (suc n))
+  pub printed_is : (n : ℕ) → printed lmc rule facts text (suc n) ≡ next_text plan.given (S (suc n))
   printed_is n = ap (λ (held : HeldPlan). next_text plan.given (next_tables (cells_of facts) held (held_plan plan))) (read_again n)
 
   ends : (most n : ℕ) → MeetAtMost (cells_of facts) (held_plan plan) most → most ≤ n → 2 ≤ n
-      → printed facts plan text (suc n) ≡ printed facts plan text n
+      → printed lmc rule facts text (suc n) ≡ printed lmc rule facts text n
   ends most zero meet le two = absurd (omega (arith, two))
   ends most (suc n) meet le two =
       printed_is (suc n)

@@ -3,21 +3,21 @@ use Rattle.std.specs.Prelude.{◌≡◌, ◌≤◌, ℕ, zero, suc, Contains, Li
 use Rattle.fact_store.specs.View.{Facts, cells_of, AreInRange}
 use Rattle.subnet_view.specs.Reading.{Cells, switches}
 use Rattle.lid_assign.specs.Lids.{IsNoRoom, lids, top_of as greatest_of}
-use Rattle.lft_blocks.specs.Plan.{PlanValue, plan_of}
+use Rattle.lft_blocks.specs.Plan.{plan_of}
 use Rattle.lft_blocks.specs.PlanText.{plan_text}
 use Rattle.lft_blocks.specs.Rules.{RuleValue}
 use Rattle.plan_file.specs.declared.held.HeldLid.{HeldLid}
 use Rattle.plan_file.specs.Held.{HeldPlan}
 use Rattle.plan_file.specs.Printed.{held_plan}
 use Rattle.plan_file.specs.Reading.{held_of}
-use Rattle.plan_file.specs.TablesText.{next_text}
 use Rattle.held_tables.specs.Tables.{owners_of, top_of}
 use Rattle.audit.specs.declared.end.End.TheVariants.{Taken}
 use Rattle.audit.specs.declared.next_hop.NextHop.TheVariants.{To, Ends}
 use Rattle.audit.specs.NextHops.{next_hops_of}
 use Rattle.audit.specs.WalkEnds.{after}
-use Rattle.next_tables.specs.NextTables.{IsKept, next_tables}
+use Rattle.next_tables.specs.NextTables.{IsKept}
 use Rattle.next_tables.specs.StepLaws.{stepped}
+use Rattle.next_run.specs.RunNext.{planned, step_text}
 
 -- from each switch from which some tables deliver at the end port that alone holds a LID, in these and in the plan, the
 -- plan does so too
@@ -47,31 +47,27 @@ PlansDeliverWhatTablesCan =
     (rule : RuleValue) (lmc : ℕ) (facts : Facts) → AreInRange facts → ¬ (IsNoRoom lmc (cells_of facts))
     → DeliversWhatTablesCan (cells_of facts) (held_plan (plan_of rule lmc (cells_of facts)))
 
--- what is printed when so many steps were taken from the tables of a text towards a plan, each from what was printed
--- before
-abbrev pub printed : Facts → PlanValue → List ℕ → ℕ → List ℕ
-printed facts plan text zero = text
-printed facts plan text (suc n) =
-    next_text plan.given (next_tables (cells_of facts) (held_of (printed facts plan text n)) (held_plan plan))
+-- what `next` prints after so many steps from the tables of a text, each from what was printed before
+abbrev pub printed : ℕ → RuleValue → Facts → List ℕ → ℕ → List ℕ
+printed lmc rule facts text zero = text
+printed lmc rule facts text (suc n) = step_text lmc rule facts (held_of (printed lmc rule facts text n))
 
--- so towards it the text that is printed is in the end the one that was given, to the byte
+-- if there is room, it is in the end what was given, to the byte
 abbrev pub PrintedStepsEnd : Type 0
 PrintedStepsEnd =
     (rule : RuleValue) (lmc : ℕ) (facts : Facts) (text : List ℕ) (most n : ℕ) → lmc ≤ 7 → AreInRange facts
-    → ¬ (IsNoRoom lmc (cells_of facts))
-    → MeetAtMost (cells_of facts) (held_plan (plan_of rule lmc (cells_of facts))) most → most ≤ n → 2 ≤ n
-    → printed facts (plan_of rule lmc (cells_of facts)) text (suc n)
-    ≡ printed facts (plan_of rule lmc (cells_of facts)) text n
+    → ¬ (IsNoRoom lmc (cells_of facts)) → MeetAtMost (cells_of facts) (planned lmc rule facts) most → most ≤ n → 2 ≤ n
+    → printed lmc rule facts text (suc n) ≡ printed lmc rule facts text n
 
 -- no way meets more switches than there are
 abbrev pub WaysMeetAtMostAll : Type 0
 WaysMeetAtMostAll = (cells : Cells) (plan : HeldPlan) → MeetAtMost cells plan (length (switches cells))
 
--- and where a LID is given, and no usable switch held a greater top than the greatest LID, that is what `plan` prints
+-- and if a LID is given, and no usable switch held a greater top than the greatest LID, what `plan` prints
 abbrev pub LastTextIsThePlans : Type 0
 LastTextIsThePlans =
     (rule : RuleValue) (lmc : ℕ) (facts : Facts) (text : List ℕ) (most n top : ℕ) → lmc ≤ 7 → AreInRange facts
     → ¬ (IsNoRoom lmc (cells_of facts)) → greatest_of (lids lmc (cells_of facts)) ≡ Some top
     → ((g : ℕ) → Contains (switches (cells_of facts)) g → top_of (held_of text) g ≤ top)
-    → MeetAtMost (cells_of facts) (held_plan (plan_of rule lmc (cells_of facts))) most → most ≤ n → 2 ≤ n
-    → printed facts (plan_of rule lmc (cells_of facts)) text n ≡ plan_text (plan_of rule lmc (cells_of facts))
+    → MeetAtMost (cells_of facts) (planned lmc rule facts) most → most ≤ n → 2 ≤ n
+    → printed lmc rule facts text n ≡ plan_text (plan_of rule lmc (cells_of facts))

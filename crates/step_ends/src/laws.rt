@@ -13,13 +13,13 @@ pub fn plans_deliver_what_tables_can()
     ensures law { PlansDeliverWhatTablesCan }
 {}
 
-/// So towards it what is printed is in the end what was given, byte for byte, whatever the text was: LIDs that are new or
-/// gone and entries without a way included.
+/// Repeated with the same facts, LMC and rule, `next` prints what it was given, byte for byte, after as many steps: LIDs
+/// that are new or gone and entries without a way are included.
 pub fn printed_steps_end()
     ensures law { PrintedStepsEnd }
 {}
 
-/// If an end port has a LID, and no usable switch held a greater top than the greatest LID, that is what `plan` prints.
+/// That is what `plan` prints, if an end port has a LID and no usable switch held a greater top than the greatest LID.
 pub fn last_text_is_the_plans()
     ensures law { LastTextIsThePlans }
 {}

@@ -38,7 +38,8 @@ pub fn who_sees_the_same_plans_the_same()
     ensures { WhoSeesTheSamePlansTheSame }
 {}
 
-/// So have two views that describe it exactly and whose claims are the LIDs that its ports have.
+/// Two views that describe one part of a fabric exactly have one plan if their claims are the LIDs
+/// that its ports have.
 pub fn who_sees_the_truth_plans_the_same()
     ensures { WhoSeesTheTruthPlansTheSame }
 {}

@@ -13,7 +13,8 @@ returns-in_err-write_pair g c = record {
 
 pub returns-in_err-write_how_many : goal.returns-in_err-write_how_many
 returns-in_err-write_how_many g c = record {
-  writes = fails_then g.W.Sink.written g.W.Sink.has_failed c.from_residual-in_err-write_how_many.result c.in_err-write_how_many.field-0.0 c.args.sink.now _ _ _ _
+  writes = fails_then g.W.Sink.written g.W.Sink.has_failed c.from_residual-in_err-write_how_many.result
+      c.in_err-write_how_many.field-0.0 c.args.sink.now _ _ _ _
       c.from_residual-in_err-write_how_many.ensures.0 c.in_err-write_how_many.ensures.writes;
 }
 
