@@ -4,17 +4,13 @@ use Rattle.std.specs.Prelude.{Contains, filter, not}
 use Rattle.std.specs.List.{list_any}
 use Rattle.std.specs.BTreeSet.{BTreeSet, Updates, contains}
 use Rattle.std.specs.declared.cmp.Ordering.{Ordering}
-use Rattle.std.specs.declared.cmp.Ordering.TheVariants.{Less, Equal, Greater}
 use Rattle.std.specs.Ordering.{is_eq, nat_cmp, ordering_then}
-use Rattle.std.specs.Cmp.{both_ways, tied_itself}
-use Rattle.std.specs.FinMap.{nat_cmp-IsAntisymmetric}
 use Rattle.std.proofs.lemmas.Bool.{and_from, and_parts, eqb-true, eq-eqb}
-use Rattle.std.proofs.lemmas.Cmp.{nat_cmp_total}
 use Rattle.std.proofs.lemmas.List.{append-nil}
 use Rattle.std.proofs.lemmas.List.Elements.{filter-append}
-use Rattle.reply_facts.proofs.Keys.{equal_from_test}
 use Rattle.subnet_view.specs.declared.end_port.EndPort.{EndPort}
 use Rattle.subnet_view.proofs.Members.{contains_later, contains_cases, contains_none, contains_first, contains_filter, contains-from_filter}
+use Rattle.lid_assign.proofs.Tables.{eq_then, same_number}
 use Rattle.plan_file.specs.declared.held.HeldLid.{HeldLid}
 use Rattle.held_tables.specs.Owners.{SoleOwnersAreAlone, is_sole}
 use Rattle.held_tables.specs.Tables.{holders, is_owner, is_same_end, is_same_line, owners_of, told_once}
@@ -62,16 +58,6 @@ once_more (x ∷ xs) y =
     ∙ ap (λ zs. x ∷ (filter (differs x) (told_once xs) ++ zs)) (last_kept x y before)
 
 -- what was told, as a set of keys -----------------------------------------------------------------
-
-same_number : (a b : ℕ) → is_eq (nat_cmp a b) ≡ (b == a)
-same_number a b =
-    both_ways (is_eq (nat_cmp a b)) (b == a) (λ h. eq-eqb b a (sym (nat_cmp-IsAntisymmetric a b (equal_from_test (nat_cmp a b) h))))
-    (λ h. ap (λ n. is_eq (nat_cmp a n)) (eqb-true b a h) ∙ ap is_eq (tied_itself nat_cmp_total a))
-
-eq_then : (x y : Ordering) → is_eq (ordering_then x y) ≡ (is_eq x && is_eq y)
-eq_then Less y = refl
-eq_then Equal y = refl
-eq_then Greater y = refl
 
 abbrev pub key_of : HeldLid → ℕ × (ℕ × ℕ)
 key_of x = (x.lid, (x.port.node, x.port.port))

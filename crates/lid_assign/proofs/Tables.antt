@@ -57,17 +57,18 @@ marks_more given marks p lid k e h are n =
       | false ↦ λ q. get_or-set_other marks k n true false (λ same. true≢false (sym (eq-eqb lid n (sym (same ∙ e))) ∙ q)) ∙ are n
     ] refl
 
--- an entry more
-same_number : (a b : ℕ) → is_eq (nat_cmp a b) ≡ (b == a)
+-- tests of numbers in order
+pub same_number : (a b : ℕ) → is_eq (nat_cmp a b) ≡ (b == a)
 same_number a b =
     both_ways (is_eq (nat_cmp a b)) (b == a) (λ h. eq-eqb b a (sym (nat_cmp-IsAntisymmetric a b (equal_from_test (nat_cmp a b) h))))
     (λ h. ap (λ n. is_eq (nat_cmp a n)) (eqb-true b a h) ∙ ap is_eq (tied_itself nat_cmp_total a))
 
-eq_then : (x y : Ordering) → is_eq (ordering_then x y) ≡ (is_eq x && is_eq y)
+pub eq_then : (x y : Ordering) → is_eq (ordering_then x y) ≡ (is_eq x && is_eq y)
 eq_then Less y = refl
 eq_then Equal y = refl
 eq_then Greater y = refl
 
+-- an entry more
 either : (b : Bool) (x : EndPort × ℕ) (o : Option (EndPort × ℕ)) → cond b (Some x.1) (option_map (λ y. y.1) o) ≡ option_map (λ y. y.1) (cond b (Some x) o)
 either true x o = refl
 either false x o = refl
