@@ -13,11 +13,11 @@ use Rattle.lft_blocks.specs.Rules.{RuleValue}
 use Rattle.plan_file.specs.Held.{HeldPlan}
 use Rattle.plan_file.specs.Printed.{held_plan}
 use Rattle.plan_file.specs.TablesText.{next_text}
-use Rattle.next_tables.specs.NextTables.{first_moved, next_tables}
+use Rattle.next_tables.specs.NextTables.{StepRuleValue, first_moved, next_tables}
 use Rattle.sm_cli.proofs.Plans.{has_room}
-use Rattle.next_tables.specs.StepOrder.{NoneShorter, WaitInCycle}
+use Rattle.step_loops.specs.StepOrder.{NoneShorter, WaitInCycle}
 use Rattle.next_run.specs.LoopText.{loop_text}
-use Rattle.next_run.specs.RunNext.{IsCycleInStep, IsLoopInStep, IsSaid, IsStep, stepped}
+use Rattle.next_run.specs.RunNext.{IsCycleInStep, IsLoopInStep, IsSaid, IsStep, step_rule, stepped}
 
 pub is_empty : (xs : List ℕ) → IsTrue (length xs == 0) ↔ (xs ≡ [])
 is_empty xs = (λ t. nil_from_length xs (eqb-true _ _ t), λ e. ap (λ ys. length ys == 0) e)
@@ -35,11 +35,13 @@ was_said written has_failed (Ok u) old new text ok err = inr ok
 was_said written has_failed (Err fault) old new text ok err = inl err
 
 module _ (lmc : ℕ) (rule : RuleValue) (facts : Facts) (held : HeldPlan) (plan : PlanValue) (is_plan : plan ≡ plan_of rule lmc (cells_of facts))
-    (from next : HeldPlan) (is_from : from ≡ held) (is_next : next ≡ next_tables (cells_of facts) from (held_plan plan)) where
+    (from next : HeldPlan) (by : StepRuleValue) (is_from : from ≡ held) (is_by : by ≡ step_rule rule facts from)
+    (is_next : next ≡ next_tables (cells_of facts) by from (held_plan plan)) where
   next_is : next ≡ stepped lmc rule facts held
   next_is =
-      is_next ∙ ap (λ h. next_tables (cells_of facts) h (held_plan plan)) is_from
-      ∙ ap (λ p. next_tables (cells_of facts) held (held_plan p)) is_plan
+      is_next ∙ ap (λ b. next_tables (cells_of facts) b from (held_plan plan)) is_by
+      ∙ ap (λ h. next_tables (cells_of facts) (step_rule rule facts h) h (held_plan plan)) is_from
+      ∙ ap (λ p. next_tables (cells_of facts) (step_rule rule facts held) held (held_plan p)) is_plan
 
   pub step_is : (prints says : List ℕ → Type 0) (passed : Bool) (known : Facts) (cycle lids : List ℕ) → known ≡ facts
       → lid_fault (no_room lmc (cells_of facts)) ≡ None → first_moved from (held_plan plan) ≡ None

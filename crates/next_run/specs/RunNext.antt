@@ -1,6 +1,6 @@
 -- What a step from tables that are held towards a plan does: it reads its inputs in order, and writes the tables to
 -- write next, or says why it can't.
-use Rattle.std.specs.Prelude.{◌≡◌, ◌⊎◌, ◌↔◌, ℕ, Bool, List, [], ◌∷◌, Option, None, Some, IsTrue}
+use Rattle.std.specs.Prelude.{◌≡◌, ◌⊎◌, ◌↔◌, ℕ, Bool, List, [], ◌∷◌, Option, None, Some, IsTrue, if◌then◌else◌}
 use Rattle.std.specs.Io.KnownBytes.{Appends}
 use Rattle.byte_io.specs.Source.{SourceState}
 use Rattle.fact_store.specs.View.{Facts, cells_of}
@@ -11,11 +11,14 @@ use Rattle.lft_blocks.specs.Rules.{RuleValue}
 use Rattle.plan_file.specs.Held.{HeldPlan}
 use Rattle.plan_file.specs.Printed.{held_plan}
 use Rattle.plan_file.specs.TablesText.{next_text}
-use Rattle.next_tables.specs.NextTables.{first_moved, next_tables}
+use Rattle.next_tables.specs.ByOrder.{position_at}
+use Rattle.next_tables.specs.NextTables.{StepRuleValue, by_order, first_moved, next_tables, settled_first}
+use Rattle.ordered_steps.specs.Rightness.{are_right}
+use Rattle.plan_order.specs.PlanOrder.{positions_by}
 use Rattle.next_tables.specs.declared.fault.StepFault.{StepFault}
 use Rattle.next_tables.specs.declared.fault.StepFault.TheVariants as steps
-use Rattle.next_tables.specs.LoopLids.{AreLoopLids}
-use Rattle.next_tables.specs.StepOrder.{NoneShorter, NumbersRise, WaitInCycle}
+use Rattle.step_loops.specs.LoopLids.{AreLoopLids}
+use Rattle.step_loops.specs.StepOrder.{NoneShorter, NumbersRise, WaitInCycle}
 use Rattle.next_run.specs.LoopText.{loop_text}
 use Rattle.sm_cli.specs.Asked.{texts_for}
 use Rattle.sm_cli.specs.InputReaders.{tables_reader}
@@ -31,9 +34,16 @@ use Rattle.next_run.specs.declared.run_step.StepAsked.{StepAsked}
 abbrev pub planned : ℕ → RuleValue → Facts → HeldPlan
 planned lmc rule facts = held_plan (plan_of rule lmc (cells_of facts))
 
+-- how a step towards it chooses: by the order of the plan's switches if the tables held are right by that
+abbrev pub chosen_by : Cells → List ℕ → HeldPlan → StepRuleValue
+chosen_by cells positions held = if are_right cells (position_at positions) held then by_order positions else settled_first
+
+abbrev pub step_rule : RuleValue → Facts → HeldPlan → StepRuleValue
+step_rule rule facts held = chosen_by (cells_of facts) (positions_by rule (cells_of facts)) held
+
 -- the tables to write next towards it
 abbrev pub stepped : ℕ → RuleValue → Facts → HeldPlan → HeldPlan
-stepped lmc rule facts held = next_tables (cells_of facts) held (planned lmc rule facts)
+stepped lmc rule facts held = next_tables (cells_of facts) (step_rule rule facts held) held (planned lmc rule facts)
 
 -- the same as text, below the LIDs of the plan
 abbrev pub step_text : ℕ → RuleValue → Facts → HeldPlan → List ℕ

@@ -4,5 +4,6 @@
 
 mod run_step;
 mod step_loop;
+mod step_rule;
 
 pub use run_step::{StepAsked, run_next};

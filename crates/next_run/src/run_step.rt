@@ -7,15 +7,17 @@ ghost use Rattle.sm_cli.specs.Asked.{texts_for};
 ghost use Rattle.next_run.specs.RunNext.{HasStepped, IsLoopInStep, IsSaid, IsStep, IsStepFault, StopsNext};
 ghost use Rattle.next_run.specs.RunNext.{StopsStep, fault_of_step};
 ghost use Rattle.next_tables.specs.NextTables.{first_moved, next_tables};
+ghost use Rattle.next_tables.specs.NextTables.{value_of as chosen_of};
 ghost use Rattle.plan_file.specs.Printed.{held_plan};
 
 use crate::step_loop::StepLoop;
+use crate::step_rule::step_rule;
 use attr_codec::Lmc;
 use audit::Network;
 use byte_io::{Sink, Source};
 use fact_store::Store;
 use lft_blocks::{Plan, Rule};
-use next_tables::{StepFault, next_tables};
+use next_tables::{StepFault, StepRule, next_tables};
 use plan_file::{Held, write_next};
 use sm_cli::{Fault, RuleAsked, TablesAndFiles, TextFault, read_inputs};
 use smp_bytes::Generation;
@@ -98,7 +100,10 @@ fn step<W: Sink, E: Sink>(
     let Ok(from) = Network::of(alloc, store, held) else {
         return Err(Fault::Memory);
     };
-    let next = match next_towards(alloc, input, store, &from, &plan) {
+    let Ok(by) = step_rule(alloc, store, rule, &from) else {
+        return Err(Fault::Memory);
+    };
+    let next = match next_towards(alloc, input, store, &by, &from, &plan) {
         Ok(next) => next,
         Err(fault) => return Err(fault),
     };
@@ -110,17 +115,19 @@ fn step<W: Sink, E: Sink>(
     Ok(found.is_none())
 }
 
-/// The tables to write next from those of a network towards a plan of the same facts, whose text is at an input.
+/// Returns the tables to write next by a rule, from those of a network, whose text is at an input, towards a plan of the
+/// same facts.
 fn next_towards(
     alloc: Global,
     input: usize,
     store: &Store,
+    by: &StepRule,
     from: &Network,
     plan: &Plan,
 ) -> Result<Held, Fault>
     requires { from.now.facts ≡ store.now }
     ensures tables { IfOk result (λ next.
-        next ≡ next_tables (cells_of store.now) from.now.held (held_plan plan.now)) }
+        next ≡ next_tables (cells_of store.now) (chosen_of by.now) from.now.held (held_plan plan.now)) }
     ensures still { OnOk result (first_moved from.now.held (held_plan plan.now) ≡ None) }
     ensures refused { IfErr result (StopsNext input from.now.held (held_plan plan.now)) }
 {
@@ -130,7 +137,7 @@ fn next_towards(
     let Ok(to) = Network::of(alloc, store, &planned) else {
         return Err(Fault::Memory);
     };
-    match next_tables(alloc, from, &to) {
+    match next_tables(alloc, by, from, &to) {
         Ok(next) => Ok(next),
         Err(fault) => Err(fault_of_step(input, &fault)),
     }

@@ -10,7 +10,7 @@ use audit::Network;
 use audit_channels::ChannelOrder;
 use audit_report::write_cycle;
 use byte_io::{Sink, WriteFault, write_number};
-use next_tables::{loop_lids, step_order};
+use step_loops::{loop_lids, step_order};
 use smp_bytes::Lid;
 use std::alloc::{AllocError, Global};
 

@@ -19,7 +19,7 @@ use Rattle.held_tables.specs.Tables.{top_of}
 use Rattle.held_tables.proofs.HeldTables.{get_mapped, within_length}
 use Rattle.held_tables.proofs.Mapped.{mapped_more}
 use Rattle.next_tables.specs.Assembled.{all_blocks, block_in, entry_in, some_blocks}
-use Rattle.next_tables.specs.NextTables.{column_of, next_at, next_block, next_switch, next_table, next_top}
+use Rattle.next_tables.specs.NextTables.{StepRuleValue, column_of, next_at, next_block, next_switch, next_table, next_top}
 
 -- functions that agree over a range
 pub range_same : {X : Type 0} (f g : ℕ → X) (a n : ℕ) → ((i : ℕ) → i < a + n → f i ≡ g i) → map f (range_with_len a n) ≡ map g (range_with_len a n)
@@ -109,33 +109,33 @@ pub no_switch : (held plan : HeldPlan) (gs : List ℕ) (i : ℕ) (old new : List
     → new ≡ map (next_switch held plan) (take (i + 1) gs)
 no_switch held plan gs i old new less at = let there : slice_get gs i ≡ Some (get_or gs i 0) = slice_get-get_or gs i 0 less in absurd (cc)
 
-module _ (cells : Cells) (held plan : HeldPlan) (columns : List (List ℕ)) (count : ℕ)
-    (are : columns ≡ map (column_of cells held plan) (range_with_len 0 (64 * count))) where
+module _ (cells : Cells) (rule : StepRuleValue) (held plan : HeldPlan) (columns : List (List ℕ)) (count : ℕ)
+    (are : columns ≡ map (column_of cells rule held plan) (range_with_len 0 (64 * count))) where
   abbrev gs : List ℕ
   gs = switches cells
 
-  column_at : (lid : ℕ) → lid < 64 * count → slice_index_or columns lid [] ≡ column_of cells held plan lid
+  column_at : (lid : ℕ) → lid < 64 * count → slice_index_or columns lid [] ≡ column_of cells rule held plan lid
   column_at lid h =
       ap (λ cs. slice_index_or cs lid []) are
-      ∙ get_or-map-range_with_len (column_of cells held plan) 0 (64 * count) lid lid [] h (omega arith)
+      ∙ get_or-map-range_with_len (column_of cells rule held plan) 0 (64 * count) lid lid [] h (omega arith)
 
-  entry_is : (k g lid : ℕ) → slice_get gs k ≡ Some g → lid < 64 * count → entry_in columns k lid ≡ next_at cells held plan lid g
+  entry_is : (k g lid : ℕ) → slice_get gs k ≡ Some g → lid < 64 * count → entry_in columns k lid ≡ next_at cells rule held plan lid g
   entry_is k g lid there h =
-      ap (λ c. slice_index_or c k 255) (column_at lid h) ∙ get_mapped (next_at cells held plan lid) gs k g 255 there
+      ap (λ c. slice_index_or c k 255) (column_at lid h) ∙ get_mapped (next_at cells rule held plan lid) gs k g 255 there
 
-  block_is : (k g b : ℕ) → slice_get gs k ≡ Some g → b < count → block_in columns k b ≡ next_block cells held plan g b
+  block_is : (k g b : ℕ) → slice_get gs k ≡ Some g → b < count → block_in columns k b ≡ next_block cells rule held plan g b
   block_is k g b there h =
-      range_same (λ i. entry_in columns k (64 * b + i)) (λ i. next_at cells held plan (64 * b + i) g) 0 64
+      range_same (λ i. entry_in columns k (64 * b + i)) (λ i. next_at cells rule held plan (64 * b + i) g) 0 64
       (λ i less. entry_is k g (64 * b + i) there (omega arith))
 
   some_are : (k g n : ℕ) → slice_get gs k ≡ Some g → n ≤ count
-      → some_blocks columns k n ≡ blocks_from k 0 (map (next_block cells held plan g) (range_with_len 0 n))
+      → some_blocks columns k n ≡ blocks_from k 0 (map (next_block cells rule held plan g) (range_with_len 0 n))
   some_are k g n there h =
-      ap (blocks_from k 0) (range_same (block_in columns k) (next_block cells held plan g) 0 n (λ b less. block_is k g b there (omega arith)))
+      ap (blocks_from k 0) (range_same (block_in columns k) (next_block cells rule held plan g) 0 n (λ b less. block_is k g b there (omega arith)))
 
   those_are : (k : ℕ) (xs : List ℕ) → ((j g : ℕ) → slice_get xs j ≡ Some g → slice_get gs (k + j) ≡ Some g)
       → ((j g : ℕ) → slice_get xs j ≡ Some g → block_count (Some (next_top held plan g)) ≤ count)
-      → all_blocks columns k (map (next_switch held plan) xs) ≡ blocks_of k (map (next_table cells held plan) xs)
+      → all_blocks columns k (map (next_switch held plan) xs) ≡ blocks_of k (map (next_table cells rule held plan) xs)
   those_are k [] there few = refl
   those_are k (g ∷ xs) there few =
       let here : slice_get gs k ≡ Some g = ap (slice_get gs) (sym (add-zero k)) ∙ there 0 g refl in
@@ -145,7 +145,7 @@ module _ (cells : Cells) (held plan : HeldPlan) (columns : List (List ℕ)) (cou
       λ i. own i ++ rest i
 
   pub all_are : count ≡ block_count (Some (max (greatest_top cells held) (greatest_top cells plan)))
-      → all_blocks columns 0 (map (next_switch held plan) gs) ≡ blocks_of 0 (map (next_table cells held plan) gs)
+      → all_blocks columns 0 (map (next_switch held plan) gs) ≡ blocks_of 0 (map (next_table cells rule held plan) gs)
   all_are enough =
       those_are 0 gs (λ j g e. let at : 0 + j ≡ j = omega arith in ap (slice_get gs) at ∙ e)
       (λ j g e.

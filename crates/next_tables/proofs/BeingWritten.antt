@@ -24,7 +24,7 @@ use Rattle.audit.specs.NextHops.{by_entry, cause_of, over}
 use Rattle.held_tables.specs.Tables.{owners_of, counted, entry_for, entry_of, top_of}
 use Rattle.audit.proofs.FabricParts.{usable}
 use Rattle.next_tables.specs.Next.{step_at}
-use Rattle.next_tables.specs.NextTables.{next_tables, next_top}
+use Rattle.next_tables.specs.NextTables.{StepRuleValue, next_tables, next_top}
 use Rattle.next_tables.specs.ChangingFabric.{entry_now, IsLooseEntry, IsBeingWritten, IsInChange, WrittenTablesAreInChange}
 use Rattle.next_tables.proofs.Whole.{top_next}
 
@@ -76,13 +76,13 @@ no_entry cells held lid g e =
     ∙ ap (λ far. over (owners_of held lid) g (cause_of cells held lid g) far)
     (get_or_past (row_of cells g) 255 Nothing (omega (arith, length-map-range_with_len (far_of cells g) 0 255)))
 
-module _ (part : Part) (facts : Facts) (held plan : HeldPlan) (lid : ℕ) (f now : Fabric) (seen : IsSeenIn part (cells_of facts) held f)
-    (is : IsBeingWritten part (next_tables (cells_of facts) held plan) lid f now) where
+module _ (part : Part) (facts : Facts) (rule : StepRuleValue) (held plan : HeldPlan) (lid : ℕ) (f now : Fabric) (seen : IsSeenIn part (cells_of facts) held f)
+    (is : IsBeingWritten part (next_tables (cells_of facts) rule held plan) lid f now) where
   abbrev cells : Cells
   cells = cells_of facts
 
   abbrev next : HeldPlan
-  next = next_tables cells held plan
+  next = next_tables cells rule held plan
 
   -- a switch of the part is one of the facts
   known : (port : NodePort) (node : Node) → IsEndPortIn part f port node → is_switch node.kind ≡ true → Contains (switches cells) node.guid
@@ -95,7 +95,7 @@ module _ (part : Part) (facts : Facts) (held plan : HeldPlan) (lid : ℕ) (f now
       → IsLooseEntry cells held next lid node.guid (entry_now now lid port.node)
   loose port node here kind =
       let g = node.guid in
-      let top_is : top_of next g ≡ next_top held plan g = top_next cells held plan g (known port node here kind) in
+      let top_is : top_of next g ≡ next_top held plan g = top_next cells rule held plan g (known port node here kind) in
       let greater : top_of held g ≤ top_of next g = subst (λ (n : ℕ). top_of held g ≤ n) (sym top_is) (at_least (top_of held g) (top_of plan g)) in
       elim (counted_either lid (top_of held g) (top_of next g) (entry_of held g lid) (entry_of next g lid) (f.top port.node) (f.entry port.node lid)
       (entry_for held lid g) greater (seen.holds.entries port node lid here kind) refl (now.top port.node) (now.entry port.node lid)
@@ -112,4 +112,4 @@ module _ (part : Part) (facts : Facts) (held plan : HeldPlan) (lid : ℕ) (f now
   in_change = record { still = is.still; entries = loose }
 
 pub written_tables_are_in_change : WrittenTablesAreInChange
-written_tables_are_in_change facts held plan lid before now origin seen is = in_change (IsJoinedTo before origin) facts held plan lid before now seen is
+written_tables_are_in_change facts rule held plan lid before now origin seen is = in_change (IsJoinedTo before origin) facts rule held plan lid before now seen is

@@ -4,6 +4,7 @@ use Rattle.std.specs.Prelude.{map, replicate}
 use Rattle.std.specs.List.{range_with_len}
 use Rattle.std.proofs.lemmas.List.{map-append}
 use Rattle.std.proofs.lemmas.List.FromFn.{map-range_with_len_more}
+use Rattle.fact_store.specs.View.{Facts, cells_of}
 use Rattle.subnet_view.specs.declared.end_port.EndPort.{EndPort}
 use Rattle.subnet_view.specs.Reading.{Cells, switches}
 use Rattle.plan_file.specs.declared.held.HeldLid.{HeldLid}
@@ -14,9 +15,12 @@ use Rattle.audit.specs.Deliveries.{AreDeliveries, ComeToOwner}
 use Rattle.held_tables.specs.Blocks.{AreBlocks}
 use Rattle.audit.specs.NextHops.{switch_step}
 use Rattle.held_tables.specs.Tables.{owners_of, entry_for}
+use Rattle.next_tables.specs.ByOrder.{position_at}
+use Rattle.next_tables.specs.OrderedEntries.{ordered_of}
 use Rattle.next_tables.specs.SwitchSteps.{next_of}
-use Rattle.next_tables.specs.NextTables.{column_of, if_owned, keeper, next_at, next_for}
+use Rattle.next_tables.specs.NextTables.{StepRuleValue, by_order, column_of, if_owned, index_at, keeper, next_at, next_for, ordered_for, settled_first}
 use Rattle.next_tables.proofs.Listed.{listed}
+use Rattle.next_tables.proofs.Ordered.{ordered_is}
 use Rattle.next_tables.proofs.Settled.{settled_entries}
 
 -- so many that are one
@@ -33,13 +37,13 @@ module _ (cells : Cells) (held plan : HeldPlan) (lid : ℕ) where
 
   -- by those who hold the LID
   by_owners : (planned owners : List EndPort) → planned ≡ owners_of plan lid → owners ≡ owners_of held lid
-      → column_by planned (keeper planned owners) ≡ column_of cells held plan lid
+      → column_by planned (keeper planned owners) ≡ column_of cells settled_first held plan lid
   unfolding next_at
   by_owners planned owners p h = λ i. column_by (p i) (keeper (p i) (h i))
 
   -- a LID that nobody has
   pub nobodys : (entries : List ℕ) (planned : List EndPort) → planned ≡ owners_of plan lid → planned ≡ [] → (count : ℕ) → count ≡ length gs
-      → entries ≡ replicate count 255 → entries ≡ column_of cells held plan lid
+      → entries ≡ replicate count 255 → entries ≡ column_of cells settled_first held plan lid
   nobodys entries planned p none count all e =
       let empty : column_by planned (keeper planned (owners_of held lid)) ≡ map (λ (g : ℕ). 255) gs =
       ap (λ (es : List EndPort). column_by es (keeper es (owners_of held lid))) none in
@@ -49,7 +53,7 @@ module _ (cells : Cells) (held plan : HeldPlan) (lid : ℕ) where
   pub kept : (entries : List ℕ) (planned owners : List EndPort) (port : EndPort) (hs ps : List SwitchStep) → planned ≡ owners_of plan lid → owners
       ≡ owners_of held lid
       → Some port ≡ keeper planned owners → hs ≡ map (switch_step cells held lid) gs → ps ≡ map (switch_step cells plan lid) gs
-      → entries ≡ next_of port hs ps → entries ≡ column_of cells held plan lid
+      → entries ≡ next_of port hs ps → entries ≡ column_of cells settled_first held plan lid
   kept entries planned owners port hs ps p h k hs_are ps_are e =
       let line : HeldLid = record { lid = lid; port = port } in
       e ∙ (λ i. next_of port (hs_are i) (ps_are i)) ∙ listed cells held plan line
@@ -66,24 +70,48 @@ module _ (cells : Cells) (held plan : HeldPlan) (lid : ℕ) where
   -- the same where the tables held have the plan's entries, and packets arrive by these from each switch
   pub settled : (entries held_entries : List ℕ) (planned owners : List EndPort) (port : EndPort) → planned ≡ owners_of plan lid → owners ≡ owners_of held lid
       → Some port ≡ keeper planned owners → held_entries ≡ map (entry_for held lid) gs → entries ≡ map (entry_for plan lid) gs → held_entries ≡ entries
-      → ComeToOwner cells plan lid → entries ≡ column_of cells held plan lid
+      → ComeToOwner cells plan lid → entries ≡ column_of cells settled_first held plan lid
   settled entries held_entries planned owners port p h k held_are e same come =
       e ∙ settled_entries cells held plan lid port planned owners p (sym k) (sym held_are ∙ same ∙ e) come ∙ ap (column_by planned) k
       ∙ by_owners planned owners p h
 
   -- and any other that the plan has
   pub others : (entries : List ℕ) (planned owners : List EndPort) → planned ≡ owners_of plan lid → owners ≡ owners_of held lid
-      → (planned ≡ [] → ⊥) → None ≡ keeper planned owners → entries ≡ map (entry_for plan lid) gs → entries ≡ column_of cells held plan lid
+      → (planned ≡ [] → ⊥) → None ≡ keeper planned owners → entries ≡ map (entry_for plan lid) gs → entries ≡ column_of cells settled_first held plan lid
   others entries planned owners p h some k e =
       e ∙ sym (owned_each planned gs some) ∙ ap (column_by planned) k ∙ by_owners planned owners p h
 
+  -- by an order
+  column_by_order : List ℕ → List EndPort → List ℕ
+  column_by_order positions planned = map (λ g. ordered_for cells (position_at positions) held plan lid planned (index_at cells g) g) gs
+
+  ordered_by_owners : (positions : List ℕ) (planned : List EndPort) → planned ≡ owners_of plan lid
+      → column_by_order positions planned ≡ column_of cells (by_order positions) held plan lid
+  unfolding next_at
+  ordered_by_owners positions planned p = ap (column_by_order positions) p
+
+  pub ordered_nobodys : (positions entries : List ℕ) (planned : List EndPort) → planned ≡ owners_of plan lid → planned ≡ [] → (count : ℕ) → count ≡ length gs
+      → entries ≡ replicate count 255 → entries ≡ column_of cells (by_order positions) held plan lid
+  ordered_nobodys positions entries planned p none count all e =
+      e ∙ ap (λ n. replicate n 255) all ∙ sym (same_each 255 gs) ∙ sym (ap (column_by_order positions) none) ∙ ordered_by_owners positions planned p
+
+-- one that the plan has, by an order
+module _ (facts : Facts) (positions : List ℕ) (held plan : HeldPlan) (lid : ℕ) where
+  pub ordered_kept : (entries : List ℕ) (planned later : List EndPort) (port : EndPort) (hs ps : List SwitchStep) → planned ≡ owners_of plan lid
+      → planned ≡ port ∷ later → hs ≡ map (switch_step (cells_of facts) held lid) (switches (cells_of facts))
+      → ps ≡ map (switch_step (cells_of facts) plan lid) (switches (cells_of facts)) → entries ≡ ordered_of positions port hs ps
+      → entries ≡ column_of (cells_of facts) (by_order positions) held plan lid
+  ordered_kept entries planned later port hs ps p first hs_are ps_are e =
+      e ∙ (λ i. ordered_of positions port (hs_are i) (ps_are i)) ∙ ordered_is facts positions held plan (record { lid = lid; port = port })
+      ∙ sym (ap (column_by_order (cells_of facts) held plan lid positions) first) ∙ ordered_by_owners (cells_of facts) held plan lid positions planned p
+
 -- the columns so far
-pub record SoFar (cells plan_cells : Cells) (held plan : HeldPlan) (count held_number plan_number : ℕ) (held_rows plan_rows : List (List ℕ))
+pub record SoFar (cells plan_cells : Cells) (rule : StepRuleValue) (held plan : HeldPlan) (count held_number plan_number : ℕ) (held_rows plan_rows : List (List ℕ))
     (deliveries : Deliveries) (columns : List (List ℕ)) : Type 0 where
   pub held_blocks : AreBlocks held held_number held_rows
   pub plan_blocks : AreBlocks plan plan_number plan_rows
   pub deliveries_are : AreDeliveries plan_cells plan deliveries
-  pub columns_are : columns ≡ map (column_of cells held plan) (range_with_len 0 count)
+  pub columns_are : columns ≡ map (column_of cells rule held plan) (range_with_len 0 count)
 
 -- a column more
 pub column_more : {C : Type 0} (F : ℕ → List ℕ) (entries : C → List ℕ) (old new : List C) (c : C) (n : ℕ) → map entries old ≡ map F (range_with_len 0 n)

@@ -36,7 +36,7 @@ use Rattle.audit.proofs.FarRows.{has, lacks, no_far, no_port, row_at}
 use Rattle.held_tables.proofs.HeldTables.{within_length}
 use Rattle.audit.proofs.Told.{IsClosed, joined_closed}
 use Rattle.next_tables.specs.Next.{step_at, IsNext}
-use Rattle.next_tables.specs.NextTables.{next_tables}
+use Rattle.next_tables.specs.NextTables.{next_tables, settled_first}
 use Rattle.next_tables.specs.ChangingFabric.{entry_now, IsLooseEntry, IsInChange, ChangesMeanwhile, GoesMeanwhile, ArrivesMeanwhile, PacketsArriveWhileTablesChange}
 use Rattle.next_tables.proofs.Changing.{in_time, MayDo, IsOnItsWay, held_arrives}
 use Rattle.next_tables.proofs.Entries.{planned, by, by_agreed, by_mending, agree, choose, mend, steps_long, agreed_long, mending_long, steps_at}
@@ -481,6 +481,6 @@ module _ (part : Part) (facts : Facts) (held plan next : HeldPlan) (line : HeldL
 
 pub packets_arrive_while_tables_change : PacketsArriveWhileTablesChange
 packets_arrive_while_tables_change facts held plan line before origin is_end seen some kept fabrics are source node here brought =
-    arrives_in (IsJoinedTo before origin) facts held plan (next_tables (cells_of facts) held plan) line before seen
+    arrives_in (IsJoinedTo before origin) facts held plan (next_tables (cells_of facts) settled_first held plan) line before seen
     (joined_closed before seen.is_fabric origin) some (kept_owners (cells_of facts) held plan line kept) (is_next (cells_of facts) held plan line kept)
     fabrics are source node here brought

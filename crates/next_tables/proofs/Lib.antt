@@ -4,15 +4,14 @@ pub mod ByLid
 pub mod Changing
 pub mod ChangingFabric
 pub mod Entries
-pub mod InStep
+pub mod Hops
 pub mod Listed
-pub mod LoopLids
 pub mod NextText
+pub mod Ordered
 pub mod Mixtures
 pub mod Plain
 pub mod Settled
 pub mod StepLaws
 pub mod Steps
-pub mod Taken
 pub mod Waits
 pub mod Whole

@@ -26,8 +26,10 @@ use Rattle.plan_file.proofs.PlanRanges.{plans_in_range, switch_small}
 use Rattle.plan_file.proofs.Printed.{tables_are_read}
 use Rattle.plan_file.proofs.ReadRanges.{texts_are_in_range}
 use Rattle.held_tables.specs.Tables.{block_at, entry_at, entry_for, entry_in, entry_of, index_of, is_block_of, top_at, top_of}
-use Rattle.next_tables.specs.Next.{delivers, leads_on, mends, next_entry, step_at}
-use Rattle.next_tables.specs.NextTables.{if_owned, keeper, next_at, next_block, next_for, next_switch, next_table, next_tables, next_top}
+use Rattle.audit.specs.declared.next_hop.NextHop.TheVariants.{To}
+use Rattle.next_tables.specs.ByOrder.{may_change, position_at, tried}
+use Rattle.next_tables.specs.Next.{comes_to, delivers, leads_on, mends, next_entry, step_at}
+use Rattle.next_tables.specs.NextTables.{StepRuleValue, by_order, if_owned, index_at, keeper, next_at, next_block, next_for, next_switch, next_table, next_tables, next_top, ordered_for, settled_first}
 use Rattle.next_tables.specs.NextText.{NextTextsAreRead, StepTextsAreRead}
 use Rattle.held_tables.specs.Tables.{owners_of}
 use Rattle.audit.specs.WalkEnds.{is_to}
@@ -140,7 +142,7 @@ all_numbers : {X : Type 0} (P : X → Type 0) (f : ℕ → X) (ns : List ℕ) �
 all_numbers P f [] h = tt
 all_numbers P f (n ∷ ns) h = (h n (contains_here n ns), all_numbers P f ns (λ m there. h m (contains_later n m ns there)))
 
-module _ (facts : Facts) (held plan : HeldPlan) (held_range : IsHeldInRange held) (plan_range : IsHeldInRange plan) where
+module _ (facts : Facts) (rule : StepRuleValue) (held plan : HeldPlan) (held_range : IsHeldInRange held) (plan_range : IsHeldInRange plan) where
   abbrev cells : Cells
   cells = cells_of facts
 
@@ -162,14 +164,27 @@ module _ (facts : Facts) (held plan : HeldPlan) (held_range : IsHeldInRange held
   for_byte lid g planned None = owned_byte planned (entry_for plan lid g) (byte_for plan plan_range lid g)
   for_byte lid g planned (Some port) = next_byte (record { lid = lid; port = port }) g
 
-  at_byte : (lid g : ℕ) → next_at cells held plan lid g < 256
+  order_byte : (q : ℕ → ℕ) (lid g i : ℕ) (planned : List EndPort) → ordered_for cells q held plan lid planned i g < 256
+  order_byte q lid g i [] = omega arith
+  order_byte q lid g i (port ∷ planned) =
+      let line : HeldLid = record { lid = lid; port = port } in
+      let by_held = byte_for held held_range lid g in
+      let by_plan = byte_for plan plan_range lid g in
+      cond_both (comes_to port (tried cells q held plan line) (To i)) _ _ (λ n. n < 256)
+      (λ _. cond_both (may_change cells q held plan line i g) _ _ (λ n. n < 256) (λ _. by_plan) (λ _. by_held)) (λ _. omega arith)
+
+  byte_by : (by : StepRuleValue) (lid g : ℕ) → next_at cells by held plan lid g < 256
   unfolding next_at
-  at_byte lid g = for_byte lid g (owners_of plan lid) (keeper (owners_of plan lid) (owners_of held lid))
+  byte_by settled_first lid g = for_byte lid g (owners_of plan lid) (keeper (owners_of plan lid) (owners_of held lid))
+  byte_by (by_order positions) lid g = order_byte (position_at positions) lid g (index_at cells g) (owners_of plan lid)
+
+  at_byte : (lid g : ℕ) → next_at cells rule held plan lid g < 256
+  at_byte lid g = byte_by rule lid g
 
   -- so the next blocks are blocks
-  block_byte : (g b i : ℕ) → get_or (next_block cells held plan g b) i 0 < 256
+  block_byte : (g b i : ℕ) → get_or (next_block cells rule held plan g b) i 0 < 256
   block_byte g b i =
-      let f : ℕ → ℕ = λ j. next_at cells held plan (64 * b + j) g in
+      let f : ℕ → ℕ = λ j. next_at cells rule held plan (64 * b + j) g in
       let long = length-map-range_with_len f 0 64 in
       elim (cases_lt i 64) [
         | inl less ↦ let at : get_or (map f (range_with_len 0 64)) i 0 ≡ f i = get_or-map-range_with_len f 0 64 i i 0 less (omega arith) in
@@ -182,8 +197,8 @@ module _ (facts : Facts) (held plan : HeldPlan) (held_range : IsHeldInRange held
       past (x ∷ xs) zero h = absurd (omega arith)
       past (x ∷ xs) (suc n) h = past xs n (omega arith)
 
-  next_is_block : (g b : ℕ) → IsBlock (next_block cells held plan g b)
-  next_is_block g b = record { whole = length-map-range_with_len (λ j. next_at cells held plan (64 * b + j) g) 0 64; bytes = λ i. block_byte g b i }
+  next_is_block : (g b : ℕ) → IsBlock (next_block cells rule held plan g b)
+  next_is_block g b = record { whole = length-map-range_with_len (λ j. next_at cells rule held plan (64 * b + j) g) 0 64; bytes = λ i. block_byte g b i }
 
   -- tops are LIDs
   top_small : (g : ℕ) → next_top held plan g ≤ 0xBFFF
@@ -193,26 +208,26 @@ module _ (facts : Facts) (held plan : HeldPlan) (held_range : IsHeldInRange held
       omega arith
 
   -- and the tables of switches are in range
-  table_in_range : AreInRange facts → (g : ℕ) → Contains (switches cells) g → IsTableInRange (next_table cells held plan g)
+  table_in_range : AreInRange facts → (g : ℕ) → Contains (switches cells) g → IsTableInRange (next_table cells rule held plan g)
   table_in_range range g there =
       let count = block_count (Some (next_top held plan g)) in
       let small = top_small g in
       record {
         guid = switch_small facts range g there;
-        blocks = all_numbers IsBlock (next_block cells held plan g) (range_with_len 0 count) (λ b _. next_is_block g b);
-        few = omega (arith, length-map-range_with_len (next_block cells held plan g) 0 count, small);
+        blocks = all_numbers IsBlock (next_block cells rule held plan g) (range_with_len 0 count) (λ b _. next_is_block g b);
+        few = omega (arith, length-map-range_with_len (next_block cells rule held plan g) 0 count, small);
       }
 
-  next_guids : map (λ t. t.guid) (map (next_table cells held plan) (switches cells)) ≡ switches cells
-  next_guids = mapped_twice (λ (t : SwitchTable). t.guid) (next_table cells held plan) (switches cells) ∙ same_numbers (switches cells)
+  next_guids : map (λ t. t.guid) (map (next_table cells rule held plan) (switches cells)) ≡ switches cells
+  next_guids = mapped_twice (λ (t : SwitchTable). t.guid) (next_table cells rule held plan) (switches cells) ∙ same_numbers (switches cells)
 
-  tops_are : AreTops (next_top held plan) (map (next_table cells held plan) (switches cells))
-  tops_are = all_numbers (λ (t : SwitchTable). next_top held plan t.guid ≤ 0xBFFF) (next_table cells held plan) (switches cells) (λ g _. top_small g)
+  tops_are : AreTops (next_top held plan) (map (next_table cells rule held plan) (switches cells))
+  tops_are = all_numbers (λ (t : SwitchTable). next_top held plan t.guid ≤ 0xBFFF) (next_table cells rule held plan) (switches cells) (λ g _. top_small g)
 
 -- the LIDs of a plan, with the next tables
-module _ (facts : Facts) (held : HeldPlan) (plan : PlanValue) where
+module _ (facts : Facts) (rule : StepRuleValue) (held : HeldPlan) (plan : PlanValue) where
   abbrev next_plan : PlanValue
-  next_plan = record { given = plan.given; tables = map (next_table (cells_of facts) held (held_plan plan)) (switches (cells_of facts)) }
+  next_plan = record { given = plan.given; tables = map (next_table (cells_of facts) rule held (held_plan plan)) (switches (cells_of facts)) }
 
   step_in_range : AreInRange facts → IsHeldInRange held → IsPlanInRange plan → IsPlanInRange next_plan
   step_in_range range held_range plan_range =
@@ -221,13 +236,13 @@ module _ (facts : Facts) (held : HeldPlan) (plan : PlanValue) where
         lmc = plan_range.lmc;
         lids = plan_range.lids;
         top = plan_range.top;
-        rising = subst IsStrictlyIncreasing (sym (next_guids facts held (held_plan plan) held_range target))
+        rising = subst IsStrictlyIncreasing (sym (next_guids facts rule held (held_plan plan) held_range target))
             (switches_rise facts (switches (cells_of facts)) refl);
-        tables = all_numbers IsTableInRange (next_table (cells_of facts) held (held_plan plan)) (switches (cells_of facts))
-            (λ g there. table_in_range facts held (held_plan plan) held_range target range g there);
+        tables = all_numbers IsTableInRange (next_table (cells_of facts) rule held (held_plan plan)) (switches (cells_of facts))
+            (λ g there. table_in_range facts rule held (held_plan plan) held_range target range g there);
       }
 
-  next_is : next_tables (cells_of facts) held (held_plan plan) ≡ held_under (next_top held (held_plan plan)) next_plan
+  next_is : next_tables (cells_of facts) rule held (held_plan plan) ≡ held_under (next_top held (held_plan plan)) next_plan
   unfolding next_tables
   next_is =
       let cells = cells_of facts in
@@ -238,13 +253,13 @@ module _ (facts : Facts) (held : HeldPlan) (plan : PlanValue) where
       λ i. record { lids = lids i; switches = switches_are i; blocks = blocks_of 0 next_plan.tables }
 
 pub next_texts_are_read : NextTextsAreRead
-next_texts_are_read facts held plan range held_range plan_range =
-    let it : HeldPlan = held_under (next_top held (held_plan plan)) (next_plan facts held plan) in
+next_texts_are_read facts by held plan range held_range plan_range =
+    let it : HeldPlan = held_under (next_top held (held_plan plan)) (next_plan facts by held plan) in
     let P : HeldPlan → Type 0 = λ next. Says (next_text plan.given next) next in
-    subst P (sym (next_is facts held plan))
-    (tables_are_read (next_top held (held_plan plan)) (next_plan facts held plan) (step_in_range facts held plan range held_range plan_range)
-    (tops_are facts held (held_plan plan) held_range (plan_in_range plan plan_range)))
+    subst P (sym (next_is facts by held plan))
+    (tables_are_read (next_top held (held_plan plan)) (next_plan facts by held plan) (step_in_range facts by held plan range held_range plan_range)
+    (tops_are facts by held (held_plan plan) held_range (plan_in_range plan plan_range)))
 
 pub step_texts_are_read : StepTextsAreRead
-step_texts_are_read rule lmc facts text small range has_room =
-    next_texts_are_read facts _ _ range (texts_are_in_range text) (plans_in_range rule lmc facts small range has_room)
+step_texts_are_read rule lmc facts by text small range has_room =
+    next_texts_are_read facts by _ _ range (texts_are_in_range text) (plans_in_range rule lmc facts small range has_room)

@@ -4,16 +4,16 @@ use Rattle.subnet_view.specs.Reading.{Cells}
 use Rattle.plan_file.specs.declared.held.HeldLid.{HeldLid}
 use Rattle.plan_file.specs.Held.{HeldPlan}
 use Rattle.next_tables.specs.Mixtures.{AreSteps}
-use Rattle.next_tables.specs.NextTables.{IsKept, next_tables}
+use Rattle.next_tables.specs.NextTables.{IsKept, next_tables, settled_first}
 use Rattle.next_tables.specs.StepLaws.{stepped, NextTablesAreSo, StepsFollowTheRule, StepsLoseNone, StepsSendNoneRound, StepsEndInThePlan, StepsHealInTwo}
 use Rattle.next_tables.proofs.Steps.{none_is_lost, none_goes_round, end_in_the_plan, heal_in_two}
 use Rattle.next_tables.proofs.Whole.{entry_next, is_next, kept_owners, owners_next, top_next}
 
 pub next_tables_are_so : NextTablesAreSo
-next_tables_are_so cells held plan = record {
-  owners = owners_next cells held plan;
-  tops = top_next cells held plan;
-  entries = entry_next cells held plan;
+next_tables_are_so cells rule held plan = record {
+  owners = owners_next cells rule held plan;
+  tops = top_next cells rule held plan;
+  entries = entry_next cells rule held plan;
 }
 
 pub steps_follow_the_rule : StepsFollowTheRule
@@ -21,11 +21,11 @@ steps_follow_the_rule cells held plan line kept = is_next cells held plan line k
 
 pub steps_lose_none : StepsLoseNone
 steps_lose_none cells held plan line kept =
-    none_is_lost cells held plan (next_tables cells held plan) line (kept_owners cells held plan line kept) (is_next cells held plan line kept)
+    none_is_lost cells held plan (next_tables cells settled_first held plan) line (kept_owners cells held plan line kept) (is_next cells held plan line kept)
 
 pub steps_send_none_round : StepsSendNoneRound
 steps_send_none_round cells held plan line kept =
-    none_goes_round cells held plan (next_tables cells held plan) line (kept_owners cells held plan line kept) (is_next cells held plan line kept)
+    none_goes_round cells held plan (next_tables cells settled_first held plan) line (kept_owners cells held plan line kept) (is_next cells held plan line kept)
 
 module _ (cells : Cells) (held plan : HeldPlan) (line : HeldLid) (kept : IsKept held plan line) where
   -- the end port keeps the LID
@@ -33,7 +33,7 @@ module _ (cells : Cells) (held plan : HeldPlan) (line : HeldLid) (kept : IsKept 
   keeps_on zero = kept
   keeps_on (suc n) = record {
     in_plan = kept.in_plan;
-    in_held = owners_next cells (stepped cells plan held n) plan line.lid ∙ kept.in_plan;
+    in_held = owners_next cells settled_first (stepped cells plan held n) plan line.lid ∙ kept.in_plan;
   }
 
   are_steps : AreSteps cells plan line (stepped cells plan held)

@@ -22,9 +22,11 @@ use Rattle.held_tables.proofs.HeldTables.{block_found, slice_mapped}
 use Rattle.audit.proofs.Judged.{same_itself}
 use Rattle.audit.proofs.PlanSteps.{index_is}
 use Rattle.audit.proofs.Tops.{entry_above}
-use Rattle.next_tables.specs.Next.{IsNext, delivers, leads_on, mends, next_entry, step_at}
+use Rattle.audit.specs.declared.next_hop.NextHop.TheVariants.{To}
+use Rattle.next_tables.specs.ByOrder.{may_change, position_at, tried}
+use Rattle.next_tables.specs.Next.{IsNext, comes_to, delivers, leads_on, mends, next_entry, step_at}
 use Rattle.next_tables.specs.Assembled.{all_blocks}
-use Rattle.next_tables.specs.NextTables.{IsKept, column_of, if_owned, keeper, next_at, next_block, next_for, next_switch, next_table, next_tables, next_top}
+use Rattle.next_tables.specs.NextTables.{IsKept, StepRuleValue, by_order, column_of, if_owned, index_at, keeper, next_at, next_block, next_for, next_switch, next_table, next_tables, next_top, ordered_for, settled_first}
 use Rattle.plan_file.specs.declared.held.HeldBlock.{HeldBlock}
 use Rattle.audit.specs.Edges.{greatest_top}
 use Rattle.audit.specs.WalkEnds.{is_to}
@@ -46,25 +48,30 @@ all_none false false true true x y h k = h
 all_none false false true false x y h k = k
 all_none false false false d x y h k = refl
 
-module _ (cells : Cells) (held plan : HeldPlan) where
+two_none : (a b : Bool) (x y : ℕ) → x ≡ 255 → y ≡ 255 → cond a (cond b y x) 255 ≡ 255
+two_none true true x y h k = k
+two_none true false x y h k = h
+two_none false b x y h k = refl
+
+module _ (cells : Cells) (rule : StepRuleValue) (held plan : HeldPlan) where
   abbrev gs : List ℕ
   gs = switches cells
 
   abbrev made : HeldPlan
-  made = record { lids = plan.lids; switches = map (next_switch held plan) gs; blocks = blocks_of 0 (map (next_table cells held plan) gs) }
+  made = record { lids = plan.lids; switches = map (next_switch held plan) gs; blocks = blocks_of 0 (map (next_table cells rule held plan) gs) }
 
-  made_is : next_tables cells held plan ≡ made
+  made_is : next_tables cells rule held plan ≡ made
   unfolding next_tables
   made_is = refl
 
   -- what is put together
   pub put_together : (lids : List HeldLid) (switches_ : List HeldSwitch) (blocks : List HeldBlock) (columns : List (List ℕ)) (count : ℕ) → lids ≡ plan.lids
-      → switches_ ≡ map (next_switch held plan) gs → columns ≡ map (column_of cells held plan) (range_with_len 0 (64 * count))
+      → switches_ ≡ map (next_switch held plan) gs → columns ≡ map (column_of cells rule held plan) (range_with_len 0 (64 * count))
       → count ≡ block_count (Some (max (greatest_top cells held) (greatest_top cells plan))) → blocks ≡ all_blocks columns 0 switches_
-      → ◌≡◌ {A = HeldPlan} (record { lids = lids; switches = switches_; blocks = blocks }) (next_tables cells held plan)
+      → ◌≡◌ {A = HeldPlan} (record { lids = lids; switches = switches_; blocks = blocks }) (next_tables cells rule held plan)
   put_together lids switches_ blocks columns count l s are enough b =
-      let all : blocks ≡ blocks_of 0 (map (next_table cells held plan) gs) =
-      b ∙ ap (all_blocks columns 0) s ∙ all_are cells held plan columns count are enough in
+      let all : blocks ≡ blocks_of 0 (map (next_table cells rule held plan) gs) =
+      b ∙ ap (all_blocks columns 0) s ∙ all_are cells rule held plan columns count are enough in
       (λ i. record { lids = l i; switches = s i; blocks = all i }) ∙ sym made_is
 
   by_none : (planned : List EndPort) (entry : ℕ) → entry ≡ 255 → if_owned planned entry ≡ 255
@@ -79,9 +86,20 @@ module _ (cells : Cells) (held plan : HeldPlan) where
       all_none (leads_on cells held plan line g) (delivers cells held line g) (mends cells held plan line g) (is_to (step_at cells held lid g))
       (entry_for held lid g) (entry_for plan lid g) h k
 
-  none_at : (lid g : ℕ) → entry_for held lid g ≡ 255 → entry_for plan lid g ≡ 255 → next_at cells held plan lid g ≡ 255
+  order_none : (q : ℕ → ℕ) (lid g i : ℕ) (planned : List EndPort) → entry_for held lid g ≡ 255 → entry_for plan lid g ≡ 255
+      → ordered_for cells q held plan lid planned i g ≡ 255
+  order_none q lid g i [] h k = refl
+  order_none q lid g i (port ∷ planned) h k =
+      let line : HeldLid = record { lid = lid; port = port } in
+      two_none (comes_to port (tried cells q held plan line) (To i)) (may_change cells q held plan line i g) (entry_for held lid g) (entry_for plan lid g) h k
+
+  none_by : (by : StepRuleValue) (lid g : ℕ) → entry_for held lid g ≡ 255 → entry_for plan lid g ≡ 255 → next_at cells by held plan lid g ≡ 255
   unfolding next_at
-  none_at lid g h k = for_none lid g (owners_of plan lid) (keeper (owners_of plan lid) (owners_of held lid)) h k
+  none_by settled_first lid g h k = for_none lid g (owners_of plan lid) (keeper (owners_of plan lid) (owners_of held lid)) h k
+  none_by (by_order positions) lid g h k = order_none (position_at positions) lid g (index_at cells g) (owners_of plan lid) h k
+
+  none_at : (lid g : ℕ) → entry_for held lid g ≡ 255 → entry_for plan lid g ≡ 255 → next_at cells rule held plan lid g ≡ 255
+  none_at lid g h k = none_by rule lid g h k
 
   record Placed (g : ℕ) : Type 0 where
     index : ℕ
@@ -104,27 +122,27 @@ module _ (cells : Cells) (held plan : HeldPlan) where
       ap (top_at made) p.is
       ∙ ap (λ o. option_map_or (λ (s : HeldSwitch). s.top) o 0) (slice_mapped (next_switch held plan) gs p.index g p.there)
 
-  held_is : (g lid : ℕ) (p : Placed g) → lid ≤ next_top held plan g → entry_of made g lid ≡ next_at cells held plan lid g
+  held_is : (g lid : ℕ) (p : Placed g) → lid ≤ next_top held plan g → entry_of made g lid ≡ next_at cells rule held plan lid g
   held_is g lid p low =
       let b = lid / 64 in
       let n = block_count (Some (next_top held plan g)) in
-      let tables : List SwitchTable = map (next_table cells held plan) gs in
-      let its = slice_mapped (next_table cells held plan) gs p.index g p.there in
+      let tables : List SwitchTable = map (next_table cells rule held plan) gs in
+      let its = slice_mapped (next_table cells rule held plan) gs p.index g p.there in
       let at : 0 + b ≡ b = omega arith in
-      let stands : slice_get (map (next_block cells held plan g) (range_with_len 0 n)) b ≡ Some (next_block cells held plan g b) =
-      made_at (next_block cells held plan g) 0 n b (omega arith) ∙ ap (λ j. Some (next_block cells held plan g j)) at in
-      let (y, found, entries) = block_found tables p.index b (next_table cells held plan g) (next_block cells held plan g b) its stands in
+      let stands : slice_get (map (next_block cells rule held plan g) (range_with_len 0 n)) b ≡ Some (next_block cells rule held plan g b) =
+      made_at (next_block cells rule held plan g) 0 n b (omega arith) ∙ ap (λ j. Some (next_block cells rule held plan g j)) at in
+      let (y, found, entries) = block_found tables p.index b (next_table cells rule held plan g) (next_block cells rule held plan g b) its stands in
       let whole : 64 * b + lid % 64 ≡ lid = omega arith in
       ap (λ o. entry_at made o lid) p.is
       ∙ ap (λ o. entry_in o (lid % 64)) found
       ∙ ap (λ es. get_or es (lid % 64) 255) entries
-      ∙ get_or-map-range_with_len (λ i. next_at cells held plan (64 * b + i) g) 0 64 (lid % 64) (lid % 64) 255 (omega arith) (omega arith)
-      ∙ ap (λ j. next_at cells held plan j g) whole
+      ∙ get_or-map-range_with_len (λ i. next_at cells rule held plan (64 * b + i) g) 0 64 (lid % 64) (lid % 64) 255 (omega arith) (omega arith)
+      ∙ ap (λ j. next_at cells rule held plan j g) whole
 
   of_zero : (tables : HeldPlan) (g : ℕ) → entry_for tables 0 g ≡ 255
   of_zero tables g = refl
 
-  entry_made : (g lid : ℕ) → Contains gs g → entry_for made lid g ≡ next_at cells held plan lid g
+  entry_made : (g lid : ℕ) → Contains gs g → entry_for made lid g ≡ next_at cells rule held plan lid g
   entry_made g lid here =
       let p = placed g here in
       let top = top_is g p in
@@ -148,29 +166,30 @@ module _ (cells : Cells) (held plan : HeldPlan) where
       ]
 
   -- each switch has the next entry for each LID
-  pub entry_next : (g lid : ℕ) → Contains gs g → entry_for (next_tables cells held plan) lid g ≡ next_at cells held plan lid g
+  pub entry_next : (g lid : ℕ) → Contains gs g → entry_for (next_tables cells rule held plan) lid g ≡ next_at cells rule held plan lid g
   entry_next g lid here = ap (λ tables. entry_for tables lid g) made_is ∙ entry_made g lid here
 
   -- and the plan's owners
-  pub owners_next : (lid : ℕ) → owners_of (next_tables cells held plan) lid ≡ owners_of plan lid
+  pub owners_next : (lid : ℕ) → owners_of (next_tables cells rule held plan) lid ≡ owners_of plan lid
   owners_next lid = ap (λ tables. owners_of tables lid) made_is
 
   -- and the greater top
-  pub top_next : (g : ℕ) → Contains gs g → top_of (next_tables cells held plan) g ≡ next_top held plan g
+  pub top_next : (g : ℕ) → Contains gs g → top_of (next_tables cells rule held plan) g ≡ next_top held plan g
   top_next g here = ap (λ tables. top_of tables g) made_is ∙ top_is g (placed g here)
 
-  -- so the rule holds for a LID that one end port keeps
-  kept_entry : (line : HeldLid) → IsKept held plan line → (g : ℕ) → next_at cells held plan line.lid g ≡ next_entry cells held plan line g
+-- the rule that goes by settled entries holds for a LID that one end port keeps
+module _ (cells : Cells) (held plan : HeldPlan) where
+  kept_entry : (line : HeldLid) → IsKept held plan line → (g : ℕ) → next_at cells settled_first held plan line.lid g ≡ next_entry cells held plan line g
   unfolding next_at
   kept_entry line kept g =
       let it : keeper (line.port ∷ []) (line.port ∷ []) ≡ Some line.port = ap (λ t. cond t (Some line.port) None) (same_itself line.port) in
       (λ i. next_for cells held plan line.lid (kept.in_plan i) (keeper (kept.in_plan i) (kept.in_held i)) g)
       ∙ ap (λ o. next_for cells held plan line.lid (line.port ∷ []) o g) it
 
-  pub is_next : (line : HeldLid) → IsKept held plan line → IsNext cells held plan line (next_tables cells held plan)
+  pub is_next : (line : HeldLid) → IsKept held plan line → IsNext cells held plan line (next_tables cells settled_first held plan)
   is_next line kept = record {
-    owners = owners_next line.lid ∙ kept.in_plan ∙ sym kept.in_held;
-    entries = λ g here. entry_next g line.lid here ∙ kept_entry line kept g;
+    owners = owners_next cells settled_first held plan line.lid ∙ kept.in_plan ∙ sym kept.in_held;
+    entries = λ g here. entry_next cells settled_first held plan g line.lid here ∙ kept_entry line kept g;
   }
 
   pub kept_owners : (line : HeldLid) → IsKept held plan line → owners_of plan line.lid ≡ owners_of held line.lid

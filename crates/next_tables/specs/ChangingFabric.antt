@@ -21,7 +21,7 @@ use Rattle.audit.specs.Fabrics.{IsSeenIn}
 use Rattle.audit.specs.NextHops.{IsBrought}
 use Rattle.held_tables.specs.Tables.{counted, entry_for, entry_of, top_of}
 use Rattle.next_tables.specs.Next.{step_at}
-use Rattle.next_tables.specs.NextTables.{IsKept, next_tables}
+use Rattle.next_tables.specs.NextTables.{IsKept, StepRuleValue, next_tables, settled_first}
 
 -- the entry of a switch for a LID that counts, by the top and the table that its agent has now
 abbrev pub entry_now : Fabric → ℕ → ℕ → ℕ
@@ -96,7 +96,7 @@ PacketsArriveWhileTablesChange =
     → IsEndPort before origin
     → IsSeenIn (IsJoinedTo before origin) (cells_of facts) held before → 1 ≤ line.lid → IsKept held plan line
     → (fabrics : ℕ → Fabric)
-    → ChangesMeanwhile (IsJoinedTo before origin) (cells_of facts) held (next_tables (cells_of facts) held plan)
+    → ChangesMeanwhile (IsJoinedTo before origin) (cells_of facts) held (next_tables (cells_of facts) settled_first held plan)
     line.lid before fabrics
     → (source : NodePort) (node : Node) → IsEndPortIn (IsJoinedTo before origin) before source node
     → IsBrought (cells_of facts) held line.lid (record {
@@ -109,8 +109,8 @@ PacketsArriveWhileTablesChange =
 -- what is being written is in such a change
 abbrev pub WrittenTablesAreInChange : Type 0
 WrittenTablesAreInChange =
-    (facts : Facts) (held plan : HeldPlan) (lid : ℕ) (before now : Fabric) (origin : NodePort)
+    (facts : Facts) (rule : StepRuleValue) (held plan : HeldPlan) (lid : ℕ) (before now : Fabric) (origin : NodePort)
     → IsSeenIn (IsJoinedTo before origin) (cells_of facts) held before
-    → IsBeingWritten (IsJoinedTo before origin) (next_tables (cells_of facts) held plan) lid before now
-    → IsInChange (IsJoinedTo before origin) (cells_of facts) held (next_tables (cells_of facts) held plan) lid before
+    → IsBeingWritten (IsJoinedTo before origin) (next_tables (cells_of facts) rule held plan) lid before now
+    → IsInChange (IsJoinedTo before origin) (cells_of facts) held (next_tables (cells_of facts) rule held plan) lid before
     now

@@ -1,10 +1,10 @@
+pub mod ByOrder
 pub mod Assembled
 pub mod ChangingFabric
-pub mod LoopLids
 pub mod Mixtures
 pub mod Next
 pub mod NextTables
 pub mod NextText
+pub mod OrderedEntries
 pub mod StepLaws
-pub mod StepOrder
 pub mod SwitchSteps

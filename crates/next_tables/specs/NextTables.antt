@@ -1,5 +1,5 @@
 -- The tables to write next, whole.
-use Rattle.std.specs.Prelude.{◌≡◌, ℕ, ◌+◌, ◌*◌, Bool, true, false, List, [], ◌∷◌, Option, None, Some, map, max, not, option_map, if◌then◌else◌}
+use Rattle.std.specs.Prelude.{◌≡◌, ℕ, ◌+◌, ◌*◌, Bool, true, false, List, [], ◌∷◌, Option, None, Some, map, max, not, option_map, unwrap_or, if◌then◌else◌}
 use Rattle.std.specs.List.{find, range_with_len}
 use Rattle.subnet_view.specs.declared.end_port.EndPort.{EndPort}
 use Rattle.subnet_view.specs.Reading.{Cells, switches}
@@ -10,9 +10,13 @@ use Rattle.plan_file.specs.declared.held.HeldSwitch.{HeldSwitch}
 use Rattle.plan_file.specs.Held.{HeldPlan}
 use Rattle.plan_file.specs.Printed.{blocks_of}
 use Rattle.held_tables.specs.Owners.{is_sole}
+use Rattle.held_tables.specs.Switches.{index_in}
 use Rattle.held_tables.specs.Tables.{owners_of, is_same_end, entry_for, top_of}
 use Rattle.next_tables.specs.declared.fault.StepFault.{StepFault}
 use Rattle.next_tables.specs.declared.fault.StepFault.TheVariants.{Moves, Memory}
+use Rattle.next_tables.specs.declared.step_rule.StepRule.{StepRule}
+use Rattle.next_tables.specs.declared.step_rule.StepRule.TheVariants.{SettledFirst, ByOrder}
+use Rattle.next_tables.specs.ByOrder.{next_by_order, position_at}
 use Rattle.next_tables.specs.Next.{next_entry}
 
 -- another end port holds the LID of the line
@@ -44,15 +48,37 @@ abbrev pub next_for : Cells → HeldPlan → HeldPlan → ℕ → List EndPort �
 next_for cells held plan lid planned None g = if_owned planned (entry_for plan lid g)
 next_for cells held plan lid planned (Some port) g = next_entry cells held plan (record { lid = lid; port = port }) g
 
--- the next entry of a usable switch for a LID: by the rule where one end port alone holds the LID in both, else the
--- plan's
-unfoldable pub next_at : Cells → HeldPlan → HeldPlan → ℕ → ℕ → ℕ
-next_at cells held plan lid g =
+-- how a step chooses entries: a switch takes the plan's as soon as each switch on the plan's way has it; or by the
+-- positions of the switches, by rising GUID, in an order
+pub data StepRuleValue : Type 0 where
+  settled_first : StepRuleValue
+  by_order : List ℕ → StepRuleValue
+
+abbrev pub value_of : StepRule → StepRuleValue
+value_of SettledFirst = settled_first
+value_of (ByOrder positions) = by_order positions.items
+
+-- the index of a usable switch
+abbrev pub index_at : Cells → ℕ → ℕ
+index_at cells g = unwrap_or (index_in (switches cells) g) 0
+
+-- by an order, the next entry for a LID that the plan has is the one towards its first owner there; none for any other
+abbrev pub ordered_for : Cells → (ℕ → ℕ) → HeldPlan → HeldPlan → ℕ → List EndPort → ℕ → ℕ → ℕ
+ordered_for cells q held plan lid [] i g = 255
+ordered_for cells q held plan lid (port ∷ ports) i g =
+    next_by_order cells q held plan (record { lid = lid; port = port }) i g
+
+-- the next entry of a usable switch for a LID: if one end port alone holds the LID in both tables by the rule, and else
+-- the plan's; by an order for each LID by the order
+unfoldable pub next_at : Cells → StepRuleValue → HeldPlan → HeldPlan → ℕ → ℕ → ℕ
+next_at cells settled_first held plan lid g =
     next_for cells held plan lid (owners_of plan lid) (keeper (owners_of plan lid) (owners_of held lid)) g
+next_at cells (by_order positions) held plan lid g =
+    ordered_for cells (position_at positions) held plan lid (owners_of plan lid) (index_at cells g) g
 
 -- those of all usable switches
-abbrev pub column_of : Cells → HeldPlan → HeldPlan → ℕ → List ℕ
-column_of cells held plan lid = map (next_at cells held plan lid) (switches cells)
+abbrev pub column_of : Cells → StepRuleValue → HeldPlan → HeldPlan → ℕ → List ℕ
+column_of cells rule held plan lid = map (next_at cells rule held plan lid) (switches cells)
 
 -- the end port of a line alone holds its LID, in the plan and in the held tables
 pub record IsKept (held plan : HeldPlan) (line : HeldLid) : Type 0 where
@@ -67,21 +93,21 @@ abbrev pub next_switch : HeldPlan → HeldPlan → ℕ → HeldSwitch
 next_switch held plan g = record { guid = g; top = next_top held plan g }
 
 -- its blocks, up to that of its top
-abbrev pub next_block : Cells → HeldPlan → HeldPlan → ℕ → ℕ → List ℕ
-next_block cells held plan g b = map (λ i. next_at cells held plan (64 * b + i) g) (range_with_len 0 64)
+abbrev pub next_block : Cells → StepRuleValue → HeldPlan → HeldPlan → ℕ → ℕ → List ℕ
+next_block cells rule held plan g b = map (λ i. next_at cells rule held plan (64 * b + i) g) (range_with_len 0 64)
 
-abbrev pub next_table : Cells → HeldPlan → HeldPlan → ℕ → SwitchTable
-next_table cells held plan g = record {
+abbrev pub next_table : Cells → StepRuleValue → HeldPlan → HeldPlan → ℕ → SwitchTable
+next_table cells rule held plan g = record {
   guid = g;
-  blocks = map (next_block cells held plan g) (range_with_len 0 (block_count (Some (next_top held plan g))));
+  blocks = map (next_block cells rule held plan g) (range_with_len 0 (block_count (Some (next_top held plan g))));
 }
 
 -- the plan's LIDs; and the usable switches with the greater of their tops, and their next entries
-unfoldable pub next_tables : Cells → HeldPlan → HeldPlan → HeldPlan
-next_tables cells held plan = record {
+unfoldable pub next_tables : Cells → StepRuleValue → HeldPlan → HeldPlan → HeldPlan
+next_tables cells rule held plan = record {
   lids = plan.lids;
   switches = map (next_switch held plan) (switches cells);
-  blocks = blocks_of 0 (map (next_table cells held plan) (switches cells));
+  blocks = blocks_of 0 (map (next_table cells rule held plan) (switches cells));
 }
 
 -- why there are none, memory aside

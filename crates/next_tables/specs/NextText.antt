@@ -9,22 +9,23 @@ use Rattle.plan_file.specs.Printed.{IsPlanInRange, held_plan}
 use Rattle.plan_file.specs.PrintedTables.{IsHeldInRange, Says}
 use Rattle.plan_file.specs.Reading.{held_of}
 use Rattle.plan_file.specs.TablesText.{next_text}
-use Rattle.next_tables.specs.NextTables.{next_tables}
+use Rattle.next_tables.specs.NextTables.{StepRuleValue, next_tables}
 
 -- the next tables towards a plan have the text that says them
-abbrev pub IsStepRead : Facts → HeldPlan → PlanValue → Type 0
-IsStepRead facts held plan =
-    let next = next_tables (cells_of facts) held (held_plan plan) in
+abbrev pub IsStepRead : Facts → StepRuleValue → HeldPlan → PlanValue → Type 0
+IsStepRead facts by held plan =
+    let next = next_tables (cells_of facts) by held (held_plan plan) in
     Says (next_text plan.given next) next
 
 -- from tables in range towards a plan in range, in a subnet whose facts are in range
 abbrev pub NextTextsAreRead : Type 0
-NextTextsAreRead = (facts : Facts) (held : HeldPlan) (plan : PlanValue) → AreInRange facts → IsHeldInRange held
-    → IsPlanInRange plan → IsStepRead facts held plan
+NextTextsAreRead =
+    (facts : Facts) (by : StepRuleValue) (held : HeldPlan) (plan : PlanValue) → AreInRange facts → IsHeldInRange held
+    → IsPlanInRange plan → IsStepRead facts by held plan
 
 -- so it is from what any text says towards the plan of a view with room
 abbrev pub StepTextsAreRead : Type 0
 StepTextsAreRead =
-    (rule : RuleValue) (lmc : ℕ) (facts : Facts) (text : List ℕ) → lmc ≤ 7 → AreInRange facts
+    (rule : RuleValue) (lmc : ℕ) (facts : Facts) (by : StepRuleValue) (text : List ℕ) → lmc ≤ 7 → AreInRange facts
     → ¬ (IsNoRoom lmc (cells_of facts))
-    → IsStepRead facts (held_of text) (plan_of rule lmc (cells_of facts))
+    → IsStepRead facts by (held_of text) (plan_of rule lmc (cells_of facts))

@@ -12,28 +12,31 @@ use Rattle.audit.specs.WalkEnds.{after}
 use Rattle.audit.specs.NextHops.{IsBrought, next_hops_of}
 use Rattle.next_tables.specs.Mixtures.{IsBroughtBy, IsLoose, IsMixed}
 use Rattle.next_tables.specs.Next.{IsNext}
-use Rattle.next_tables.specs.NextTables.{IsKept, next_at, next_tables, next_top}
+use Rattle.next_tables.specs.NextTables.{IsKept, StepRuleValue, next_at, next_tables, next_top, settled_first}
 
 -- tables that have the plan's owners, and at each usable switch the greater top and the next entry for each LID
-pub record AreNextTables (cells : Cells) (held plan next : HeldPlan) : Type 0 where
+pub record AreNextTables (cells : Cells) (rule : StepRuleValue) (held plan next : HeldPlan) : Type 0 where
   pub owners : (lid : ℕ) → owners_of next lid ≡ owners_of plan lid
   pub tops : (g : ℕ) → Contains (switches cells) g → top_of next g ≡ next_top held plan g
-  pub entries : (g lid : ℕ) → Contains (switches cells) g → entry_for next lid g ≡ next_at cells held plan lid g
+  pub entries : (g lid : ℕ) → Contains (switches cells) g → entry_for next lid g
+      ≡ next_at cells rule held plan lid g
 
 abbrev pub NextTablesAreSo : Type 0
-NextTablesAreSo = (cells : Cells) (held plan : HeldPlan) → AreNextTables cells held plan (next_tables cells held plan)
+NextTablesAreSo =
+    (cells : Cells) (rule : StepRuleValue) (held plan : HeldPlan)
+    → AreNextTables cells rule held plan (next_tables cells rule held plan)
 
 -- so the rule holds for a LID that one end port alone holds in both
 abbrev pub StepsFollowTheRule : Type 0
 StepsFollowTheRule = (cells : Cells) (held plan : HeldPlan) (line : HeldLid) → IsKept held plan line
-    → IsNext cells held plan line (next_tables cells held plan)
+    → IsNext cells held plan line (next_tables cells settled_first held plan)
 
 -- a packet that the tables held deliver at the end port is delivered there by whatever mixtures of these and the next
 -- ones
 abbrev pub StepsLoseNone : Type 0
 StepsLoseNone =
     (cells : Cells) (held plan : HeldPlan) (line : HeldLid) → IsKept held plan line
-    → (mixed : ℕ → HeldPlan) → ((k : ℕ) → IsLoose cells held (next_tables cells held plan) line.lid (mixed k))
+    → (mixed : ℕ → HeldPlan) → ((k : ℕ) → IsLoose cells held (next_tables cells settled_first held plan) line.lid (mixed k))
     → (source : EndPort) → IsBrought cells held line.lid source (Some (Taken line.port))
     → IsBroughtBy cells mixed line.lid source (Taken line.port)
 
@@ -41,14 +44,14 @@ StepsLoseNone =
 abbrev pub StepsSendNoneRound : Type 0
 StepsSendNoneRound =
     (cells : Cells) (held plan : HeldPlan) (line : HeldLid) → IsKept held plan line
-    → (mixed : ℕ → HeldPlan) → ((k : ℕ) → IsMixed cells held (next_tables cells held plan) line.lid (mixed k))
+    → (mixed : ℕ → HeldPlan) → ((k : ℕ) → IsMixed cells held (next_tables cells settled_first held plan) line.lid (mixed k))
     → (source : EndPort) (end : End) → IsBrought cells held line.lid source (Some end) → (last : End)
     × IsBroughtBy cells mixed line.lid source last
 
 -- the tables after so many steps towards a plan
 abbrev pub stepped : Cells → HeldPlan → HeldPlan → ℕ → HeldPlan
 stepped cells plan held zero = held
-stepped cells plan held (suc n) = next_tables cells (stepped cells plan held n) plan
+stepped cells plan held (suc n) = next_tables cells settled_first (stepped cells plan held n) plan
 
 -- a switch from which the plan's way meets n switches has the plan's entry after n steps, and from then on
 abbrev pub StepsEndInThePlan : Type 0

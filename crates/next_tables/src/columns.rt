@@ -5,17 +5,20 @@ ghost use Rattle.fact_store.specs.View.{cells_of};
 ghost use Rattle.subnet_view.specs.Reading.{switches};
 ghost use Rattle.audit.specs.Deliveries.{AreDeliveries};
 ghost use Rattle.held_tables.specs.Blocks.{AreBlocks};
-ghost use Rattle.next_tables.specs.NextTables.{column_of, keeper, kept_by};
+ghost use Rattle.next_tables.specs.NextTables.{by_order, column_of, keeper, kept_by, settled_first, value_of};
 
 use crate::next_entries::next_entries;
+use crate::ordered_entries::ordered_entries;
+use crate::step_rule::StepRule;
 use audit::{Blocks, Deliveries, Network, is_same_end};
 use smp_bytes::Lid;
 use std::alloc::{AllocError, Global};
 use subnet_view::EndPort;
 
-/// The entries of all usable switches for each LID of so many blocks, from LID 0 on.
+/// Returns the entries of all usable switches for each LID of `count` blocks, from LID 0 on.
 pub(crate) fn columns(
     alloc: Global,
+    rule: &StepRule,
     held: &Network,
     plan: &Network,
     count: usize,
@@ -23,7 +26,7 @@ pub(crate) fn columns(
     requires facts { plan.now.facts ≡ held.now.facts }
     requires few { count ≤ 1024 }
     ensures { IfOk result (λ columns. map (λ column. column.items) columns.items
-        ≡ map (column_of (cells_of held.now.facts) held.now.held plan.now.held) (range_with_len 0 (64 * count))) }
+        ≡ map (column_of (cells_of held.now.facts) (value_of rule.now) held.now.held plan.now.held) (range_with_len 0 (64 * count))) }
 {
     let mut columns = Vec::with_capacity(alloc, 64 * count)?;
     let mut held_blocks = held.blocks(alloc, 0)?;
@@ -36,6 +39,7 @@ pub(crate) fn columns(
         deliveries = plan.deliveries_for(alloc, deliveries, &plan_blocks)?;
         let column = column(
             alloc,
+            rule,
             held,
             plan,
             &held_blocks,
@@ -48,8 +52,71 @@ pub(crate) fn columns(
     Ok(columns)
 }
 
-/// The entries of all usable switches for a LID.
+/// Returns the entries of all usable switches for a LID.
 fn column(
+    alloc: Global,
+    rule: &StepRule,
+    held: &Network,
+    plan: &Network,
+    held_blocks: &Blocks,
+    plan_blocks: &Blocks,
+    deliveries: &Deliveries,
+    lid: Lid,
+) -> Result<Vec<u8>, AllocError>
+    requires facts { plan.now.facts ≡ held.now.facts }
+    requires held { AreBlocks held.now.held held_blocks.now.number held_blocks.now.rows.items }
+    requires held_number { held_blocks.now.number ≡ lid / 64 }
+    requires plan { AreBlocks plan.now.held plan_blocks.now.number plan_blocks.now.rows.items }
+    requires plan_number { plan_blocks.now.number ≡ lid / 64 }
+    requires deliveries { AreDeliveries (cells_of plan.now.facts) plan.now.held deliveries.now }
+    ensures { IfOk result (λ column. column.items
+        ≡ column_of (cells_of held.now.facts) (value_of rule.now) held.now.held plan.now.held lid) }
+{
+    match rule {
+        StepRule::SettledFirst => settled_column(
+            alloc,
+            held,
+            plan,
+            held_blocks,
+            plan_blocks,
+            deliveries,
+            lid,
+        ),
+        StepRule::ByOrder(positions) => {
+            ordered_column(alloc, positions, held, plan, held_blocks, plan_blocks, lid)
+        }
+    }
+}
+
+/// Returns the entries of all usable switches for a LID by an order.
+fn ordered_column(
+    alloc: Global,
+    positions: &[usize],
+    held: &Network,
+    plan: &Network,
+    held_blocks: &Blocks,
+    plan_blocks: &Blocks,
+    lid: Lid,
+) -> Result<Vec<u8>, AllocError>
+    requires facts { plan.now.facts ≡ held.now.facts }
+    requires held { AreBlocks held.now.held held_blocks.now.number held_blocks.now.rows.items }
+    requires held_number { held_blocks.now.number ≡ lid / 64 }
+    requires plan { AreBlocks plan.now.held plan_blocks.now.number plan_blocks.now.rows.items }
+    requires plan_number { plan_blocks.now.number ≡ lid / 64 }
+    ensures { IfOk result (λ column. column.items
+        ≡ column_of (cells_of held.now.facts) (by_order positions.now) held.now.held plan.now.held lid) }
+{
+    let planned = plan.owners(alloc, lid)?;
+    let Some(port) = planned.first() else {
+        return no_entries(alloc, held.switch_count());
+    };
+    let held_steps = held.switch_steps(alloc, held_blocks, lid)?;
+    let plan_steps = plan.switch_steps(alloc, plan_blocks, lid)?;
+    ordered_entries(alloc, port, positions, &held_steps, &plan_steps)
+}
+
+/// Returns the entries of all usable switches for a LID, those of the plan as soon as its way is settled.
+fn settled_column(
     alloc: Global,
     held: &Network,
     plan: &Network,
@@ -65,7 +132,7 @@ fn column(
     requires plan_number { plan_blocks.now.number ≡ lid / 64 }
     requires deliveries { AreDeliveries (cells_of plan.now.facts) plan.now.held deliveries.now }
     ensures { IfOk result (λ column. column.items
-        ≡ column_of (cells_of held.now.facts) held.now.held plan.now.held lid) }
+        ≡ column_of (cells_of held.now.facts) settled_first held.now.held plan.now.held lid) }
 {
     let planned = plan.owners(alloc, lid)?;
     if is_nobodys(&planned) {

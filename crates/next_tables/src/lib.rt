@@ -2,16 +2,16 @@
 //! way, no packet that arrived is lost.
 #![tactic(auto)]
 
-mod across;
 mod columns;
 mod fault;
 pub mod laws;
-mod lids_in_loop;
 mod next_entries;
-mod order;
+mod ordered_entries;
 mod step;
+mod step_rule;
+mod up_down;
 
 pub use fault::StepFault;
-pub use lids_in_loop::loop_lids;
-pub use order::step_order;
-pub use step::next_tables;
+pub use step::{greater, next_tables};
+pub use step_rule::StepRule;
+pub use up_down::{is_down, is_up};

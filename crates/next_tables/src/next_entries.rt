@@ -101,7 +101,7 @@ fn agreed_by(held: &SwitchStep, plan: &SwitchStep) -> NextHop
 }
 
 /// What each switch does.
-fn hops(alloc: Global, steps: &[SwitchStep]) -> Result<Vec<NextHop>, AllocError>
+pub(crate) fn hops(alloc: Global, steps: &[SwitchStep]) -> Result<Vec<NextHop>, AllocError>
     ensures { IfOk result (λ hops. hops.items ≡ hops_of steps.now) }
 {
     steps.iter().map(|step| step.hop).collect(alloc)
@@ -217,7 +217,7 @@ fn next_by(
 }
 
 /// Whether the walk that goes on from a step comes to the port, by where the walks from the switches end.
-fn arrives_by(port: &EndPort, ends: &[NextHop], step: NextHop) -> bool
+pub(crate) fn arrives_by(port: &EndPort, ends: &[NextHop], step: NextHop) -> bool
     ensures { result ≡ arrives_by port.now ends.now step }
 {
     is_at(port, &end_of(onward(ends, step)))

@@ -5,34 +5,40 @@ ghost use Rattle.smp_bytes.specs.Judges.{JudgesButFor};
 ghost use Rattle.subnet_view.specs.Reading.{switches};
 ghost use Rattle.lft_blocks.specs.Entries.{block_count};
 ghost use Rattle.audit.specs.Edges.{greatest_top};
-ghost use Rattle.next_tables.specs.NextTables.{first_moved, is_memory, moves, next_switch, next_tables, step_fault};
+ghost use Rattle.next_tables.specs.NextTables.{first_moved, is_memory, moves, next_switch, next_tables, step_fault, value_of};
 ghost use Rattle.next_tables.specs.Assembled.{all_blocks, block_in, entry_in, some_blocks};
 
 use crate::columns::columns;
 use crate::fault::StepFault;
+use crate::step_rule::StepRule;
 use audit::Network;
 use lft_blocks::block_count;
 use plan_file::{Held, HeldBlock, HeldLid, HeldSwitch};
 use smp_bytes::Lid;
 use std::alloc::{AllocError, Global};
 
-/// The tables to write next, from those held towards a plan's, which are both read with the same facts: the plan's
-/// LIDs, and for each usable switch the greater of its tops and the next entry for each LID up to it. Takes what an
-/// audit of both takes, and for each LID three walks from the switches.
+/// Returns the tables to write next by a rule, from those held towards a plan's, which are both read with the same
+/// facts: the plan's LIDs, and for each usable switch the greater of its tops and the next entry for each LID up to it.
+/// Takes what an audit of both takes, and for each LID three walks from the switches, or two by an order.
 ///
 /// # Errors
 ///
 /// `Moves`, with the first LID that the plan gives to an end port and the tables held to another, and `Memory` where
 /// there is none.
-pub fn next_tables(alloc: Global, held: &Network, plan: &Network) -> Result<Held, StepFault>
+pub fn next_tables(
+    alloc: Global,
+    rule: &StepRule,
+    held: &Network,
+    plan: &Network,
+) -> Result<Held, StepFault>
     requires facts { plan.now.facts ≡ held.now.facts }
     ensures judged { JudgesButFor is_memory result (step_fault (first_moved held.now.held plan.now.held)) }
     ensures tables { IfOk result (λ next.
-        next ≡ next_tables (cells_of held.now.facts) held.now.held plan.now.held) }
+        next ≡ next_tables (cells_of held.now.facts) (value_of rule.now) held.now.held plan.now.held) }
 {
     match first_moved(held, plan) {
         Some(lid) => Err(StepFault::Moves(lid)),
-        None => Ok(tables(alloc, held, plan)?),
+        None => Ok(tables(alloc, rule, held, plan)?),
     }
 }
 
@@ -54,15 +60,20 @@ fn moves(held: &Network, line: &HeldLid) -> bool
     !held.is_sole_owner(line)
 }
 
-/// The tables.
-fn tables(alloc: Global, held: &Network, plan: &Network) -> Result<Held, AllocError>
+/// Returns the tables.
+fn tables(
+    alloc: Global,
+    rule: &StepRule,
+    held: &Network,
+    plan: &Network,
+) -> Result<Held, AllocError>
     requires facts { plan.now.facts ≡ held.now.facts }
     ensures { IfOk result (λ next.
-        next ≡ next_tables (cells_of held.now.facts) held.now.held plan.now.held) }
+        next ≡ next_tables (cells_of held.now.facts) (value_of rule.now) held.now.held plan.now.held) }
 {
     let lids = Vec::from_slice(alloc, plan.held().lids())?;
     let switches = next_switches(alloc, held, plan)?;
-    let columns = columns(alloc, held, plan, most_blocks(held, plan))?;
+    let columns = columns(alloc, rule, held, plan, most_blocks(held, plan))?;
     let blocks = all_blocks(alloc, &columns, &switches)?;
     Ok(Held::of(lids, switches, blocks))
 }
@@ -77,8 +88,8 @@ fn most_blocks(held: &Network, plan: &Network) -> usize
     block_count(Some(greater(held.greatest_top(), plan.greatest_top())))
 }
 
-/// The greater of two LIDs.
-pub(crate) fn greater(lid: Lid, other: Lid) -> Lid
+/// Returns the greater of two LIDs.
+pub fn greater(lid: Lid, other: Lid) -> Lid
     ensures { result ≡ max lid other }
 {
     Lid::new(lid.number().max(other.number()))

@@ -1,7 +1,7 @@
 -- A LID more.
 use Rattle.std.proofs.Common.{◌∙◌, ℕ, Vec, Global, ap}
 use Rattle.fact_store.specs.View.{cells_of}
-use Rattle.next_tables.specs.NextTables.{column_of}
+use Rattle.next_tables.specs.NextTables.{column_of, value_of}
 use Rattle.next_tables.proofs.ByLid.{column_more}
 use Rattle.next_tables.proofs.columns.columns.Goals as goal
 
@@ -14,7 +14,7 @@ loop-number-preserved c =
       held_blocks = c.in_ok-held_blocks-2.ensures.0;
       plan_blocks = c.in_ok-plan_blocks-2.ensures.0;
       deliveries_are = c.in_ok-deliveries-2.ensures;
-      columns_are = column_more (column_of cells held plan) (λ (v : Vec ℕ Global). v.items) c.loop-number.columns.items c.push.new.self.items
+      columns_are = column_more (column_of cells (value_of c.args.rule.now) held plan) (λ (v : Vec ℕ Global). v.items) c.loop-number.columns.items c.push.new.self.items
           c.in_ok-column.column c.loop-number.number
-          c.loop-number.invariant.columns_are c.in_ok-push.ensures.items (c.in_ok-column.ensures ∙ ap (column_of cells held plan) c.new-lid.ensures);
+          c.loop-number.invariant.columns_are c.in_ok-push.ensures.items (c.in_ok-column.ensures ∙ ap (column_of cells (value_of c.args.rule.now) held plan) c.new-lid.ensures);
     }

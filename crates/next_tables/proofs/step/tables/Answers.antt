@@ -7,6 +7,7 @@ use Rattle.plan_file.specs.Held.{HeldPlan}
 use Rattle.plan_file.specs.Held.{HeldPlan}
 use Rattle.audit.specs.Edges.{greatest_top}
 use Rattle.next_tables.specs.Assembled.{all_blocks}
+use Rattle.next_tables.specs.NextTables.{value_of}
 use Rattle.next_tables.proofs.Whole.{put_together}
 use Rattle.next_tables.proofs.step.tables.Goals as goal
 
@@ -17,7 +18,7 @@ returns c =
     let plan = c.args.plan.now.held in
     let entries : List (Vec ℕ Global) → List (List ℕ) = λ columns. map (λ (v : Vec ℕ Global). v.items) columns in
     c.of.ensures
-    ∙ put_together cells held plan c.in_ok-lids.lids.items c.in_ok-switches.switches.items c.in_ok-blocks.blocks.items (entries c.in_ok-columns.columns.items)
+    ∙ put_together cells (value_of c.args.rule.now) held plan c.in_ok-lids.lids.items c.in_ok-switches.switches.items c.in_ok-blocks.blocks.items (entries c.in_ok-columns.columns.items)
     c.most_blocks.result
     (c.in_ok-lids.ensures.items ∙ c.lids.ensures ∙ ap (λ (h : HeldPlan). h.lids) c.held.ensures) c.in_ok-switches.ensures c.in_ok-columns.ensures
     (c.most_blocks.ensures.count ∙ ap (λ (f : Facts). block_count (Some (max (greatest_top cells held) (greatest_top (cells_of f) plan)))) c.requires.facts)

@@ -2,8 +2,8 @@
 use Rattle.std.proofs.Common.{List, ℕ, subst}
 use Rattle.fact_store.specs.View.{cells_of}
 use Rattle.audit_channels.specs.declared.order.ChannelOrder.{ChannelOrder}
-use Rattle.next_tables.specs.LoopLids.{AreLoopLids}
-use Rattle.next_tables.specs.StepOrder.{IsShortestInStep, IsStepOrder}
+use Rattle.step_loops.specs.LoopLids.{AreLoopLids}
+use Rattle.step_loops.specs.StepOrder.{IsShortestInStep, IsStepOrder}
 use Rattle.next_run.proofs.StepIs.{some_cycle}
 use Rattle.next_run.proofs.step_loop.StepLoop.of.Goals as goal
 

@@ -1,0 +1,240 @@
+//! The next entries of the switches for a LID by an order of the switches.
+ghost use Rattle.std.specs.Prelude.{◌≡◌, ◌<◌, ◌||◌, ℕ, IfOk, length};
+ghost use Rattle.next_tables.specs.ByOrder.{goes_up, position_at};
+ghost use Rattle.next_tables.specs.SwitchSteps.{arrives_by};
+ghost use Rattle.next_tables.specs.OrderedEntries.{delivered_of, entered_of, flag, is_differing, leads_in};
+ghost use Rattle.next_tables.specs.OrderedEntries.{may_change_by};
+ghost use Rattle.next_tables.specs.OrderedEntries.{entries_by, entry_by, enters, going_up_of, ordered_of, tried_by};
+ghost use Rattle.next_tables.specs.OrderedEntries.{tried_of, turns_well_by};
+
+use crate::next_entries::{arrives_by, hops};
+use crate::up_down::{is_down, is_up};
+use audit::walk_ends::ends;
+use audit::{NextHop, SwitchStep, is_at};
+use std::alloc::{AllocError, Global};
+use subnet_view::EndPort;
+
+/// What is known of the switches before any takes another entry.
+#[derive(Drop)]
+struct Findings {
+    /// Whether the tables held deliver the packet from each switch.
+    delivered: Vec<bool>,
+    /// Whether each switch sends the packet up by an entry that is not the goal's.
+    going_up: Vec<bool>,
+    /// Whether the packet comes down to each switch by an entry that is not the goal's.
+    entered: Vec<bool>,
+}
+
+/// Returns the next entries of the switches towards an end port, by what each does by the tables held and by the goal's,
+/// and by the position of each. Takes for each switch some steps for two walks, by the number of digits of the longest
+/// way's length.
+pub(crate) fn ordered_entries(
+    alloc: Global,
+    port: &EndPort,
+    positions: &[usize],
+    held: &[SwitchStep],
+    goal: &[SwitchStep],
+) -> Result<Vec<u8>, AllocError>
+    ensures { IfOk result (λ entries. entries.items ≡ ordered_of positions.now port.now held.now goal.now) }
+{
+    let delivered = delivered(alloc, port, held)?;
+    let going_up = going_up(alloc, positions, held, goal)?;
+    let entered = entered(alloc, positions, held, goal)?;
+    let findings = Findings {
+        delivered,
+        going_up,
+        entered,
+    };
+    let tried = tried(alloc, port, positions, &findings, held, goal)?;
+    entries_by(alloc, port, &tried)
+}
+
+/// Returns whether the tables held deliver the packet from each switch.
+fn delivered(alloc: Global, port: &EndPort, held: &[SwitchStep]) -> Result<Vec<bool>, AllocError>
+    ensures { IfOk result (λ delivered. delivered.items ≡ delivered_of port.now held.now) }
+{
+    let hops = hops(alloc, held)?;
+    let ends = ends(hops);
+    held.iter()
+        .map(|step| arrives_by(port, &ends, step.hop))
+        .collect(alloc)
+}
+
+/// Returns whether each switch sends the packet up by an entry that is not the goal's.
+fn going_up(
+    alloc: Global,
+    positions: &[usize],
+    held: &[SwitchStep],
+    goal: &[SwitchStep],
+) -> Result<Vec<bool>, AllocError>
+    ensures { IfOk result (λ going_up. going_up.items ≡ going_up_of positions.now held.now goal.now) }
+{
+    held.iter()
+        .zip(goal.iter())
+        .enumerate()
+        .map(|(index, (held, goal))| goes_up(positions, index, held.hop) && is_differing(held, goal))
+        .collect(alloc)
+}
+
+/// Whether a switch has different entries by the tables held and by the goal's.
+fn is_differing(held: &SwitchStep, goal: &SwitchStep) -> bool
+    ensures { result ≡ is_differing held.now goal.now }
+{
+    held.entry != goal.entry
+}
+
+/// Whether the switch at an index sends the packet up.
+fn goes_up(positions: &[usize], index: usize, hop: NextHop) -> bool
+    ensures { result ≡ goes_up (position_at positions.now) index hop }
+{
+    match hop {
+        NextHop::To(to) => is_up(positions, index, to),
+        NextHop::Ends(_) => false,
+    }
+}
+
+/// Returns whether the packet comes down to each switch by an entry that is not the goal's.
+fn entered(
+    alloc: Global,
+    positions: &[usize],
+    held: &[SwitchStep],
+    goal: &[SwitchStep],
+) -> Result<Vec<bool>, AllocError>
+    ensures { IfOk result (λ entered. entered.items ≡ entered_of positions.now held.now goal.now) }
+{
+    let mut entered = vec![in alloc; false; held.len()]?;
+    for (index, step) in held.iter().enumerate() {
+        if let Some(goal) = goal.get(index) {
+            enter(&mut entered, positions, index, step, goal);
+        }
+    }
+    Ok(entered)
+}
+
+/// Notes that the packet comes down from the switch at an index, if it does so by an entry that is not the goal's.
+fn enter(
+    entered: &mut [bool],
+    positions: &[usize],
+    index: usize,
+    held: &SwitchStep,
+    goal: &SwitchStep,
+)
+    ensures as_many { length entered.new ≡ length entered.old }
+    ensures each { (i : ℕ) → i < length entered.old → flag entered.new i
+        ≡ (flag entered.old i || enters positions.now index held.now goal.now i) }
+{
+    if let NextHop::To(to) = held.hop {
+        if to < entered.len() && is_down(positions, index, to) && is_differing(held, goal) {
+            entered[to] = true;
+        }
+    }
+}
+
+/// Returns what each switch tries: the goal's entry if it may change to that, and else the one held.
+fn tried(
+    alloc: Global,
+    port: &EndPort,
+    positions: &[usize],
+    findings: &Findings,
+    held: &[SwitchStep],
+    goal: &[SwitchStep],
+) -> Result<Vec<SwitchStep>, AllocError>
+    ensures { IfOk result (λ tried. tried.items ≡ tried_of positions.now port.now findings.now.delivered.items
+        findings.now.going_up.items findings.now.entered.items held.now goal.now) }
+{
+    held.iter()
+        .zip(goal.iter())
+        .enumerate()
+        .map(|(index, (held, goal))| tried_by(port, positions, findings, index, held, goal))
+        .collect(alloc)
+}
+
+/// Returns what the switch at an index tries.
+fn tried_by(
+    port: &EndPort,
+    positions: &[usize],
+    findings: &Findings,
+    index: usize,
+    held: &SwitchStep,
+    goal: &SwitchStep,
+) -> SwitchStep
+    ensures { result ≡ tried_by positions.now port.now findings.now.delivered.items
+        findings.now.going_up.items findings.now.entered.items (index, (held.now, goal.now)) }
+{
+    if may_change(port, positions, findings, index, goal.hop) {
+        *goal
+    } else {
+        *held
+    }
+}
+
+/// Whether the switch at an index may take the goal's entry, by what it does with the packet by that.
+fn may_change(
+    port: &EndPort,
+    positions: &[usize],
+    findings: &Findings,
+    index: usize,
+    hop: NextHop,
+) -> bool
+    ensures { result ≡ may_change_by positions.now port.now findings.now.delivered.items
+        findings.now.going_up.items findings.now.entered.items index hop }
+{
+    turns_well(positions, findings, index, hop)
+        && (!flag(&findings.delivered, index) || leads_in(port, &findings.delivered, hop))
+}
+
+/// Whether no packet can turn up again behind a channel that leads down, if the switch at an index does so by the goal's
+/// entry: it leads up only if the packet does not come down to the switch, and down only if the next switch does not
+/// send it up.
+fn turns_well(positions: &[usize], findings: &Findings, index: usize, hop: NextHop) -> bool
+    ensures { result ≡ turns_well_by positions.now findings.now.going_up.items findings.now.entered.items index hop }
+{
+    match hop {
+        NextHop::To(to) => {
+            (!is_up(positions, index, to) || !flag(&findings.entered, index))
+                && (!is_down(positions, index, to) || !flag(&findings.going_up, to))
+        }
+        NextHop::Ends(_) => true,
+    }
+}
+
+/// Whether the packet comes to the port, or to a switch from which the tables held deliver it.
+fn leads_in(port: &EndPort, delivered: &[bool], hop: NextHop) -> bool
+    ensures { result ≡ leads_in port.now delivered.now hop }
+{
+    match hop {
+        NextHop::To(to) => flag(delivered, to),
+        NextHop::Ends(end) => is_at(port, &Some(end)),
+    }
+}
+
+/// Returns what stands at an index, and false if nothing does.
+fn flag(flags: &[bool], index: usize) -> bool
+    ensures { result ≡ flag flags.now index }
+{
+    flags.get(index).copied().unwrap_or(false)
+}
+
+/// Returns the entry that each switch tries, if all that are tried deliver the packet from it, and else none.
+fn entries_by(alloc: Global, port: &EndPort, tried: &[SwitchStep]) -> Result<Vec<u8>, AllocError>
+    ensures { IfOk result (λ entries. entries.items ≡ entries_by port.now tried.now) }
+{
+    let hops = hops(alloc, tried)?;
+    let ends = ends(hops);
+    tried
+        .iter()
+        .enumerate()
+        .map(|(index, step)| entry_by(port, &ends, index, step))
+        .collect(alloc)
+}
+
+/// Returns the entry of a switch's step, if the walk from its index comes to the port, by where walks end; and else none.
+fn entry_by(port: &EndPort, ends: &[NextHop], index: usize, step: &SwitchStep) -> u8
+    ensures { result ≡ entry_by (arrives_by port.now ends.now) (index, step.now) }
+{
+    if arrives_by(port, ends, NextHop::To(index)) {
+        step.entry
+    } else {
+        255
+    }
+}

@@ -1,0 +1,11 @@
+pub mod Arrivals
+pub mod Turns
+pub mod Waits
+pub mod Rightness
+pub mod Lost
+pub mod OrderedTables
+pub mod Round
+pub mod Goal
+pub mod EndRight
+pub mod Healed
+pub mod ChangingFabric

@@ -1,0 +1,105 @@
+//! The laws of a step by an order of switches.
+ghost use Rattle.ordered_steps.specs.StepLaws.{AllAreStep, AllEndByOrder, AllFollowTheRule, EndInTheGoal};
+ghost use Rattle.ordered_steps.specs.StepLaws.{EndInTwiceAsMany, EndRightByAny, HealByOrder, NextAreRight};
+ghost use Rattle.ordered_steps.specs.StepLaws.{NextDeliverOrDropByOrder, NoBadTurn, NoCycleByOrder, NoneIsLostByOrder};
+ghost use Rattle.ordered_steps.specs.Rightness.{RightnessIsTold};
+ghost use Rattle.ordered_steps.specs.StepLaws.{NumbersRiseByOrder, OrderedTablesAreNext, PacketsArriveByOrder};
+ghost use Rattle.ordered_steps.specs.StepLaws.{RuleIsChoice, RuleIsTried};
+
+/// No packet makes a bad turn, by whatever mixtures of the held tables and the next ones, if the held tables and the
+/// goal are right by the order.
+pub fn no_bad_turn()
+    ensures law { NoBadTurn }
+{}
+
+/// The next tables are right by the order again.
+pub fn next_are_right()
+    ensures law { NextAreRight }
+{}
+
+/// The numbers of channels by the order rise over all that can wait in a step.
+pub fn numbers_rise_by_order()
+    ensures law { NumbersRiseByOrder }
+{}
+
+/// Channels never wait in a loop, whatever the mixtures of the held tables and the next ones.
+pub fn no_cycle_by_order()
+    ensures law { NoCycleByOrder }
+{}
+
+/// Each next entry is the held one, or none, or the goal's if that turns well.
+pub fn rule_is_choice()
+    ensures law { RuleIsChoice }
+{}
+
+/// Each next entry is what is tried, or none if that does not deliver.
+pub fn rule_is_tried()
+    ensures law { RuleIsTried }
+{}
+
+/// A packet that the held tables deliver is delivered by whatever loose mixtures of these and the next ones, also if
+/// they change while it travels.
+pub fn none_is_lost_by_order()
+    ensures law { NoneIsLostByOrder }
+{}
+
+/// A switch from which the goal delivers has the goal's entry after as many steps as its depth, and from then on; and
+/// the tables deliver from it.
+pub fn end_in_the_goal()
+    ensures law { EndInTheGoal }
+{}
+
+/// No switch takes more than twice as many steps as there are switches.
+pub fn end_in_twice_as_many()
+    ensures law { EndInTwiceAsMany }
+{}
+
+/// After twice as many steps as there are switches each packet arrives that arrives by the goal.
+pub fn heal_by_order()
+    ensures law { HealByOrder }
+{}
+
+/// After twice as many steps as there are switches the tables are right by each order by which the goal is.
+pub fn end_right_by_any()
+    ensures law { EndRightByAny }
+{}
+
+/// A packet ends, from wherever it is sent and by whatever mixtures of the held tables and the next ones: none goes
+/// round.
+pub fn all_end_by_order()
+    ensures law { AllEndByOrder }
+{}
+
+/// By the next tables each switch delivers the packet, or has no entry.
+pub fn next_deliver_or_drop_by_order()
+    ensures law { NextDeliverOrDropByOrder }
+{}
+
+/// The next tables of all LIDs, of new ones and of those that are gone too, are a step, and are right by the order
+/// again.
+pub fn all_are_step()
+    ensures law { AllAreStep }
+{}
+
+/// What `next_tables` answers by an order has the goal's owners, and at each usable switch the next entry by the order
+/// for each LID.
+pub fn ordered_tables_are_next()
+    ensures law { OrderedTablesAreNext }
+{}
+
+/// `are_right` tells of tables, by an order, whether they are right for every LID.
+pub fn rightness_is_told()
+    ensures law { RightnessIsTold }
+{}
+
+/// Next tables by an order follow the rule for a LID that one end port alone holds in the held tables and in the goal.
+pub fn all_follow_the_rule()
+    ensures law { AllFollowTheRule }
+{}
+
+/// In a fabric whose switches go over to the next tables, each at its own time, a packet that the held tables deliver at
+/// the end port of a line is delivered there meanwhile, over at most twice as many wires as there are usable switches,
+/// and one more.
+pub fn packets_arrive_by_order()
+    ensures law { PacketsArriveByOrder }
+{}

@@ -1,0 +1,61 @@
+//! Whether tables are right by an order of the switches.
+ghost use Rattle.std.specs.Prelude.{◌≡◌, IfOk};
+ghost use Rattle.fact_store.specs.View.{cells_of};
+ghost use Rattle.next_tables.specs.ByOrder.{position_at};
+ghost use Rattle.ordered_steps.specs.Rightness.{are_right, goes_well, is_right_column, leaves_up};
+
+use audit::Network;
+use audit_channels::edge_of;
+use next_tables::{is_down, is_up};
+use port_graph::Edge;
+use smp_bytes::Lid;
+use std::alloc::{AllocError, Global};
+
+/// Returns whether packets for no LID go down and then up again, by the tables of a network and by an order that gives
+/// each usable switch its position, by rising GUID. Takes a step for each switch and each LID up to the greatest top.
+pub fn are_right(
+    alloc: Global,
+    held: &Network,
+    positions: &[usize],
+) -> Result<bool, AllocError>
+    ensures { IfOk result (λ right.
+        right ≡ are_right (cells_of held.now.facts) (position_at positions.now) held.now.held) }
+{
+    let mut blocks = held.blocks(alloc, 0)?;
+    for below in 0..held.greatest_top().number() {
+        let lid = Lid::new(below + 1);
+        blocks = held.blocks_for(alloc, blocks, lid)?;
+        let edges = held.edges(alloc, &blocks, lid)?;
+        if !is_right_column(positions, &edges) {
+            return Ok(false);
+        }
+    }
+    Ok(true)
+}
+
+/// Whether packets for a LID go down and then up again at no switch, by the edge by which they leave each.
+fn is_right_column(positions: &[usize], edges: &[Option<Edge>]) -> bool
+    ensures { result ≡ is_right_column (position_at positions.now) edges.now }
+{
+    (0..edges.len()).all(|index| goes_well(positions, edges, index))
+}
+
+/// Whether packets do not leave the switch at an index by a channel that leads down, and the next by one that leads up.
+fn goes_well(positions: &[usize], edges: &[Option<Edge>], index: usize) -> bool
+    ensures { result ≡ goes_well (position_at positions.now) edges.now index }
+{
+    match edge_of(edges, index) {
+        Some(edge) => !(is_down(positions, index, edge.to) && leaves_up(positions, edges, edge.to)),
+        None => true,
+    }
+}
+
+/// Whether packets leave the switch at an index by a channel that leads up.
+fn leaves_up(positions: &[usize], edges: &[Option<Edge>], index: usize) -> bool
+    ensures { result ≡ leaves_up (position_at positions.now) edges.now index }
+{
+    match edge_of(edges, index) {
+        Some(edge) => is_up(positions, index, edge.to),
+        None => false,
+    }
+}

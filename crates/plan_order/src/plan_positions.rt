@@ -1,0 +1,76 @@
+//! Positions of switches by the rule that plans.
+ghost use Rattle.std.specs.Prelude.{◌≡◌, IfOk, map};
+ghost use Rattle.fact_store.specs.View.{cells_of};
+ghost use Rattle.spread_labels.specs.Orders.{position_of};
+ghost use Rattle.lft_blocks.specs.Rules.{order_of, spread_in, up_and_down, value_of};
+ghost use Rattle.spread_routes.specs.SwitchOrders.{order_value_of};
+ghost use Rattle.plan_order.specs.PlanOrder.{positions_by};
+
+use crate::rank_positions::rank_positions;
+use fact_store::Store;
+use lft_blocks::Rule;
+use smp_bytes::Guid;
+use spread_routes::{SwitchOrder, leaf_switches, switches_in_order};
+use std::alloc::{AllocError, Global};
+use subnet_view::{SwitchGraph, Wires};
+use updown_routes::Graph;
+
+/// Returns the position of each usable switch of a store, by rising GUID, in the order by which a rule plans: by rank and
+/// then by GUID for the one that goes up and down, and for the one that spreads the order that it goes by. Takes a step
+/// for each two switches, and what finding the ranks or that order takes.
+pub fn plan_positions(alloc: Global, store: &Store, rule: &Rule) -> Result<Vec<usize>, Refused>
+    ensures { IfOk result (λ positions.
+        positions.items ≡ positions_by (value_of rule.now) (cells_of store.now)) }
+{
+    let wires = Wires::of(alloc, store)?;
+    match rule {
+        Rule::UpDown => by_rank(alloc, &wires),
+        Rule::Spread { order } => by_spread(alloc, &wires, order),
+    }
+}
+
+/// Returns the position of each usable switch by rank.
+fn by_rank(alloc: Global, wires: &Wires) -> Result<Vec<usize>, Refused>
+    ensures { IfOk result (λ positions.
+        positions.items ≡ positions_by up_and_down (cells_of wires.now)) }
+{
+    let graph = Graph::of(alloc, wires)?;
+    Ok(rank_positions(alloc, &graph)?)
+}
+
+/// Returns the position of each usable switch in the order that the rule that spreads goes by.
+fn by_spread(alloc: Global, wires: &Wires, order: &SwitchOrder) -> Result<Vec<usize>, Refused>
+    ensures { IfOk result (λ positions.
+        positions.items ≡ positions_by (spread_in (order_value_of order.now)) (cells_of wires.now)) }
+{
+    let graph = SwitchGraph::of(alloc, wires)?;
+    let leaves = leaf_switches(alloc, wires, graph.switches())?;
+    let ordered = switches_in_order(alloc, &graph, &leaves, order)?;
+    Ok(positions_in(alloc, &ordered, graph.switches())?)
+}
+
+/// Returns the position of each switch in a list, and the length of the list for one that it lacks.
+fn positions_in(
+    alloc: Global,
+    ordered: &[Guid],
+    switches: &[Guid],
+) -> Result<Vec<usize>, AllocError>
+    ensures { IfOk result (λ positions. positions.items ≡ map (position_of ordered.now) switches.now) }
+{
+    switches
+        .iter()
+        .map(|switch| position_of(ordered, *switch))
+        .collect(alloc)
+}
+
+/// Returns the position of a switch in a list, and the length of the list if it lacks the switch.
+fn position_of(ordered: &[Guid], switch: Guid) -> usize
+    ensures { result ≡ position_of ordered.now switch }
+{
+    for (place, other) in ordered.iter().enumerate() {
+        if *other == switch {
+            return place;
+        }
+    }
+    ordered.len()
+}

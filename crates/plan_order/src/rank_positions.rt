@@ -1,0 +1,49 @@
+//! Positions of switches by rank.
+ghost use Rattle.std.specs.Prelude.{◌≡◌, IfOk, count_by, map};
+ghost use Rattle.subnet_view.specs.Graph.{guids_of};
+ghost use Rattle.plan_order.specs.PlanOrder.{comes_before, rank_position, ranked};
+
+use smp_bytes::Guid;
+use std::alloc::{AllocError, Global};
+use updown_routes::Graph;
+
+/// Returns for each switch, by rising GUID, how many switches come before it: by rank, and then by GUID. Takes a search
+/// for each switch, and a step for each two.
+pub(crate) fn rank_positions(alloc: Global, graph: &Graph) -> Result<Vec<usize>, AllocError>
+    ensures { IfOk result (λ positions.
+        positions.items ≡ map (rank_position graph.now) (guids_of graph.now)) }
+{
+    let ranked = ranked(alloc, graph)?;
+    ranked
+        .iter()
+        .map(|own| count_before(&ranked, own))
+        .collect(alloc)
+}
+
+/// Returns the switches with their ranks.
+fn ranked(alloc: Global, graph: &Graph) -> Result<Vec<(usize, Guid)>, AllocError>
+    ensures { IfOk result (λ found. found.items ≡ map (ranked graph.now) (guids_of graph.now)) }
+{
+    graph
+        .switches()
+        .iter()
+        .map(|switch| (graph.rank(*switch).unwrap_or(0), *switch))
+        .collect(alloc)
+}
+
+/// Counts the switches that come before one.
+fn count_before(ranked: &[(usize, Guid)], own: &(usize, Guid)) -> usize
+    ensures { result ≡ count_by (λ other. comes_before other own.now) ranked.now }
+{
+    ranked
+        .iter()
+        .filter(|other| comes_before(other, own))
+        .count()
+}
+
+/// Whether a switch comes before another: its rank is lesser, or equal and its GUID is lesser.
+fn comes_before(other: &(usize, Guid), own: &(usize, Guid)) -> bool
+    ensures { result ≡ comes_before other.now own.now }
+{
+    other.0 < own.0 || (other.0 == own.0 && other.1 < own.1)
+}

@@ -1,0 +1,7 @@
+mod NamedPositions
+mod PlanRight
+mod UpdownRight
+mod PlanOrders
+mod PlanWays
+mod PlansCover
+mod PlanSteps

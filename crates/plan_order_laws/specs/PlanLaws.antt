@@ -1,0 +1,84 @@
+-- The tables of a plan are right by the order of switches by which the plan was made.
+use Rattle.std.specs.Prelude.{◌≡◌, ◌≤◌, ◌<◌, ◌*◌, ℕ, suc, Contains, Some, length, slice_get}
+use Rattle.fact_store.specs.View.{Facts, cells_of, AreInRange}
+use Rattle.subnet_view.specs.EndPorts.{end_ports}
+use Rattle.subnet_view.specs.Reading.{Cells, switches}
+use Rattle.lid_assign.specs.Lids.{IsNoRoom}
+use Rattle.lft_blocks.specs.Plan.{plan_of}
+use Rattle.lft_blocks.specs.Rules.{RuleValue, routing_by}
+use Rattle.plan_order.specs.PlanOrder.{positions_by}
+use Rattle.plan_file.specs.declared.held.HeldLid.{HeldLid}
+use Rattle.plan_file.specs.Held.{HeldPlan}
+use Rattle.plan_file.specs.Printed.{held_plan}
+use Rattle.held_tables.specs.Tables.{entry_for, owners_of}
+use Rattle.next_tables.specs.ByOrder.{AreApart, AreRight, IsNextByOrder, IsOrder, IsWired, Leads, numbers_by, position_at, switch_at}
+use Rattle.next_tables.specs.Mixtures.{RiseInStep}
+use Rattle.ordered_steps.specs.StepLaws.{AreNextByOrder, DeliverFrom}
+
+-- a plan sends packets for no LID over two channels in turn but so that the rule's numbers rise
+abbrev pub PlanTurnsRise : Type 0
+PlanTurnsRise =
+    (rule : RuleValue) (lmc : ℕ) (facts : Facts) → AreInRange facts → ¬ (IsNoRoom lmc (cells_of facts))
+    → (lid i j k : ℕ) → 1 ≤ lid → Leads (cells_of facts) (held_plan (plan_of rule lmc (cells_of facts))) lid i j
+    → Leads (cells_of facts) (held_plan (plan_of rule lmc (cells_of facts))) lid j k
+    → (routing_by rule (cells_of facts)).channel (switch_at (cells_of facts) i) (switch_at (cells_of facts) j)
+    < (routing_by rule (cells_of facts)).channel (switch_at (cells_of facts) j) (switch_at (cells_of facts) k)
+
+-- the position of the switch at an index in the order of a rule
+abbrev pub plan_position : RuleValue → Cells → ℕ → ℕ
+plan_position rule cells = position_at (positions_by rule cells)
+
+-- by these positions the plan of a view with room is right for every LID
+abbrev pub PlansAreRight : Type 0
+PlansAreRight =
+    (rule : RuleValue) (lmc : ℕ) (facts : Facts) → AreInRange facts → ¬ (IsNoRoom lmc (cells_of facts))
+    → (lid : ℕ) → 1 ≤ lid
+    → AreRight (cells_of facts) (plan_position rule (cells_of facts))
+    (held_plan (plan_of rule lmc (cells_of facts))) lid
+
+-- they are an order, in which no two switches that are wired have a position in common
+abbrev pub PlanOrdersAreOrders : Type 0
+PlanOrdersAreOrders =
+    (rule : RuleValue) (facts : Facts)
+    → IsOrder (cells_of facts) (plan_position rule (cells_of facts))
+    × AreApart (cells_of facts) (plan_position rule (cells_of facts))
+
+-- of two usable switches with a wire between them a plan delivers from both or from none
+abbrev pub PlansCover : Type 0
+PlansCover =
+    (rule : RuleValue) (lmc : ℕ) (facts : Facts) → AreInRange facts → ¬ (IsNoRoom lmc (cells_of facts))
+    → (line : HeldLid) → Contains (held_plan (plan_of rule lmc (cells_of facts))).lids line
+    → Contains (end_ports (cells_of facts)) line.port
+    → (i j : ℕ) → i < length (switches (cells_of facts)) → IsWired (cells_of facts) i j
+    → DeliverFrom (cells_of facts) (held_plan (plan_of rule lmc (cells_of facts))) line j
+    → DeliverFrom (cells_of facts) (held_plan (plan_of rule lmc (cells_of facts))) line i
+
+-- from tables that are right by the positions of a plan a step towards it, for all LIDs, has no credit loop in any
+-- mixture, since numbers rise, and ends in tables that are right by them again
+abbrev pub StepsTowardsPlans : Type 0
+StepsTowardsPlans =
+    (rule : RuleValue) (lmc : ℕ) (facts : Facts) → AreInRange facts → ¬ (IsNoRoom lmc (cells_of facts))
+    → (held next : HeldPlan)
+    → ((lid : ℕ) → 1 ≤ lid → AreRight (cells_of facts) (plan_position rule (cells_of facts)) held lid)
+    → AreNextByOrder (cells_of facts) (plan_position rule (cells_of facts)) held
+    (held_plan (plan_of rule lmc (cells_of facts))) next
+    → RiseInStep (cells_of facts) held next (numbers_by (cells_of facts) (plan_position rule (cells_of facts)))
+    × ((lid : ℕ) → 1 ≤ lid → AreRight (cells_of facts) (plan_position rule (cells_of facts)) next lid)
+
+-- and after twice as many steps as there are switches each from which the plan delivers to an end port has its entry,
+-- and delivers
+abbrev pub StepsEndInPlans : Type 0
+StepsEndInPlans =
+    (rule : RuleValue) (lmc : ℕ) (facts : Facts) → AreInRange facts → ¬ (IsNoRoom lmc (cells_of facts))
+    → (line : HeldLid) → Contains (held_plan (plan_of rule lmc (cells_of facts))).lids line
+    → Contains (end_ports (cells_of facts)) line.port
+    → (tables : ℕ → HeldPlan) → owners_of (held_plan (plan_of rule lmc (cells_of facts))) line.lid
+    ≡ owners_of (tables 0) line.lid
+    → AreRight (cells_of facts) (plan_position rule (cells_of facts)) (tables 0) line.lid
+    → ((n : ℕ) → IsNextByOrder (cells_of facts) (plan_position rule (cells_of facts)) (tables n)
+    (held_plan (plan_of rule lmc (cells_of facts))) line (tables (suc n)))
+    → (i g m : ℕ) → 1 ≤ line.lid → slice_get (switches (cells_of facts)) i ≡ Some g
+    → DeliverFrom (cells_of facts) (held_plan (plan_of rule lmc (cells_of facts))) line i
+    → 2 * length (switches (cells_of facts)) ≤ m
+    → (entry_for (tables m) line.lid g ≡ entry_for (held_plan (plan_of rule lmc (cells_of facts))) line.lid g)
+    × DeliverFrom (cells_of facts) (tables m) line i

@@ -1,0 +1,34 @@
+//! The laws of plans and their orders.
+ghost use Rattle.plan_order_laws.specs.PlanLaws.{PlanOrdersAreOrders, PlanTurnsRise, PlansAreRight, PlansCover};
+ghost use Rattle.plan_order_laws.specs.PlanLaws.{StepsEndInPlans, StepsTowardsPlans};
+
+/// A plan sends packets over two channels in turn only if the numbers of its rule rise.
+pub fn plan_turns_rise()
+    ensures law { PlanTurnsRise }
+{}
+
+/// The plan of a view with room is right for every LID by the positions of its rule, by each rule and under each LMC.
+pub fn plans_are_right()
+    ensures law { PlansAreRight }
+{}
+
+/// The positions of a rule are an order, and differ for two switches that a wire joins.
+pub fn plan_orders_are_orders()
+    ensures law { PlanOrdersAreOrders }
+{}
+
+/// A plan delivers from both of two usable switches that a wire joins, or from neither.
+pub fn plans_cover()
+    ensures law { PlansCover }
+{}
+
+/// From tables that are right by a plan's positions, a step towards the plan can make no credit loop in any mixture, and
+/// ends in tables that are right by these positions again.
+pub fn steps_towards_plans()
+    ensures law { StepsTowardsPlans }
+{}
+
+/// After twice as many steps as there are switches, each switch from which the plan delivers has the plan's entry.
+pub fn steps_end_in_plans()
+    ensures law { StepsEndInPlans }
+{}

@@ -1,0 +1,2 @@
+pub mod LoopLids
+pub mod StepOrder

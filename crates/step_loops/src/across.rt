@@ -1,0 +1,99 @@
+//! The channels that packets for one LID take in turn while switches go over from one table to another.
+ghost use Rattle.std.specs.Prelude.{◌≡◌, ◌<◌, ◌*◌, ◌/◌, ◌^◌, [], IfOk, OnOk, length};
+ghost use Rattle.fact_store.specs.View.{cells_of};
+ghost use Rattle.audit.specs.Edges.{edges_of};
+ghost use Rattle.held_tables.specs.Blocks.{AreBlocks};
+ghost use Rattle.step_loops.specs.StepOrder.{IsAddedInStep, IsWithStep};
+
+use audit::{Blocks, Network};
+use audit_channels::{Waits, add_across, add_column, is_same_column};
+use port_graph::Edge;
+use smp_bytes::Lid;
+use std::alloc::{AllocError, Global};
+
+/// By which edges packets for one LID leave the switches, by the tables held and by the next ones.
+#[derive(Drop)]
+pub(crate) struct Columns {
+    pub held: Vec<Option<Edge>>,
+    pub next: Vec<Option<Edge>>,
+}
+
+impl Columns {
+    /// Those of no switches.
+    pub fn none(alloc: Global) -> Self
+        ensures held { result.held.items ≡ [] }
+        ensures next { result.next.items ≡ [] }
+    {
+        Columns {
+            held: Vec::new(alloc),
+            next: Vec::new(alloc),
+        }
+    }
+}
+
+/// Those of a LID, by the blocks of its number. Takes two steps for each switch.
+pub(crate) fn columns_of(
+    alloc: Global,
+    held: &Network,
+    next: &Network,
+    held_blocks: &Blocks,
+    next_blocks: &Blocks,
+    lid: Lid,
+) -> Result<Columns, AllocError>
+    requires held { AreBlocks held.now.held held_blocks.now.number held_blocks.now.rows.items }
+    requires held_number { held_blocks.now.number ≡ lid / 64 }
+    requires next { AreBlocks next.now.held next_blocks.now.number next_blocks.now.rows.items }
+    requires next_number { next_blocks.now.number ≡ lid / 64 }
+    ensures held { IfOk result (λ columns.
+        columns.held.items ≡ edges_of (cells_of held.now.facts) held.now.held lid) }
+    ensures next { IfOk result (λ columns.
+        columns.next.items ≡ edges_of (cells_of next.now.facts) next.now.held lid) }
+{
+    let held_edges = held.edges(alloc, held_blocks, lid)?;
+    let next_edges = next.edges(alloc, next_blocks, lid)?;
+    Ok(Columns {
+        held: held_edges,
+        next: next_edges,
+    })
+}
+
+/// That channels follow each other by which packets for a LID leave a switch by either table, and then the next by
+/// either; unless those of the LID before, which have been added, are the same. Takes a step for each switch where they
+/// are, or where both tables have the same edges, and else four; and for each a walk over the channels that follow its
+/// own where the next is not known to.
+pub(crate) fn add_step(
+    waits: &mut Waits,
+    before: &Columns,
+    columns: &Columns,
+) -> Result<(), AllocError>
+    requires added { IsAddedInStep before.now.held.items before.now.next.items waits.old }
+    requires held { length waits.old ≡ 256 * length columns.now.held.items }
+    requires next { length waits.old ≡ 256 * length columns.now.next.items }
+    requires room { 256 * length columns.now.held.items < 2 ^ 64 }
+    ensures { OnOk result (IsWithStep waits.old columns.now.held.items columns.now.next.items waits.new) }
+{
+    if is_same_column(&columns.held, &before.held) && is_same_column(&columns.next, &before.next) {
+        return Ok(());
+    }
+    if is_same_column(&columns.held, &columns.next) {
+        return add_column(waits, &columns.held);
+    }
+    add_all(waits, &columns.held, &columns.next)
+}
+
+/// The same by two columns that differ.
+fn add_all(
+    waits: &mut Waits,
+    held: &[Option<Edge>],
+    next: &[Option<Edge>],
+) -> Result<(), AllocError>
+    requires held { length waits.old ≡ 256 * length held.now }
+    requires next { length waits.old ≡ 256 * length next.now }
+    requires room { 256 * length held.now < 2 ^ 64 }
+    ensures { OnOk result (IsWithStep waits.old held.now next.now waits.new) }
+{
+    add_across(waits, held, held)?;
+    add_across(waits, held, next)?;
+    add_across(waits, next, held)?;
+    add_across(waits, next, next)
+}

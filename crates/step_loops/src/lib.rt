@@ -1,0 +1,10 @@
+//! Whether packets can wait for each other in a credit loop while switches go over from one table to the next, and for
+//! which LIDs.
+#![tactic(auto)]
+
+mod across;
+mod lids_in_loop;
+mod step_order;
+
+pub use lids_in_loop::loop_lids;
+pub use step_order::step_order;

@@ -1,0 +1,143 @@
+//! For which LIDs packets wait in a credit loop of a step.
+ghost use Rattle.std.specs.Prelude.{◌≡◌, ◌↔◌, IfOk, IsTrue, length, replicate};
+ghost use Rattle.fact_store.specs.View.{cells_of};
+ghost use Rattle.audit_channels.specs.Columns.{number_of};
+ghost use Rattle.step_loops.specs.LoopLids.{AreLoopLids, AreNoted, IsNoted, TakesFrom, TakesHere, are_known, turned};
+ghost use Rattle.step_loops.specs.StepOrder.{WaitInCycle};
+
+use crate::across::columns_of;
+use next_tables::greater;
+use audit::Network;
+use audit_channels::edge_of;
+use port_graph::Edge;
+use smp_bytes::Lid;
+use std::alloc::{AllocError, Global};
+
+/// For each channel of a credit loop in a step the least LID for which packets that hold it wait for the channel after
+/// it, and from the last one on for the first, by an entry of either table at each of the two switches. Takes for each
+/// LID, until each channel has one, a step for each switch, by either table, and four for each channel without a LID
+/// yet.
+pub fn loop_lids(
+    alloc: Global,
+    held: &Network,
+    next: &Network,
+    cycle: &[usize],
+) -> Result<Vec<Lid>, AllocError>
+    requires facts { next.now.facts ≡ held.now.facts }
+    requires cycle { WaitInCycle (cells_of held.now.facts) held.now.held next.now.held cycle.now }
+    ensures { IfOk result (λ lids.
+        AreLoopLids (cells_of held.now.facts) held.now.held next.now.held cycle.now lids.items) }
+{
+    let after = turned(alloc, cycle)?;
+    let mut lids = none_known(alloc, cycle.len())?;
+    let mut held_blocks = held.blocks(alloc, 0)?;
+    let mut next_blocks = next.blocks(alloc, 0)?;
+    for below in 0..greater(held.greatest_top(), next.greatest_top()).number() {
+        if are_known(&lids) {
+            return Ok(lids);
+        }
+        let lid = Lid::new(below + 1);
+        held_blocks = held.blocks_for(alloc, held_blocks, lid)?;
+        next_blocks = next.blocks_for(alloc, next_blocks, lid)?;
+        let columns = columns_of(alloc, held, next, &held_blocks, &next_blocks, lid)?;
+        note_lid(&mut lids, cycle, &after, &columns.held, &columns.next, lid);
+    }
+    Ok(lids)
+}
+
+/// Of channels in a circle, those that come after each.
+fn turned(alloc: Global, cycle: &[usize]) -> Result<Vec<usize>, AllocError>
+    ensures { IfOk result (λ after. after.items ≡ turned cycle.now) }
+{
+    let Some((first, later)) = cycle.split_first() else {
+        return Ok(Vec::new(alloc));
+    };
+    let mut after = Vec::from_slice(alloc, later)?;
+    after.push(*first)?;
+    Ok(after)
+}
+
+/// So many LIDs that are none yet, which is 0.
+fn none_known(alloc: Global, count: usize) -> Result<Vec<Lid>, AllocError>
+    ensures { IfOk result (λ lids. lids.items ≡ replicate count 0) }
+{
+    vec![in alloc; Lid::NONE; count]
+}
+
+/// Whether none of these is none yet.
+fn are_known(lids: &[Lid]) -> bool
+    ensures { result ≡ are_known lids.now }
+{
+    lids.iter().all(|lid| *lid != Lid::NONE)
+}
+
+/// Notes a LID for each channel of a cycle that has none yet, where its packets hold the channel and wait for the one
+/// after it, by the edges of either column.
+fn note_lid(
+    lids: &mut [Lid],
+    cycle: &[usize],
+    after: &[usize],
+    held: &[Option<Edge>],
+    next: &[Option<Edge>],
+    lid: Lid,
+)
+    requires cycle { length cycle.now ≡ length lids.old }
+    requires after { length after.now ≡ length lids.old }
+    ensures { AreNoted held.now next.now lid cycle.now after.now lids.old lids.new }
+{
+    for index in 0..lids.len() {
+        lids[index] = noted(cycle[index], after[index], held, next, lid, lids[index]);
+    }
+}
+
+/// The LID that is known for two channels, where 0 is none; or else this one, where its packets hold the one channel
+/// and wait for the other.
+fn noted(
+    channel: usize,
+    other: usize,
+    held: &[Option<Edge>],
+    next: &[Option<Edge>],
+    lid: Lid,
+    known: Lid,
+) -> Lid
+    ensures { IsNoted held.now next.now lid channel other known result }
+{
+    if known == Lid::NONE && waits(channel, other, held, next) {
+        lid
+    } else {
+        known
+    }
+}
+
+/// Whether packets for a LID leave the switch of one channel by it, and the next by the other, by the edges of either
+/// column.
+fn waits(channel: usize, other: usize, held: &[Option<Edge>], next: &[Option<Edge>]) -> bool
+    ensures { IsTrue result ↔ TakesHere held.now next.now channel other }
+{
+    takes(channel, other, held, held)
+        || takes(channel, other, held, next)
+        || takes(channel, other, next, held)
+        || takes(channel, other, next, next)
+}
+
+/// Whether packets for a LID leave the switch of one channel by it, by the edges of one column, and the next by the
+/// other, by those of another column.
+fn takes(channel: usize, other: usize, before: &[Option<Edge>], now: &[Option<Edge>]) -> bool
+    ensures { IsTrue result ↔ TakesFrom before.now now.now channel other }
+{
+    let Some(first) = edge_of(before, channel / 256) else {
+        return false;
+    };
+    let to = first.to;
+    let Some(second) = edge_of(now, to) else {
+        return false;
+    };
+    is_channel(channel, channel / 256, first) && is_channel(other, to, second)
+}
+
+/// Whether a channel is that of a vertex's edge.
+fn is_channel(channel: usize, vertex: usize, edge: Edge) -> bool
+    ensures { IsTrue result ↔ (channel ≡ number_of vertex edge) }
+{
+    channel / 256 == vertex && channel % 256 == usize::from(edge.port.number())
+}

@@ -1,0 +1,50 @@
+//! Whether packets can wait for each other in a cycle in a step.
+ghost use Rattle.std.specs.Prelude.{◌≡◌, IfOk};
+ghost use Rattle.fact_store.specs.View.{cells_of};
+ghost use Rattle.step_loops.specs.StepOrder.{AreWaits, IsShortestInStep, IsStepOrder};
+
+use crate::across::{Columns, add_step, columns_of};
+use next_tables::greater;
+use audit::Network;
+use audit_channels::{ChannelOrder, Waits, order_channels};
+use smp_bytes::Lid;
+use std::alloc::{AllocError, Global};
+
+#[tactic(auto, using(crate::proofs::InStep::order_is, crate::proofs::InStep::shortest_is))]
+/// Numbers of channels that rise along the way of every packet, by whatever mixtures of the tables held and the next
+/// ones, where there are such; or else channels that wait for each other in a cycle by some, as few as there are. The
+/// channels have the numbers that they have in `audit_channels::channel_order`. Takes what that does for both tables,
+/// and four steps in place of one where they differ.
+pub fn step_order(alloc: Global, held: &Network, next: &Network) -> Result<ChannelOrder, AllocError>
+    requires facts { next.now.facts ≡ held.now.facts }
+    ensures order { IfOk result (λ found.
+        IsStepOrder (cells_of held.now.facts) held.now.held next.now.held found) }
+    ensures shortest { IfOk result (λ found.
+        IsShortestInStep (cells_of held.now.facts) held.now.held next.now.held found) }
+{
+    let waits = waits(alloc, held, next)?;
+    let found = order_channels(alloc, &waits)?;
+    Ok(found)
+}
+
+/// For each channel those that packets take next by either table, LID by LID up to the greatest top of both.
+fn waits(alloc: Global, held: &Network, next: &Network) -> Result<Waits, AllocError>
+    requires facts { next.now.facts ≡ held.now.facts }
+    ensures { IfOk result (λ waits.
+        AreWaits (cells_of held.now.facts) held.now.held next.now.held waits) }
+{
+    let count = held.switch_count().checked_mul(256).ok_or(AllocError)?;
+    let mut waits = Waits::new(alloc, count)?;
+    let mut held_blocks = held.blocks(alloc, 0)?;
+    let mut next_blocks = next.blocks(alloc, 0)?;
+    let mut before = Columns::none(alloc);
+    for below in 0..greater(held.greatest_top(), next.greatest_top()).number() {
+        let lid = Lid::new(below + 1);
+        held_blocks = held.blocks_for(alloc, held_blocks, lid)?;
+        next_blocks = next.blocks_for(alloc, next_blocks, lid)?;
+        let columns = columns_of(alloc, held, next, &held_blocks, &next_blocks, lid)?;
+        add_step(&mut waits, &before, &columns)?;
+        before = columns;
+    }
+    Ok(waits)
+}
