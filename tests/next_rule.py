@@ -6,6 +6,7 @@ A hop of a packet is a pair: ON and a switch, TAKEN and the end that took it, or
 import collections
 
 import paths  # noqa: F401
+import spread_rule
 from ibsm_texts import ENTRIES, NO_WAY, name_of
 
 ON, TAKEN, LOST = "on", "taken", "lost"
@@ -62,6 +63,18 @@ class Subnet:
         self.ends = sorted(facts.port_guids)
         wired = [end for end in facts.links if end[0] in self.switches or end in facts.port_guids]
         self.wires = {end: far for end in wired if (far := facts.wire(end)) in wired}
+
+    def graph(self):
+        """For each switch the ports whose wires lead to switches, and these, by rising port."""
+        found = {guid: [] for guid in self.switches}
+        for (guid, port), (far, _) in sorted(self.wires.items()):
+            if guid in found and far in found:
+                found[guid].append((port, far))
+        return found
+
+    def leaves(self):
+        """The switches to which adapters are wired."""
+        return sorted({far[0] for end, far in self.wires.items() if end[0] not in self.switches and far[0] in self.switches})
 
     def over(self, end, owners):
         """The hop over the wire in a port."""
@@ -134,20 +147,83 @@ def next_column(subnet, held, planned, end):
     return {guid: entry(guid) for guid in held}
 
 
+class Order:
+    """An order of the usable switches, by the place of each."""
+
+    def __init__(self, places):
+        self.places = places
+
+    def is_up(self, one, other):
+        return self.places[other] <= self.places[one]
+
+    def is_down(self, one, other):
+        return self.places[one] <= self.places[other]
+
+    def is_right(self, subnet, tables):
+        """Whether packets for no LID go down and then up again."""
+        for lid in range(1, max((tables.tops.get(guid, 0) for guid in subnet.switches), default=0) + 1):
+            to = {guid: hop[1] for guid, hop in subnet.hops(tables.column(subnet.switches, lid), []).items() if hop[0] == ON}
+            if any(self.is_down(guid, far) and far in to and self.is_up(far, to[far]) for guid, far in to.items()):
+                return False
+        return True
+
+    def next_column(self, subnet, held, owners, planned, end):
+        """The next entries for a LID of the plan that these ends hold, by the entries that are held and those of the plan."""
+        by_held, by_plan, there = subnet.hops(held, owners), subnet.hops(planned, [end]), (TAKEN, end)
+        delivers = {guid for guid in held if walk(by_held, (ON, guid))[1] == there}
+        differs = {guid for guid in held if held[guid] != planned[guid]}
+        onward = {guid: hop[1] for guid, hop in by_held.items() if hop[0] == ON}
+        # Switches to which packets come down, and switches that send them up, by an entry that is not the plan's.
+        entered = {far for guid, far in onward.items() if guid in differs and self.is_down(guid, far)}
+        going_up = {guid for guid, far in onward.items() if guid in differs and self.is_up(guid, far)}
+
+        def may_change(guid):
+            kind, at = by_plan[guid]
+            if kind == ON and (self.is_up(guid, at) and guid in entered or self.is_down(guid, at) and at in going_up):
+                return False
+            return guid not in delivers or (at in delivers if kind == ON else by_plan[guid] == there)
+
+        takes = {guid for guid in held if may_change(guid)}
+        tried = {guid: by_plan[guid] if guid in takes else by_held[guid] for guid in held}
+        return {
+            guid: NO_WAY if walk(tried, (ON, guid))[1] != there else planned[guid] if guid in takes else held[guid] for guid in held
+        }
+
+
+def by_rank(subnet):
+    """The order by which the rule that goes up and down plans: by the distance from the least GUID of the component, and GUID."""
+    graph = subnet.graph()
+    far = {}
+    for guid in subnet.switches:
+        if guid not in far:
+            far.update(spread_rule.distances(graph, [guid]))
+    return Order({guid: place for place, guid in enumerate(sorted(subnet.switches, key=lambda guid: (far[guid], guid)))})
+
+
+def by_spread(subnet, roots):
+    """The order by which the rule that spreads plans."""
+    graph = subnet.graph()
+    return Order(spread_rule.places_of(graph, spread_rule.keys_of(graph, subnet.leaves(), roots)))
+
+
 def first_moved(held, plan):
     """The least LID that the plan gives to an end and that another one holds."""
     owners = held.owners()
     return next((lid for lid, ends in sorted(plan.owners().items()) if set(owners[lid]) - set(ends)), None)
 
 
-def next_tables(subnet, held, plan):
-    made, before, after = Tables(), held.owners(), plan.owners()
+def next_tables(subnet, held, plan, order):
+    """The next tables: by the order of the plan, if the held tables are right by that."""
+    made, before, after, is_right = Tables(), held.owners(), plan.owners(), order.is_right(subnet, held)
     made.ranges = plan.ranges
     made.tops = {guid: max(held.tops.get(guid, 0), plan.tops[guid]) for guid in subnet.switches}
     columns = {}
     for lid, (end,) in after.items():
-        planned = plan.column(subnet.switches, lid)
-        columns[lid] = next_column(subnet, held.column(subnet.switches, lid), planned, end) if before[lid] == [end] else planned
+        entries, planned = held.column(subnet.switches, lid), plan.column(subnet.switches, lid)
+        if is_right:
+            columns[lid] = order.next_column(subnet, entries, before[lid], planned, end)
+        else:
+            columns[lid] = next_column(subnet, entries, planned, end) if before[lid] == [end] else planned
     for guid, top in made.tops.items():
         entries = bytes(columns[lid][guid] if lid in columns else NO_WAY for lid in range((top // ENTRIES + 1) * ENTRIES))
         made.blocks[guid] = {at // ENTRIES: entries[at : at + ENTRIES] for at in range(0, len(entries), ENTRIES)}

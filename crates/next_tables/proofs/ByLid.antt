@@ -1,6 +1,7 @@
 -- The entries of all usable switches for a LID.
 use Rattle.std.proofs.Common.{◌≡◌, ℕ, ◌+◌, List, [], ◌∷◌, ◌++◌, length, refl, sym, ap, ◌∙◌, arith, Option, None, Some}
-use Rattle.std.specs.Prelude.{map, replicate}
+use Rattle.std.specs.Prelude.{drop, map, replicate, slice_get}
+use Rattle.std.proofs.lemmas.Option.{same_Some}
 use Rattle.std.specs.List.{range_with_len}
 use Rattle.std.proofs.lemmas.List.{map-append}
 use Rattle.std.proofs.lemmas.List.FromFn.{map-range_with_len_more}
@@ -82,7 +83,7 @@ module _ (cells : Cells) (held plan : HeldPlan) (lid : ℕ) where
       e ∙ sym (owned_each planned gs some) ∙ ap (column_by planned) k ∙ by_owners planned owners p h
 
   -- by an order
-  column_by_order : List ℕ → List EndPort → List ℕ
+  abbrev pub column_by_order : List ℕ → List EndPort → List ℕ
   column_by_order positions planned = map (λ g. ordered_for cells (position_at positions) held plan lid planned (index_at cells g) g) gs
 
   ordered_by_owners : (positions : List ℕ) (planned : List EndPort) → planned ≡ owners_of plan lid
@@ -94,6 +95,15 @@ module _ (cells : Cells) (held plan : HeldPlan) (lid : ℕ) where
       → entries ≡ replicate count 255 → entries ≡ column_of cells (by_order positions) held plan lid
   ordered_nobodys positions entries planned p none count all e =
       e ∙ ap (λ n. replicate n 255) all ∙ sym (same_each 255 gs) ∙ sym (ap (column_by_order positions) none) ∙ ordered_by_owners positions planned p
+
+-- the first of some
+pub none_first : {X : Type 0} (xs : List X) → slice_get xs 0 ≡ None → xs ≡ []
+none_first [] h = refl
+none_first (x ∷ xs) h = absurd (cc)
+
+pub first_of : {X : Type 0} (xs : List X) (x : X) → slice_get xs 0 ≡ Some x → xs ≡ x ∷ drop 1 xs
+first_of [] x h = absurd (cc)
+first_of (y ∷ xs) x h = ap (λ z. z ∷ xs) (same_Some y x h)
 
 -- one that the plan has, by an order
 module _ (facts : Facts) (positions : List ℕ) (held plan : HeldPlan) (lid : ℕ) where

@@ -248,8 +248,8 @@ module _ (facts : Facts) (rule : StepRuleValue) (held : HeldPlan) (plan : PlanVa
       let cells = cells_of facts in
       let lids = plan_lids plan in
       let switches_are : map (next_switch held (held_plan plan)) (switches cells)
-      ≡ map (with_own_top (next_top held (held_plan plan))) (map (next_table cells held (held_plan plan)) (switches cells)) =
-      sym (mapped_twice (with_own_top (next_top held (held_plan plan))) (next_table cells held (held_plan plan)) (switches cells)) in
+      ≡ map (with_own_top (next_top held (held_plan plan))) (map (next_table cells rule held (held_plan plan)) (switches cells)) =
+      sym (mapped_twice (with_own_top (next_top held (held_plan plan))) (next_table cells rule held (held_plan plan)) (switches cells)) in
       λ i. record { lids = lids i; switches = switches_are i; blocks = blocks_of 0 next_plan.tables }
 
 pub next_texts_are_read : NextTextsAreRead

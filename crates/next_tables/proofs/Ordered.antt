@@ -1,10 +1,11 @@
 -- The next entries by an order, by lists of what the switches do.
 use Rattle.std.proofs.Common.{◌≡◌, ℕ, zero, suc, ◌+◌, ◌<◌, ◌≤◌, Bool, true, false, cond, List, [], ◌∷◌, length, get_or, Some, refl, sym, ap, ◌∙◌, subst, arith, inl, inr, ◌&&◌, ◌||◌}
-use Rattle.std.specs.Prelude.{not, map, slice_get, slice_index_or, unwrap_or, min, ◌==◌, None, Option}
+use Rattle.std.specs.Prelude.{not, map, replicate, slice_get, slice_index_or, unwrap_or, min, ◌==◌, None, Option}
 use Rattle.std.specs.List.{enumerate_from, list_all, list_any, position, range_with_len, zip}
 use Rattle.std.specs.List.Sorted.{IsStrictlyIncreasing}
+use Rattle.std.proofs.Math.Bool.{or-false, or_assoc}
 use Rattle.std.proofs.lemmas.Bool.{cases_order, eqb-true}
-use Rattle.std.proofs.lemmas.List.{ext_get_or, get_or-map, length-map}
+use Rattle.std.proofs.lemmas.List.{ext_get_or, get_or-map, get_or-replicate, length-map, length-replicate}
 use Rattle.std.proofs.lemmas.List.FromFn.{get_or-enumerate_from, get_or-map-range_with_len, length-enumerate_from, length-map-range_with_len}
 use Rattle.std.proofs.lemmas.List.Kept.{AllPairs-from_increasing}
 use Rattle.std.proofs.lemmas.List.Quantifiers.{position-Some}
@@ -23,13 +24,15 @@ use Rattle.audit.specs.declared.switch_step.SwitchStep.{SwitchStep}
 use Rattle.audit.specs.NextHops.{is_at, next_hops_of, switch_step}
 use Rattle.audit.proofs.FabricParts.{index_there}
 use Rattle.next_tables.specs.Next.{comes_to, delivers, step_at}
-use Rattle.next_tables.specs.SwitchSteps.{Both, hops_of}
+use Rattle.audit.specs.WalkEnds.{HaveEnded}
+use Rattle.next_tables.specs.SwitchSteps.{Both, arrives_by, hops_of}
 use Rattle.next_tables.specs.ByOrder.{comes_down, goes_up, is_down, is_same, is_up, leads_in, may_change, next_by_order, none_comes_down, none_goes_up, position_at, switch_at, tried, tried_at, tried_entry, turns_well}
 use Rattle.next_tables.specs.OrderedEntries as listed
-use Rattle.next_tables.specs.OrderedEntries.{delivered_of, entered_of, enters_from, entries_by, entry_by, flag, goes_up_by, going_up_of, is_differing, is_entered, may_change_by, ordered_of, tried_by, tried_of, turns_well_by}
+use Rattle.next_tables.specs.OrderedEntries.{delivered_of, entered_of, enters, enters_from, entries_by, entry_by, flag, goes_up_by, going_up_of, is_differing, is_entered, may_change_by, ordered_of, tried_by, tried_of, turns_well_by}
 use Rattle.next_tables.specs.NextTables.{by_order, column_of, index_at, ordered_for}
 use Rattle.next_tables.proofs.Entries.{at_mapped, member}
 use Rattle.next_tables.proofs.Hops.{placed, to_within}
+use Rattle.next_tables.proofs.Listed.{arrives_is}
 
 -- truths
 not_or : (a b : Bool) → not (a && not b) ≡ (not a || b)
@@ -63,13 +66,85 @@ any_by_index p r (x ∷ xs) d a h =
     let rest = any_by_index p r xs d (a + 1) (λ k less. let shifted : a + suc k ≡ (a + 1) + k = omega arith in h (suc k) (omega arith) ∙ ap r shifted) in
     λ i. first i || rest i
 
+-- what was found of switches
+pub delivered_is : (port : EndPort) (held : List SwitchStep) (hops ends : List NextHop) (found : List Bool) → hops ≡ hops_of held → HaveEnded hops ends
+    → found ≡ map (λ (x : SwitchStep). arrives_by port ends x.hop) held → found ≡ delivered_of port held
+delivered_is port held hops ends found are ended e =
+    e ∙ ap (λ (f : NextHop → Bool). map (λ (x : SwitchStep). f x.hop) held) (arrives_is port hops ends ended ∙ ap (comes_to port) are)
+
+pub entries_are : (port : EndPort) (tried : List SwitchStep) (hops ends : List NextHop) (entries : List ℕ) → hops ≡ hops_of tried → HaveEnded hops ends
+    → entries ≡ map (entry_by (arrives_by port ends)) (enumerate_from 0 tried) → entries ≡ entries_by port tried
+entries_are port tried hops ends entries are ended e =
+    e ∙ ap (λ (f : NextHop → Bool). map (entry_by f) (enumerate_from 0 tried)) (arrives_is port hops ends ended ∙ ap (comes_to port) are)
+
+-- switches to which packets come down from one of the first
+abbrev pub no_step : SwitchStep
+no_step = record { switch = 0; entry = 0; hop = To 0 }
+
+abbrev pub enters_at : List ℕ → List SwitchStep → List SwitchStep → ℕ → ℕ → Bool
+enters_at positions held goal i k = enters positions k (slice_index_or held k no_step) (slice_index_or goal k no_step) i
+
+pub record EnteredSoFar (positions : List ℕ) (held goal : List SwitchStep) (entered : List Bool) (count : ℕ) : Type 0 where
+  pub long : length entered ≡ length held
+  pub each : (i : ℕ) → i < length held → flag entered i ≡ list_any (enters_at positions held goal i) (range_with_len 0 count)
+
+pub entered_none : (positions : List ℕ) (held goal : List SwitchStep) (entered : List Bool) → entered ≡ replicate (length held) false
+    → EnteredSoFar positions held goal entered 0
+entered_none positions held goal entered e = record {
+  long = ap length e ∙ length-replicate (length held) false;
+  each = λ i less. ap (λ fs. flag fs i) e ∙ get_or-replicate (length held) i false false less;
+}
+
+range_more : (p : ℕ → Bool) (a n : ℕ) → list_any p (range_with_len a (n + 1)) ≡ (list_any p (range_with_len a n) || p (a + n))
+range_more p a zero = let at : a ≡ a + 0 = omega arith in or-false (p a) ∙ ap p at
+range_more p a (suc n) =
+    let at : (a + 1) + n ≡ a + suc n = omega arith in
+    let more : suc n + 1 ≡ suc (n + 1) = omega arith in
+    ap (λ k. list_any p (range_with_len a k)) more ∙ ap (λ t. p a || t) (range_more p (a + 1) n) ∙ sym (or_assoc (p a) (list_any p (range_with_len (a + 1) n)) (p ((a + 1) + n)))
+    ∙ ap (λ k. (p a || list_any p (range_with_len (a + 1) n)) || p k) at
+
+pub entered_more : (positions : List ℕ) (held goal : List SwitchStep) (old new : List Bool) (count : ℕ) (one other : SwitchStep)
+    → EnteredSoFar positions held goal old count → length new ≡ length old
+    → one ≡ slice_index_or held count no_step → other ≡ slice_index_or goal count no_step
+    → ((i : ℕ) → i < length old → flag new i ≡ (flag old i || enters positions count one other i)) → EnteredSoFar positions held goal new (count + 1)
+entered_more positions held goal old new count one other so long is_one is_other each = record {
+  long = long ∙ so.long;
+  each = λ i less.
+      let at : count ≡ 0 + count = omega arith in
+      each i (omega (arith, less, so.long))
+      ∙ (λ t. so.each i less t || enters positions count (is_one t) (is_other t) i)
+      ∙ ap (λ k. list_any (enters_at positions held goal i) (range_with_len 0 count) || enters_at positions held goal i k) at
+      ∙ sym (range_more (enters_at positions held goal i) 0 count);
+}
+
+pub entered_all : (positions : List ℕ) (held goal : List SwitchStep) (entered : List Bool) (count : ℕ) → count ≡ min (length held) (length goal)
+    → EnteredSoFar positions held goal entered count → entered ≡ entered_of positions held goal
+entered_all positions held goal entered count is so =
+    let xs = enumerate_from 0 (zip held goal) in
+    let long : length xs ≡ count = length-enumerate_from 0 (zip held goal) ∙ length-zip held goal ∙ sym is in
+    ext_get_or false entered (entered_of positions held goal)
+    (so.long ∙ sym (length-map-range_with_len (is_entered positions held goal) 0 (length held)))
+    (λ i h.
+    let less : i < length held = omega (arith, h, so.long) in
+    let same : is_entered positions held goal i ≡ list_any (enters_at positions held goal i) (range_with_len 0 (length xs)) =
+    any_by_index (enters_from positions i) (enters_at positions held goal i) xs (0, (no_step, no_step)) 0 (λ k within.
+    let at : 0 + k ≡ k = omega arith in
+    let low : k < length (zip held goal) = omega (arith, within, length-enumerate_from 0 (zip held goal)) in
+    let mins = length-zip held goal in
+    ap (enters_from positions i)
+    (get_or-enumerate_from 0 (zip held goal) k (0, (no_step, no_step)) low
+    ∙ (λ t. (at t, get_or-zip held goal k (no_step, no_step) (omega (arith, low, mins)) (omega (arith, low, mins)) t)))
+    ∙ ap (enters_at positions held goal i) (sym at)) in
+    so.each i less ∙ ap (λ m. list_any (enters_at positions held goal i) (range_with_len 0 m)) (sym long) ∙ sym same
+    ∙ sym (get_or-map-range_with_len (is_entered positions held goal) 0 (length held) i i false less (omega arith)))
+
 twice : {X Y Z : Type 0} (f : Y → Z) (g : X → Y) (xs : List X) → map f (map g xs) ≡ map (λ x. f (g x)) xs
 twice f g [] = refl
 twice f g (x ∷ xs) = ap (λ ys. f (g x) ∷ ys) (twice f g xs)
 
 -- the index of what stands in a list that rises
 less_later : (guids : List ℕ) (i k : ℕ) → IsStrictlyIncreasing guids → i < k → k < length guids → get_or guids i 0 < get_or guids k 0
-less_later guids i k rises less within = AllPairs-from_increasing guids rises i k 0 within less
+less_later guids i k rises less within = AllPairs-from_increasing guids rises i k 0 less within
 
 pub index_own : (guids : List ℕ) (k : ℕ) → IsStrictlyIncreasing guids → k < length guids → unwrap_or (index_in guids (slice_index_or guids k 0)) 0 ≡ k
 index_own guids k rises less =
@@ -85,6 +160,14 @@ index_own guids k rises less =
             | inr (inr behind) ↦ let lower = less_later guids k i rises behind found.0 in absurd (omega (arith, same, lower))
           ])
     ] refl
+
+-- the entries, by what was found
+pub made_is : (positions : List ℕ) (port : EndPort) (held goal : List SwitchStep) (delivered going_up entered : List Bool) (tried : List SwitchStep)
+    (entries : List ℕ) → delivered ≡ delivered_of port held → going_up ≡ going_up_of positions held goal → entered ≡ entered_of positions held goal
+    → tried ≡ tried_of positions port delivered going_up entered held goal → entries ≡ entries_by port tried → entries ≡ ordered_of positions port held goal
+unfolding ordered_of
+made_is positions port held goal delivered going_up entered tried entries d u n t e =
+    e ∙ ap (entries_by port) (t ∙ (λ i. tried_of positions port (d i) (u i) (n i) held goal))
 
 module _ (facts : Facts) (positions : List ℕ) (held goal : HeldPlan) (line : HeldLid) where
   abbrev cells : Cells
@@ -160,8 +243,8 @@ module _ (facts : Facts) (positions : List ℕ) (held goal : HeldPlan) (line : H
   abbrev entered : List Bool
   entered = entered_of positions hs ps
 
-  delivered_is : (k : ℕ) → k < n → flag delivered k ≡ delivers cells held line (switch_at cells k)
-  delivered_is k less =
+  delivered_at : (k : ℕ) → k < n → flag delivered k ≡ delivers cells held line (switch_at cells k)
+  delivered_at k less =
       get_or-map (λ (x : SwitchStep). comes_to port (hops_of hs) x.hop) hs k (switch_step cells held lid (switch_at cells k)) false (omega (arith, hs_long))
       ∙ ap (λ (x : SwitchStep). comes_to port (hops_of hs) x.hop) (at_mapped (switch_step cells held lid) gs k (switch_step cells held lid (switch_at cells k)) less)
       ∙ ap (λ (hops : List NextHop). comes_to port hops (step_at cells held lid (switch_at cells k))) held_hops
@@ -171,9 +254,9 @@ module _ (facts : Facts) (positions : List ℕ) (held goal : HeldPlan) (line : H
       ap not (made_at (goes_up_by positions) k false less)
       ∙ not_or (goes_up q k (step_at cells held lid (switch_at cells k))) (is_same cells held goal lid (switch_at cells k))
 
-  enters_at : (i k : ℕ) → k < length (enumerate_from 0 both) → enters_from positions i (get_or (enumerate_from 0 both) k (0, pair 0))
+  enters_there : (i k : ℕ) → k < length (enumerate_from 0 both) → enters_from positions i (get_or (enumerate_from 0 both) k (0, pair 0))
       ≡ (comes_down q (0 + k) i (step_at cells held lid (switch_at cells (0 + k))) && not (is_same cells held goal lid (switch_at cells (0 + k))))
-  enters_at i k less =
+  enters_there i k less =
       let at : k ≡ 0 + k = omega arith in
       ap (enters_from positions i) (numbered_at k (0, pair 0) (omega (arith, numbered_long)))
       ∙ ap (λ x. comes_down q x i (step_at cells held lid (switch_at cells x)) && not (is_same cells held goal lid (switch_at cells x))) at
@@ -185,7 +268,7 @@ module _ (facts : Facts) (positions : List ℕ) (held goal : HeldPlan) (line : H
       let here : flag entered i ≡ is_entered positions hs ps i =
       get_or-map-range_with_len (is_entered positions hs ps) 0 (length hs) i i false (omega (arith, hs_long)) (omega arith) in
       let some : is_entered positions hs ps i ≡ list_any (λ x. down x && not (same x)) (range_with_len 0 n) =
-      any_by_index (enters_from positions i) (λ x. down x && not (same x)) (enumerate_from 0 both) (0, pair 0) 0 (enters_at i)
+      any_by_index (enters_from positions i) (λ x. down x && not (same x)) (enumerate_from 0 both) (0, pair 0) 0 (enters_there i)
       ∙ ap (λ m. list_any (λ x. down x && not (same x)) (range_with_len 0 m)) numbered_long in
       ap not (here ∙ some) ∙ all_is_none down same (range_with_len 0 n)
 
@@ -197,7 +280,7 @@ module _ (facts : Facts) (positions : List ℕ) (held goal : HeldPlan) (line : H
   turns_are i (Ends e) less within = refl
 
   leads_are : (hop : NextHop) → ((j : ℕ) → hop ≡ To j → j < n) → listed.leads_in port delivered hop ≡ leads_in cells held line hop
-  leads_are (To j) within = delivered_is j (within j refl)
+  leads_are (To j) within = delivered_at j (within j refl)
   leads_are (Ends e) within = refl
 
   abbrev goal_hop : ℕ → NextHop
@@ -206,7 +289,7 @@ module _ (facts : Facts) (positions : List ℕ) (held goal : HeldPlan) (line : H
   may_is : (i : ℕ) → i < n → may_change_by positions port delivered going_up entered i (goal_hop i) ≡ may_change cells q held goal line i (switch_at cells i)
   may_is i less =
       let within : (j : ℕ) → goal_hop i ≡ To j → j < n = λ j e. to_within cells goal lid (switch_at cells i) j e in
-      λ t. turns_are i (goal_hop i) less within t && (not (delivered_is i less t) || leads_are (goal_hop i) within t)
+      λ t. turns_are i (goal_hop i) less within t && (not (delivered_at i less t) || leads_are (goal_hop i) within t)
 
   -- what is tried
   abbrev tried_steps : List SwitchStep

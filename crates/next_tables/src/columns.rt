@@ -1,5 +1,5 @@
 //! The next entries, LID by LID.
-ghost use Rattle.std.specs.Prelude.{◌≡◌, ◌↔◌, ◌==◌, ◌≤◌, ◌*◌, ◌/◌, IfOk, IsTrue, length, map, replicate};
+ghost use Rattle.std.specs.Prelude.{◌≡◌, ◌↔◌, ◌==◌, ◌≤◌, ◌*◌, ◌/◌, IfOk, IsTrue, length, map, replicate, slice_get};
 ghost use Rattle.std.specs.List.{range_with_len};
 ghost use Rattle.fact_store.specs.View.{cells_of};
 ghost use Rattle.subnet_view.specs.Reading.{switches};
@@ -107,12 +107,12 @@ fn ordered_column(
         ≡ column_of (cells_of held.now.facts) (by_order positions.now) held.now.held plan.now.held lid) }
 {
     let planned = plan.owners(alloc, lid)?;
-    let Some(port) = planned.first() else {
+    let Some(port) = first_owner(&planned) else {
         return no_entries(alloc, held.switch_count());
     };
     let held_steps = held.switch_steps(alloc, held_blocks, lid)?;
     let plan_steps = plan.switch_steps(alloc, plan_blocks, lid)?;
-    ordered_entries(alloc, port, positions, &held_steps, &plan_steps)
+    ordered_entries(alloc, &port, positions, &held_steps, &plan_steps)
 }
 
 /// Returns the entries of all usable switches for a LID, those of the plan as soon as its way is settled.
@@ -150,6 +150,13 @@ fn settled_column(
     let held_steps = held.switch_steps(alloc, held_blocks, lid)?;
     let plan_steps = plan.switch_steps(alloc, plan_blocks, lid)?;
     next_entries(alloc, &port, &held_steps, &plan_steps)
+}
+
+/// Returns the first of end ports.
+fn first_owner(owners: &[EndPort]) -> Option<EndPort>
+    ensures { result ≡ slice_get owners.now 0 }
+{
+    owners.first().copied()
 }
 
 /// Whether no end port is one of these.

@@ -1,5 +1,6 @@
 //! The next entries of the switches for a LID by an order of the switches.
-ghost use Rattle.std.specs.Prelude.{◌≡◌, ◌<◌, ◌||◌, ℕ, IfOk, length};
+ghost use Rattle.std.specs.Prelude.{◌≡◌, ◌<◌, ◌||◌, ℕ, IfOk, false, length, map, replicate};
+ghost use Rattle.std.specs.List.{enumerate_from};
 ghost use Rattle.next_tables.specs.ByOrder.{goes_up, position_at};
 ghost use Rattle.next_tables.specs.SwitchSteps.{arrives_by};
 ghost use Rattle.next_tables.specs.OrderedEntries.{delivered_of, entered_of, flag, is_differing, leads_in};
@@ -55,8 +56,21 @@ fn delivered(alloc: Global, port: &EndPort, held: &[SwitchStep]) -> Result<Vec<b
 {
     let hops = hops(alloc, held)?;
     let ends = ends(hops);
-    held.iter()
-        .map(|step| arrives_by(port, &ends, step.hop))
+    arrivals(alloc, port, &ends, held)
+}
+
+/// Returns whether the walk from each switch comes to the port, by where walks end.
+fn arrivals(
+    alloc: Global,
+    port: &EndPort,
+    ends: &[NextHop],
+    steps: &[SwitchStep],
+) -> Result<Vec<bool>, AllocError>
+    ensures { IfOk result (λ found. found.items ≡ map (λ x. arrives_by port.now ends.now x.hop) steps.now) }
+{
+    steps
+        .iter()
+        .map(|step| arrives_by(port, ends, step.hop))
         .collect(alloc)
 }
 
@@ -72,7 +86,7 @@ fn going_up(
     held.iter()
         .zip(goal.iter())
         .enumerate()
-        .map(|(index, (held, goal))| goes_up(positions, index, held.hop) && is_differing(held, goal))
+        .map(|(index, (held, goal))| goes_up(positions, index, &held.hop) && is_differing(held, goal))
         .collect(alloc)
 }
 
@@ -84,11 +98,11 @@ fn is_differing(held: &SwitchStep, goal: &SwitchStep) -> bool
 }
 
 /// Whether the switch at an index sends the packet up.
-fn goes_up(positions: &[usize], index: usize, hop: NextHop) -> bool
-    ensures { result ≡ goes_up (position_at positions.now) index hop }
+fn goes_up(positions: &[usize], index: usize, hop: &NextHop) -> bool
+    ensures { result ≡ goes_up (position_at positions.now) index hop.now }
 {
     match hop {
-        NextHop::To(to) => is_up(positions, index, to),
+        NextHop::To(to) => is_up(positions, index, *to),
         NextHop::Ends(_) => false,
     }
 }
@@ -102,13 +116,18 @@ fn entered(
 ) -> Result<Vec<bool>, AllocError>
     ensures { IfOk result (λ entered. entered.items ≡ entered_of positions.now held.now goal.now) }
 {
-    let mut entered = vec![in alloc; false; held.len()]?;
-    for (index, step) in held.iter().enumerate() {
-        if let Some(goal) = goal.get(index) {
-            enter(&mut entered, positions, index, step, goal);
-        }
+    let mut entered = none_entered(alloc, held.len())?;
+    for index in 0..held.len().min(goal.len()) {
+        enter(&mut entered, positions, index, &held[index], &goal[index]);
     }
     Ok(entered)
+}
+
+/// Returns `count` flags that are not set.
+fn none_entered(alloc: Global, count: usize) -> Result<Vec<bool>, AllocError>
+    ensures { IfOk result (λ flags. flags.items ≡ replicate count false) }
+{
+    vec![in alloc; false; count]
 }
 
 /// Notes that the packet comes down from the switch at an index, if it does so by an entry that is not the goal's.
@@ -161,7 +180,7 @@ fn tried_by(
     ensures { result ≡ tried_by positions.now port.now findings.now.delivered.items
         findings.now.going_up.items findings.now.entered.items (index, (held.now, goal.now)) }
 {
-    if may_change(port, positions, findings, index, goal.hop) {
+    if may_change(port, positions, findings, index, &goal.hop) {
         *goal
     } else {
         *held
@@ -174,10 +193,10 @@ fn may_change(
     positions: &[usize],
     findings: &Findings,
     index: usize,
-    hop: NextHop,
+    hop: &NextHop,
 ) -> bool
     ensures { result ≡ may_change_by positions.now port.now findings.now.delivered.items
-        findings.now.going_up.items findings.now.entered.items index hop }
+        findings.now.going_up.items findings.now.entered.items index hop.now }
 {
     turns_well(positions, findings, index, hop)
         && (!flag(&findings.delivered, index) || leads_in(port, &findings.delivered, hop))
@@ -186,25 +205,25 @@ fn may_change(
 /// Whether no packet can turn up again behind a channel that leads down, if the switch at an index does so by the goal's
 /// entry: it leads up only if the packet does not come down to the switch, and down only if the next switch does not
 /// send it up.
-fn turns_well(positions: &[usize], findings: &Findings, index: usize, hop: NextHop) -> bool
-    ensures { result ≡ turns_well_by positions.now findings.now.going_up.items findings.now.entered.items index hop }
+fn turns_well(positions: &[usize], findings: &Findings, index: usize, hop: &NextHop) -> bool
+    ensures { result ≡ turns_well_by positions.now findings.now.going_up.items findings.now.entered.items index hop.now }
 {
     match hop {
         NextHop::To(to) => {
-            (!is_up(positions, index, to) || !flag(&findings.entered, index))
-                && (!is_down(positions, index, to) || !flag(&findings.going_up, to))
+            (!is_up(positions, index, *to) || !flag(&findings.entered, index))
+                && (!is_down(positions, index, *to) || !flag(&findings.going_up, *to))
         }
         NextHop::Ends(_) => true,
     }
 }
 
 /// Whether the packet comes to the port, or to a switch from which the tables held deliver it.
-fn leads_in(port: &EndPort, delivered: &[bool], hop: NextHop) -> bool
-    ensures { result ≡ leads_in port.now delivered.now hop }
+fn leads_in(port: &EndPort, delivered: &[bool], hop: &NextHop) -> bool
+    ensures { result ≡ leads_in port.now delivered.now hop.now }
 {
     match hop {
-        NextHop::To(to) => flag(delivered, to),
-        NextHop::Ends(end) => is_at(port, &Some(end)),
+        NextHop::To(to) => flag(delivered, *to),
+        NextHop::Ends(end) => is_at(port, &Some(*end)),
     }
 }
 
@@ -221,10 +240,23 @@ fn entries_by(alloc: Global, port: &EndPort, tried: &[SwitchStep]) -> Result<Vec
 {
     let hops = hops(alloc, tried)?;
     let ends = ends(hops);
-    tried
+    entries_where(alloc, port, &ends, tried)
+}
+
+/// Returns the entry of each switch's step, if the walk from there comes to the port, by where walks end; and else none.
+fn entries_where(
+    alloc: Global,
+    port: &EndPort,
+    ends: &[NextHop],
+    steps: &[SwitchStep],
+) -> Result<Vec<u8>, AllocError>
+    ensures { IfOk result (λ entries.
+        entries.items ≡ map (entry_by (arrives_by port.now ends.now)) (enumerate_from 0 steps.now)) }
+{
+    steps
         .iter()
         .enumerate()
-        .map(|(index, step)| entry_by(port, &ends, index, step))
+        .map(|(index, step)| entry_by(port, ends, index, step))
         .collect(alloc)
 }
 

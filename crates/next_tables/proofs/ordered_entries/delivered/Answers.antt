@@ -1,0 +1,20 @@
+-- By where the walks end.
+use Rattle.std.proofs.Common.{◌≡◌, ◌∙◌, ap}
+use Rattle.std.specs.Prelude.{map}
+use Rattle.audit.proofs.Brought.{if_ok}
+use Rattle.audit.specs.declared.next_hop.NextHop.{NextHop}
+use Rattle.audit.specs.declared.switch_step.SwitchStep.{SwitchStep}
+use Rattle.next_tables.specs.SwitchSteps.{arrives_by}
+use Rattle.next_tables.specs.OrderedEntries.{delivered_of}
+use Rattle.next_tables.proofs.Ordered.{delivered_is}
+use Rattle.next_tables.proofs.ordered_entries.delivered.Goals as goal
+
+pub returns : goal.returns
+returns c =
+    let port = c.args.port.now in
+    let held = c.args.held.now in
+    if_ok (λ found. found.items ≡ map (λ (x : SwitchStep). arrives_by port c.deref.result.now x.hop) held) (λ found. found.items ≡ delivered_of port held)
+    c.arrivals.result c.arrivals.ensures
+    (λ found e.
+    delivered_is port held c.in_ok-hops.hops.items c.ends-ends.result.items found.items c.in_ok-hops.ensures c.ends-ends.ensures
+    (e ∙ (λ i. map (λ (x : SwitchStep). arrives_by port (c.deref.ensures.value i) x.hop) held)))
