@@ -50,9 +50,9 @@ all_is_none p s [] = refl
 all_is_none p s (x ∷ xs) =
     (elim (p x) as (λ a. not ((a && not (s x)) || list_any (λ y. p y && not (s y)) xs) ≡ ((not a || s x) && list_all (λ y. not (p y) || s y) xs)) [
       | true ↦ (elim (s x) as (λ b. not (not b || list_any (λ y. p y && not (s y)) xs) ≡ (b && list_all (λ y. not (p y) || s y) xs)) [
-          | true ↦ all_is_none p s xs
-          | false ↦ refl
-        ])
+        | true ↦ all_is_none p s xs
+        | false ↦ refl
+      ])
       | false ↦ all_is_none p s xs
     ])
 

@@ -86,7 +86,8 @@ fn going_up(
     held.iter()
         .zip(goal.iter())
         .enumerate()
-        .map(|(index, (held, goal))| goes_up(positions, index, &held.hop) && is_differing(held, goal))
+        .map(|(index, (held, goal))| goes_up(positions, index, &held.hop)
+            && is_differing(held, goal))
         .collect(alloc)
 }
 

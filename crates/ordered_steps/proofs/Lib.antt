@@ -1,7 +1,7 @@
 pub mod Arrivals
 pub mod Turns
 pub mod Waits
-pub mod Rightness
+pub mod ToldRight
 pub mod Lost
 pub mod OrderedTables
 pub mod Round

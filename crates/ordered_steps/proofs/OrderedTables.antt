@@ -1,5 +1,5 @@
 -- What is computed by an order are next tables by the order.
-use Rattle.std.proofs.Common.{◌≡◌, ℕ, List, Some, sym, ap, ◌∙◌}
+use Rattle.std.proofs.Common.{◌≡◌, ℕ, List, Some, refl, sym, ap, ◌∙◌}
 use Rattle.std.specs.Prelude.{slice_get, unwrap_or}
 use Rattle.fact_store.specs.View.{Facts, cells_of}
 use Rattle.subnet_view.specs.Reading.{switches}

@@ -13,11 +13,7 @@ use std::alloc::{AllocError, Global};
 
 /// Returns whether packets for no LID go down and then up again, by the tables of a network and by an order that gives
 /// each usable switch its position, by rising GUID. Takes a step for each switch and each LID up to the greatest top.
-pub fn are_right(
-    alloc: Global,
-    held: &Network,
-    positions: &[usize],
-) -> Result<bool, AllocError>
+pub fn are_right(alloc: Global, held: &Network, positions: &[usize]) -> Result<bool, AllocError>
     ensures { IfOk result (λ right.
         right ≡ are_right (cells_of held.now.facts) (position_at positions.now) held.now.held) }
 {

@@ -4,7 +4,7 @@
 
 mod across;
 mod lids_in_loop;
-mod step_order;
+mod order;
 
 pub use lids_in_loop::loop_lids;
-pub use step_order::step_order;
+pub use order::step_order;

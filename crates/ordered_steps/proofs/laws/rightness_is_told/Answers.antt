@@ -1,4 +1,4 @@
-use Rattle.ordered_steps.proofs.Rightness.{rightness_is_told}
+use Rattle.ordered_steps.proofs.ToldRight.{rightness_is_told}
 use Rattle.ordered_steps.proofs.laws.rightness_is_told.Goals as goal
 
 pub returns : goal.returns

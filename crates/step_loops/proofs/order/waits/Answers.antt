@@ -9,7 +9,7 @@ use Rattle.audit_channels.proofs.Waiting.{column_long, some_is}
 use Rattle.step_loops.specs.StepOrder.{IsAddedInStep}
 use Rattle.step_loops.proofs.InStep.{none_so_far, more, all}
 use Rattle.step_loops.proofs.Taken.{is_added, none_added}
-use Rattle.step_loops.proofs.step_order.waits.Goals as goal
+use Rattle.step_loops.proofs.order.waits.Goals as goal
 
 pub loop-below-init : goal.loop-below-init
 loop-below-init c =

@@ -2,7 +2,7 @@
 use Rattle.fact_store.specs.View.{cells_of}
 use Rattle.step_loops.specs.StepOrder.{IsAddedInStep}
 use Rattle.step_loops.proofs.InStep.{SoFar}
-use Rattle.step_loops.proofs.step_order.waits.Given as goal
+use Rattle.step_loops.proofs.order.waits.Given as goal
 
 abbrev pub invariant-loop-below : goal.invariant-loop-below
 invariant-loop-below l = record {

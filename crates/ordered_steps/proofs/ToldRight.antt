@@ -1,5 +1,5 @@
 -- What is told of rightness is so.
-use Rattle.std.proofs.Common.{◌≡◌, ℕ, zero, suc, ◌+◌, ◌<◌, ◌≤◌, Bool, true, false, cond, List, [], ◌∷◌, length, get_or, None, Some, refl, sym, ap, ◌∙◌, subst, arith, inl, inr, ◌&&◌}
+use Rattle.std.proofs.Common.{◌≡◌, ℕ, zero, suc, ◌+◌, ◌-◌, ◌<◌, ◌≤◌, Bool, true, false, cond, List, [], ◌∷◌, length, get_or, None, Some, refl, sym, ap, ◌∙◌, subst, arith, inl, inr, ◌&&◌}
 use Rattle.std.specs.Prelude.{not, map, slice_index_or, Option, Contains}
 use Rattle.std.specs.List.{list_all, range_with_len}
 use Rattle.std.specs.Option.{option_map_or}
@@ -9,6 +9,7 @@ use Rattle.port_graph.specs.declared.edge.Edge.{Edge}
 use Rattle.smp_bytes.proofs.Members.{list_all_at, list_all_true}
 use Rattle.subnet_view.specs.Reading.{Cells, switches}
 use Rattle.plan_file.specs.Held.{HeldPlan}
+use Rattle.held_tables.specs.Blocks.{AreBlocks}
 use Rattle.held_tables.specs.Switches.{row_of}
 use Rattle.held_tables.specs.Tables.{entry_for}
 use Rattle.audit.specs.Edges.{edge_by, edges_of, greatest_top}
@@ -35,6 +36,13 @@ all_from p a (suc n) h =
     and_from (p a) (list_all p (range_with_len (a + 1) n)) (ap p (sym at) ∙ h 0 (omega arith))
     (all_from p (a + 1) n (λ k less. let shifted : (a + 1) + k ≡ a + suc k = omega arith in ap p shifted ∙ h (suc k) (omega arith)))
 
+more : (p : ℕ → Bool) (a n : ℕ) → list_all p (range_with_len a n) ≡ true → p (a + n) ≡ true → list_all p (range_with_len a (n + 1)) ≡ true
+more p a n h k =
+    all_from p a (n + 1) (λ m less. elim (cases_lt m n) [
+      | inl within ↦ all_at p a n h m within
+      | inr last ↦ (let at : a + n ≡ a + m = omega (arith, less, last) in ap p (sym at) ∙ k)
+    ])
+
 not_false : (t : Bool) → not t ≡ true → t ≡ false
 not_false true h = absurd (cc)
 not_false false h = refl
@@ -58,12 +66,12 @@ module _ (q : ℕ → ℕ) (edges : List (Option Edge)) where
       elim (slice_index_or edges i None) as (λ o. slice_index_or edges i None ≡ o → goes_well q edges i ≡ true) [
         | None ↦ λ h. ap (λ o. option_map_or (λ (e : Edge). not (is_down q i e.to && leaves_up q edges e.to)) o true) h
         | Some first ↦ λ h. (elim (slice_index_or edges first.to None) as (λ o. slice_index_or edges first.to None ≡ o → goes_well q edges i ≡ true) [
-            | None ↦ λ k.
-                ap (λ o. option_map_or (λ (e : Edge). not (is_down q i e.to && leaves_up q edges e.to)) o true) h
-                ∙ ap (λ o. not (is_down q i first.to && option_map_or (λ (e : Edge). is_up q first.to e.to) o false)) k
-                ∙ nothing (is_down q i first.to)
-            | Some second ↦ λ k. by_edges i first second h k ∙ of_false (is_bad q i first.to second.to) (none first second h k)
-          ]) refl
+          | None ↦ λ k.
+              ap (λ o. option_map_or (λ (e : Edge). not (is_down q i e.to && leaves_up q edges e.to)) o true) h
+              ∙ ap (λ o. not (is_down q i first.to && option_map_or (λ (e : Edge). is_up q first.to e.to) o false)) k
+              ∙ nothing (is_down q i first.to)
+          | Some second ↦ λ k. by_edges i first second h k ∙ of_false (is_bad q i first.to second.to) (none first second h k)
+        ]) refl
       ] refl
     where
       nothing : (t : Bool) → not (t && false) ≡ true
@@ -83,7 +91,7 @@ module _ (cells : Cells) (q : ℕ → ℕ) (tables : HeldPlan) where
       let here = column_at cells tables lid i j a in
       let there = column_at cells tables lid j k b in
       elim (cases_lt (greatest_top cells tables) lid) [
-        | inl above ↦ let none = none_above cells tables lid i above in absurd (cc)
+        | inl above ↦ let none = none_above cells tables lid above i in absurd (cc)
         | inr within ↦
             let at : 1 + (lid - 1) ≡ lid = omega arith in
             let its : column lid ≡ true = ap column (sym at) ∙ all_at column 1 (greatest_top cells tables) h (lid - 1) (omega arith) in
@@ -99,6 +107,36 @@ module _ (cells : Cells) (q : ℕ → ℕ) (tables : HeldPlan) where
       all_from (goes_well q (edges_of cells tables (1 + m))) 0 (length (edges_of cells tables (1 + m))) (λ i within.
       well q (edges_of cells tables (1 + m)) (0 + i) (λ first second h k.
       right (1 + m) (omega arith) (0 + i) first.to second.to (edge_is cells tables (1 + m) (0 + i) first h) (edge_is cells tables (1 + m) first.to second k))))
+
+  -- as it is computed, LID by LID
+  pub record RightSoFar (number : ℕ) (rows : List (List ℕ)) (count : ℕ) : Type 0 where
+    pub blocks_are : AreBlocks tables number rows
+    pub right : list_all (λ lid. is_right_column q (edges_of cells tables lid)) (range_with_len 1 count) ≡ true
+
+  pub right_more : (count lid old_number number : ℕ) (old_rows rows : List (List ℕ)) (edges : List (Option Edge)) → RightSoFar old_number old_rows count
+      → AreBlocks tables number rows → lid ≡ count + 1 → edges ≡ edges_of cells tables lid → is_right_column q edges ≡ true
+      → RightSoFar number rows (count + 1)
+  right_more count lid old_number number old_rows rows edges so are is columns_are well = record {
+    blocks_are = are;
+    right = let at : 1 + count ≡ lid = omega (arith, is) in
+        more column 1 count so.right (ap column at ∙ ap (is_right_column q) (sym columns_are) ∙ well);
+  }
+
+  pub all_right : (count number top : ℕ) (rows : List (List ℕ)) → RightSoFar number rows count → top ≡ greatest_top cells tables → count ≡ top
+      → true ≡ are_right cells q tables
+  all_right count number top rows so is end = sym so.right ∙ ap (λ n. list_all column (range_with_len 1 n)) (end ∙ is)
+
+  pub one_wrong : (count lid top : ℕ) (edges : List (Option Edge)) → lid ≡ count + 1 → count < top → top ≡ greatest_top cells tables
+      → edges ≡ edges_of cells tables lid → is_right_column q edges ≡ false → false ≡ are_right cells q tables
+  one_wrong count lid top edges is less top_is columns_are wrong =
+      (elim (are_right cells q tables) as (λ t. are_right cells q tables ≡ t → false ≡ t) [
+        | false ↦ λ e. sym e ∙ e
+        | true ↦ λ e.
+            let at : 1 + count ≡ lid = omega (arith, is) in
+            let well : is_right_column q edges ≡ true =
+            ap (is_right_column q) columns_are ∙ ap column (sym at) ∙ all_at column 1 (greatest_top cells tables) e count (omega (arith, less, top_is)) in
+            absurd (cc)
+      ]) refl
 
 pub rightness_is_told : RightnessIsTold
 rightness_is_told cells q tables = (told cells q tables, back cells q tables)

@@ -1,0 +1,9 @@
+-- The LIDs so far are right.
+use Rattle.fact_store.specs.View.{cells_of}
+use Rattle.next_tables.specs.ByOrder.{position_at}
+use Rattle.ordered_steps.proofs.ToldRight.{RightSoFar}
+use Rattle.ordered_steps.proofs.rightness.are_right.Given as goal
+
+abbrev pub invariant-loop-below : goal.invariant-loop-below
+invariant-loop-below l =
+    RightSoFar (cells_of l.held.facts) (position_at l.positions) l.held.held l.blocks.number l.blocks.rows.items l.below
