@@ -245,6 +245,11 @@ def roots(costs, count):
     return costs.put(f"roots{count}", lambda: "".join(f"0x{0x1000 + it:x}\n" for it in range(count)))
 
 
+def order(costs, count):
+    """All switches of a mesh, the last one first."""
+    return costs.put(f"order{count}", lambda: "".join(f"0x{0x1000 + it:x}\n" for it in reversed(range(count))))
+
+
 def remarks(costs, count):
     """A text of so many lines of 64 bytes, none of which says anything."""
     return costs.put(f"remarks{count}", lambda: ("#" * 63 + "\n") * count)
@@ -287,6 +292,7 @@ GROWING = (
     Row("plan by switches", lambda c, n: ("plan", mesh(c, n)), 150, SQUARED),
     Row("plan by switches, spread", lambda c, n: ("plan", *SPREAD, mesh(c, n)), 150, SQUARED),
     Row("plan by switches, spread from roots", lambda c, n: ("plan", *SPREAD, "--roots", roots(c, n // 10), mesh(c, n)), 150, SQUARED),
+    Row("plan by switches, spread in an order", lambda c, n: ("plan", *SPREAD, "--order", order(c, n), mesh(c, n)), 150, SQUARED),
     Row("plan of switches in a row", lambda c, n: ("plan", row(c, n)), 150, SQUARED),
     Row("plan of switches in a row, spread", lambda c, n: ("plan", *SPREAD, row(c, n)), 150, SQUARED),
     Row("audit by adapters", lambda c, n: ("audit", planned(c, 8, n), known(c, 8, n)), 100, LINEAR),

@@ -99,13 +99,14 @@ def check_cells(room):
 
 
 def check_switches(room):
-    """1,100 switches by each rule and from 70 roots: each plan passes, and all give the same LIDs."""
+    """1,100 switches by each rule, from 70 roots and in an order: each plan passes, and all give the same LIDs."""
     fabric = Fabric(20, 1080, 112, 1080)
     fabric.reports(room.folder / "switches")
     room.put("roots", "".join(f"0x{guid:x}\n" for guid in fabric.switches[:70]))
     ends, adapters = 1100 + 1080, 1080
     lids = set()
-    for options in (), SPREAD, (*SPREAD, "--roots", "roots"):
+    room.put("order", "".join(f"0x{guid:x}\n" for guid in reversed(fabric.switches)))
+    for options in (), SPREAD, (*SPREAD, "--roots", "roots"), (*SPREAD, "--order", "order"):
         plan = room.run("plan", *options, "switches")
         lids.add(plan.partition(b"switch")[0])
         room.put("switches.plan", plan)

@@ -1,4 +1,4 @@
-"""Plans and runs by the rule that spreads, texts of roots for them, and how these end. Faults and plans were worked out from
+"""Plans and runs by the rule that spreads, texts of roots and of orders for them, and how these end. Faults and plans were worked out from
 docs/FORMATS.md and docs/MODEL.md, apart from the program."""
 from built_program import prints, refused, says
 
@@ -98,6 +98,37 @@ def plans(plan):
     yield "two rings with a root of one", RINGS, ("40",), plan(RINGS_LIDS, *rings)
 
 
+def plans_as_named(plan):
+    """Each with its title, the subnet, texts of an order, and its plan."""
+    # From below, and then by one switch above: so the other one is reached from it by that one leaf switch alone.
+    below = (
+        "10 0 3 1 2 3 1 1 2 2 3 3", "20 3 0 1 2 3 1 1 2 2 3 3", "30 1 2 0 2 1 3 4 2 1 2 1",
+        "40 1 2 2 0 2 1 2 3 4 1 2", "50 1 2 2 1 0 1 2 1 2 3 4",
+    )
+    texts = (
+        "50\n10", "0x50 # a leaf\r\n\r\n0x10\r\n20\r\n30\r\n40", "50", "11\n50\nffffffffffffffff\n100\n1",
+    )
+    yield "a tree in an order from a switch below", TREE, texts, plan(TREE_LIDS, *below)
+    # The other switch above comes last: nothing goes through it.
+    last = (
+        "10 0 1 1 2 3 1 1 2 2 3 3", "20 3 0 1 2 3 1 1 2 2 3 3", "30 1 2 0 1 1 3 4 1 1 1 1",
+        "40 1 2 1 0 1 1 1 3 4 1 1", "50 1 2 1 1 0 1 1 1 1 3 4",
+    )
+    yield "a tree in an order that ends above", TREE, ("50\n10\n40\n30\n20", "50\n10\n40\n30"), plan(TREE_LIDS, *last)
+    # By GUID, where none that is named is a switch: from 10, and from the leaf switch of the least GUID behind it.
+    least = (
+        "10 0 1 1 2 3 1 1 2 2 3 3", "20 1 0 1 2 3 1 1 2 2 3 3", "30 1 2 0 2 1 3 4 2 1 2 1",
+        "40 1 2 2 0 2 1 2 3 4 1 2", "50 1 2 2 1 0 1 2 1 2 3 4",
+    )
+    yield "a tree by GUID", TREE, ("", "# none\r\n", "11\n100\nffffffffffffffff", "10\n20\n30\n40\n50"), plan(TREE_LIDS, *least)
+    # 20 and 40 are named one behind the other, and 30, which joins them, stands between; 60 and 70 stay by GUID.
+    rings = (
+        "10 0 1 1 1 2 - - - 3 1 -", "20 1 0 2 2 1 - - - 1 2 -", "30 1 1 0 2 2 - - - 1 3 -", "40 1 1 1 0 2 - - - 1 1 -",
+        "50 2 2 1 1 0 - - - 2 1 -", "60 - - - - - 0 1 2 - - 2", "70 - - - - - 1 0 2 - - 2", "80 - - - - - 2 1 0 - - 3",
+    )
+    yield "two rings in an order of some", RINGS, ("40\n20\n80", "80\n40\n20\n30\n10\n50", "41\n40\n42\n80"), plan(RINGS_LIDS, *rings)
+
+
 # A text of roots for the tree, and what is wrong with it.
 FAULTS = (
     ("20 30", "line 1: syntax"),
@@ -132,7 +163,11 @@ FAULTS = (
 )
 
 
-def orders():
+# The faults of a text of an order: it may name nothing, and what is no switch.
+FAULTS_OF_ORDERS = tuple((text, said) for text, said in FAULTS if said.startswith("line "))
+
+
+def faulty_files():
     """Command lines in which more than one file has a fault, with the text of roots and how they end. `SPREAD` is a store file of
     the tree, `CROWDED` one that leaves room for 10 LIDs in it, `EMPTY` a file that is none, and there is no file `NONE`."""
     spread = "plan --routing spread --roots"
@@ -150,6 +185,14 @@ def orders():
     yield f"{spread} ROOTS SPREAD CROWDED", "", refused("ROOTS: no root")
     yield f"{spread} ROOTS SPREAD CROWDED", "11", refused("ROOTS: no usable switch 0000000000000011")
     yield f"{spread} ROOTS SPREAD CROWDED", "10", refused("no room: 11 end ports, room 11")
+    spread = "plan --routing spread --order"
+    yield f"{spread} NONE SPREAD", "20", says(4, "NONE: cannot open")
+    yield f"{spread} missing NONE", "20", says(4, "missing: cannot open")
+    yield f"{spread} ROOTS NONE", "20 30", says(4, "NONE: cannot open")
+    yield f"{spread} . EMPTY", "", says(4, ".: read failed")
+    yield f"{spread} ROOTS EMPTY", "20\n20", refused("ROOTS: line 2: repeated")
+    yield f"{spread} ROOTS EMPTY SPREAD", "100", refused("EMPTY: bad magic")
+    yield f"{spread} ROOTS SPREAD CROWDED", "", refused("no room: 11 end ports, room 11")
 
 
 def runs(plan):
@@ -169,6 +212,18 @@ def runs(plan):
     ring = "10 0 1 2 2 2 3 2", "20 1 0 2 2 1 1 2", "30 2 1 0 2 2 2 3", "40 2 1 1 0 2 2 1", "50 2 2 1 1 0 2 1"
     for text in "40", "40\n70", "60\n40":
         yield "a ring from one switch of it", RINGS, text, "", plan(RING_LIDS, *ring)
+
+
+def runs_as_named(plan):
+    """Each with its title, the subnet, a text of an order, and the plan of a manager at the adapter 100."""
+    for title, of, texts, ends in plans_as_named(plan):
+        if of is TREE:
+            for text in texts:
+                yield title, of, text, ends
+    # A switch that the manager does not reach is none to it.
+    ring = "10 0 1 1 1 2 3 1", "20 1 0 2 2 1 1 2", "30 1 1 0 2 2 1 3", "40 1 1 1 0 2 1 1", "50 2 2 1 1 0 2 1"
+    for text in "40\n20", "60\n40\n80\n20":
+        yield "a ring in an order of some", RINGS, text, plan(RING_LIDS, *ring)
 
 
 # Topologies in which a switch and an adapter have one GUID.
@@ -204,6 +259,14 @@ def run_orders():
     yield f"{spread} ROOTS EMPTY EMPTY", "20", refused("ROOTS: no usable switch 0000000000000020")
     yield f"{spread} ROOTS EMPTY EMPTY", "", refused("ROOTS: no root")
     yield f"{spread} ROOTS FABRIC_OF_TREE EMPTY", "20", prints("")
+    spread = "run --routing spread --order"
+    yield f"{spread} NONE TOPOLOGY SCHEDULE", "20", says(4, "NONE: cannot open")
+    yield f"{spread} ROOTS NONE missing", "20 30", says(4, "NONE: cannot open")
+    yield f"{spread} ROOTS . SCHEDULE", "20 30", refused("ROOTS: line 1: syntax")
+    yield f"{spread} ROOTS FAULTY BYTES", "20\n20", refused("ROOTS: line 2: repeated")
+    yield f"{spread} ROOTS FAULTY BYTES", "", refused("FAULTY: line 1: syntax")
+    yield f"{spread} ROOTS BYTES FAULTY", "100", refused("BYTES: not UTF-8")
+    yield f"{spread} ROOTS EMPTY EMPTY", "20", prints("")
 
 
 def long_text(count):

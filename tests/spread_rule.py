@@ -42,6 +42,12 @@ def keys_of(graph, bearing, roots):
     return keys
 
 
+def keys_as_named(graph, named):
+    """By where a switch stands among those that are named, which comes before all others, and GUID."""
+    numbers = {switch: number for number, switch in enumerate(named)}
+    return {switch: (numbers.get(switch, len(named)), switch) for switch in graph}
+
+
 def places_of(graph, keys):
     """The place of each switch in the order that grows by these keys."""
     places, left, beside = {}, sorted(graph, key=keys.get, reverse=True), []
@@ -98,10 +104,10 @@ def units_of(graph, heights):
     return units
 
 
-def tables(graph, bearing, homes, roots=()):
+def tables(graph, bearing, homes, roots=(), named=None):
     """The port by which packets for each LID leave each switch. `homes` has the switch of each LID's owner and the port by which
-    packets leave that one."""
-    places = places_of(graph, keys_of(graph, bearing, roots))
+    packets leave that one. The order grows from roots, or as switches are named."""
+    places = places_of(graph, keys_of(graph, bearing, roots) if named is None else keys_as_named(graph, named))
     heights = dict.fromkeys(graph, 0) | distances(graph, bearing)
     units = units_of(graph, heights)
     found = {switch: {} for switch in graph}

@@ -50,7 +50,7 @@ of_files = files_rule ∷ floor_rule ∷ []
 
 -- how plans are made
 abbrev pub of_planning : Bor (List (Bor Text)) → List Rule
-of_planning words = lmc_rule ∷ routing_rule words ∷ option_rule (codes "roots") ∷ []
+of_planning words = lmc_rule ∷ routing_rule words ∷ option_rule (codes "roots") ∷ option_rule (codes "order") ∷ []
 
 -- subcommands --------------------------------------------------------------------------------------------
 

@@ -25,7 +25,7 @@ pub record NamesFiles (word : Text → Option Text) (files : Option (List Text))
   pub named : is_some files ≡ true
   pub floor : IsNumberWithin 1 4294967295 (word (codes "floor"))
 
--- how plans are made can be done: an LMC, and a rule that takes the roots, if these are named
+-- how plans are made can be done: an LMC, and a rule that takes the roots or the order, if one of them is named
 pub record NamesPlanning (word : Text → Option Text) : Type 0 where
   pub lmc : IsNumberWithin 0 7 (word (codes "lmc"))
   pub routing : IsRouting (word (codes "routing"))

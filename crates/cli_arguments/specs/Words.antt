@@ -1,5 +1,5 @@
 -- The words of the command line by the names of their arguments, and which of them contradict each other.
-use Rattle.std.specs.Prelude.{ℕ, Bool, List, Option, None, Some, codes, find, is_some, not, option_and_then, option_map, slice_get, ◌&&◌}
+use Rattle.std.specs.Prelude.{ℕ, Bool, List, Option, None, Some, codes, find, is_some, not, option_and_then, option_map, slice_get, ◌&&◌, ◌||◌}
 use Rattle.std.specs.Str.{bytes_eq}
 use Rattle.clap.specs.Simple.{subcommand_rows_of}
 use Rattle.clap.specs.Walk.{Row}
@@ -21,11 +21,15 @@ word_behind subcommand name =
 abbrev pub word_named : ArgMatches → List ℕ → Option (List ℕ)
 word_named matches = word_behind (subcommand_rows_of matches)
 
--- roots are named, and another rule than the one that takes them, or none
-abbrev pub roots_lack_rule : Option (List ℕ) → Bool → Bool
-roots_lack_rule None rooted = rooted
-roots_lack_rule (Some word) rooted = rooted && not (bytes_eq word (codes "spread"))
+-- roots or an order are named, and another rule than the one that takes them, or none
+abbrev pub lacks_rule : Option (List ℕ) → Bool → Bool
+lacks_rule None named = named
+lacks_rule (Some word) named = named && not (bytes_eq word (codes "spread"))
 
--- options contradict each other
+-- options contradict each other: both are named, or the rule lacks that takes them
+abbrev pub has_conflict_of : Option (List ℕ) → Bool → Bool → Bool
+has_conflict_of routing rooted ordered = (rooted && ordered) || lacks_rule routing (rooted || ordered)
+
 abbrev pub has_conflict : (List ℕ → Option (List ℕ)) → Bool
-has_conflict word = roots_lack_rule (word (codes "routing")) (is_some (word (codes "roots")))
+has_conflict word =
+    has_conflict_of (word (codes "routing")) (is_some (word (codes "roots"))) (is_some (word (codes "order")))

@@ -36,7 +36,10 @@ pub const ROUTING: &str = "routing";
 /// The file of roots.
 pub const ROOTS: &str = "roots";
 
-/// The rule that spreads, and takes roots.
+/// The file of an order of switches.
+pub const ORDER: &str = "order";
+
+/// The rule that spreads, and takes roots or an order.
 pub const SPREAD: &str = "spread";
 
 /// The rule that goes up and down, which takes none.

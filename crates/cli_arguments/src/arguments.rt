@@ -10,11 +10,11 @@ ghost use Rattle.cli_arguments.specs.CommandLine.{command_line, of_files, of_pla
 ghost use Rattle.cli_arguments.specs.CommandLine.{files_rule, floor_rule, lmc_rule, option_rule, routing_rule};
 ghost use Rattle.cli_arguments.specs.CommandLine.{text_rule};
 ghost use Rattle.cli_arguments.specs.WellFormed.{IsWellFormed};
-ghost use Rattle.cli_arguments.specs.Words.{has_conflict, word_named};
+ghost use Rattle.cli_arguments.specs.Words.{has_conflict, lacks_rule, word_named};
 
 use crate::argument_names::{
-    AUDIT, FACTS, FILE, FLOOR, JOIN, LMC, NEXT, PLAN, ROOTS, ROUTING, RUN, SCHEDULE, SPREAD,
-    TABLES, TOPOLOGY, UPDOWN,
+    AUDIT, FACTS, FILE, FLOOR, JOIN, LMC, NEXT, ORDER, PLAN, ROOTS, ROUTING, RUN, SCHEDULE,
+    SPREAD, TABLES, TOPOLOGY, UPDOWN,
 };
 use clap::error::ErrorKind;
 use clap::{Arg, ArgAction, ArgMatches, Command, Error, value_parser};
@@ -72,7 +72,7 @@ pub fn matches_of<'a>(
         Err(error) => return Ok(Err(error)),
     };
     if has_conflict(&matches) {
-        let error = conflict(alloc, matches.subcommand_name())?;
+        let error = conflict(alloc, &matches)?;
         return Ok(Err(error));
     }
     Ok(Ok(matches))
@@ -207,7 +207,7 @@ fn of_tables<'a>(alloc: Global, command: Command<'a>) -> Result<Command<'a>, All
     of_files(alloc, command)
 }
 
-/// With how plans are made: their LMC, their rule of routing and its roots.
+/// With how plans are made: their LMC, their rule of routing, and its roots or its order.
 fn with_planning<'a>(
     alloc: Global,
     routings: &'a [&'a str],
@@ -218,7 +218,8 @@ fn with_planning<'a>(
     command
         .arg(lmc(alloc))?
         .arg(routing(alloc, routings))?
-        .arg(roots(alloc))
+        .arg(roots(alloc))?
+        .arg(order(alloc))
 }
 
 /// A file of its own.
@@ -289,43 +290,76 @@ fn roots<'a>(alloc: Global) -> Arg<'a>
         .action(ArgAction::Set)
 }
 
-/// Whether options contradict each other: roots are named, and another rule of routing than the one that takes them, or
-/// none.
+/// A file of an order of switches.
+fn order<'a>(alloc: Global) -> Arg<'a>
+    ensures rule { rule_of result ≡ option_rule (codes "order") }
+    ensures own { result.global ≡ false }
+{
+    Arg::new(alloc, ORDER)
+        .long(ORDER)
+        .value_name("FILE")
+        .help(
+            "With --routing spread: orders switches as FILE names them, a GUID a line, and those that it lacks behind \
+             them",
+        )
+        .action(ArgAction::Set)
+}
+
+/// Whether options contradict each other: roots and an order are named, or one of them with another rule of routing than
+/// the one that takes them, or with none.
 fn has_conflict(matches: &ArgMatches<'_>) -> bool
     ensures { result ≡ has_conflict (word_named matches.now) }
 {
     match matches.subcommand() {
-        Some((_, words)) => lacks_rule(words),
+        Some((_, words)) => has_conflict_behind(words),
         None => false,
     }
 }
 
 /// Whether options behind a subcommand do so.
-fn lacks_rule(words: &ArgMatches<'_>) -> bool
+fn has_conflict_behind(words: &ArgMatches<'_>) -> bool
     ensures { result ≡ has_conflict (first_value (found_of words.now)) }
+{
+    let rooted = is_named(words, ROOTS);
+    let ordered = is_named(words, ORDER);
+    (rooted && ordered) || lacks_rule(words, rooted || ordered)
+}
+
+/// Whether the rule lacks that takes roots or an order, where one of them is named.
+fn lacks_rule(words: &ArgMatches<'_>, named: bool) -> bool
+    ensures { result ≡ lacks_rule (first_value (found_of words.now) (codes "routing")) named }
 {
     match words.get_str(ROUTING) {
         Some(SPREAD) => false,
-        _ => has_roots(words),
+        _ => named,
     }
 }
 
-/// Whether they name a file of roots.
-fn has_roots(words: &ArgMatches<'_>) -> bool
-    ensures { result ≡ is_some (first_value (found_of words.now) (codes "roots")) }
+/// Whether an option has a word.
+fn is_named(words: &ArgMatches<'_>, name: &str) -> bool
+    ensures { result ≡ is_some (first_value (found_of words.now) name.now) }
 {
-    words.get_str(ROOTS).is_some()
+    words.get_str(name).is_some()
 }
 
 /// What is wrong where options behind the subcommand contradict each other.
-fn conflict(alloc: Global, name: Option<&str>) -> Result<Error, AllocError>
+fn conflict(alloc: Global, matches: &ArgMatches<'_>) -> Result<Error, AllocError>
     ensures { IfOk result (λ error. kind_of error ≡ ErrorKind.ArgumentConflict) }
 {
-    let mut command = subcommand(alloc, name)?;
-    command.error(
-        ErrorKind::ArgumentConflict,
-        "the argument '--roots <FILE>' cannot be used without '--routing spread'",
-    )
+    let mut command = subcommand(alloc, matches.subcommand_name())?;
+    command.error(ErrorKind::ArgumentConflict, conflict_text(matches))
+}
+
+/// What is said of it.
+fn conflict_text(matches: &ArgMatches<'_>) -> &'static str {
+    let Some((_, words)) = matches.subcommand() else {
+        return "";
+    };
+    match (is_named(words, ROOTS), is_named(words, ORDER)) {
+        (true, true) => "the argument '--roots <FILE>' cannot be used with '--order <FILE>'",
+        (true, false) => "the argument '--roots <FILE>' cannot be used without '--routing spread'",
+        (false, _) => "the argument '--order <FILE>' cannot be used without '--routing spread'",
+    }
 }
 
 /// The subcommand with a name, of those that make plans.

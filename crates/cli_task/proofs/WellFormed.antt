@@ -1,13 +1,12 @@
 -- Well-formed words ask for a task, and name its inputs.
-use Rattle.std.proofs.Common.{◌≡◌, ◌&&◌, ℕ, true, false, not, List, [], ◌∷◌, Option, None, Some, ap, inl, inr, refl, sym, subst, ◌∙◌}
+use Rattle.std.proofs.Common.{◌≡◌, ℕ, true, false, List, [], ◌∷◌, Option, None, Some, ap, inl, inr, refl, sym, subst, ◌∙◌}
 use Rattle.std.specs.Prelude.{codes, is_some, option_and_then, option_map}
-use Rattle.std.specs.Str.{bytes_eq}
 use Rattle.clap.specs.Matches.{subcommand_name_of}
 use Rattle.clap.specs.declared.parser.matches.ArgMatches.{ArgMatches}
 use Rattle.cli_arguments.specs.WellFormed.{HasItsWords, IsGiven, IsNumberWithin, IsRouting, IsWellFormed, NamesFiles, NamesPlanning, facts, join, plan, audit, next, run}
-use Rattle.cli_arguments.specs.Words.{files_named, roots_lack_rule, word_named}
+use Rattle.cli_arguments.specs.Words.{files_named, has_conflict_of, word_named}
 use Rattle.sm_cli.specs.declared.asked.RuleAsked.{RuleAsked}
-use Rattle.sm_cli.specs.declared.asked.RuleAsked.TheVariants.{UpDown, Spread, SpreadFromRoots}
+use Rattle.sm_cli.specs.declared.asked.RuleAsked.TheVariants.{UpDown, Spread, SpreadFromRoots, SpreadInOrder}
 use Rattle.cli_task.specs.Asked.{floor_asked, followed_by, lmc_asked, names_in, planning_asked, rule_asked, task_behind, texts_of_rule}
 use Rattle.cli_task.proofs.Within.{number_within}
 
@@ -24,35 +23,55 @@ lmc_there : (o : Option (List ℕ)) → IsNumberWithin 0 7 o → is_some (lmc_as
 lmc_there None h = refl
 lmc_there (Some word) h = number_within 0 7 word h
 
+-- a word for the text that the rule takes
+abbrev HasText : Option (List ℕ) → Option (List ℕ) → RuleAsked → Type 0
+HasText roots order rule = (word : List ℕ → Option (List ℕ)) → word (codes "roots") ≡ roots → word (codes "order") ≡ order
+    → is_some (texts_of_rule word rule) ≡ true
+
 -- the rule, and the text that it takes
-rule_there : (routing roots : Option (List ℕ)) → IsRouting routing → roots_lack_rule routing (is_some roots) ≡ false
-    → (rule : RuleAsked) × (rule_asked routing (is_some roots) ≡ Some rule) × ((word : List ℕ → Option (List ℕ)) → word (codes "roots") ≡ roots
-    → is_some (texts_of_rule word rule) ≡ true)
-rule_there None None h e = (UpDown, refl, (λ word is. refl))
-rule_there None (Some r) h e = absurd (cc)
-rule_there (Some w) roots (inl is) e = updown roots e
-  where
-    updown : (roots : Option (List ℕ)) → (is_some roots && not (bytes_eq w (codes "spread"))) ≡ false
-        → (rule : RuleAsked) × (rule_asked (Some w) (is_some roots) ≡ Some rule) × ((word : List ℕ → Option (List ℕ)) → word (codes "roots") ≡ roots
-        → is_some (texts_of_rule word rule) ≡ true)
-    updown None f = (UpDown, ap (λ v. rule_asked (Some v) false) is, (λ word j. refl))
-    updown (Some r) f =
-        let bad : not (bytes_eq (codes "updown") (codes "spread")) ≡ false = subst (λ (v : List ℕ). not (bytes_eq v (codes "spread")) ≡ false) is f in
-        absurd (cc)
-rule_there (Some w) None (inr is) e = (Spread, ap (λ v. rule_asked (Some v) false) is, (λ word j. refl))
-rule_there (Some w) (Some r) (inr is) e =
-    (SpreadFromRoots, ap (λ v. rule_asked (Some v) true) is, (λ word j. ap (λ o. is_some (option_map (λ roots. roots ∷ []) o)) j))
+abbrev Asked : Option (List ℕ) → Option (List ℕ) → Option (List ℕ) → Type 0
+Asked routing roots order =
+    (rule : RuleAsked) × (rule_asked routing (is_some roots) (is_some order) ≡ Some rule) × HasText roots order rule
+
+updown_there : (w : List ℕ) (roots order : Option (List ℕ)) → w ≡ codes "updown" → has_conflict_of (Some w) (is_some roots) (is_some order) ≡ false
+    → Asked (Some w) roots order
+updown_there w None None is f = (UpDown, ap (λ v. rule_asked (Some v) false false) is, (λ word j k. refl))
+updown_there w None (Some o) is f =
+    let bad : has_conflict_of (Some (codes "updown")) false true ≡ false = subst (λ (v : List ℕ). has_conflict_of (Some v) false true ≡ false) is f in
+    absurd (cc)
+updown_there w (Some r) None is f =
+    let bad : has_conflict_of (Some (codes "updown")) true false ≡ false = subst (λ (v : List ℕ). has_conflict_of (Some v) true false ≡ false) is f in
+    absurd (cc)
+updown_there w (Some r) (Some o) is f = absurd (cc)
+
+spread_there : (w : List ℕ) (roots order : Option (List ℕ)) → w ≡ codes "spread" → has_conflict_of (Some w) (is_some roots) (is_some order) ≡ false
+    → Asked (Some w) roots order
+spread_there w None None is f = (Spread, ap (λ v. rule_asked (Some v) false false) is, (λ word j k. refl))
+spread_there w None (Some o) is f =
+    (SpreadInOrder, ap (λ v. rule_asked (Some v) false true) is, (λ word j k. ap (λ x. is_some (option_map (λ order. order ∷ []) x)) k))
+spread_there w (Some r) None is f =
+    (SpreadFromRoots, ap (λ v. rule_asked (Some v) true false) is, (λ word j k. ap (λ x. is_some (option_map (λ roots. roots ∷ []) x)) j))
+spread_there w (Some r) (Some o) is f = absurd (cc)
+
+rule_there : (routing roots order : Option (List ℕ)) → IsRouting routing → has_conflict_of routing (is_some roots) (is_some order) ≡ false
+    → Asked routing roots order
+rule_there None None None h e = (UpDown, refl, (λ word j k. refl))
+rule_there None None (Some o) h e = absurd (cc)
+rule_there None (Some r) None h e = absurd (cc)
+rule_there None (Some r) (Some o) h e = absurd (cc)
+rule_there (Some w) roots order (inl is) e = updown_there w roots order is e
+rule_there (Some w) roots order (inr is) e = spread_there w roots order is e
 
 module _ (word : List ℕ → Option (List ℕ)) (files : Option (List (List ℕ))) where
   -- how plans are made
   planning_there : NamesPlanning word → (by : ℕ × RuleAsked) × (planning_asked word ≡ Some by) × (is_some (texts_of_rule word by.1) ≡ true)
   planning_there h =
       let lmc = known (lmc_asked (word (codes "lmc"))) (lmc_there (word (codes "lmc")) h.lmc) in
-      let rule = rule_there (word (codes "routing")) (word (codes "roots")) h.routing h.apart in (
+      let rule = rule_there (word (codes "routing")) (word (codes "roots")) (word (codes "order")) h.routing h.apart in (
         (lmc.0, rule.0),
         both (lmc_asked (word (codes "lmc"))) lmc.0 lmc.1
-            (rule_asked (word (codes "routing")) (is_some (word (codes "roots")))) rule.0 rule.1,
-        rule.2 word refl,
+            (rule_asked (word (codes "routing")) (is_some (word (codes "roots"))) (is_some (word (codes "order")))) rule.0 rule.1,
+        rule.2 word refl refl,
       )
     where
       both : (o : Option ℕ) (lmc : ℕ) → o ≡ Some lmc → (r : Option RuleAsked) (rule : RuleAsked) → r ≡ Some rule

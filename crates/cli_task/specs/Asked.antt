@@ -1,6 +1,6 @@
 -- What the words of the command line ask for: a task, and the names of its inputs.
 use Rattle.std.specs.Prelude.{ℕ, Bool, true, false, List, [], ◌∷◌, ◌++◌, Option, None, Some, codes, drop}
-use Rattle.std.specs.Prelude.{is_some, not, nat_le, option_map, option_and_then, ◌&&◌, if◌then◌else◌}
+use Rattle.std.specs.Prelude.{is_some, not, nat_le, option_map, option_and_then, ◌&&◌, ◌||◌, if◌then◌else◌}
 use Rattle.std.specs.Str.{bytes_eq}
 use Rattle.std.specs.Str.Parse.{starts_with_minus, without_leading_plus}
 use Rattle.clap.specs.Matches.{subcommand_name_of}
@@ -11,7 +11,7 @@ use Rattle.sm_cli.specs.Asked.{rule_for}
 use Rattle.sm_cli.specs.declared.asked.Output.{Output}
 use Rattle.sm_cli.specs.declared.asked.Output.TheVariants.{Facts, Join, Plan}
 use Rattle.sm_cli.specs.declared.asked.RuleAsked.{RuleAsked}
-use Rattle.sm_cli.specs.declared.asked.RuleAsked.TheVariants.{UpDown, Spread, SpreadFromRoots}
+use Rattle.sm_cli.specs.declared.asked.RuleAsked.TheVariants.{UpDown, Spread, SpreadFromRoots, SpreadInOrder}
 use Rattle.next_run.specs.declared.run_step.StepAsked.{StepAsked}
 use Rattle.cli_task.specs.declared.task.Task.{Task}
 use Rattle.cli_task.specs.declared.task.Task.TheVariants.{Answer, Audit, Next, Run}
@@ -43,19 +43,28 @@ abbrev pub lmc_asked : Option (List ℕ) → Option ℕ
 lmc_asked None = Some 0
 lmc_asked (Some word) = option_and_then (within 0 7) (number_in word)
 
--- the rule is the one that a word names, up and down without one; where roots are named, the one that takes them
-abbrev pub rule_asked : Option (List ℕ) → Bool → Option RuleAsked
-rule_asked None rooted = if rooted then None else Some UpDown
-rule_asked (Some word) rooted =
-    if bytes_eq word (codes "spread") then Some (if rooted then SpreadFromRoots else Spread)
-    else (if bytes_eq word (codes "updown") && not rooted then Some UpDown else None)
+-- the rule that spreads, by roots or an order that are named, but not by both
+abbrev pub spread_asked : Bool → Bool → Option RuleAsked
+spread_asked false false = Some Spread
+spread_asked true false = Some SpreadFromRoots
+spread_asked false true = Some SpreadInOrder
+spread_asked true true = None
+
+-- the rule is the one that a word names, up and down without one; where roots or an order are named, the one that takes
+-- them
+abbrev pub rule_asked : Option (List ℕ) → Bool → Bool → Option RuleAsked
+rule_asked None rooted ordered = if rooted || ordered then None else Some UpDown
+rule_asked (Some word) rooted ordered =
+    if bytes_eq word (codes "spread") then spread_asked rooted ordered
+    else (if bytes_eq word (codes "updown") && not (rooted || ordered) then Some UpDown else None)
 
 -- tasks -----------------------------------------------------------------------------------------
 
 -- the LMC of plans, and the rule that they go by
 abbrev pub planning_asked : (List ℕ → Option (List ℕ)) → Option (ℕ × RuleAsked)
 planning_asked word = option_and_then (λ lmc. option_map (λ rule. (lmc, rule))
-    (rule_asked (word (codes "routing")) (is_some (word (codes "roots"))))) (lmc_asked (word (codes "lmc")))
+    (rule_asked (word (codes "routing")) (is_some (word (codes "roots"))) (is_some (word (codes "order")))))
+    (lmc_asked (word (codes "lmc")))
 
 -- the step
 abbrev pub step_asked : (List ℕ → Option (List ℕ)) → Option StepAsked
@@ -89,6 +98,7 @@ abbrev pub texts_of_rule : (List ℕ → Option (List ℕ)) → RuleAsked → Op
 texts_of_rule word UpDown = Some []
 texts_of_rule word Spread = Some []
 texts_of_rule word SpreadFromRoots = option_map (λ roots. roots ∷ []) (word (codes "roots"))
+texts_of_rule word SpreadInOrder = option_map (λ order. order ∷ []) (word (codes "order"))
 
 -- by which rule a task plans; where it does not, by one that takes no text
 abbrev pub rule_of_task : Task → RuleAsked

@@ -3,14 +3,14 @@ ghost use Rattle.std.specs.Prelude.{◌≡◌, IfOk, codes, is_some, map, option
 ghost use Rattle.clap.specs.Matches.{first_value, found_of, matched_of, raw_values};
 ghost use Rattle.cli_task.specs.Asked.{floor_asked, lmc_asked, number_in, number_or, planning_asked, rule_asked};
 ghost use Rattle.cli_task.specs.Asked.{output_asked, step_asked, task_asked, task_behind, within};
-ghost use Rattle.cli_task.specs.Asked.{names_asked, names_in, rule_of_task, takes_files, texts_asked, texts_of_rule};
+ghost use Rattle.cli_task.specs.Asked.{names_asked, names_in, rule_of_task, spread_asked, takes_files, texts_asked, texts_of_rule};
 
 use arrayvec::ArrayVec;
 use attr_codec::Lmc;
 use clap::ArgMatches;
 use cli_arguments::argument_names::{
-    AUDIT, FACTS, FILE, FLOOR, JOIN, LMC, NEXT, PLAN, ROOTS, ROUTING, RUN, SCHEDULE, SPREAD,
-    TABLES, TOPOLOGY, UPDOWN,
+    AUDIT, FACTS, FILE, FLOOR, JOIN, LMC, NEXT, ORDER, PLAN, ROOTS, ROUTING, RUN, SCHEDULE,
+    SPREAD, TABLES, TOPOLOGY, UPDOWN,
 };
 use next_run::StepAsked;
 use sm_cli::{Invocation, Output, RuleAsked};
@@ -150,14 +150,27 @@ fn number_in(text: &str) -> Option<u32>
 /// The rule of routing that the words behind a subcommand ask for, up and down where they ask for none.
 fn rule_of(words: &ArgMatches<'_>) -> Option<RuleAsked>
     ensures { result ≡ rule_asked (first_value (found_of words.now) (codes "routing"))
-        (is_some (first_value (found_of words.now) (codes "roots"))) }
+        (is_some (first_value (found_of words.now) (codes "roots")))
+        (is_some (first_value (found_of words.now) (codes "order"))) }
 {
     let rooted = words.get_str(ROOTS).is_some();
+    let ordered = words.get_str(ORDER).is_some();
     match words.get_str(ROUTING) {
-        None | Some(UPDOWN) if !rooted => Some(RuleAsked::UpDown),
-        Some(SPREAD) if rooted => Some(RuleAsked::SpreadFromRoots),
-        Some(SPREAD) => Some(RuleAsked::Spread),
+        None | Some(UPDOWN) if !rooted && !ordered => Some(RuleAsked::UpDown),
+        Some(SPREAD) => spread_by(rooted, ordered),
         _ => None,
+    }
+}
+
+/// The rule that spreads, where roots or an order are named, but not both.
+fn spread_by(rooted: bool, ordered: bool) -> Option<RuleAsked>
+    ensures { result ≡ spread_asked rooted ordered }
+{
+    match (rooted, ordered) {
+        (false, false) => Some(RuleAsked::Spread),
+        (true, false) => Some(RuleAsked::SpreadFromRoots),
+        (false, true) => Some(RuleAsked::SpreadInOrder),
+        (true, true) => None,
     }
 }
 
@@ -204,14 +217,16 @@ fn names_behind<'a>(
     Ok(Some(names))
 }
 
-/// The texts that a rule takes: that of the roots, where they are named.
+/// The texts that a rule takes: that of the roots or of the order, where it is named.
 fn texts_of_rule<'a>(words: &ArgMatches<'a>, rule: RuleAsked) -> Option<ArrayVec<&'a str, 1>>
     ensures { option_map (λ found. map (λ name. name.now) found.items) result
         ≡ texts_of_rule (first_value (found_of words.now)) rule }
 {
     let mut texts = ArrayVec::new();
-    if rule == RuleAsked::SpreadFromRoots {
-        texts.push(words.get_str(ROOTS)?);
+    match rule {
+        RuleAsked::UpDown | RuleAsked::Spread => {}
+        RuleAsked::SpreadFromRoots => texts.push(words.get_str(ROOTS)?),
+        RuleAsked::SpreadInOrder => texts.push(words.get_str(ORDER)?),
     }
     Some(texts)
 }

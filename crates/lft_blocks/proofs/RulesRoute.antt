@@ -6,14 +6,22 @@ use Rattle.updown_routes.specs.Updown.{updown}
 use Rattle.subnet_view.proofs.Graphs.{graph_law}
 use Rattle.updown_routes.proofs.Routed.{updown_is_routing}
 use Rattle.spread_routes.specs.LeafSwitches.{leaf_switches_of}
-use Rattle.lft_blocks.specs.Rules.{RulesAreRoutings, RulesStay, spread_from, up_and_down}
+use Rattle.lft_blocks.specs.Rules.{RulesAreRoutings, RulesStay, spread_in, up_and_down}
 use Rattle.spread_routes.specs.Spread.{spread_by}
+use Rattle.spread_routes.proofs.OrderLaws.{orders_stand}
 use Rattle.spread_routes.proofs.Whole.{spread_by_is_routing}
+use Rattle.lft_blocks.specs.Plan.{plan_by}
+use Rattle.lft_blocks.specs.PlanLaws.{OrdersHold}
 
 pub rules_are_routings : RulesAreRoutings
 rules_are_routings up_and_down facts = updown_is_routing (graph_of (cells_of facts)) (graph_law facts)
-rules_are_routings (spread_from roots) facts = spread_by_is_routing (graph_of (cells_of facts)) (leaf_switches_of (cells_of facts)) roots (graph_law facts)
+rules_are_routings (spread_in order) facts = spread_by_is_routing (graph_of (cells_of facts)) (leaf_switches_of (cells_of facts)) order (graph_law facts)
 
 pub rules_stay : RulesStay
 rules_stay up_and_down x y graph leaves = ap updown graph
-rules_stay (spread_from roots) x y graph leaves = λ i. spread_by (graph i) (leaves i) roots
+rules_stay (spread_in order) x y graph leaves = λ i. spread_by (graph i) (leaves i) order
+
+pub orders_hold : OrdersHold
+orders_hold order lmc facts =
+    let stand = orders_stand (graph_of (cells_of facts)) (leaf_switches_of (cells_of facts)) order (graph_law facts) in
+    record { order_stands = stand.order; plan_stands = ap (λ r. plan_by r lmc (cells_of facts)) stand.routing }

@@ -6,7 +6,8 @@ use Rattle.subnet_view.specs.Reading.{Cells, IsUsable}
 use Rattle.lid_assign.specs.Lids.{IsNoRoom, lids, lid_of, top_of}
 use Rattle.lid_assign.specs.Stability.{IsClaimed, GrowsFrom}
 use Rattle.subnet_view.specs.Routing.{Routing}
-use Rattle.lft_blocks.specs.Rules.{RuleValue}
+use Rattle.spread_routes.specs.SwitchOrders.{OrderValue, as_named}
+use Rattle.lft_blocks.specs.Rules.{RuleValue, order_of, spread_in}
 use Rattle.lft_blocks.specs.Entries.{Next, attachment_of_lid, entry, block, block_count, blocks}
 use Rattle.lft_blocks.specs.Plan.{plan_by, plan_of, block_at}
 
@@ -41,3 +42,12 @@ abbrev pub BlocksAreOfSwitches : Type 0
 BlocksAreOfSwitches = (rule : Routing) (lmc : ℕ) (facts : Facts) (g b : ℕ)
     → MatchOption (block_at (plan_by rule lmc (cells_of facts)) g b) (¬ (HasBlock lmc (cells_of facts) g b))
     (λ x. HasBlock lmc (cells_of facts) g b × (x ≡ block_of rule lmc (cells_of facts) g b))
+
+-- switches that are named as they stand in the order of a plan stand so again, and give the same plan
+pub record OrderHolds (order : OrderValue) (lmc : ℕ) (cells : Cells) : Type 0 where
+  pub order_stands : order_of (as_named (order_of order cells)) cells ≡ order_of order cells
+  pub plan_stands : plan_of (spread_in (as_named (order_of order cells))) lmc cells
+      ≡ plan_of (spread_in order) lmc cells
+
+abbrev pub OrdersHold : Type 0
+OrdersHold = (order : OrderValue) (lmc : ℕ) (facts : Facts) → OrderHolds order lmc (cells_of facts)

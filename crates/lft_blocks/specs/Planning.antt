@@ -1,28 +1,45 @@
 -- How a manager plans.
-use Rattle.std.specs.Prelude.{◌≡◌, ℕ, List, Option, None, Some, refl}
-use Rattle.std.specs.Coded.{Coded, code_by, coded×, coded_ℕ, coded_list, coded_option}
-use Rattle.lft_blocks.specs.Rules.{RuleValue, spread_from, up_and_down}
+use Rattle.std.specs.Prelude.{◌≡◌, ℕ, Bool, true, false, List, Option, None, Some, refl}
+use Rattle.std.specs.Coded.{Coded, code_by, coded×, coded_bool, coded_ℕ, coded_list, coded_option}
+use Rattle.lft_blocks.specs.Rules.{RuleValue, spread_in, up_and_down}
+use Rattle.spread_routes.specs.SwitchOrders.{OrderValue, as_named, from_roots}
 
 -- the LMC of adapter ports, and the rule of routing
 pub record Planning : Type 0 where
   pub lmc : ℕ
   pub rule : RuleValue
 
--- a rule is stored by its roots, of which up and down has none
-abbrev roots_in : RuleValue → Option (List ℕ)
-roots_in up_and_down = None
-roots_in (spread_from roots) = Some roots
+-- an order is stored by its GUIDs, and by whether they are named in its order
+abbrev guids_in : OrderValue → Bool × List ℕ
+guids_in (from_roots roots) = (false, roots)
+guids_in (as_named switches) = (true, switches)
 
-abbrev rule_by : Option (List ℕ) → RuleValue
+abbrev order_by : Bool × List ℕ → OrderValue
+order_by (false, roots) = from_roots roots
+order_by (true, switches) = as_named switches
+
+pub same_order : (order : OrderValue) → order_by (guids_in order) ≡ order
+same_order (from_roots roots) = refl
+same_order (as_named switches) = refl
+
+abbrev order_code : Coded OrderValue
+order_code = code_by (Bool × List ℕ) (coded× coded_bool (coded_list coded_ℕ)) guids_in order_by same_order
+
+-- a rule is stored by its order, of which up and down has none
+abbrev order_in : RuleValue → Option OrderValue
+order_in up_and_down = None
+order_in (spread_in order) = Some order
+
+abbrev rule_by : Option OrderValue → RuleValue
 rule_by None = up_and_down
-rule_by (Some roots) = spread_from roots
+rule_by (Some order) = spread_in order
 
-pub same_rule : (rule : RuleValue) → rule_by (roots_in rule) ≡ rule
+pub same_rule : (rule : RuleValue) → rule_by (order_in rule) ≡ rule
 same_rule up_and_down = refl
-same_rule (spread_from roots) = refl
+same_rule (spread_in order) = refl
 
 abbrev rule_code : Coded RuleValue
-rule_code = code_by (Option (List ℕ)) (coded_option (coded_list coded_ℕ)) roots_in rule_by same_rule
+rule_code = code_by (Option OrderValue) (coded_option order_code) order_in rule_by same_rule
 
 -- and both as a pair
 abbrev pub planning_code : Coded Planning

@@ -8,21 +8,26 @@ use Rattle.updown_routes.specs.Updown.{updown}
 use Rattle.lft_blocks.specs.declared.rule.Rule.{Rule}
 use Rattle.lft_blocks.specs.declared.rule.Rule.TheVariants.{UpDown, Spread}
 use Rattle.spread_routes.specs.LeafSwitches.{leaf_switches_of}
-use Rattle.spread_routes.specs.Spread.{spread_by}
+use Rattle.spread_routes.specs.Spread.{spread_by, switches_in_order}
+use Rattle.spread_routes.specs.SwitchOrders.{OrderValue, order_value_of}
 
--- a rule of routing: up and down; or to spread, from these roots, of which there may be none
+-- a rule of routing: up and down; or to spread, by an order of switches
 pub data RuleValue : Type 0 where
   up_and_down : RuleValue
-  spread_from : List ℕ → RuleValue
+  spread_in : OrderValue → RuleValue
 
 abbrev pub value_of : Rule → RuleValue
 value_of UpDown = up_and_down
-value_of (Spread roots) = spread_from roots.items
+value_of (Spread order) = spread_in (order_value_of order)
 
 -- what such a rule makes of the wires of a view
 abbrev pub routing_by : RuleValue → Cells → Routing
 routing_by up_and_down cells = updown (graph_of cells)
-routing_by (spread_from roots) cells = spread_by (graph_of cells) (leaf_switches_of cells) roots
+routing_by (spread_in order) cells = spread_by (graph_of cells) (leaf_switches_of cells) order
+
+-- the usable switches in the order by which the rule that spreads goes
+abbrev pub order_of : OrderValue → Cells → List ℕ
+order_of order cells = switches_in_order (graph_of cells) (leaf_switches_of cells) order
 
 -- what a rule does
 abbrev pub rule_of : Rule → Cells → Routing

@@ -2,6 +2,7 @@
 ghost use Rattle.lft_blocks.specs.Arrival.{PacketsArriveByEachRouting, PacketsArriveIfConnected};
 ghost use Rattle.lft_blocks.specs.Arrival.{PacketsArriveWhereCovered};
 ghost use Rattle.lft_blocks.specs.PlanLaws.{PlansStay, LidsStayInPlans, BlocksHoldEntries, BlocksAreOfSwitches};
+ghost use Rattle.lft_blocks.specs.PlanLaws.{OrdersHold};
 ghost use Rattle.lft_blocks.specs.Rules.{RulesAreRoutings, RulesStay};
 
 /// Where the facts differ from those of a view with room in claims alone, and each end port claims the LID
@@ -57,4 +58,10 @@ pub fn rules_are_routings()
 /// switches, whatever else they tell.
 pub fn rules_stay()
     ensures { RulesStay }
+{}
+
+/// The usable switches of a view, named in the order by which the rule that spreads goes, are in that order again, and
+/// the plan by it is the same.
+pub fn orders_hold()
+    ensures { OrdersHold }
 {}

@@ -5,6 +5,7 @@
 mod attachment;
 mod block;
 pub mod laws;
+mod order;
 mod plan;
 mod plan_text;
 mod planning;
@@ -16,8 +17,10 @@ mod updown_table;
 
 pub use block::block_count;
 pub use lid_assign::LidFault as PlanFault;
+pub use order::switch_order;
 pub use plan::Plan;
 pub use plan_text::{write_block, write_lid, write_lids, write_plan, write_switch};
 pub use planning::Planning;
 pub use rule::Rule;
+pub use spread_routes::SwitchOrder;
 pub use table::Table;

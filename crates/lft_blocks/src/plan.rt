@@ -9,7 +9,8 @@ ghost use Rattle.subnet_view.specs.Graph.{guids_of};
 ghost use Rattle.subnet_view.specs.Reading.{switches};
 ghost use Rattle.updown_routes.specs.Updown.{updown};
 ghost use Rattle.lft_blocks.specs.Entries.{block_count};
-ghost use Rattle.lft_blocks.specs.Rules.{routing_by, rule_of, spread_from, up_and_down};
+ghost use Rattle.lft_blocks.specs.Rules.{routing_by, rule_of, spread_in, up_and_down};
+ghost use Rattle.spread_routes.specs.SwitchOrders.{order_value_of};
 ghost use Rattle.lft_blocks.specs.Arrival.{EveryPacketArrivesBy};
 ghost use Rattle.lft_blocks.specs.Attachments.{AreWithin};
 ghost use Rattle.lft_blocks.specs.TableRows.{attachment_by_index};
@@ -25,6 +26,7 @@ use attr_codec::Lmc;
 use fact_store::{Refused, Store};
 use lid_assign::{LidFault as PlanFault, LidMap, assign};
 use smp_bytes::{Guid, Lid};
+use spread_routes::SwitchOrder;
 use std::alloc::Global;
 use std::marker::Model;
 use subnet_view::{SwitchGraph, Wires};
@@ -129,7 +131,7 @@ fn tables_of(
 {
     match rule {
         Rule::UpDown => by_updown(alloc, wires, lids),
-        Rule::Spread { roots } => by_spread(alloc, wires, lids, roots),
+        Rule::Spread { order } => by_spread(alloc, wires, lids, order),
     }
 }
 
@@ -138,16 +140,17 @@ fn by_spread(
     alloc: Global,
     wires: &Wires,
     lids: &LidMap,
-    roots: &[Guid],
+    order: &SwitchOrder,
 ) -> Result<(Vec<Guid>, Vec<Table>), Refused>
     ensures switches { IfOk result (λ found. found.0.items ≡ switches (cells_of wires.now)) }
     ensures tables { IfOk result (λ found. found.1.items
-        ≡ tables_by (routing_by (spread_from roots.now) (cells_of wires.now)) (cells_of wires.now) lids.now) }
+        ≡ tables_by (routing_by (spread_in (order_value_of order.now)) (cells_of wires.now))
+        (cells_of wires.now) lids.now) }
 {
     let graph = SwitchGraph::of(alloc, wires)?;
     let count = block_count(lids.top());
     let attachments = attachments(alloc, wires, graph.switches(), lids, count)?;
-    let tables = spread_tables(alloc, wires, &graph, &attachments, roots, count)?;
+    let tables = spread_tables(alloc, wires, &graph, &attachments, order, count)?;
     Ok((graph.into_switches(), tables))
 }
 

@@ -1,7 +1,7 @@
 ghost use Rattle.std.specs.Prelude.{◌≡◌, IfOk};
 ghost use Rattle.lft_blocks.specs.Rules.{value_of};
 
-use smp_bytes::Guid;
+use spread_routes::SwitchOrder;
 use std::alloc::{AllocError, Global};
 
 /// How packets are led between switches.
@@ -9,22 +9,22 @@ use std::alloc::{AllocError, Global};
 pub enum Rule {
     /// Up as far as they must, towards the root of the component, and then down, each by the least port.
     UpDown,
-    /// Spread over the wires, in an order that grows from the most central switch, or from these roots.
+    /// Spread over the wires, by an order of switches.
     Spread {
-        /// The switches from which distances count. None: the most central switch of each component is found.
-        roots: Vec<Guid>,
+        /// By what that order grows.
+        order: SwitchOrder,
     },
 }
 
 impl Rule {
-    /// A copy of it. Takes a step for each root.
+    /// A copy of it. Takes a step for each GUID that the order grows by.
     pub fn try_clone(&self, alloc: Global) -> Result<Self, AllocError>
         ensures { IfOk result (λ copy. value_of copy ≡ value_of self.now) }
     {
         match self {
             Rule::UpDown => Ok(Rule::UpDown),
-            Rule::Spread { roots } => Ok(Rule::Spread {
-                roots: Vec::from_slice(alloc, roots)?,
+            Rule::Spread { order } => Ok(Rule::Spread {
+                order: order.try_clone(alloc)?,
             }),
         }
     }

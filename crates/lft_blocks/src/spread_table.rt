@@ -5,6 +5,7 @@ ghost use Rattle.fact_store.specs.View.{cells_of};
 ghost use Rattle.subnet_view.specs.Graph.{graph_of, guids_of};
 ghost use Rattle.spread_routes.specs.LeafSwitches.{leaf_switches_of};
 ghost use Rattle.spread_routes.specs.Spread.{spread_at, spread_by};
+ghost use Rattle.spread_routes.specs.SwitchOrders.{order_value_of};
 ghost use Rattle.spread_routes.specs.Tables.{AreTowards};
 ghost use Rattle.lft_blocks.specs.Attachments.{AreWithin};
 ghost use Rattle.lft_blocks.specs.Plan.{tables_of};
@@ -14,18 +15,18 @@ use crate::attachment::Attachment;
 use crate::table::Table;
 use crate::table_row::{TableRow, lids_by_switch};
 use smp_bytes::{Guid, Lid};
-use spread_routes::{Exits, Spread, Towards, leaf_switches};
+use spread_routes::{Exits, Spread, SwitchOrder, Towards, leaf_switches};
 use std::alloc::{AllocError, Global};
 use std::mem;
 use subnet_view::{SwitchGraph, Wires};
 
-/// The table of each switch by the rule that spreads, by these roots.
+/// The table of each switch by the rule that spreads, by an order of switches.
 pub(crate) fn spread_tables(
     alloc: Global,
     wires: &Wires,
     graph: &SwitchGraph,
     attachments: &[Option<Attachment>],
-    roots: &[Guid],
+    order: &SwitchOrder,
     count: usize,
 ) -> Result<Vec<Table>, AllocError>
     requires graph { graph.now ≡ graph_of (cells_of wires.now) }
@@ -34,12 +35,12 @@ pub(crate) fn spread_tables(
     requires all { length attachments.now ≡ 64 * count }
     ensures { IfOk result (λ tables. tables.items ≡ tables_of
         (attachment_by_index (guids_of graph.now) attachments.now)
-        (spread_by graph.now (leaf_switches_of (cells_of wires.now)) roots.now).next
+        (spread_by graph.now (leaf_switches_of (cells_of wires.now)) (order_value_of order.now)).next
         count (guids_of graph.now)) }
 {
     let guids = graph.switches();
     let leaves = leaf_switches(alloc, wires, guids)?;
-    let spread = Spread::of(alloc, graph, &leaves, roots)?;
+    let spread = Spread::of(alloc, graph, &leaves, order)?;
     let mut rows = rows(alloc, &spread, attachments, guids.len())?;
     tables_of(alloc, guids, &mut rows, count)
 }

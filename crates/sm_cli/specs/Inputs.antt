@@ -1,16 +1,17 @@
--- The inputs of a run: the text of roots is read where a rule is asked for with one, then what stands behind it, and
--- the roots are judged once the switches are known.
+-- The inputs of a run: the text of roots or of an order is read where a rule is asked for with one, then what stands
+-- behind it, and the roots are judged once the switches are known.
 use Rattle.std.specs.Prelude.{◌≡◌, ◌⊎◌, ℕ, Bool, List, [], ◌∷◌, Option, None, Some, Ok, Err, find, not, option_map}
 use Rattle.byte_io.specs.Source.{SourceState}
 use Rattle.record_file.specs.Whole.{IsReadWhole, FailsToRead}
 use Rattle.roots_file.specs.Reading.{roots_of}
 use Rattle.roots_file.specs.RootsTextFault.{RootsTextFault as RootsFault}
 use Rattle.text_words.specs.declared.fault.LinesFault.TheVariants as wrong
-use Rattle.lft_blocks.specs.Rules.{RuleValue, spread_from, up_and_down}
+use Rattle.lft_blocks.specs.Rules.{RuleValue, spread_in, up_and_down}
+use Rattle.spread_routes.specs.SwitchOrders.{OrderValue, as_named, from_roots}
 use Rattle.sm_cli.specs.Asked.{texts_for}
 use Rattle.sm_cli.specs.Sources.{IsOneRead, Parts}
 use Rattle.sm_cli.specs.declared.asked.RuleAsked.{RuleAsked}
-use Rattle.sm_cli.specs.declared.asked.RuleAsked.TheVariants.{UpDown, Spread, SpreadFromRoots}
+use Rattle.sm_cli.specs.declared.asked.RuleAsked.TheVariants.{UpDown, Spread, SpreadFromRoots, SpreadInOrder}
 use Rattle.sm_cli.specs.declared.fault.Fault.{Fault}
 use Rattle.sm_cli.specs.declared.fault.Fault.TheVariants.{File, Text}
 use Rattle.sm_cli.specs.declared.text_fault.TextFault.{TextFault}
@@ -32,16 +33,22 @@ fault_of_first (root ∷ roots) unusable = option_map texts.NoSwitch unusable
 abbrev pub roots_fault : (ℕ → Bool) → List ℕ → Option TextFault
 roots_fault usable roots = fault_of_first roots (first_unusable usable roots)
 
+-- why no plan goes by an order: its roots; one in which switches are named goes whatever they are
+abbrev pub order_fault : (ℕ → Bool) → OrderValue → Option TextFault
+order_fault usable (from_roots roots) = roots_fault usable roots
+order_fault usable (as_named switches) = None
+
 -- why no plan goes by the rule that was asked for: its roots, where a text names them
 abbrev pub rule_fault : (ℕ → Bool) → RuleAsked → RuleValue → Option TextFault
 rule_fault usable UpDown rule = None
 rule_fault usable Spread rule = None
 rule_fault usable SpreadFromRoots up_and_down = None
-rule_fault usable SpreadFromRoots (spread_from roots) = roots_fault usable roots
+rule_fault usable SpreadFromRoots (spread_in order) = order_fault usable order
+rule_fault usable SpreadInOrder rule = None
 
 -- rules ------------------------------------------------------------------------------------------
 
--- the source was read to its end, and its text has no fault and names these roots
+-- the source was read to its end, and its text has no fault and names these switches
 pub record IsRoots {S : Type 0} (state : S → SourceState) (old new : S) (roots : List ℕ) : Type 0 where
   pub text : List ℕ
   pub read : IsReadWhole state old new text
@@ -62,7 +69,7 @@ abbrev pub IsTextRefused : {S : Type 0} → (S → SourceState) → S → S → 
 IsTextRefused state old new (texts.Roots fault) = RefusesRootsText state old new fault
 IsTextRefused state old new fault = ⊥
 
--- why the roots are not read: of the first of the files that are named
+-- why they are not read: of the first of the files that are named
 abbrev pub IsRootsFault : {S : Type 0} → (S → SourceState) → S → S → Fault → Type 0
 IsRootsFault state old new (File input fault) =
     (input ≡ 0) × FailsToRead state old new fault
@@ -70,18 +77,20 @@ IsRootsFault state old new (Text input fault) =
     (input ≡ 0) × IsTextRefused state old new fault
 IsRootsFault state old new fault = ⊥
 
--- the text of the roots that a rule is asked for by was read, and names these
-pub record AreRootsRead {S : Type 0} (state : S → SourceState) (olds news : List S) (rule : RuleValue) : Type 0 where
-  pub roots : List ℕ
-  pub read : IsOneRead olds news (λ old new. IsRoots state old new roots)
-  pub is : rule ≡ spread_from roots
+-- the text that a rule is asked for by was read, and the order grows by the GUIDs that it names
+pub record IsOrderRead {S : Type 0} (state : S → SourceState) (grows : List ℕ → OrderValue) (olds news : List S)
+    (rule : RuleValue) : Type 0 where
+  pub guids : List ℕ
+  pub read : IsOneRead olds news (λ old new. IsRoots state old new guids)
+  pub is : rule ≡ spread_in (grows guids)
 
--- this is the rule, and what it takes was read: a text where roots are named, else nothing
+-- this is the rule, and what it takes was read: a text where roots or an order are named, else nothing
 abbrev pub IsRuleRead : {S : Type 0} → (S → SourceState) → RuleAsked → List S → List S → RuleValue
     → Type 0
 IsRuleRead state UpDown olds news rule = (news ≡ olds) × (rule ≡ up_and_down)
-IsRuleRead state Spread olds news rule = (news ≡ olds) × (rule ≡ spread_from [])
-IsRuleRead state SpreadFromRoots olds news rule = AreRootsRead state olds news rule
+IsRuleRead state Spread olds news rule = (news ≡ olds) × (rule ≡ spread_in (from_roots []))
+IsRuleRead state SpreadFromRoots olds news rule = IsOrderRead state from_roots olds news rule
+IsRuleRead state SpreadInOrder olds news rule = IsOrderRead state as_named olds news rule
 
 -- why there is no such rule: the text is not read
 abbrev pub IsRuleFault : {S : Type 0} → (S → SourceState) → RuleAsked → List S → List S
@@ -89,6 +98,8 @@ abbrev pub IsRuleFault : {S : Type 0} → (S → SourceState) → RuleAsked → 
 IsRuleFault state UpDown olds news fault = ⊥
 IsRuleFault state Spread olds news fault = ⊥
 IsRuleFault state SpreadFromRoots olds news fault =
+    IsOneRead olds news (λ old new. IsRootsFault state old new fault)
+IsRuleFault state SpreadInOrder olds news fault =
     IsOneRead olds news (λ old new. IsRootsFault state old new fault)
 
 -- inputs ----------------------------------------------------------------------------------------

@@ -13,18 +13,20 @@ pub enum RuleAsked {
     Spread,
     /// The same, from the roots that a text names.
     SpreadFromRoots,
+    /// Spread over all wires, in an order that grows as a text names switches.
+    SpreadInOrder,
 }
 
 impl RuleAsked {
     ghost use Rattle.sm_cli.specs.Asked.{texts_for};
 
-    /// How many texts it takes: that of the roots, where a text names them.
+    /// How many texts it takes: that of the roots or of the order, where a text names them.
     pub fn texts(self) -> usize
         ensures { result ≡ texts_for self }
     {
         match self {
             RuleAsked::UpDown | RuleAsked::Spread => 0,
-            RuleAsked::SpreadFromRoots => 1,
+            RuleAsked::SpreadFromRoots | RuleAsked::SpreadInOrder => 1,
         }
     }
 }

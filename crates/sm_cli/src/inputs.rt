@@ -1,15 +1,16 @@
-//! The inputs of a run: the text of the roots that a rule takes, if any, and what stands behind it.
+//! The inputs of a run: the text of the roots or of the order that a rule takes, if any, and what stands behind it.
 ghost use Rattle.std.specs.Prelude.{◌≡◌, ◌+◌, ◌-◌, ◌≤◌, ℕ, length, IfErr, IfOk};
 ghost use Rattle.lft_blocks.specs.Rules.{value_of};
 ghost use Rattle.sm_cli.specs.Asked.{texts_for};
 ghost use Rattle.sm_cli.specs.Inputs.{AreInputs, IsInputFault, IsRoots, IsRootsFault, IsRuleFault, IsRuleRead};
-ghost use Rattle.sm_cli.specs.Inputs.{fault_of_first, first_unusable, rule_fault};
+ghost use Rattle.sm_cli.specs.Inputs.{fault_of_first, first_unusable, order_fault, rule_fault};
+ghost use Rattle.spread_routes.specs.SwitchOrders.{order_value_of};
 
 use crate::asked::RuleAsked;
 use crate::fault::Fault;
 use crate::text_fault::TextFault;
 use byte_io::Source;
-use lft_blocks::Rule;
+use lft_blocks::{Rule, SwitchOrder};
 use record_file::read_whole;
 use roots_file::parse;
 use smp_bytes::Guid;
@@ -70,7 +71,8 @@ pub fn read_inputs<S: Source, R: InputReader<S>>(
     }
 }
 
-/// The rule that is asked for. The text of its roots, where one names them, is the first input, and is read to its end.
+/// The rule that is asked for. The text of its roots or of its order, where one names them, is the first input, and is
+/// read to its end.
 fn read_rule<S: Source>(alloc: Global, asked: RuleAsked, texts: &mut [S]) -> Result<Rule, Fault>
     requires { length texts.old ≡ texts_for asked }
     ensures read { IfOk result (λ rule.
@@ -81,16 +83,26 @@ fn read_rule<S: Source>(alloc: Global, asked: RuleAsked, texts: &mut [S]) -> Res
     match asked {
         RuleAsked::UpDown => Ok(Rule::UpDown),
         RuleAsked::Spread => Ok(Rule::Spread {
-            roots: Vec::new(alloc),
+            order: SwitchOrder::FromRoots {
+                roots: Vec::new(alloc),
+            },
         }),
         RuleAsked::SpreadFromRoots => match read_roots(alloc, &mut texts[0]) {
-            Ok(roots) => Ok(Rule::Spread { roots }),
+            Ok(roots) => Ok(Rule::Spread {
+                order: SwitchOrder::FromRoots { roots },
+            }),
+            Err(fault) => Err(fault),
+        },
+        RuleAsked::SpreadInOrder => match read_roots(alloc, &mut texts[0]) {
+            Ok(switches) => Ok(Rule::Spread {
+                order: SwitchOrder::AsNamed { switches },
+            }),
             Err(fault) => Err(fault),
         },
     }
 }
 
-/// The roots that a text names, which is read to its end.
+/// The roots, or the switches of an order, that a text names, which is read to its end.
 fn read_roots<S: Source>(alloc: Global, roots: &mut S) -> Result<Vec<Guid>, Fault>
     ensures read { IfOk result (λ found.
         IsRoots S.state roots.old roots.new found.items) }
@@ -121,10 +133,24 @@ fn rule_fault<S: Source, R: InputReader<S>>(
     ensures { result ≡ rule_fault ((R.reader reader.now).has_switch told.now) asked (value_of rule.now) }
 {
     match (asked, rule) {
-        (RuleAsked::SpreadFromRoots, Rule::Spread { roots }) => {
+        (RuleAsked::SpreadFromRoots, Rule::Spread { order }) => order_fault(order, reader, told),
+        _ => None,
+    }
+}
+
+/// Why no plan goes by an order, if so: it has no root, or one is no usable switch.
+fn order_fault<S: Source, R: InputReader<S>>(
+    order: &SwitchOrder,
+    reader: &R,
+    told: &R::Told,
+) -> Option<TextFault>
+    ensures { result ≡ order_fault ((R.reader reader.now).has_switch told.now) (order_value_of order.now) }
+{
+    match order {
+        SwitchOrder::FromRoots { roots } => {
             fault_of_first(roots, first_unusable(roots, reader, told))
         }
-        _ => None,
+        SwitchOrder::AsNamed { .. } => None,
     }
 }
 

@@ -5,7 +5,7 @@ use smp_bytes::{Guid, Lid};
 use thiserror::Error;
 use topo_file::TopoFault;
 
-/// Why the text of a topology, of a schedule, of tables or of roots is refused.
+/// Why the text of a topology, of a schedule, of tables, of roots or of an order is refused.
 #[derive(Clone, Copy, Debug, PartialEq, Eq, Error)]
 pub enum TextFault {
     /// It is not UTF-8.
@@ -20,7 +20,7 @@ pub enum TextFault {
     /// What is wrong with the text of tables, or that memory was refused as it was judged.
     #[error("{0}")]
     Tables(plan_file::PlanTextFault),
-    /// What is wrong with the text of roots, or that memory was refused as it was judged.
+    /// What is wrong with the text of roots or of an order, or that memory was refused as it was judged.
     #[error("{0}")]
     Roots(roots_file::RootsTextFault),
     /// It names no root.

@@ -6,3 +6,7 @@ pub mod Ports
 pub mod Whole
 pub mod Leaving
 pub mod Counting
+pub mod Standing
+pub mod OrderLaws
+pub mod NamedKeys
+pub mod KeyLists

@@ -27,7 +27,7 @@ module _ (graph : List SwitchEdges) where
   pub indexed : length (by_index graph) ≡ length graph
   indexed = length_map (λ (c : SwitchEdges). map (positioned_edge (guids_of graph)) c.edges) graph
 
-  named : length (guids_of graph) ≡ length graph
+  pub named : length (guids_of graph) ≡ length graph
   named = length_map (λ (c : SwitchEdges). c.guid) graph
 
   module _ (good : IsGraph graph) where

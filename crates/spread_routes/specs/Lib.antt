@@ -1,5 +1,6 @@
 pub mod Rule
 pub mod LeafSwitches
+pub mod SwitchOrders
 pub mod Spread
 pub mod Tables
 pub mod RoundRobins

@@ -1,5 +1,6 @@
--- The rule by the wires, the leaf switches and the roots alone: the keys, and which of its edges a LID takes.
-use Rattle.std.specs.Prelude.{ℕ, Bool, List, map, filter, length, nat_lt, ◌+◌, ◌/◌, ◌%◌, slice_index, if◌then◌else◌}
+-- The rule by the wires, the leaf switches and what the order grows by alone: the keys, and which of its edges a LID
+-- takes.
+use Rattle.std.specs.Prelude.{◌≡◌, ℕ, Bool, List, map, filter, length, nat_lt, ◌+◌, ◌/◌, ◌%◌, slice_index, if◌then◌else◌}
 use Rattle.std.specs.List.{list_any}
 use Rattle.port_graph.specs.declared.edge.Edge.{Edge}
 use Rattle.spread_labels.specs.declared.vertex_key.VertexKey.{VertexKey}
@@ -13,6 +14,7 @@ use Rattle.subnet_view.specs.GraphLaws.{IsGraph}
 use Rattle.subnet_view.specs.Routing.{Routing, IsRouting}
 use Rattle.spread_routes.specs.declared.lid_digit.LidDigit.{LidDigit}
 use Rattle.spread_routes.specs.Rule.{by_index, order_by_keys, spread}
+use Rattle.spread_routes.specs.SwitchOrders.{OrderValue, as_named, from_roots, keys_as_named, switches_by_keys}
 
 -- what the rule goes by: the wires, and of each switch, by rising GUID, its key and its level
 pub record Grading : Type 0 where
@@ -58,25 +60,43 @@ abbrev pub indices_of : List SwitchEdges → List ℕ → List ℕ
 indices_of graph guids = filter (λ i. nat_lt i (length graph)) (map (position_of (guids_of graph)) guids)
 
 -- the keys of switches by the distance classes that the leaf switches and the roots give
-abbrev pub keys_by : List SwitchEdges → List ℕ → List ℕ → List VertexKey
-keys_by graph leaves roots =
+abbrev pub keys_from_roots : List SwitchEdges → List ℕ → List ℕ → List VertexKey
+keys_from_roots graph leaves roots =
     keys_of (by_index graph) (distance_classes_of (by_index graph) (indices_of graph leaves) (indices_of graph roots))
 
--- what the leaf switches and the roots give
-abbrev pub grading_of : List SwitchEdges → List ℕ → List ℕ → Grading
-grading_of graph leaves roots =
+-- the keys by what the order grows by
+abbrev pub keys_by : List SwitchEdges → List ℕ → OrderValue → List VertexKey
+keys_by graph leaves (from_roots roots) = keys_from_roots graph leaves roots
+keys_by graph leaves (as_named switches) = keys_as_named graph switches
+
+-- what the leaf switches and the order give
+abbrev pub grading_of : List SwitchEdges → List ℕ → OrderValue → Grading
+grading_of graph leaves order =
     record {
       graph = graph;
-      keys = keys_by graph leaves roots;
+      keys = keys_by graph leaves order;
       levels =
           levels_of (by_index graph) (indices_of graph leaves);
     }
 
 -- the whole rule
-unfoldable pub spread_by : List SwitchEdges → List ℕ → List ℕ → Routing
-spread_by graph leaves roots = spread_at (grading_of graph leaves roots)
+unfoldable pub spread_by : List SwitchEdges → List ℕ → OrderValue → Routing
+spread_by graph leaves order = spread_at (grading_of graph leaves order)
 
 -- it is a rule of routing
 abbrev pub SpreadByIsRouting : Type 0
-SpreadByIsRouting =
-    (graph : List SwitchEdges) (leaves roots : List ℕ) → IsGraph graph → IsRouting graph (spread_by graph leaves roots)
+SpreadByIsRouting = (graph : List SwitchEdges) (leaves : List ℕ) (order : OrderValue) → IsGraph graph
+    → IsRouting graph (spread_by graph leaves order)
+
+-- the switches in the order by which the rule goes
+unfoldable pub switches_in_order : List SwitchEdges → List ℕ → OrderValue → List ℕ
+switches_in_order graph leaves order = switches_by_keys graph (keys_by graph leaves order)
+
+-- named as they stand there, they stand so again, and lead packets alike
+pub record OrderStands (graph : List SwitchEdges) (leaves : List ℕ) (by : OrderValue) : Type 0 where
+  pub order : switches_in_order graph leaves (as_named (switches_in_order graph leaves by)) ≡ switches_in_order graph leaves by
+  pub routing : spread_by graph leaves (as_named (switches_in_order graph leaves by)) ≡ spread_by graph leaves by
+
+abbrev pub OrdersStand : Type 0
+OrdersStand = (graph : List SwitchEdges) (leaves : List ℕ) (order : OrderValue) → IsGraph graph
+    → OrderStands graph leaves order

@@ -8,7 +8,11 @@ mod leaves;
 mod lid_digit;
 mod round_robin;
 mod spread;
+mod switch_keys;
+mod switch_order;
 
 pub use exits::Exits;
 pub use leaves::leaf_switches;
 pub use spread::{Spread, Towards};
+pub use switch_keys::switches_in_order;
+pub use switch_order::SwitchOrder;

@@ -1,14 +1,16 @@
 ghost use Rattle.std.specs.Prelude.{◌≡◌, ◌<◌, ◌+◌, IfOk, OnOk, length, min};
 ghost use Rattle.spread_routes.specs.Spread.{grading_of};
+ghost use Rattle.spread_routes.specs.SwitchOrders.{order_value_of};
 ghost use Rattle.spread_routes.specs.Tables.{AreExits, AreTowards};
 
+use crate::SwitchOrder;
 use crate::exits::Exits;
-use crate::index::indices;
 use crate::lid_digit::{LidDigit, higher_targets, lid_digits};
+use crate::switch_keys::{SwitchKeys, switch_keys};
 use port_graph::Adjacency;
 use smp_bytes::Guid;
 use spread_labels::{
-    CandidateSets, Grades, TARGETS, VertexKey, by_positions, grade, grown_order, keys, positions,
+    CandidateSets, TARGETS, VertexKey, by_positions, grown_order, positions,
 };
 use std::alloc::{AllocError, Global};
 use std::marker::Model;
@@ -82,24 +84,19 @@ impl<'g> Model for Spread<'g> {
 }
 
 impl<'g> Spread<'g> {
-    /// The routes by the leaf switches, and by roots, of which there may be none. GUIDs that are no switch of the graph
-    /// count for nothing. Takes a search in breadth from each leaf switch and each root, and two for each component.
+    /// The routes by the leaf switches, and by what the order of switches grows by. GUIDs that are no switch of the graph
+    /// count for nothing. Takes a search in breadth from each leaf switch and each root, and where the order grows from
+    /// roots two for each component; and a search for each switch that is named.
     pub fn of(
         alloc: Global,
         graph: &'g SwitchGraph,
         leaves: &[Guid],
-        roots: &[Guid],
+        order: &SwitchOrder,
     ) -> Result<Self, AllocError>
-        ensures { IfOk result (λ spread. spread ≡ grading_of graph.now leaves.now roots.now) }
+        ensures { IfOk result (λ spread.
+            spread ≡ grading_of graph.now leaves.now (order_value_of order.now)) }
     {
-        let edges = graph.adjacency();
-        let leaves = indices(alloc, graph, leaves)?;
-        let roots = indices(alloc, graph, roots)?;
-        let Grades {
-            distance_classes,
-            levels,
-        } = grade(alloc, edges, &leaves, &roots)?;
-        let keys = keys(alloc, edges, &distance_classes)?;
+        let SwitchKeys { keys, levels } = switch_keys(alloc, graph, leaves, order)?;
         Spread::by_keys(alloc, graph, keys, levels)
     }
 

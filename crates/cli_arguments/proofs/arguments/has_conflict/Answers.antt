@@ -7,4 +7,4 @@ use Rattle.cli_arguments.proofs.arguments.has_conflict.Goals as goal
 
 pub returns-in-Some : goal.returns-in-Some
 returns-in-Some c =
-    c.lacks_rule.ensures ∙ sym (ap has_conflict (words_are c.args.matches.now (found_of c.in-Some.words.now) c.in-Some.ensures.rows))
+    c.has_conflict_behind.ensures ∙ sym (ap has_conflict (words_are c.args.matches.now (found_of c.in-Some.words.now) c.in-Some.ensures.rows))

@@ -7,6 +7,7 @@ use Rattle.subnet_view.specs.Reading.{switches}
 use Rattle.subnet_view.proofs.GraphSwitches.{graph_guids}
 use Rattle.spread_routes.specs.LeafSwitches.{leaf_switches_of}
 use Rattle.spread_routes.specs.Spread.{spread_by}
+use Rattle.spread_routes.specs.SwitchOrders.{order_value_of}
 use Rattle.lft_blocks.specs.declared.attachment.Attachment.{Attachment}
 use Rattle.lft_blocks.specs.Entries.{attachment_of_lid, block_count}
 use Rattle.lft_blocks.specs.Attachments.{AreIndexed}
@@ -32,4 +33,4 @@ returns-clause-tables c =
     let counted = c.block_count-count.ensures.count ∙ ap block_count c.top.ensures in
     c.in_ok-tables.ensures
     ∙ (λ i. tables_of (same_attachments (guids_of graph) attachments c.deref.result.now are i)
-    (spread_by (c.in_ok-graph.ensures i) leaves c.args.roots.now).next (counted i) (guids i))
+    (spread_by (c.in_ok-graph.ensures i) leaves (order_value_of c.args.order.now)).next (counted i) (guids i))

@@ -8,6 +8,7 @@ use Rattle.subnet_view.specs.Graph.{guids_of}
 use Rattle.subnet_view.proofs.GraphSwitches.{graph_guids, switches_rise}
 use Rattle.spread_routes.specs.LeafSwitches.{leaf_switches_of}
 use Rattle.spread_routes.specs.Spread.{Grading, grading_of, spread_at, spread_by}
+use Rattle.spread_routes.specs.SwitchOrders.{order_value_of}
 use Rattle.lft_blocks.specs.Plan.{SwitchTable}
 use Rattle.lft_blocks.specs.TableRows.{AreRows, table_of_row}
 use Rattle.lft_blocks.proofs.RowSteps.{tables_are}
@@ -23,13 +24,13 @@ returns c =
     let guids = guids_of graph in
     let attachments = c.args.attachments.now in
     let leaves = leaf_switches_of (cells_of c.args.wires.now) in
-    let roots = c.args.roots.now in
+    let order = order_value_of c.args.order.now in
     let count = c.args.count in
-    let by = grading_of graph leaves roots in
+    let by = grading_of graph leaves order in
     let rows = c.in_ok-rows.rows.items in
     let theirs = c.switches-guids.ensures in
     let is : c.in_ok-spread.spread ≡ by =
-    c.in_ok-spread.ensures ∙ ap (λ (xs : List ℕ). grading_of graph xs roots) (c.deref.ensures.value ∙ c.in_ok-leaves.ensures) in
+    c.in_ok-spread.ensures ∙ ap (λ (xs : List ℕ). grading_of graph xs order) (c.deref.ensures.value ∙ c.in_ok-leaves.ensures) in
     let are : AreRows (spread_at by).next guids attachments (length guids) rows =
     subst (λ (x : Grading × ℕ). AreRows (spread_at x.0).next (guids_of x.0.graph) attachments x.1 rows) (λ i. (is i, length (theirs i))) c.in_ok-rows.ensures in
     let rising : IsStrictlyIncreasing guids =

@@ -1,53 +1,11 @@
-use Rattle.std.proofs.Common.{◌≡◌, ap, sym, ◌∙◌, subst, length}
-use Rattle.std.specs.Prelude.{IfOk}
-use Rattle.spread_labels.specs.DistanceClasses.{distance_class_of, distance_classes_of}
-use Rattle.spread_labels.specs.Firsts.{key_of, keys_of}
-use Rattle.spread_labels.specs.Levels.{level_of, levels_of}
-use Rattle.spread_labels.proofs.Numbers.{numbers_long}
-use Rattle.spread_labels.specs.LabelLaws.{IsSymmetric}
-use Rattle.spread_routes.specs.Rule.{by_index}
-use Rattle.spread_routes.specs.Spread.{Grading, indices_of, keys_by}
-use Rattle.spread_routes.proofs.Indices.{there_and_back}
-use Rattle.spread_routes.proofs.Positions.{edges_are}
+use Rattle.std.proofs.Common.{ap, ◌∙◌, length}
+use Rattle.spread_routes.specs.SwitchOrders.{order_value_of}
+use Rattle.spread_routes.proofs.KeyLists.{all_keyed, all_levelled}
 use Rattle.spread_routes.proofs.spread.Spread.of.Goals as goal
-
-pub keys-requires-clause-symmetric : goal.keys-requires-clause-symmetric
-keys-requires-clause-symmetric c =
-    let graph = c.args.graph.now in
-    let good = c.adjacency-edges.ensures.is_graph in
-    subst IsSymmetric (sym (edges_are graph good c.adjacency-edges.result.now c.adjacency-edges.ensures.edges)) (there_and_back graph good)
-
-pub keys-requires-clause-all : goal.keys-requires-clause-all
-keys-requires-clause-all c =
-    let edges = c.adjacency-edges.result.now in
-    ap length (c.deref-3.ensures.value ∙ c.in_ok-distance_classes.ensures.distance_classes)
-    ∙ numbers_long (distance_class_of edges c.deref.result.now c.deref-2.result.now) 0 (length edges)
 
 pub by_keys-requires-clause-keys : goal.by_keys-requires-clause-keys
 by_keys-requires-clause-keys c =
-    let edges = c.adjacency-edges.result.now in
-    ap length c.in_ok-keys.ensures ∙ numbers_long (key_of edges c.deref-3.result.now) 0 (length edges)
-    ∙ c.adjacency-edges.ensures.edges.as_many
+    ap length c.in_ok-keys.ensures.keys ∙ all_keyed c.args.graph.now c.args.leaves.now (order_value_of c.args.order.now)
 
 pub by_keys-requires-clause-levels : goal.by_keys-requires-clause-levels
-by_keys-requires-clause-levels c =
-    let edges = c.adjacency-edges.result.now in
-    ap length c.in_ok-distance_classes.ensures.levels
-    ∙ numbers_long (level_of edges c.deref.result.now) 0 (length edges) ∙ c.adjacency-edges.ensures.edges.as_many
-
-pub returns : goal.returns
-returns c =
-    let graph = c.args.graph.now in
-    let leaves = c.args.leaves.now in
-    let roots = c.args.roots.now in
-    let edges = c.adjacency-edges.result.now in
-    let ex : edges ≡ by_index graph = edges_are graph c.adjacency-edges.ensures.is_graph edges c.adjacency-edges.ensures.edges in
-    let b : c.deref.result.now ≡ indices_of graph leaves = c.deref.ensures.value ∙ c.in_ok-leaves.ensures.indices in
-    let r : c.deref-2.result.now ≡ indices_of graph roots = c.deref-2.ensures.value ∙ c.in_ok-roots.ensures.indices in
-    let distance_classes : c.deref-3.result.now ≡ distance_classes_of edges c.deref.result.now c.deref-2.result.now =
-    c.deref-3.ensures.value ∙ c.in_ok-distance_classes.ensures.distance_classes in
-    let keys : c.in_ok-keys.keys.items ≡ keys_by graph leaves roots =
-    c.in_ok-keys.ensures ∙ ap (keys_of edges) distance_classes ∙ (λ i. keys_of (ex i) (distance_classes_of (ex i) (b i) (r i))) in
-    let levels : c.in_ok-distance_classes.field-0.levels.items ≡ levels_of (by_index graph) (indices_of graph leaves) =
-    c.in_ok-distance_classes.ensures.levels ∙ (λ i. levels_of (ex i) (b i)) in
-    subst (λ (g : Grading). IfOk c.by_keys.result (λ spread. spread ≡ g)) (λ i. record { graph = graph; keys = keys i; levels = levels i }) c.by_keys.ensures
+by_keys-requires-clause-levels c = ap length c.in_ok-keys.ensures.levels ∙ all_levelled c.args.graph.now c.args.leaves.now

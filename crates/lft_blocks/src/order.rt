@@ -1,0 +1,27 @@
+//! The order of the usable switches of a view.
+ghost use Rattle.std.specs.Prelude.{◌≡◌, IfOk};
+ghost use Rattle.fact_store.specs.View.{cells_of};
+ghost use Rattle.spread_routes.specs.SwitchOrders.{order_value_of};
+ghost use Rattle.lft_blocks.specs.Rules.{order_of};
+
+use fact_store::{Refused, Store};
+use smp_bytes::Guid;
+use spread_routes::{SwitchOrder, leaf_switches, switches_in_order};
+use std::alloc::Global;
+use subnet_view::{SwitchGraph, Wires};
+
+/// The usable switches in the order by which the rule that spreads goes. Takes a walk over the cells, two searches for
+/// each port of a switch, a search in breadth from each leaf switch and each root, and a step for each pair of switches.
+pub fn switch_order(
+    alloc: Global,
+    store: &Store,
+    order: &SwitchOrder,
+) -> Result<Vec<Guid>, Refused>
+    ensures { IfOk result (λ found.
+        found.items ≡ order_of (order_value_of order.now) (cells_of store.now)) }
+{
+    let wires = Wires::of(alloc, store)?;
+    let graph = SwitchGraph::of(alloc, &wires)?;
+    let leaves = leaf_switches(alloc, &wires, graph.switches())?;
+    Ok(switches_in_order(alloc, &graph, &leaves, order)?)
+}

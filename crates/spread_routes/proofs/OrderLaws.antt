@@ -1,0 +1,127 @@
+-- Switches that are named as they stand in an order stand so again, and lead packets alike.
+use Rattle.std.proofs.Common.{◌≡◌, ◌<◌, ◌+◌, ◌/◌, ◌%◌, ◌&&◌, ◌||◌, ◌==◌, not, ℕ, suc, List, [], ◌∷◌, inl, inr, refl, sym, ap, ◌∙◌, subst, arith, true, false, Bool, cond, length, map}
+use Rattle.std.proofs.lemmas.Bool.{cases_eq, eq-eqb, lt-ltb, le-ltb, ne_eqb}
+use Rattle.std.proofs.lemmas.List.{get_or-map}
+use Rattle.std.specs.Prelude.{Contains, Option, nat_lt, option_map, slice_index}
+use Rattle.std.specs.List.{list_any}
+use Rattle.smp_bytes.proofs.Members.{contains_here, contains_later}
+use Rattle.port_graph.specs.declared.edge.Edge.{Edge}
+use Rattle.spread_labels.specs.declared.vertex_key.VertexKey.{VertexKey}
+use Rattle.spread_labels.specs.Labels.{candidates}
+use Rattle.spread_labels.specs.Levels.{levels_of}
+use Rattle.spread_labels.specs.Candidates.{chosen}
+use Rattle.spread_labels.specs.Ways.{cost, channel_number}
+use Rattle.spread_labels.specs.Orders.{at_position, position_of, by_position}
+use Rattle.spread_labels.specs.Keys.{before_by, key_at, key_less}
+use Rattle.spread_labels.proofs.ByPositions.{position_less}
+use Rattle.subnet_view.specs.SwitchEdges.{SwitchEdges}
+use Rattle.subnet_view.specs.Graph.{guids_of}
+use Rattle.subnet_view.specs.GraphLaws.{IsGraph}
+use Rattle.subnet_view.specs.Routing.{Routing}
+use Rattle.spread_routes.specs.Rule.{by_index, order_by_keys}
+use Rattle.spread_routes.specs.Spread.{OrdersStand, indices_of, keys_by, lid_digit_at, number_by, spread_at, spread_by, switches_in_order}
+use Rattle.spread_routes.specs.SwitchOrders.{key_as_named, keys_as_named, switches_by_keys}
+use Rattle.spread_routes.proofs.Indices.{as_many, index_of_switch}
+use Rattle.spread_routes.proofs.Names.{grows}
+use Rattle.spread_routes.proofs.Standing.{order_again}
+
+-- a test that passes, or does not, by the first part
+passes : (a b : Bool) → a ≡ true → (a || b) ≡ true
+passes a b is = ap (λ t. t || b) is
+
+fails : (a b c : Bool) → a ≡ false → b ≡ true → (a || (not b && c)) ≡ false
+fails a b c failed passed = λ i. failed i || (not (passed i) && c)
+
+module _ (graph : List SwitchEdges) (keys : List VertexKey) (good : IsGraph graph) where
+  abbrev guids : List ℕ
+  guids = guids_of graph
+
+  abbrev standing : List ℕ
+  standing = order_by_keys graph keys
+
+  abbrev again : List VertexKey
+  again = keys_as_named graph (switches_by_keys graph keys)
+
+  below : (x : ℕ) → Contains standing x → x < length guids
+  below x h =
+      let p = position_less standing x h in
+      subst (λ (y : ℕ). y < length guids) p.1 (omega (arith, (grows graph keys good).vertex (position_of standing x) p.0, as_many graph good))
+
+  -- GUIDs tell switches apart as indices do
+  same_test : (x a : ℕ) → x < length guids → a < length guids → (at_position guids x == at_position guids a) ≡ (x == a)
+  same_test x a h k =
+      elim (cases_eq x a) [
+        | inl same ↦ eq-eqb (at_position guids x) (at_position guids a) (ap (at_position guids) same) ∙ sym (eq-eqb x a same)
+        | inr apart ↦ ne_eqb (at_position guids x) (at_position guids a)
+            (λ e. apart (sym (index_of_switch graph good x h) ∙ ap (position_of guids) e ∙ index_of_switch graph good a k)) ∙ sym (ne_eqb x a apart)
+      ]
+
+  same_number : (xs : List ℕ) (a : ℕ) → ((x : ℕ) → Contains xs x → x < length guids) → a < length guids
+      → position_of (map (at_position guids) xs) (at_position guids a) ≡ position_of xs a
+  same_number [] a within h = refl
+  same_number (x ∷ xs) a within h =
+      let test = same_test x a (within x (contains_here x xs)) h in
+      let later = same_number xs a (λ y k. within y (contains_later x y xs k)) h in
+      (λ i. cond (test i) 0 (suc (later i)))
+
+  key_there : (a : ℕ) → a < length guids → key_at again a ≡ record { distance_class = 0; distance = position_of standing a }
+  key_there a h =
+      get_or-map (key_as_named (switches_by_keys graph keys)) guids a 0 (record { distance_class = 0; distance = 0 }) h
+      ∙ (λ i. record { distance_class = 0; distance = same_number standing a below h i })
+
+  pub stands_again : order_by_keys graph again ≡ standing
+  stands_again =
+      order_again (by_index graph) (before_by keys) (before_by again)
+      (λ a b h k l. let x = key_there a (omega (arith, h, as_many graph good)) in
+      let y = key_there b (omega (arith, k, as_many graph good)) in
+      let p = position_of standing a in
+      let q = position_of standing b in
+      let less : nat_lt p q ≡ true = lt-ltb p q l in
+      let more : nat_lt q p ≡ false = le-ltb q p (omega (arith, l)) in (
+        (λ i. key_less (x i) (y i) || (not (key_less (y i) (x i)) && nat_lt a b))
+            ∙ passes (nat_lt p q) (not (nat_lt q p) && nat_lt a b) less,
+        (λ i. key_less (y i) (x i) || (not (key_less (x i) (y i)) && nat_lt b a))
+            ∙ fails (nat_lt q p) (nat_lt p q) (nat_lt b a) more less,
+      ))
+
+-- the rule by an order of indices alone
+module _ (graph : List SwitchEdges) (levels standing : List ℕ) where
+  abbrev edges : List (List Edge)
+  edges = by_position (by_index graph) standing
+
+  abbrev stands_at : ℕ → ℕ
+  stands_at g = position_of standing (position_of (guids_of graph) g)
+
+  abbrev level : ℕ → ℕ
+  level p = slice_index levels (at_position standing p)
+
+  abbrev number : ℕ → ℕ → List Edge → ℕ
+  number lid p es =
+      number_by (lid_digit_at graph levels (at_position standing p)) (list_any (λ e. nat_lt (level p) (level e.to)) es) lid
+
+  abbrev edge_towards : ℕ → ℕ → ℕ → Option Edge
+  edge_towards lid p q = chosen (candidates edges q p) (number lid p (candidates edges q p))
+
+  abbrev by_standing : Routing
+  by_standing = record {
+    next = λ lid s t. option_map (λ e. e.port) (edge_towards lid (stands_at s) (stands_at t));
+    cost = λ s t. cost edges (stands_at t) (stands_at s);
+    channel = λ a b. channel_number (length edges) (stands_at a) (stands_at b);
+  }
+
+-- it hangs on nothing else of the keys
+by_order_alone : (graph : List SwitchEdges) (keys : List VertexKey) (levels : List ℕ)
+    → spread_at (record { graph = graph; keys = keys; levels = levels }) ≡ by_standing graph levels (order_by_keys graph keys)
+by_order_alone graph keys levels = refl
+
+pub orders_stand : OrdersStand
+unfolding spread_by switches_in_order
+orders_stand graph leaves order good =
+    let keys = keys_by graph leaves order in
+    let levels = levels_of (by_index graph) (indices_of graph leaves) in
+    let same = stands_again graph keys good in
+    record {
+      order = ap (map (at_position (guids_of graph))) same;
+      routing = by_order_alone graph (keys_as_named graph (switches_by_keys graph keys)) levels
+          ∙ ap (by_standing graph levels) same ∙ sym (by_order_alone graph keys levels);
+    }

@@ -1,0 +1,146 @@
+//! What switches are ordered by, and the order that grows by it.
+ghost use Rattle.std.specs.Prelude.{◌≡◌, ◌<◌, All, IfOk, length, map};
+ghost use Rattle.subnet_view.specs.GraphLaws.{IsGraph};
+ghost use Rattle.spread_labels.specs.Levels.{levels_of};
+ghost use Rattle.spread_labels.specs.Orders.{at_position};
+ghost use Rattle.spread_routes.specs.Rule.{by_index};
+ghost use Rattle.spread_routes.specs.Spread.{indices_of, keys_by, keys_from_roots, switches_in_order};
+ghost use Rattle.spread_routes.specs.SwitchOrders.{keys_as_named, order_value_of};
+
+use crate::SwitchOrder;
+use crate::index::indices;
+use smp_bytes::Guid;
+use spread_labels::{Grades, VertexKey, grade, grown_order, keys};
+use std::alloc::{AllocError, Global};
+use subnet_view::SwitchGraph;
+
+/// What switches are ordered and led by.
+#[derive(Drop)]
+pub(crate) struct SwitchKeys {
+    /// The key of each switch, by rising GUID.
+    pub(crate) keys: Vec<VertexKey>,
+    /// The level of each.
+    pub(crate) levels: Vec<usize>,
+}
+
+/// The switches of a graph in the order by which the rule goes, as the leaf switches and `order` give it. Takes what
+/// `Spread::of` takes, but for the edges.
+pub fn switches_in_order(
+    alloc: Global,
+    graph: &SwitchGraph,
+    leaves: &[Guid],
+    order: &SwitchOrder,
+) -> Result<Vec<Guid>, AllocError>
+    ensures { IfOk result (λ found.
+        found.items ≡ switches_in_order graph.now leaves.now (order_value_of order.now)) }
+{
+    let SwitchKeys { keys, levels: _ } = switch_keys(alloc, graph, leaves, order)?;
+    let vertices = grown_order(alloc, graph.adjacency(), &keys)?;
+    switches_at(alloc, graph.switches(), &vertices)
+}
+
+/// The switches at these indices.
+fn switches_at(
+    alloc: Global,
+    guids: &[Guid],
+    indices: &[usize],
+) -> Result<Vec<Guid>, AllocError>
+    requires { All (λ i. i < length guids.now) indices.now }
+    ensures { IfOk result (λ found. found.items ≡ map (at_position guids.now) indices.now) }
+{
+    let mut found = Vec::with_capacity(alloc, indices.len())?;
+    for index in indices {
+        found.push(guids[*index])?;
+    }
+    Ok(found)
+}
+
+/// The keys and the levels of switches.
+pub(crate) fn switch_keys(
+    alloc: Global,
+    graph: &SwitchGraph,
+    leaves: &[Guid],
+    order: &SwitchOrder,
+) -> Result<SwitchKeys, AllocError>
+    ensures keys { IfOk result (λ found. found.keys.items ≡ keys_by graph.now leaves.now (order_value_of order.now)) }
+    ensures levels { IfOk result (λ found. found.levels.items
+        ≡ levels_of (by_index graph.now) (indices_of graph.now leaves.now)) }
+{
+    match order {
+        SwitchOrder::FromRoots { roots } => from_roots(alloc, graph, leaves, roots),
+        SwitchOrder::AsNamed { switches } => as_named(alloc, graph, leaves, switches),
+    }
+}
+
+/// The same from roots.
+fn from_roots(
+    alloc: Global,
+    graph: &SwitchGraph,
+    leaves: &[Guid],
+    roots: &[Guid],
+) -> Result<SwitchKeys, AllocError>
+    ensures keys { IfOk result (λ found. found.keys.items ≡ keys_from_roots graph.now leaves.now roots.now) }
+    ensures levels { IfOk result (λ found. found.levels.items
+        ≡ levels_of (by_index graph.now) (indices_of graph.now leaves.now)) }
+{
+    let edges = graph.adjacency();
+    let leaves = indices(alloc, graph, leaves)?;
+    let roots = indices(alloc, graph, roots)?;
+    let Grades {
+        distance_classes,
+        levels,
+    } = grade(alloc, edges, &leaves, &roots)?;
+    let keys = keys(alloc, edges, &distance_classes)?;
+    Ok(SwitchKeys { keys, levels })
+}
+
+/// The same as a list names switches.
+fn as_named(
+    alloc: Global,
+    graph: &SwitchGraph,
+    leaves: &[Guid],
+    switches: &[Guid],
+) -> Result<SwitchKeys, AllocError>
+    ensures keys { IfOk result (λ found. found.keys.items ≡ keys_as_named graph.now switches.now) }
+    ensures levels { IfOk result (λ found. found.levels.items
+        ≡ levels_of (by_index graph.now) (indices_of graph.now leaves.now)) }
+{
+    let edges = graph.adjacency();
+    let leaves = indices(alloc, graph, leaves)?;
+    let Grades {
+        distance_classes: _,
+        levels,
+    } = grade(alloc, edges, &leaves, &[])?;
+    let keys = keys_as_named(alloc, graph, switches)?;
+    Ok(SwitchKeys { keys, levels })
+}
+
+/// The keys of switches by a list that names some. Takes a search for each of these.
+fn keys_as_named(
+    alloc: Global,
+    graph: &SwitchGraph,
+    switches: &[Guid],
+) -> Result<Vec<VertexKey>, AllocError>
+    requires { IsGraph graph.now }
+    ensures { IfOk result (λ keys. keys.items ≡ keys_as_named graph.now switches.now) }
+{
+    let mut keys = vec![in alloc; key_at(switches.len()); graph.switches().len()]?;
+    let mut number = switches.len();
+    while number > 0 {
+        number -= 1;
+        if let Some(index) = graph.index_of(switches[number]) {
+            keys[index] = key_at(number);
+        }
+    }
+    Ok(keys)
+}
+
+/// The key of a switch before which so many are named.
+fn key_at(number: usize) -> VertexKey
+    ensures { result ≡ record { distance_class = 0; distance = number } }
+{
+    VertexKey {
+        distance_class: 0,
+        distance: number,
+    }
+}
