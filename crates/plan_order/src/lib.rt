@@ -1,7 +1,7 @@
 //! The order of the switches by which a rule of routing plans.
 #![tactic(auto)]
 
-mod plan_positions;
+mod positions;
 mod rank_positions;
 
-pub use plan_positions::plan_positions;
+pub use positions::plan_positions;

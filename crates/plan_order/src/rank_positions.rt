@@ -14,9 +14,17 @@ pub(crate) fn rank_positions(alloc: Global, graph: &Graph) -> Result<Vec<usize>,
         positions.items ≡ map (rank_position graph.now) (guids_of graph.now)) }
 {
     let ranked = ranked(alloc, graph)?;
+    counts_before(alloc, &ranked)
+}
+
+/// Counts for each of some switches those that come before it.
+fn counts_before(alloc: Global, ranked: &[(usize, Guid)]) -> Result<Vec<usize>, AllocError>
+    ensures { IfOk result (λ counts. counts.items
+        ≡ map (λ own. count_by (λ other. comes_before other own) ranked.now) ranked.now) }
+{
     ranked
         .iter()
-        .map(|own| count_before(&ranked, own))
+        .map(|own| count_before(ranked, own))
         .collect(alloc)
 }
 

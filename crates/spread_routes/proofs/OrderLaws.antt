@@ -42,7 +42,7 @@ module _ (graph : List SwitchEdges) (keys : List VertexKey) (good : IsGraph grap
   abbrev again : List VertexKey
   again = keys_as_named graph (switches_by_keys graph keys)
 
-  below : (x : ℕ) → Contains standing x → x < length guids
+  pub below : (x : ℕ) → Contains standing x → x < length guids
   below x h =
       let p = position_less standing x h in
       subst (λ (y : ℕ). y < length guids) p.1 (omega (arith, (grows graph keys good).vertex (position_of standing x) p.0, as_many graph good))
@@ -56,7 +56,7 @@ module _ (graph : List SwitchEdges) (keys : List VertexKey) (good : IsGraph grap
             (λ e. apart (sym (index_of_switch graph good x h) ∙ ap (position_of guids) e ∙ index_of_switch graph good a k)) ∙ sym (ne_eqb x a apart)
       ]
 
-  same_number : (xs : List ℕ) (a : ℕ) → ((x : ℕ) → Contains xs x → x < length guids) → a < length guids
+  pub same_number : (xs : List ℕ) (a : ℕ) → ((x : ℕ) → Contains xs x → x < length guids) → a < length guids
       → position_of (map (at_position guids) xs) (at_position guids a) ≡ position_of xs a
   same_number [] a within h = refl
   same_number (x ∷ xs) a within h =

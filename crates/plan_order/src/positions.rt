@@ -7,7 +7,7 @@ ghost use Rattle.spread_routes.specs.SwitchOrders.{order_value_of};
 ghost use Rattle.plan_order.specs.PlanOrder.{positions_by};
 
 use crate::rank_positions::rank_positions;
-use fact_store::Store;
+use fact_store::{Refused, Store};
 use lft_blocks::Rule;
 use smp_bytes::Guid;
 use spread_routes::{SwitchOrder, leaf_switches, switches_in_order};
