@@ -14,7 +14,7 @@ use Rattle.lft_blocks.proofs.Triangle.{cells, facts, facts_have, switch, tables}
 use Rattle.lft_blocks.proofs.TriangleArrives.{of_first}
 use Rattle.held_tables.specs.Tables.{entry_for}
 use Rattle.next_tables.specs.ChangingFabric.{IsInChange, IsLooseEntry, entry_now}
-use Rattle.next_tables.specs.NextTables.{IsKept, next_at, next_tables}
+use Rattle.next_tables.specs.NextTables.{IsKept, next_at, next_tables, settled_first}
 use Rattle.next_tables.proofs.Entries.{member}
 use Rattle.next_tables.proofs.StepLaws.{next_tables_are_so}
 use Rattle.law_examples.specs.Examples.{PartSeen, SomeTablesChange, SwitchThere}
@@ -39,25 +39,25 @@ abbrev midst : Fabric
 midst = record detour { entry = λ n lid. slice_index_or (slice_index_or rows n []) lid 255 }
 
 -- the next entries of both are the plan's
-next_first : next_at cells (held_by longer) (held_by tables) 7 16 ≡ 2
+next_first : next_at cells settled_first (held_by longer) (held_by tables) 7 16 ≡ 2
 unfolding next_at
 next_first = refl
 
-next_second : next_at cells (held_by longer) (held_by tables) 7 32 ≡ 2
+next_second : next_at cells settled_first (held_by longer) (held_by tables) 7 32 ≡ 2
 unfolding next_at
 next_second = refl
 
-entry_first : entry_for (next_tables cells (held_by longer) (held_by tables)) 7 16 ≡ 2
+entry_first : entry_for (next_tables cells settled_first (held_by longer) (held_by tables)) 7 16 ≡ 2
 entry_first =
-    (next_tables_are_so cells (held_by longer) (held_by tables)).entries 16 7 (member (switches cells) 0 (omega arith)) ∙ next_first
+    (next_tables_are_so cells settled_first (held_by longer) (held_by tables)).entries 16 7 (member (switches cells) 0 (omega arith)) ∙ next_first
 
-entry_second : entry_for (next_tables cells (held_by longer) (held_by tables)) 7 32 ≡ 2
+entry_second : entry_for (next_tables cells settled_first (held_by longer) (held_by tables)) 7 32 ≡ 2
 entry_second =
-    (next_tables_are_so cells (held_by longer) (held_by tables)).entries 32 7 (member (switches cells) 1 (omega arith)) ∙ next_second
+    (next_tables_are_so cells settled_first (held_by longer) (held_by tables)).entries 32 7 (member (switches cells) 1 (omega arith)) ∙ next_second
 
 -- at each switch the entry is the held one or the next one
 abbrev Loose : Cells → ℕ → Node → Type 0
-Loose c k n = IsTrue (is_switch n.kind) → IsLooseEntry c (held_by longer) (next_tables c (held_by longer) (held_by tables)) 7 n.guid (entry_now midst 7 k)
+Loose c k n = IsTrue (is_switch n.kind) → IsLooseEntry c (held_by longer) (next_tables c settled_first (held_by longer) (held_by tables)) 7 n.guid (entry_now midst 7 k)
 
 all_loose : EachIndexed (Loose cells) detour.nodes
 all_loose =
@@ -68,7 +68,7 @@ all_loose =
     (next (λ e. absurd (cc)) tt))))
 
 changes : IsInChange (IsJoinedTo detour origin) (cells_of facts) (held_by longer)
-    (next_tables (cells_of facts) (held_by longer) (held_by tables)) 7 detour midst
+    (next_tables (cells_of facts) settled_first (held_by longer) (held_by tables)) 7 detour midst
 changes = record {
   still = record { nodes = refl; cables = λ p. refl; owners = λ port node e. refl };
   entries = λ port node e is.
@@ -89,8 +89,8 @@ switch_there k g at end = record {
   kind = refl;
 }
 
-behind : (c : Cells) → c ≡ cells → 255 ≢ entry_for (next_tables c (held_by longer) (held_by tables)) 7 32
-behind c is e = omega (arith, e ∙ ap (λ (x : Cells). entry_for (next_tables x (held_by longer) (held_by tables)) 7 32) is ∙ entry_second)
+behind : (c : Cells) → c ≡ cells → 255 ≢ entry_for (next_tables c settled_first (held_by longer) (held_by tables)) 7 32
+behind c is e = omega (arith, e ∙ ap (λ (x : Cells). entry_for (next_tables x settled_first (held_by longer) (held_by tables)) 7 32) is ∙ entry_second)
 
 pub some_tables_change : SomeTablesChange
 unfolding part

@@ -13,7 +13,7 @@ use Rattle.held_tables.specs.Tables.{entry_for}
 use Rattle.audit.specs.Fabrics.{IsSeen, IsSeenIn}
 use Rattle.audit_channels.specs.Fabrics.{TakeInTurn, Travels}
 use Rattle.next_tables.specs.ChangingFabric.{IsInChange, entry_now}
-use Rattle.next_tables.specs.NextTables.{IsKept, next_tables}
+use Rattle.next_tables.specs.NextTables.{IsKept, next_tables, settled_first}
 
 -- facts describe what is joined to an end port, and that holds tables
 pub record PartSeen : Type 0 where
@@ -54,12 +54,12 @@ pub record ChangesThere (part : PartSeen) : Type 0 where
   pub kept : IsKept part.held plan line
   pub now : Fabric
   pub changes : IsInChange (IsJoinedTo part.fabric part.origin) (cells_of part.facts) part.held
-      (next_tables (cells_of part.facts) part.held plan) line.lid part.fabric now
+      (next_tables (cells_of part.facts) settled_first part.held plan) line.lid part.fabric now
   pub changed : SwitchThere part
   pub other : entry_now now line.lid changed.port.node ≢ entry_now part.fabric line.lid changed.port.node
   pub waiting : SwitchThere part
   pub behind : entry_now now line.lid waiting.port.node
-      ≢ entry_for (next_tables (cells_of part.facts) part.held plan) line.lid waiting.node.guid
+      ≢ entry_for (next_tables (cells_of part.facts) settled_first part.held plan) line.lid waiting.node.guid
 
 abbrev pub SomeTablesChange : Type 0
 SomeTablesChange = (part : PartSeen) × ChangesThere part

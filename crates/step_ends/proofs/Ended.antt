@@ -18,7 +18,7 @@ use Rattle.audit.proofs.Ended.{after_ended}
 use Rattle.audit.proofs.Judged.{same_ends}
 use Rattle.audit.proofs.PlanSteps.{contains_at}
 use Rattle.next_tables.specs.Next.{agreed, agreed_at, comes_to, step_at}
-use Rattle.next_tables.specs.NextTables.{IsKept, keeper, kept_by, next_at, next_for, next_tables}
+use Rattle.next_tables.specs.NextTables.{IsKept, keeper, kept_by, next_at, next_for, next_tables, settled_first}
 use Rattle.next_tables.specs.StepLaws.{stepped}
 use Rattle.next_tables.proofs.Entries.{comes_false, comes_true, plain_mapped, steps_at, steps_long}
 use Rattle.next_tables.proofs.Mixtures.{at, in_range}
@@ -59,7 +59,7 @@ module _ (cells : Cells) (plan : HeldPlan) (lid : ℕ) (x : EndPort) (own : owne
 
   module _ (tables : HeldPlan) (kept : IsKept tables plan line) (has : HasWays tables) where
     abbrev next : HeldPlan
-    next = next_tables cells tables plan
+    next = next_tables cells settled_first tables plan
 
     abbrev same : owners_of plan lid ≡ owners_of tables lid
     same = kept_owners cells tables plan line kept
@@ -102,13 +102,13 @@ module _ (cells : Cells) (plan : HeldPlan) (lid : ℕ) (x : EndPort) (own : owne
     S n = stepped cells plan held n
 
     kept_later : (k : ℕ) → IsKept (S (suc k)) plan line
-    kept_later k = record { in_plan = own; in_held = owners_next cells (S k) plan lid ∙ own }
+    kept_later k = record { in_plan = own; in_held = owners_next cells settled_first (S k) plan lid ∙ own }
 
     -- the first step takes the plan's entries where no end port keeps the LID
     taken_first : keeper (x ∷ []) (owners_of held lid) ≡ None → HasWays (S 1)
     unfolding next_at
     taken_first none i g at_g way =
-        entry_next cells held plan g lid (contains_at (switches cells) i g at_g)
+        entry_next cells settled_first held plan g lid (contains_at (switches cells) i g at_g)
         ∙ (λ j. next_for cells held plan lid (own j) (keeper (own j) (owners_of held lid)) g)
         ∙ ap (λ o. next_for cells held plan lid (x ∷ []) o g) none
 
@@ -156,7 +156,7 @@ module _ (cells : Cells) (held plan : HeldPlan) (most : ℕ) (can : DeliversWhat
 
   -- where not one end port alone has the LID in the plan, the entry hangs on the plan alone
   entries_alike : (lid : ℕ) (owners : List EndPort) → owners_of plan lid ≡ owners → (k i g : ℕ) → most ≤ suc (suc k)
-      → slice_get (switches cells) i ≡ Some g → next_at cells (T (suc (suc k))) plan lid g ≡ next_at cells (T (suc k)) plan lid g
+      → slice_get (switches cells) i ≡ Some g → next_at cells settled_first (T (suc (suc k))) plan lid g ≡ next_at cells settled_first (T (suc k)) plan lid g
   unfolding next_at
   entries_alike lid [] own k i g le at_g =
       (λ j. next_for cells (T (suc (suc k))) plan lid (own j) (keeper (own j) (owners_of (T (suc (suc k))) lid)) g)
@@ -166,13 +166,13 @@ module _ (cells : Cells) (held plan : HeldPlan) (most : ℕ) (can : DeliversWhat
       ∙ sym (λ j. next_for cells (T (suc k)) plan lid (own j) (keeper (own j) (owners_of (T (suc k)) lid)) g)
   entries_alike lid (x ∷ []) own k i g le at_g =
       let here = contains_at (switches cells) i g at_g in
-      sym (entry_next cells (T (suc (suc k))) plan g lid here) ∙ settled cells plan lid x own held can most meet k i g le at_g
-      ∙ entry_next cells (T (suc k)) plan g lid here
+      sym (entry_next cells settled_first (T (suc (suc k))) plan g lid here) ∙ settled cells plan lid x own held can most meet k i g le at_g
+      ∙ entry_next cells settled_first (T (suc k)) plan g lid here
 
   alike : (k i g : ℕ) → most ≤ suc (suc k) → slice_get (switches cells) i ≡ Some g
-      → AreAlikeAt cells (T (suc (suc k))) (T (suc k)) plan g
+      → AreAlikeAt cells settled_first settled_first (T (suc (suc k))) (T (suc k)) plan g
   alike k i g le at_g = record {
-    top = ap (λ t. max t (top_of plan g)) (top_next cells (T (suc k)) plan g (contains_at (switches cells) i g at_g))
+    top = ap (λ t. max t (top_of plan g)) (top_next cells settled_first (T (suc k)) plan g (contains_at (switches cells) i g at_g))
         ∙ once_more (top_of (T (suc k)) g) (top_of plan g);
     entries = λ lid. entries_alike lid (owners_of plan lid) refl k i g le at_g;
   }
@@ -180,7 +180,7 @@ module _ (cells : Cells) (held plan : HeldPlan) (most : ℕ) (can : DeliversWhat
   ended : (n : ℕ) → most ≤ n → 2 ≤ n → T (suc n) ≡ T n
   ended zero le two = absurd (omega (arith, two))
   ended (suc zero) le two = absurd (omega (arith, two))
-  ended (suc (suc k)) le two = next_same cells (T (suc (suc k))) (T (suc k)) plan (λ i g at_g. alike k i g le at_g)
+  ended (suc (suc k)) le two = next_same cells settled_first settled_first (T (suc (suc k))) (T (suc k)) plan (λ i g at_g. alike k i g le at_g)
 
 pub steps_end : StepsEnd
 steps_end cells held plan most n can meet le two = ended cells held plan most can meet n le two

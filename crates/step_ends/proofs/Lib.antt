@@ -1,5 +1,10 @@
+pub mod Alone
 pub mod Ended
+pub mod Last
+pub mod NoLoop
+pub mod OrderedLast
 pub mod Own
 pub mod Reached
 pub mod Same
+pub mod Steps
 pub mod Texts

@@ -43,15 +43,14 @@ use Rattle.audit.proofs.Judged.{same_itself}
 use Rattle.audit.proofs.OwnerLines.{line_owner, owner_line}
 use Rattle.audit.proofs.PlanPackets.{attachment_there, from_switch}
 use Rattle.audit.proofs.PlanSteps.{contains_at}
-use Rattle.next_tables.specs.Next.{comes_to}
-use Rattle.next_tables.specs.NextTables.{keeper, next_at, next_for, next_switch, next_table, next_tables, next_top}
-use Rattle.next_tables.specs.StepLaws.{stepped}
-use Rattle.next_tables.proofs.Entries.{comes_false, comes_true}
-use Rattle.next_tables.proofs.Plain.{plain, plain_after, plain_taken}
+use Rattle.next_tables.specs.NextTables.{StepRuleValue, next_at, next_switch, next_table, next_tables, next_top}
+use Rattle.next_run.specs.RunNext.{step_rule}
 use Rattle.next_tables.proofs.Whole.{entry_next, top_next}
-use Rattle.step_ends.specs.StepEnds.{DeliversWhatTablesCan, LastTextIsThePlans, MeetAtMost}
-use Rattle.step_ends.proofs.Ended.{arrived, emptied}
-use Rattle.step_ends.proofs.Reached.{owner_listed, plans_deliver_what_tables_can}
+use Rattle.step_ends.specs.StepEnds.{AreEnough, LastTextIsThePlans}
+use Rattle.step_ends.proofs.Alone.{each_alone}
+use Rattle.step_ends.proofs.Last.{AreLast, EachAlone, way_or_none}
+use Rattle.step_ends.proofs.Reached.{owner_listed}
+use Rattle.step_ends.proofs.Steps.{in_the_end, steps}
 use Rattle.step_ends.proofs.Same.{same_mapped, table_by}
 use Rattle.step_ends.proofs.Texts.{printed_is}
 
@@ -127,10 +126,7 @@ module _ (by : RuleValue) (lmc : ℕ) (facts : Facts) (range : AreInRange facts)
             ] refl)
       ]) refl
 
-  module _ (held : HeldPlan) (most : ℕ) (meet : MeetAtMost cells P most) where
-    abbrev S : ℕ → HeldPlan
-    S n = stepped cells P held n
-
+  module _ (alone : EachAlone P) where
     first_owner : (x : EndPort) (owners : List EndPort) → is_owner (x ∷ owners) x ≡ true
     first_owner x owners = rw (same_itself x) refl
 
@@ -140,51 +136,48 @@ module _ (by : RuleValue) (lmc : ℕ) (facts : Facts) (range : AreInRange facts)
         entry_counts by lmc facts has_room top top_is g lid x (contains_at (switches cells) i g at)
         (line_owned lmc facts has_room (record { lid = lid; port = x }) (line_of lid x owner))
 
-    own_at : (k i g lid : ℕ) (owners : List EndPort) → owners_of P lid ≡ owners → most ≤ suc (suc k) → slice_get (switches cells) i ≡ Some g
-        → next_at cells (S (suc k)) P lid g ≡ own_entry g lid
-    unfolding next_at
-    own_at k i g lid [] is le at =
-        (λ j. next_for cells (S (suc k)) P lid (is j) (keeper (is j) (owners_of (S (suc k)) lid)) g)
-        ∙ (elim (owner_of (lids lmc cells) lid) as (λ o. owner_of (lids lmc cells) lid ≡ o → 255 ≡ own_entry g lid) [
+    nobodys_own : (g lid : ℕ) → owners_of P lid ≡ [] → 255 ≡ own_entry g lid
+    nobodys_own g lid is =
+        (elim (owner_of (lids lmc cells) lid) as (λ o. owner_of (lids lmc cells) lid ≡ o → 255 ≡ own_entry g lid) [
           | None ↦ λ e. sym (ap (λ o. option_map_or (port_to rule.next lid g) (option_and_then (attachment_of cells) o) 255) e)
           | Some x ↦ λ e.
               let line : HeldLid = record { lid = lid; port = x } in
               let owner : is_owner (owners_of P lid) x ≡ true = line_owner P line (owner_has_line lmc facts has_room x lid e) in
               absurd (not_both (sym owner ∙ ap (λ (os : List EndPort). is_owner os x) is))
         ] refl)
-    own_at k i g lid (x ∷ y ∷ owners) is le at =
-        (λ j. next_for cells (S (suc k)) P lid (is j) (keeper (is j) (owners_of (S (suc k)) lid)) g)
-        ∙ counts i g lid x at (ap (λ (os : List EndPort). is_owner os x) is ∙ first_owner x (y ∷ owners))
-    own_at k i g lid (x ∷ []) is le at =
-        let owner : is_owner (owners_of P lid) x ≡ true = ap (λ (os : List EndPort). is_owner os x) is ∙ first_owner x [] in
-        let hops = next_hops_of cells P lid in
-        sym (entry_next cells (S (suc k)) P g lid (contains_at (switches cells) i g at))
-        ∙ (elim (comes_to x hops (To i)) as (λ t. comes_to x hops (To i) ≡ t → entry_for (S (suc (suc k))) lid g ≡ own_entry g lid) [
-          | true ↦ λ e.
-              let c = comes_true x hops (To i) e in
-              let way = plain_taken (after c.0 hops (To i)) x (sym (plain_after c.0 hops (To i)) ∙ c.1) in
-              arrived cells P lid x is held most meet (suc k) le i g at (c.0, way) ∙ counts i g lid x at owner
-          | false ↦ λ e.
-              let none : ((n : ℕ) × (after n hops (To i) ≡ Ends (Taken x))) → ⊥ =
-              λ way. comes_false x hops (To i) e (way.0, plain_after way.0 hops (To i) ∙ ap plain way.1) in
-              emptied cells P lid x is held can k i g at none ∙ sym (none_there lid x (line_of lid x owner) i g at none)
-        ] refl)
-      where
-        can : DeliversWhatTablesCan cells P
-        can = subst (λ (p : HeldPlan). DeliversWhatTablesCan cells p)
-            (ap (λ o. option_map_or (λ t. made by lmc cells t) o nothing_held) top_is) (plans_deliver_what_tables_can by lmc facts range has_room)
 
-    module _ (low : (g : ℕ) → Contains (switches cells) g → top_of held g ≤ top) where
-      low_at : (n g : ℕ) → Contains (switches cells) g → top_of (S n) g ≤ top
+    -- the entries in which steps end are the plan's own
+    own_at : (tables : HeldPlan) → AreLast cells P tables → (i g lid : ℕ) → slice_get (switches cells) i ≡ Some g → entry_for tables lid g ≡ own_entry g lid
+    own_at tables last i g lid at =
+        elim (alone lid) [
+          | inl none ↦ last.nobodys lid none i g at ∙ nobodys_own g lid none
+          | inr x ↦
+              let owner : is_owner (owners_of P lid) x.0 ≡ true = ap (λ (os : List EndPort). is_owner os x.0) x.1 ∙ first_owner x.0 [] in
+              (elim (way_or_none cells P lid x.0 i) [
+                | inl way ↦ last.way lid x.0 x.1 i g at way ∙ counts i g lid x.0 at owner
+                | inr none ↦ last.none lid x.0 x.1 i g at none ∙ sym (none_there lid x.0 (line_of lid x.0 owner) i g at none)
+              ])
+        ]
+
+    module _ (T : ℕ → HeldPlan) (by_step : ℕ → StepRuleValue) (on : (n : ℕ) → T (suc n) ≡ next_tables cells (by_step n) (T n) P)
+        (low : (g : ℕ) → Contains (switches cells) g → top_of (T 0) g ≤ top) where
+      low_at : (n g : ℕ) → Contains (switches cells) g → top_of (T n) g ≤ top
       low_at zero g here = low g here
       low_at (suc n) g here =
           let own : top_of P g ≡ top = top_of_switch by lmc facts has_room top top_is g here in
-          omega (arith, low_at n g here, top_next cells (S n) P g here, own)
+          let next : top_of (T (suc n)) g ≡ next_top (T n) P g = ap (λ (t : HeldPlan). top_of t g) (on n) ∙ top_next cells (by_step n) (T n) P g here in
+          omega (arith, low_at n g here, next, own)
 
-      top_own : (n g : ℕ) → Contains (switches cells) g → next_top (S n) P g ≡ top
+      top_own : (n g : ℕ) → Contains (switches cells) g → next_top (T n) P g ≡ top
       top_own n g here =
           let own : top_of P g ≡ top = top_of_switch by lmc facts has_room top top_is g here in
           omega (arith, low_at n g here, own)
+
+      entry_own : (k : ℕ) → AreLast cells P (T (suc k)) → (i g lid : ℕ) → slice_get (switches cells) i ≡ Some g
+          → next_at cells (by_step k) (T k) P lid g ≡ own_entry g lid
+      entry_own k last i g lid at =
+          sym (entry_next cells (by_step k) (T k) P g lid (contains_at (switches cells) i g at))
+          ∙ ap (λ (t : HeldPlan). entry_for t lid g) (sym (on k)) ∙ own_at (T (suc k)) last i g lid at
 
       -- a switch's table of the plan
       abbrev blocks_by : ℕ → Option ℕ → List (List ℕ)
@@ -193,29 +186,34 @@ module _ (by : RuleValue) (lmc : ℕ) (facts : Facts) (range : AreInRange facts)
       abbrev own_table : ℕ → SwitchTable
       own_table g = record { guid = g; blocks = blocks_by g (greatest_of (lids lmc cells)) }
 
-      is_own : (k : ℕ) → most ≤ suc (suc k) → S (suc (suc k)) ≡ P
+      made_own : (k : ℕ) → AreLast cells P (T (suc k)) → next_tables cells (by_step k) (T k) P ≡ P
       unfolding next_tables
-      is_own k le =
-          let switches_own = same_mapped (next_switch (S (suc k)) P) (λ g. record { guid = g; top = top }) (switches cells)
-          (λ i g at. λ j. record { guid = g; top = top_own (suc k) g (contains_at (switches cells) i g at) j })
+      made_own k last =
+          let switches_own = same_mapped (next_switch (T k) P) (λ g. record { guid = g; top = top }) (switches cells)
+          (λ i g at. λ j. record { guid = g; top = top_own k g (contains_at (switches cells) i g at) j })
           ∙ sym (mapped_twice (with_top top) own_table (switches cells)) in
-          let tables_own = same_mapped (next_table cells (S (suc k)) P) own_table (switches cells)
-          (λ i g at. (λ j. table_by g (λ lid. own_at k i g lid (owners_of P lid) refl le at j)
-          (top_own (suc k) g (contains_at (switches cells) i g at) j))
+          let tables_own = same_mapped (next_table cells (by_step k) (T k) P) own_table (switches cells)
+          (λ i g at. (λ j. table_by g (λ lid. entry_own k last i g lid at j)
+          (top_own k g (contains_at (switches cells) i g at) j))
           ∙ (λ j. record { guid = g; blocks = blocks_by g (sym top_is j) })) in
           λ j. record { lids = P.lids; switches = switches_own j; blocks = blocks_of 0 (tables_own j) }
 
+      pub is_own : (k : ℕ) → AreLast cells P (T (suc k)) → T (suc k) ≡ P
+      is_own k last = on k ∙ made_own k last
+
 pub last_text_is_the_plans : LastTextIsThePlans
-last_text_is_the_plans rule lmc facts text most zero top small range has_room top_is low meet le two = absurd (omega (arith, two))
-last_text_is_the_plans rule lmc facts text most (suc zero) top small range has_room top_is low meet le two = absurd (omega (arith, two))
-last_text_is_the_plans rule lmc facts text most (suc (suc k)) top small range has_room top_is low meet le two =
+last_text_is_the_plans rule lmc facts text zero top small range has_room top_is low are = absurd (omega (arith, are.enough, are.two))
+last_text_is_the_plans rule lmc facts text (suc k) top small range has_room top_is low are =
     let cells = cells_of facts in
     let plan : PlanValue = plan_of rule lmc cells in
     let same : held_plan plan ≡ made rule lmc cells top = ap (λ o. option_map_or (λ t. made rule lmc cells t) o nothing_held) top_is in
-    let own : stepped cells (held_plan plan) (held_of text) (suc (suc k)) ≡ made rule lmc cells top =
-    ap (λ (p : HeldPlan). stepped cells p (held_of text) (suc (suc k))) same
-    ∙ is_own rule lmc facts range has_room top top_is (held_of text) most (subst (λ (p : HeldPlan). MeetAtMost cells p most) same meet) low k le in
-    printed_is rule lmc facts text small range has_room (suc k)
+    let T : ℕ → HeldPlan = λ n. steps rule lmc facts range has_room (held_of text) n in
+    let alone = subst EachAlone same (each_alone rule lmc facts has_room) in
+    let last = subst (λ (p : HeldPlan). AreLast cells p (T (suc k))) same (in_the_end rule lmc facts range has_room (held_of text) (suc k) are) in
+    let own : T (suc k) ≡ made rule lmc cells top =
+    is_own rule lmc facts range has_room top top_is alone T (λ n. step_rule rule facts (T n))
+    (λ n. ap (λ (p : HeldPlan). next_tables cells (step_rule rule facts (T n)) (T n) p) same) low k last in
+    printed_is rule lmc facts text small range has_room k
     ∙ ap (next_text plan.given) own
     ∙ ap (λ ts. lids_text plan.given ++ ts) (tables_are_text (λ g. top) 0 plan.tables)
     ∙ ap (λ o. lids_text plan.given ++ option_map_or (λ t. flat_map (table_text t) plan.tables) o []) (sym top_is)

@@ -7,7 +7,7 @@ use Rattle.lft_blocks.specs.Entries.{block_count}
 use Rattle.lft_blocks.specs.Plan.{SwitchTable}
 use Rattle.plan_file.specs.Held.{HeldPlan}
 use Rattle.plan_file.specs.Printed.{blocks_of}
-use Rattle.next_tables.specs.NextTables.{next_at, next_switch, next_table, next_tables, next_top}
+use Rattle.next_tables.specs.NextTables.{StepRuleValue, next_at, next_switch, next_table, next_tables, next_top}
 
 pub same_mapped : {X : Type 0} (f h : ℕ → X) (xs : List ℕ) → ((i g : ℕ) → slice_get xs i ≡ Some g → f g ≡ h g) → map f xs ≡ map h xs
 same_mapped f h [] same = refl
@@ -20,21 +20,21 @@ table_by g entries top = record {
   blocks = map (λ b. map (λ i. entries (64 * b + i)) (range_with_len 0 64)) (range_with_len 0 (block_count (Some top)));
 }
 
-module _ (cells : Cells) (one other plan : HeldPlan) where
+module _ (cells : Cells) (by to : StepRuleValue) (one other plan : HeldPlan) where
   -- a switch has one next top and the same next entries by either
   pub record AreAlikeAt (g : ℕ) : Type 0 where
     pub top : next_top one plan g ≡ next_top other plan g
-    pub entries : (lid : ℕ) → next_at cells one plan lid g ≡ next_at cells other plan lid g
+    pub entries : (lid : ℕ) → next_at cells by one plan lid g ≡ next_at cells to other plan lid g
 
-  table_same : (g : ℕ) → AreAlikeAt g → next_table cells one plan g ≡ next_table cells other plan g
+  table_same : (g : ℕ) → AreAlikeAt g → next_table cells by one plan g ≡ next_table cells to other plan g
   table_same g alike = λ i. table_by g (λ lid. alike.entries lid i) (alike.top i)
 
   switch_same : (g : ℕ) → AreAlikeAt g → next_switch one plan g ≡ next_switch other plan g
   switch_same g alike = λ i. record { guid = g; top = alike.top i }
 
-  pub next_same : ((i g : ℕ) → slice_get (switches cells) i ≡ Some g → AreAlikeAt g) → next_tables cells one plan ≡ next_tables cells other plan
+  pub next_same : ((i g : ℕ) → slice_get (switches cells) i ≡ Some g → AreAlikeAt g) → next_tables cells by one plan ≡ next_tables cells to other plan
   unfolding next_tables
   next_same alike =
       let switches_same = same_mapped (next_switch one plan) (next_switch other plan) (switches cells) (λ k g at. switch_same g (alike k g at)) in
-      let tables_same = same_mapped (next_table cells one plan) (next_table cells other plan) (switches cells) (λ k g at. table_same g (alike k g at)) in
+      let tables_same = same_mapped (next_table cells by one plan) (next_table cells to other plan) (switches cells) (λ k g at. table_same g (alike k g at)) in
       λ i. record { lids = plan.lids; switches = switches_same i; blocks = blocks_of 0 (tables_same i) }

@@ -17,12 +17,10 @@ use Rattle.audit.specs.NextHops.{next_hops_of}
 use Rattle.audit.specs.WalkEnds.{after, end_of}
 use Rattle.audit.proofs.InTime.{ends_in_time, one_end}
 use Rattle.next_tables.specs.Next.{step_at}
-use Rattle.next_tables.specs.NextTables.{next_tables}
-use Rattle.next_tables.specs.StepLaws.{stepped}
 use Rattle.next_tables.proofs.NextText.{step_texts_are_read}
-use Rattle.step_ends.specs.StepEnds.{MeetAtMost, PrintedStepsEnd, WaysMeetAtMostAll, printed}
-use Rattle.step_ends.proofs.Ended.{steps_end}
-use Rattle.step_ends.proofs.Reached.{plans_deliver_what_tables_can}
+use Rattle.next_run.specs.RunNext.{step_rule, stepped}
+use Rattle.step_ends.specs.StepEnds.{AreEnough, PrintedStepsEnd, WaysMeetAtMostAll, printed}
+use Rattle.step_ends.proofs.Steps.{repeated, steps}
 
 module _ (rule : RuleValue) (lmc : ℕ) (facts : Facts) (text : List ℕ) (small : lmc ≤ 7) (range : AreInRange facts)
     (has_room : ¬ (IsNoRoom lmc (cells_of facts))) where
@@ -30,29 +28,25 @@ module _ (rule : RuleValue) (lmc : ℕ) (facts : Facts) (text : List ℕ) (small
   plan = plan_of rule lmc (cells_of facts)
 
   abbrev S : ℕ → HeldPlan
-  S n = stepped (cells_of facts) (held_plan plan) (held_of text) n
+  S n = steps rule lmc facts range has_room (held_of text) n
 
   -- what is printed says the tables of the step
-  read_again : (n : ℕ) → held_of (printed lmc rule facts text n) ≡ S n
+  pub read_again : (n : ℕ) → held_of (printed lmc rule facts text n) ≡ S n
   read_again zero = refl
   read_again (suc n) =
-      (step_texts_are_read rule lmc facts (printed lmc rule facts text n) small range has_room).1
-      ∙ ap (λ (held : HeldPlan). next_tables (cells_of facts) held (held_plan plan)) (read_again n)
+      (step_texts_are_read rule lmc facts (step_rule rule facts (held_of (printed lmc rule facts text n))) (printed lmc rule facts text n) small range has_room).1
+      ∙ ap (stepped lmc rule facts) (read_again n)
 
   pub printed_is : (n : ℕ) → printed lmc rule facts text (suc n) ≡ next_text plan.given (S (suc n))
-  printed_is n = ap (λ (held : HeldPlan). next_text plan.given (next_tables (cells_of facts) held (held_plan plan))) (read_again n)
+  printed_is n = ap (λ (held : HeldPlan). next_text plan.given (stepped lmc rule facts held)) (read_again n)
 
-  ends : (most n : ℕ) → MeetAtMost (cells_of facts) (held_plan plan) most → most ≤ n → 2 ≤ n
-      → printed lmc rule facts text (suc n) ≡ printed lmc rule facts text n
-  ends most zero meet le two = absurd (omega (arith, two))
-  ends most (suc n) meet le two =
-      printed_is (suc n)
-      ∙ ap (next_text plan.given) (steps_end (cells_of facts) (held_of text) (held_plan plan) most (suc n)
-      (plans_deliver_what_tables_can rule lmc facts range has_room) meet le two)
-      ∙ sym (printed_is n)
+  ends : (n : ℕ) → AreEnough rule lmc facts n → printed lmc rule facts text (suc n) ≡ printed lmc rule facts text n
+  ends zero are = absurd (omega (arith, are.enough, are.two))
+  ends (suc k) are =
+      printed_is (suc k) ∙ ap (next_text plan.given) (repeated rule lmc facts range has_room (held_of text) k are) ∙ sym (printed_is k)
 
 pub printed_steps_end : PrintedStepsEnd
-printed_steps_end rule lmc facts text most n small range has_room = ends rule lmc facts text small range has_room most n
+printed_steps_end rule lmc facts text n small range has_room = ends rule lmc facts text small range has_room n
 
 -- a walk that ends does so within as many steps as there are switches
 pub ways_meet_at_most_all : WaysMeetAtMostAll

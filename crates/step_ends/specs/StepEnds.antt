@@ -1,5 +1,5 @@
 -- When steps towards a plan end, of whole tables.
-use Rattle.std.specs.Prelude.{◌≡◌, ◌≤◌, ℕ, zero, suc, Contains, List, [], ◌∷◌, Some, length}
+use Rattle.std.specs.Prelude.{◌≡◌, ◌≤◌, ◌+◌, ◌*◌, ℕ, zero, suc, true, Contains, List, [], ◌∷◌, Some, length}
 use Rattle.fact_store.specs.View.{Facts, cells_of, AreInRange}
 use Rattle.subnet_view.specs.Reading.{Cells, switches}
 use Rattle.lid_assign.specs.Lids.{IsNoRoom, lids, top_of as greatest_of}
@@ -16,8 +16,10 @@ use Rattle.audit.specs.declared.next_hop.NextHop.TheVariants.{To, Ends}
 use Rattle.audit.specs.NextHops.{next_hops_of}
 use Rattle.audit.specs.WalkEnds.{after}
 use Rattle.next_tables.specs.NextTables.{IsKept}
-use Rattle.next_tables.specs.StepLaws.{stepped}
-use Rattle.next_run.specs.RunNext.{planned, step_text}
+use Rattle.next_tables.specs.StepLaws.{stepped as settled}
+use Rattle.ordered_steps.specs.Rightness.{are_right}
+use Rattle.plan_order_laws.specs.PlanLaws.{plan_position}
+use Rattle.next_run.specs.RunNext.{IsLoopInStep, planned, step_text, stepped}
 
 -- from each switch from which some tables deliver at the end port that alone holds a LID, in these and in the plan, the
 -- plan does so too
@@ -39,7 +41,7 @@ abbrev pub StepsEnd : Type 0
 StepsEnd =
     (cells : Cells) (held plan : HeldPlan) (most n : ℕ) → DeliversWhatTablesCan cells plan → MeetAtMost cells plan most
     → most ≤ n → 2 ≤ n
-    → stepped cells plan held (suc n) ≡ stepped cells plan held n
+    → settled cells plan held (suc n) ≡ settled cells plan held n
 
 -- the plan of a view with room does
 abbrev pub PlansDeliverWhatTablesCan : Type 0
@@ -47,16 +49,37 @@ PlansDeliverWhatTablesCan =
     (rule : RuleValue) (lmc : ℕ) (facts : Facts) → AreInRange facts → ¬ (IsNoRoom lmc (cells_of facts))
     → DeliversWhatTablesCan (cells_of facts) (held_plan (plan_of rule lmc (cells_of facts)))
 
+-- from tables that are right by the order of the plan's switches no credit loop comes about in a step, and the next
+-- tables are right by it again
+pub record IsFreeOfLoops (lmc : ℕ) (rule : RuleValue) (facts : Facts) (held : HeldPlan) : Type 0 where
+  pub loops : (cycle lids : List ℕ) → IsLoopInStep (cells_of facts) held (stepped lmc rule facts held) cycle lids
+      → cycle ≡ []
+  pub right : are_right (cells_of facts) (plan_position rule (cells_of facts)) (stepped lmc rule facts held) ≡ true
+
+abbrev pub RightTablesMakeNoLoop : Type 0
+RightTablesMakeNoLoop =
+    (rule : RuleValue) (lmc : ℕ) (facts : Facts) (held : HeldPlan) → AreInRange facts
+    → ¬ (IsNoRoom lmc (cells_of facts)) → are_right (cells_of facts) (plan_position rule (cells_of facts)) held ≡ true
+    → IsFreeOfLoops lmc rule facts held
+
 -- what `next` prints after so many steps from the tables of a text, each from what was printed before
 abbrev pub printed : ℕ → RuleValue → Facts → List ℕ → ℕ → List ℕ
 printed lmc rule facts text zero = text
 printed lmc rule facts text (suc n) = step_text lmc rule facts (held_of (printed lmc rule facts text n))
 
+-- so many steps are enough: as many as the longest way of the plan meets switches, two at least, and besides by an order
+-- twice as many as there are switches, and two
+pub record AreEnough (rule : RuleValue) (lmc : ℕ) (facts : Facts) (n : ℕ) : Type 0 where
+  pub most : ℕ
+  pub meet : MeetAtMost (cells_of facts) (planned lmc rule facts) most
+  pub two : 2 ≤ most
+  pub enough : most + 2 * length (switches (cells_of facts)) + 2 ≤ n
+
 -- if there is room, it is in the end what was given, to the byte
 abbrev pub PrintedStepsEnd : Type 0
 PrintedStepsEnd =
-    (rule : RuleValue) (lmc : ℕ) (facts : Facts) (text : List ℕ) (most n : ℕ) → lmc ≤ 7 → AreInRange facts
-    → ¬ (IsNoRoom lmc (cells_of facts)) → MeetAtMost (cells_of facts) (planned lmc rule facts) most → most ≤ n → 2 ≤ n
+    (rule : RuleValue) (lmc : ℕ) (facts : Facts) (text : List ℕ) (n : ℕ) → lmc ≤ 7 → AreInRange facts
+    → ¬ (IsNoRoom lmc (cells_of facts)) → AreEnough rule lmc facts n
     → printed lmc rule facts text (suc n) ≡ printed lmc rule facts text n
 
 -- no way meets more switches than there are
@@ -66,8 +89,8 @@ WaysMeetAtMostAll = (cells : Cells) (plan : HeldPlan) → MeetAtMost cells plan 
 -- and if a LID is given, and no usable switch held a greater top than the greatest LID, what `plan` prints
 abbrev pub LastTextIsThePlans : Type 0
 LastTextIsThePlans =
-    (rule : RuleValue) (lmc : ℕ) (facts : Facts) (text : List ℕ) (most n top : ℕ) → lmc ≤ 7 → AreInRange facts
+    (rule : RuleValue) (lmc : ℕ) (facts : Facts) (text : List ℕ) (n top : ℕ) → lmc ≤ 7 → AreInRange facts
     → ¬ (IsNoRoom lmc (cells_of facts)) → greatest_of (lids lmc (cells_of facts)) ≡ Some top
     → ((g : ℕ) → Contains (switches (cells_of facts)) g → top_of (held_of text) g ≤ top)
-    → MeetAtMost (cells_of facts) (planned lmc rule facts) most → most ≤ n → 2 ≤ n
+    → AreEnough rule lmc facts n
     → printed lmc rule facts text n ≡ plan_text (plan_of rule lmc (cells_of facts))

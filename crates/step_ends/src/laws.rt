@@ -1,9 +1,9 @@
-//! When a step prints what it was given.
+//! What repeated steps come to, and that an order of switches keeps them free of credit loops.
 ghost use Rattle.step_ends.specs.StepEnds.{LastTextIsThePlans, PlansDeliverWhatTablesCan, PrintedStepsEnd};
-ghost use Rattle.step_ends.specs.StepEnds.{StepsEnd, WaysMeetAtMostAll};
+ghost use Rattle.step_ends.specs.StepEnds.{RightTablesMakeNoLoop, StepsEnd, WaysMeetAtMostAll};
 
-/// Repeated, `next_tables` answers what it was given, after as many steps as the longest way of the plan meets switches
-/// and two at least: if the plan delivers from each switch from which tables can.
+/// Repeated, `next_tables` by settled entries answers what it was given, after as many steps as the longest way of the
+/// plan meets switches and two at least: if the plan delivers from each switch from which tables can.
 pub fn steps_end()
     ensures law { StepsEnd }
 {}
@@ -13,7 +13,13 @@ pub fn plans_deliver_what_tables_can()
     ensures law { PlansDeliverWhatTablesCan }
 {}
 
-/// Repeated with the same facts, LMC and rule, `next` prints what it was given, byte for byte, after as many steps: LIDs
+/// A step of `next` can make no credit loop, and its tables are right by the order of the plan's switches again, if the
+/// held tables are: by no LID they lead packets down and then up by that order.
+pub fn right_tables_make_no_loop()
+    ensures law { RightTablesMakeNoLoop }
+{}
+
+/// Repeated with the same facts, LMC and rule, `next` prints what it was given, byte for byte, after so many steps: LIDs
 /// that are new or gone and entries without a way are included.
 pub fn printed_steps_end()
     ensures law { PrintedStepsEnd }

@@ -1,0 +1,49 @@
+-- From right tables no credit loop comes about in a step.
+use Rattle.std.proofs.Common.{◌≡◌, ◌≤◌, ◌<◌, ℕ, List, [], ◌∷◌, true, cond, refl, sym, ap, ◌∙◌, subst, arith}
+use Rattle.std.specs.Prelude.{slice_index_or}
+use Rattle.fact_store.specs.View.{cells_of}
+use Rattle.subnet_view.specs.Reading.{Cells}
+use Rattle.plan_file.specs.Held.{HeldPlan}
+use Rattle.plan_order.specs.PlanOrder.{positions_by}
+use Rattle.next_tables.specs.Mixtures.{RiseInStep}
+use Rattle.next_tables.specs.ByOrder.{numbers_by}
+use Rattle.next_tables.specs.NextTables.{by_order, next_tables, settled_first}
+use Rattle.step_loops.specs.StepOrder.{WaitInCycle, WaitOn, WaitsFor}
+use Rattle.ordered_steps.specs.Rightness.{are_right}
+use Rattle.ordered_steps.proofs.OrderedTables.{ordered_tables_are_next}
+use Rattle.ordered_steps.proofs.ToldRight.{rightness_is_told}
+use Rattle.plan_order_laws.specs.PlanLaws.{plan_position}
+use Rattle.plan_order_laws.proofs.PlanSteps.{steps_towards_plans}
+use Rattle.next_run.specs.RunNext.{IsCycleInStep, planned, stepped}
+use Rattle.step_ends.specs.StepEnds.{RightTablesMakeNoLoop}
+
+module _ (cells : Cells) (held next : HeldPlan) (numbers : List ℕ) (rise : RiseInStep cells held next numbers) where
+  abbrev at : ℕ → ℕ
+  at channel = slice_index_or numbers channel 0
+
+  rises : (a b : ℕ) → WaitsFor cells held next a b → at a < at b
+  rises a b w = rise w.lid a b w.is_lid w.waits
+
+  rises_on : (channel : ℕ) (later : List ℕ) (last : ℕ) → WaitOn cells held next channel later last → at channel < at last
+  rises_on channel [] last w = rises channel last w
+  rises_on channel (c ∷ later) last w = omega (arith, rises channel c w.0, rises_on c later last w.1)
+
+  none_in_cycle : (cycle : List ℕ) → IsCycleInStep cells held next cycle → cycle ≡ []
+  none_in_cycle [] is = refl
+  none_in_cycle (channel ∷ later) is = absurd (omega (arith, rises_on channel later channel is.0))
+
+pub right_tables_make_no_loop : RightTablesMakeNoLoop
+right_tables_make_no_loop rule lmc facts held range has_room right =
+    let cells = cells_of facts in
+    let q = plan_position rule cells in
+    let positions = positions_by rule cells in
+    let plan = planned lmc rule facts in
+    let next = next_tables cells (by_order positions) held plan in
+    let told = rightness_is_told cells q in
+    let towards = steps_towards_plans rule lmc facts range has_room held next ((told held).0 right) (ordered_tables_are_next facts positions held plan) in
+    let same : stepped lmc rule facts held ≡ next = ap (λ t. next_tables cells (cond t (by_order positions) settled_first) held plan) right in
+    record {
+      loops = λ cycle lids is. none_in_cycle cells held (stepped lmc rule facts held) (numbers_by cells q)
+          (subst (λ (t : HeldPlan). RiseInStep cells held t (numbers_by cells q)) (sym same) towards.0) cycle is.0;
+      right = subst (λ (t : HeldPlan). are_right cells q t ≡ true) (sym same) ((told next).1 towards.1);
+    }
