@@ -293,6 +293,7 @@ GROWING = (
     Row("plan by switches, spread", lambda c, n: ("plan", *SPREAD, mesh(c, n)), 150, SQUARED),
     Row("plan by switches, spread from roots", lambda c, n: ("plan", *SPREAD, "--roots", roots(c, n // 10), mesh(c, n)), 150, SQUARED),
     Row("plan by switches, spread in an order", lambda c, n: ("plan", *SPREAD, "--order", order(c, n), mesh(c, n)), 150, SQUARED),
+    Row("order of switches", lambda c, n: ("order", mesh(c, n)), 150, SQUARED),
     Row("plan of switches in a row", lambda c, n: ("plan", row(c, n)), 150, SQUARED),
     Row("plan of switches in a row, spread", lambda c, n: ("plan", *SPREAD, row(c, n)), 150, SQUARED),
     Row("audit by adapters", lambda c, n: ("audit", planned(c, 8, n), known(c, 8, n)), 100, LINEAR),

@@ -129,6 +129,19 @@ def plans_as_named(plan):
     yield "two rings in an order of some", RINGS, ("40\n20\n80", "80\n40\n20\n30\n10\n50", "41\n40\n42\n80"), plan(RINGS_LIDS, *rings)
 
 
+# Each with the subnet, an option with its text, and the order that is printed, from the first switch on.
+ORDERS = (
+    (TREE, "", "", "10 30 20 40 50"),
+    (TREE, "--roots", "20", "20 30 40 50 10"),
+    (TREE, "--roots", "50\n40", "40 10 50 20 30"),
+    (TREE, "--order", "", "10 30 20 40 50"),
+    (TREE, "--order", "50\n10", "50 10 20 30 40"),
+    (TREE, "--order", "50\n10\n40\n30\n20", "50 10 40 30 20"),
+    (TREE, "--order", "ffffffffffffffff\n20\n11\n40", "20 40 10 30 50"),
+    (RINGS, "--roots", "40", "40 30 50 10 20 80 60 70"),
+    (RINGS, "--order", "80\n40\n20", "80 60 70 40 30 20 10 50"),
+)
+
 # A text of roots for the tree, and what is wrong with it.
 FAULTS = (
     ("20 30", "line 1: syntax"),

@@ -21,8 +21,8 @@ use Rattle.clap.specs.declared.parser.matches.ArgMatches.TheViews.{out-ArgMatche
 use Rattle.clap.specs.declared.parser.matches.SubCommand.{SubCommand}
 use Rattle.std.specs.Box.{box_value}
 use Rattle.cli_arguments.specs.CommandLine.{IsReadAs, AreRoutings, command_line}
-use Rattle.cli_arguments.specs.WellFormed.{HasItsWords, IsGiven, IsNumberWithin, IsRouting, IsWellFormed, NamesFiles, NamesPlanning, facts, join, plan, audit, next, run}
-use Rattle.cli_arguments.specs.Words.{has_conflict, values_in, word_behind}
+use Rattle.cli_arguments.specs.WellFormed.{HasItsWords, IsGiven, IsNumberWithin, IsRouting, IsWellFormed, NamesFiles, NamesPlanning, facts, join, plan, order, audit, next, run}
+use Rattle.cli_arguments.specs.Words.{has_conflict, has_conflict_behind, has_conflict_of, values_in, word_behind}
 use Rattle.cli_arguments.proofs.Entered.{EachHas, IsPassed, enters, required_given, found_has, given_word, is_help, word_passes}
 use Rattle.cli_arguments.proofs.Walked.{ArePlainIn, AreTaken, level_taken, wants_some}
 
@@ -77,7 +77,8 @@ module _ (routings : Bor (List (Bor Text))) (known : AreRoutings routings) (c : 
       }
 
   names_planning : (l r : Rule) → arg_by_id c (codes "lmc") ≡ Some l → l.parser ≡ Some (Signed (pos 0) (pos 7)) → arg_by_id c (codes "routing") ≡ Some r
-      → r.parser ≡ Some (Names routings) → r.ignore_case ≡ false → has_conflict word ≡ false → NamesPlanning word
+      → r.parser ≡ Some (Names routings) → r.ignore_case ≡ false
+      → has_conflict_of (word (codes "routing")) (is_some (word (codes "roots"))) (is_some (word (codes "order"))) ≡ false → NamesPlanning word
   names_planning l r is_l parser_l is_r parser_r plain apart = record {
     lmc = number_read 0 7 l parser_l (word (codes "lmc")) (word_passes c name (codes "lmc") l rows is_l taken);
     routing = routing_read r parser_r plain (word (codes "routing")) (word_passes c name (codes "routing") r rows is_r taken);
@@ -97,7 +98,7 @@ given_first false x e = absurd (cc)
 abbrev pub Fits : Shape → Type 0
 Fits s = (other : Text) → is_help other ≡ false → answers_to other (label_of s) ≡ true → (rows : List Row) → AreTaken s.rules rows
     → list_any (λ a. a.required && not (is_given a.id rows)) s.rules ≡ false
-    → has_conflict (word_behind (Some (s.name, rows))) ≡ false
+    → has_conflict s.name (word_behind (Some (s.name, rows))) ≡ false
     → HasItsWords (word_behind (Some (s.name, rows))) (values_in (codes "FILE") rows) s.name
 
 abbrev pub shapes : Bor (List (Bor Text)) → List Shape
@@ -113,14 +114,17 @@ all_plain routings = (
     (
       ((refl, refl), ((refl, refl), ((refl, refl), ((refl, refl), ((refl, refl), ((refl, refl), ((refl, refl), tt))))))),
       (
-        ((refl, refl), ((refl, refl), ((refl, refl), ((refl, refl), tt)))),
+        ((refl, refl), ((refl, refl), ((refl, refl), ((refl, refl), ((refl, refl), tt))))),
         (
-          ((refl, refl), ((refl, refl), ((refl, refl), ((refl, refl), ((refl, refl), ((refl, refl), ((refl, refl), ((refl, refl), tt)))))))),
+          ((refl, refl), ((refl, refl), ((refl, refl), ((refl, refl), tt)))),
           (
-            ((refl, refl), ((refl, refl), ((refl, refl), ((refl, refl), ((refl, refl), ((refl, refl), ((refl, refl), tt))))))),
+            ((refl, refl), ((refl, refl), ((refl, refl), ((refl, refl), ((refl, refl), ((refl, refl), ((refl, refl), ((refl, refl), tt)))))))),
             (
-              ((refl, refl), tt),
-              tt,
+              ((refl, refl), ((refl, refl), ((refl, refl), ((refl, refl), ((refl, refl), ((refl, refl), ((refl, refl), tt))))))),
+              (
+                ((refl, refl), tt),
+                tt,
+              ),
             ),
           ),
         ),
@@ -139,17 +143,20 @@ all_fit routings known = (
       λ other differs is rows t e apart. plan refl (names_files routings known _ (codes "plan") rows t _ refl refl (given_first _ _ e).0)
           (names_planning routings known _ (codes "plan") rows t _ _ refl refl refl refl refl apart),
       (
-        λ other differs is rows t e apart. audit refl (text_given routings known _ (codes "audit") rows t (codes "TABLES") _ refl refl (given_first _ _ e).0)
-            (names_files routings known _ (codes "audit") rows t _ refl refl (given_first _ _ (given_first _ _ e).1).0),
+        λ other differs is rows t e apart. order refl (names_files routings known _ (codes "order") rows t _ refl refl (given_first _ _ e).0) apart,
         (
-          λ other differs is rows t e apart. next refl (text_given routings known _ (codes "next") rows t (codes "TABLES") _ refl refl (given_first _ _ e).0)
-              (names_files routings known _ (codes "next") rows t _ refl refl (given_first _ _ (given_first _ _ e).1).0)
-              (names_planning routings known _ (codes "next") rows t _ _ refl refl refl refl refl apart),
+          λ other differs is rows t e apart. audit refl (text_given routings known _ (codes "audit") rows t (codes "TABLES") _ refl refl (given_first _ _ e).0)
+              (names_files routings known _ (codes "audit") rows t _ refl refl (given_first _ _ (given_first _ _ e).1).0),
           (
-            λ other differs is rows t e apart. run refl (text_given routings known _ (codes "run") rows t (codes "TOPOLOGY") _ refl refl (given_first _ _ e).0)
-                (text_given routings known _ (codes "run") rows t (codes "SCHEDULE") _ refl refl (given_first _ _ (given_first _ _ e).1).0)
-                (names_planning routings known _ (codes "run") rows t _ _ refl refl refl refl refl apart),
-            (λ other differs is rows t e apart. absurd (is_named_help other differs is), tt),
+            λ other differs is rows t e apart. next refl (text_given routings known _ (codes "next") rows t (codes "TABLES") _ refl refl (given_first _ _ e).0)
+                (names_files routings known _ (codes "next") rows t _ refl refl (given_first _ _ (given_first _ _ e).1).0)
+                (names_planning routings known _ (codes "next") rows t _ _ refl refl refl refl refl apart),
+            (
+              λ other differs is rows t e apart. run refl (text_given routings known _ (codes "run") rows t (codes "TOPOLOGY") _ refl refl (given_first _ _ e).0)
+                  (text_given routings known _ (codes "run") rows t (codes "SCHEDULE") _ refl refl (given_first _ _ (given_first _ _ e).1).0)
+                  (names_planning routings known _ (codes "run") rows t _ _ refl refl refl refl refl apart),
+              (λ other differs is rows t e apart. absurd (is_named_help other differs is), tt),
+            ),
           ),
         ),
       ),
@@ -186,7 +193,7 @@ read_is_well_formed routings words matches known read =
     let rows = rows_after there.shape.rules [] there.rest in
     let taken = level_taken there.shape.rules there.shape.args_override_self flat.0 there.shape [] there.rest false [] refl refl there.no_fault in
     let rows_are : subcommand_rows_of matches ≡ Some (there.shape.name, rows) = read.0 ∙ there.is_read in
-    let apart : has_conflict (word_behind (Some (there.shape.name, rows))) ≡ false = ap (λ o. has_conflict (word_behind o)) (sym there.is_read) ∙ read.2 in
+    let apart : has_conflict there.shape.name (word_behind (Some (there.shape.name, rows))) ≡ false = ap has_conflict_behind (sym there.is_read) ∙ read.2 in
     record {
       name = there.shape.name;
       named = name_of_rows (out-ArgMatches matches).subcommand (there.shape.name, rows) rows_are;

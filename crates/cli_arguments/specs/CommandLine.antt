@@ -14,7 +14,7 @@ use Rattle.clap.specs.declared.builder.value_parser.ValueParser.TheVariants.{Nam
 use Rattle.clap.specs.declared.error.Error.{Error}
 use Rattle.clap.specs.declared.error.kind.ErrorKind.TheVariants.{ArgumentConflict, OutOfMemory}
 use Rattle.clap.specs.declared.parser.matches.ArgMatches.{ArgMatches}
-use Rattle.cli_arguments.specs.Words.{has_conflict, word_behind}
+use Rattle.cli_arguments.specs.Words.{has_conflict_behind}
 
 -- arguments ----------------------------------------------------------------------------------------------
 
@@ -48,9 +48,13 @@ routing_rule words = record (option_rule (codes "routing")) { parser = Some (Nam
 abbrev pub of_files : List Rule
 of_files = files_rule ∷ floor_rule ∷ []
 
+-- how switches are ordered
+abbrev pub of_order : List Rule
+of_order = option_rule (codes "roots") ∷ option_rule (codes "order") ∷ []
+
 -- how plans are made
 abbrev pub of_planning : Bor (List (Bor Text)) → List Rule
-of_planning words = lmc_rule ∷ routing_rule words ∷ option_rule (codes "roots") ∷ option_rule (codes "order") ∷ []
+of_planning words = lmc_rule ∷ routing_rule words ∷ of_order
 
 -- subcommands --------------------------------------------------------------------------------------------
 
@@ -65,6 +69,9 @@ join_shape = subcommand_shape (codes "join") of_files
 
 abbrev pub plan_shape : Bor (List (Bor Text)) → Shape
 plan_shape words = subcommand_shape (codes "plan") (of_files ++ of_planning words)
+
+abbrev pub order_shape : Shape
+order_shape = subcommand_shape (codes "order") (of_files ++ of_order)
 
 abbrev pub audit_shape : Shape
 audit_shape = subcommand_shape (codes "audit") (text_rule (codes "TABLES") ∷ of_files)
@@ -85,7 +92,8 @@ program_app =
 abbrev pub command_line : Bor (List (Bor Text)) → App
 command_line words = record {
   top = record program_app.top { is_leaf = false };
-  subs = facts_shape ∷ join_shape ∷ plan_shape words ∷ audit_shape ∷ next_shape words ∷ run_shape words ∷ [];
+  subs =
+      facts_shape ∷ join_shape ∷ plan_shape words ∷ order_shape ∷ audit_shape ∷ next_shape words ∷ run_shape words ∷ [];
 }
 
 -- the rules of routing by their words
@@ -111,7 +119,7 @@ AddsRules rules old new =
 
 -- options contradict each other in the subcommand that is read
 abbrev pub conflict_of : App → List Text → Bool
-conflict_of app words = has_conflict (word_behind (subcommand_of app words))
+conflict_of app words = has_conflict_behind (subcommand_of app words)
 
 -- what the words of a command line are read as, the program's name first: the subcommand with its arguments. They are
 -- refused where they have a fault, or options contradict each other; else only for lack of memory

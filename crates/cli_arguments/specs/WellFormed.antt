@@ -1,10 +1,10 @@
 -- What words have that a command line takes: a subcommand, each argument that it requires, numbers in their ranges.
-use Rattle.std.specs.Prelude.{◌≡◌, ◌⊎◌, ⊤, ℕ, true, false, List, Option, None, Some, codes, is_some, pos}
+use Rattle.std.specs.Prelude.{◌≡◌, ◌⊎◌, ⊤, ℕ, ◌&&◌, true, false, List, Option, None, Some, codes, is_some, pos}
 use Rattle.clap.specs.Matches.{subcommand_name_of}
 use Rattle.clap.specs.Values.{IsSignedIn}
 use Rattle.clap.specs.Walk.{Text}
 use Rattle.clap.specs.declared.parser.matches.ArgMatches.{ArgMatches}
-use Rattle.cli_arguments.specs.Words.{files_named, has_conflict, word_named}
+use Rattle.cli_arguments.specs.Words.{files_named, has_conflict_of, word_named}
 
 -- the word, if there is one, writes a number within these bounds
 abbrev pub IsNumberWithin : ℕ → ℕ → Option Text → Type 0
@@ -29,13 +29,19 @@ pub record NamesFiles (word : Text → Option Text) (files : Option (List Text))
 pub record NamesPlanning (word : Text → Option Text) : Type 0 where
   pub lmc : IsNumberWithin 0 7 (word (codes "lmc"))
   pub routing : IsRouting (word (codes "routing"))
-  pub apart : has_conflict word ≡ false
+  pub apart : has_conflict_of (word (codes "routing")) (is_some (word (codes "roots"))) (is_some (word (codes "order")))
+      ≡ false
+
+-- how switches are ordered can be done: not from roots and by an order both
+abbrev pub NamesOrder : (Text → Option Text) → Type 0
+NamesOrder word = (is_some (word (codes "roots")) && is_some (word (codes "order"))) ≡ false
 
 -- a subcommand has the words that it takes
 pub data HasItsWords (word : Text → Option Text) (files : Option (List Text)) (name : Text) : Type 0 where
   facts : name ≡ codes "facts" → NamesFiles word files → HasItsWords word files name
   join : name ≡ codes "join" → NamesFiles word files → HasItsWords word files name
   plan : name ≡ codes "plan" → NamesFiles word files → NamesPlanning word → HasItsWords word files name
+  order : name ≡ codes "order" → NamesFiles word files → NamesOrder word → HasItsWords word files name
   audit : name ≡ codes "audit" → IsGiven (word (codes "TABLES")) → NamesFiles word files → HasItsWords word files name
   next : name ≡ codes "next" → IsGiven (word (codes "TABLES")) → NamesFiles word files → NamesPlanning word
       → HasItsWords word files name

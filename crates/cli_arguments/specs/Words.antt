@@ -1,5 +1,5 @@
 -- The words of the command line by the names of their arguments, and which of them contradict each other.
-use Rattle.std.specs.Prelude.{ℕ, Bool, List, Option, None, Some, codes, find, is_some, not, option_and_then, option_map, slice_get, ◌&&◌, ◌||◌}
+use Rattle.std.specs.Prelude.{ℕ, Bool, false, List, Option, None, Some, codes, find, is_some, not, option_and_then, option_map, slice_get, ◌&&◌, ◌||◌, if◌then◌else◌}
 use Rattle.std.specs.Str.{bytes_eq}
 use Rattle.clap.specs.Simple.{subcommand_rows_of}
 use Rattle.clap.specs.Walk.{Row}
@@ -30,6 +30,13 @@ lacks_rule (Some word) named = named && not (bytes_eq word (codes "spread"))
 abbrev pub has_conflict_of : Option (List ℕ) → Bool → Bool → Bool
 has_conflict_of routing rooted ordered = (rooted && ordered) || lacks_rule routing (rooted || ordered)
 
-abbrev pub has_conflict : (List ℕ → Option (List ℕ)) → Bool
-has_conflict word =
-    has_conflict_of (word (codes "routing")) (is_some (word (codes "roots"))) (is_some (word (codes "order")))
+-- in the subcommand with this name; one that prints an order needs no rule
+abbrev pub has_conflict : List ℕ → (List ℕ → Option (List ℕ)) → Bool
+has_conflict name word =
+    if bytes_eq name (codes "order") then is_some (word (codes "roots")) && is_some (word (codes "order"))
+    else has_conflict_of (word (codes "routing")) (is_some (word (codes "roots"))) (is_some (word (codes "order")))
+
+-- in the one that was named, if one was
+abbrev pub has_conflict_behind : Option (List ℕ × List Row) → Bool
+has_conflict_behind None = false
+has_conflict_behind (Some s) = has_conflict s.0 (word_behind (Some s))

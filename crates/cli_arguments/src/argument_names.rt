@@ -36,7 +36,7 @@ pub const ROUTING: &str = "routing";
 /// The file of roots.
 pub const ROOTS: &str = "roots";
 
-/// The file of an order of switches.
+/// The subcommand that prints the order of switches, and the file of one.
 pub const ORDER: &str = "order";
 
 /// The rule that spreads, and takes roots or an order.

@@ -1,16 +1,16 @@
 //! The command line.
 ghost use Rattle.std.specs.Prelude.{◌≡◌, ◌∷◌, ◌++◌, [], IfOk, codes, false, is_some, map};
 ghost use Rattle.clap.specs.Matches.{first_value, found_of};
-ghost use Rattle.clap.specs.Simple.{App, Shape, with_subcommand};
+ghost use Rattle.clap.specs.Simple.{App, Shape, subcommand_rows_of, with_subcommand};
 ghost use Rattle.clap.specs.Values.{kind_of};
 ghost use Rattle.clap.specs.Walk.{rule_of};
 ghost use Rattle.cli_arguments.specs.CommandLine.{AddsRules, AreRoutings, IsApp, IsOf, IsReadAs};
-ghost use Rattle.cli_arguments.specs.CommandLine.{audit_shape, facts_shape, join_shape, next_shape, plan_shape};
-ghost use Rattle.cli_arguments.specs.CommandLine.{command_line, of_files, of_planning, program_app, run_shape};
+ghost use Rattle.cli_arguments.specs.CommandLine.{audit_shape, facts_shape, join_shape, next_shape, order_shape};
+ghost use Rattle.cli_arguments.specs.CommandLine.{command_line, of_files, of_order, of_planning, plan_shape, program_app, run_shape};
 ghost use Rattle.cli_arguments.specs.CommandLine.{files_rule, floor_rule, lmc_rule, option_rule, routing_rule};
 ghost use Rattle.cli_arguments.specs.CommandLine.{text_rule};
 ghost use Rattle.cli_arguments.specs.WellFormed.{IsWellFormed};
-ghost use Rattle.cli_arguments.specs.Words.{has_conflict, lacks_rule, word_named};
+ghost use Rattle.cli_arguments.specs.Words.{has_conflict, has_conflict_behind, lacks_rule};
 
 use crate::argument_names::{
     AUDIT, FACTS, FILE, FLOOR, JOIN, LMC, NEXT, ORDER, PLAN, ROOTS, ROUTING, RUN, SCHEDULE,
@@ -37,6 +37,10 @@ const PLAN_END: &str = "Exit status:\n  0  done\n  2  the command line is wrong\
      3  a file is refused, or there is no room for the LIDs\n  \
      4  a file cannot be opened or read, or the output takes no more\n  \
      5  out of memory\n\nExample:\n  ibsm plan --lmc 1 fabric.reports > fabric.plan";
+
+const ORDER_END: &str = "Exit status:\n  0  done\n  2  the command line is wrong\n  \
+     3  a file is refused\n  4  a file cannot be opened or read, or the output takes no more\n  \
+     5  out of memory\n\nExample:\n  ibsm order fabric.reports > fabric.order";
 
 const AUDIT_END: &str =
     "Exit status:\n  0  the tables pass\n  1  they do not pass, and what was printed says why\n  \
@@ -85,6 +89,7 @@ fn command_line<'a>(alloc: Global, routings: &'a [&'a str]) -> Result<Command<'a
     let command = with(Ok(program(alloc)), facts(alloc));
     let command = with(command, join(alloc));
     let command = with(command, plan(alloc, routings));
+    let command = with(command, order(alloc));
     let command = with(command, audit(alloc));
     let command = with(command, next(alloc, routings));
     with(command, run(alloc, routings))
@@ -141,6 +146,17 @@ fn plan<'a>(alloc: Global, routings: &'a [&'a str]) -> Result<Command<'a>, Alloc
         )
         .after_help(PLAN_END);
     with_planning(alloc, routings, of_files(alloc, command)?)
+}
+
+fn order<'a>(alloc: Global) -> Result<Command<'a>, AllocError>
+    ensures { IfOk result (IsOf order_shape) }
+{
+    let command = Command::new(alloc, ORDER)
+        .about(
+            "Prints the switches in the order by which plan --routing spread goes, a GUID a line, for --order",
+        )
+        .after_help(ORDER_END);
+    with_order(alloc, of_files(alloc, command)?)
 }
 
 fn audit<'a>(alloc: Global) -> Result<Command<'a>, AllocError>
@@ -215,11 +231,15 @@ fn with_planning<'a>(
 ) -> Result<Command<'a>, AllocError>
     ensures { IfOk result (AddsRules (of_planning routings.entry) command.entry) }
 {
-    command
-        .arg(lmc(alloc))?
-        .arg(routing(alloc, routings))?
-        .arg(roots(alloc))?
-        .arg(order(alloc))
+    let command = command.arg(lmc(alloc))?.arg(routing(alloc, routings))?;
+    with_order(alloc, command)
+}
+
+/// With how switches are ordered: by their roots, or by an order.
+fn with_order<'a>(alloc: Global, command: Command<'a>) -> Result<Command<'a>, AllocError>
+    ensures { IfOk result (AddsRules of_order command.entry) }
+{
+    command.arg(roots(alloc))?.arg(order_file(alloc))
 }
 
 /// A file of its own.
@@ -284,14 +304,13 @@ fn roots<'a>(alloc: Global) -> Arg<'a>
         .long(ROOTS)
         .value_name("FILE")
         .help(
-            "With --routing spread: begins at the switches that FILE names, a GUID a line, in place of those in \
-             the middle",
+            "spread begins at the switches that FILE names, a GUID a line, in place of those in the middle",
         )
         .action(ArgAction::Set)
 }
 
 /// A file of an order of switches.
-fn order<'a>(alloc: Global) -> Arg<'a>
+fn order_file<'a>(alloc: Global) -> Arg<'a>
     ensures rule { rule_of result ≡ option_rule (codes "order") }
     ensures own { result.global ≡ false }
 {
@@ -299,8 +318,7 @@ fn order<'a>(alloc: Global) -> Arg<'a>
         .long(ORDER)
         .value_name("FILE")
         .help(
-            "With --routing spread: orders switches as FILE names them, a GUID a line, and those that it lacks behind \
-             them",
+            "spread orders switches as FILE names them, a GUID a line, and those that it lacks behind them",
         )
         .action(ArgAction::Set)
 }
@@ -308,21 +326,24 @@ fn order<'a>(alloc: Global) -> Arg<'a>
 /// Whether options contradict each other: roots and an order are named, or one of them with another rule of routing than
 /// the one that takes them, or with none.
 fn has_conflict(matches: &ArgMatches<'_>) -> bool
-    ensures { result ≡ has_conflict (word_named matches.now) }
+    ensures { result ≡ has_conflict_behind (subcommand_rows_of matches.now) }
 {
     match matches.subcommand() {
-        Some((_, words)) => has_conflict_behind(words),
+        Some((name, words)) => has_conflict_in(name, words),
         None => false,
     }
 }
 
-/// Whether options behind a subcommand do so.
-fn has_conflict_behind(words: &ArgMatches<'_>) -> bool
-    ensures { result ≡ has_conflict (first_value (found_of words.now)) }
+/// Whether options behind the subcommand with a name do so.
+fn has_conflict_in(name: &str, words: &ArgMatches<'_>) -> bool
+    ensures { result ≡ has_conflict name.now (first_value (found_of words.now)) }
 {
     let rooted = is_named(words, ROOTS);
     let ordered = is_named(words, ORDER);
-    (rooted && ordered) || lacks_rule(words, rooted || ordered)
+    match name {
+        ORDER => rooted && ordered,
+        _ => (rooted && ordered) || lacks_rule(words, rooted || ordered),
+    }
 }
 
 /// Whether the rule lacks that takes roots or an order, where one of them is named.
@@ -362,11 +383,12 @@ fn conflict_text(matches: &ArgMatches<'_>) -> &'static str {
     }
 }
 
-/// The subcommand with a name, of those that make plans.
+/// The subcommand with a name, of those that make plans or print an order.
 fn subcommand<'a>(alloc: Global, name: Option<&str>) -> Result<Command<'a>, AllocError> {
     match name {
         Some(NEXT) => next(alloc, RULES.as_slice())?.bin_name("ibsm next"),
         Some(RUN) => run(alloc, RULES.as_slice())?.bin_name("ibsm run"),
+        Some(ORDER) => order(alloc)?.bin_name("ibsm order"),
         _ => plan(alloc, RULES.as_slice())?.bin_name("ibsm plan"),
     }
 }

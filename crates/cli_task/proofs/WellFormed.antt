@@ -1,13 +1,13 @@
 -- Well-formed words ask for a task, and name its inputs.
-use Rattle.std.proofs.Common.{◌≡◌, ℕ, true, false, List, [], ◌∷◌, Option, None, Some, ap, inl, inr, refl, sym, subst, ◌∙◌}
+use Rattle.std.proofs.Common.{◌≡◌, ◌&&◌, ℕ, true, false, List, [], ◌∷◌, Option, None, Some, ap, inl, inr, refl, sym, subst, ◌∙◌}
 use Rattle.std.specs.Prelude.{codes, is_some, option_and_then, option_map}
 use Rattle.clap.specs.Matches.{subcommand_name_of}
 use Rattle.clap.specs.declared.parser.matches.ArgMatches.{ArgMatches}
-use Rattle.cli_arguments.specs.WellFormed.{HasItsWords, IsGiven, IsNumberWithin, IsRouting, IsWellFormed, NamesFiles, NamesPlanning, facts, join, plan, audit, next, run}
+use Rattle.cli_arguments.specs.WellFormed.{HasItsWords, IsGiven, IsNumberWithin, IsRouting, IsWellFormed, NamesFiles, NamesOrder, NamesPlanning, facts, join, plan, order, audit, next, run}
 use Rattle.cli_arguments.specs.Words.{files_named, has_conflict_of, word_named}
 use Rattle.sm_cli.specs.declared.asked.RuleAsked.{RuleAsked}
 use Rattle.sm_cli.specs.declared.asked.RuleAsked.TheVariants.{UpDown, Spread, SpreadFromRoots, SpreadInOrder}
-use Rattle.cli_task.specs.Asked.{floor_asked, followed_by, lmc_asked, names_in, planning_asked, rule_asked, task_behind, texts_of_rule}
+use Rattle.cli_task.specs.Asked.{floor_asked, followed_by, lmc_asked, names_in, planning_asked, rule_asked, spread_asked, task_behind, texts_of_rule}
 use Rattle.cli_task.proofs.Within.{number_within}
 
 -- a value that is there
@@ -62,6 +62,14 @@ rule_there None (Some r) (Some o) h e = absurd (cc)
 rule_there (Some w) roots order (inl is) e = updown_there w roots order is e
 rule_there (Some w) roots order (inr is) e = spread_there w roots order is e
 
+-- what an order goes by, and the text that it takes
+order_there : (roots order : Option (List ℕ)) → (is_some roots && is_some order) ≡ false
+    → (rule : RuleAsked) × (spread_asked (is_some roots) (is_some order) ≡ Some rule) × HasText roots order rule
+order_there None None e = (Spread, refl, (λ word j k. refl))
+order_there None (Some o) e = (SpreadInOrder, refl, (λ word j k. ap (λ x. is_some (option_map (λ order. order ∷ []) x)) k))
+order_there (Some r) None e = (SpreadFromRoots, refl, (λ word j k. ap (λ x. is_some (option_map (λ roots. roots ∷ []) x)) j))
+order_there (Some r) (Some o) e = absurd (cc)
+
 module _ (word : List ℕ → Option (List ℕ)) (files : Option (List (List ℕ))) where
   -- how plans are made
   planning_there : NamesPlanning word → (by : ℕ × RuleAsked) × (planning_asked word ≡ Some by) × (is_some (texts_of_rule word by.1) ≡ true)
@@ -114,6 +122,12 @@ module _ (word : List ℕ → Option (List ℕ)) (files : Option (List (List ℕ
       let by = planning_there p in
       rw (by.1, floor.1) (both_there (texts_of_rule word by.0.1) (followed_by (Some []) files) by.2 (both_there (Some []) files refl h.named))
 
+  order_asks : NamesFiles word files → NamesOrder word → Asks (codes "order")
+  order_asks h apart =
+      let floor = known (floor_asked (word (codes "floor"))) (floor_there (word (codes "floor")) h.floor) in
+      let rule = order_there (word (codes "roots")) (word (codes "order")) apart in
+      rw (rule.1, floor.1) (both_there (texts_of_rule word rule.0) (followed_by (Some []) files) (rule.2 word refl refl) (both_there (Some []) files refl h.named))
+
   audit_asks : IsGiven (word (codes "TABLES")) → NamesFiles word files → Asks (codes "audit")
   audit_asks t h =
       let floor = known (floor_asked (word (codes "floor"))) (floor_there (word (codes "floor")) h.floor) in
@@ -134,6 +148,7 @@ module _ (word : List ℕ → Option (List ℕ)) (files : Option (List (List ℕ
   words_ask name (facts is h) = subst Asks (sym is) (facts_ask h)
   words_ask name (join is h) = subst Asks (sym is) (join_ask h)
   words_ask name (plan is h p) = subst Asks (sym is) (plan_asks h p)
+  words_ask name (order is h p) = subst Asks (sym is) (order_asks h p)
   words_ask name (audit is t h) = subst Asks (sym is) (audit_asks t h)
   words_ask name (next is t h p) = subst Asks (sym is) (next_asks t h p)
   words_ask name (run is t s p) = subst Asks (sym is) (run_asks t s p)

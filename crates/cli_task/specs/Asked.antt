@@ -9,7 +9,7 @@ use Rattle.cli_arguments.specs.Words.{files_named, word_named}
 use Rattle.text_words.specs.Number.{number_of}
 use Rattle.sm_cli.specs.Asked.{rule_for}
 use Rattle.sm_cli.specs.declared.asked.Output.{Output}
-use Rattle.sm_cli.specs.declared.asked.Output.TheVariants.{Facts, Join, Plan}
+use Rattle.sm_cli.specs.declared.asked.Output.TheVariants.{Facts, Join, Plan, Order}
 use Rattle.sm_cli.specs.declared.asked.RuleAsked.{RuleAsked}
 use Rattle.sm_cli.specs.declared.asked.RuleAsked.TheVariants.{UpDown, Spread, SpreadFromRoots, SpreadInOrder}
 use Rattle.next_run.specs.declared.run_step.StepAsked.{StepAsked}
@@ -66,6 +66,10 @@ planning_asked word = option_and_then (λ lmc. option_map (λ rule. (lmc, rule))
     (rule_asked (word (codes "routing")) (is_some (word (codes "roots"))) (is_some (word (codes "order")))))
     (lmc_asked (word (codes "lmc")))
 
+-- what an order goes by
+abbrev pub order_asked : (List ℕ → Option (List ℕ)) → Option RuleAsked
+order_asked word = spread_asked (is_some (word (codes "roots"))) (is_some (word (codes "order")))
+
 -- the step
 abbrev pub step_asked : (List ℕ → Option (List ℕ)) → Option StepAsked
 step_asked word = option_and_then (λ by. option_map (λ floor. record { lmc = by.0; rule = by.1; floor = floor })
@@ -76,7 +80,8 @@ abbrev pub output_asked : (List ℕ → Option (List ℕ)) → List ℕ → Opti
 output_asked word command =
     if bytes_eq command (codes "facts") then Some Facts
     else (if bytes_eq command (codes "join") then Some Join
-    else (if bytes_eq command (codes "plan") then option_map (λ by. Plan by.0 by.1) (planning_asked word) else None))
+    else (if bytes_eq command (codes "plan") then option_map (λ by. Plan by.0 by.1) (planning_asked word)
+    else (if bytes_eq command (codes "order") then option_map Order (order_asked word) else None)))
 
 -- the task of a command, by the words of its arguments
 abbrev pub task_behind : (List ℕ → Option (List ℕ)) → List ℕ → Option Task

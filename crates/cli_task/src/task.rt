@@ -2,7 +2,7 @@
 ghost use Rattle.std.specs.Prelude.{◌≡◌, IfOk, codes, is_some, map, option_and_then, option_map};
 ghost use Rattle.clap.specs.Matches.{first_value, found_of, matched_of, raw_values};
 ghost use Rattle.cli_task.specs.Asked.{floor_asked, lmc_asked, number_in, number_or, planning_asked, rule_asked};
-ghost use Rattle.cli_task.specs.Asked.{output_asked, step_asked, task_asked, task_behind, within};
+ghost use Rattle.cli_task.specs.Asked.{order_asked, output_asked, step_asked, task_asked, task_behind, within};
 ghost use Rattle.cli_task.specs.Asked.{names_asked, names_in, rule_of_task, spread_asked, takes_files, texts_asked, texts_of_rule};
 
 use arrayvec::ArrayVec;
@@ -102,6 +102,7 @@ fn output_of(command: &str, words: &ArgMatches<'_>) -> Option<Output>
             let (lmc, rule) = planning_of(words)?;
             Some(Output::Plan(lmc, rule))
         }
+        ORDER => Some(Output::Order(order_of(words)?)),
         _ => None,
     }
 }
@@ -113,6 +114,16 @@ fn planning_of(words: &ArgMatches<'_>) -> Option<(Lmc, RuleAsked)>
     let lmc = lmc_of(words)?;
     let rule = rule_of(words)?;
     Some((lmc, rule))
+}
+
+/// What the order goes by that the words behind a subcommand ask for.
+fn order_of(words: &ArgMatches<'_>) -> Option<RuleAsked>
+    ensures { result ≡ order_asked (first_value (found_of words.now)) }
+{
+    spread_by(
+        words.get_str(ROOTS).is_some(),
+        words.get_str(ORDER).is_some(),
+    )
 }
 
 /// Returns the floor that the words behind a subcommand ask for, 1 if they ask for none.

@@ -1,4 +1,5 @@
 pub mod AnswerLaws
 pub mod FileLaws
+pub mod OrderTexts
 pub mod Plans
 pub mod Runs

@@ -7,6 +7,7 @@ pub mod InputReaders
 pub mod InputTables
 pub mod Inputs
 pub mod Run
+pub mod OrderText
 pub mod RunLaws
 pub mod Sources
 pub mod TextFault

@@ -1,6 +1,6 @@
 -- What a run over files does: it reads its inputs in order, and writes what the files say together, or says why it
 -- can't.
-use Rattle.std.specs.Prelude.{◌≡◌, ◌⊎◌, ℕ, Bool, List, Option, None, Some, IsTrue}
+use Rattle.std.specs.Prelude.{◌≡◌, ◌⊎◌, ⊤, ℕ, Bool, List, [], Option, None, Some, IsTrue}
 use Rattle.byte_io.specs.Source.{SourceState}
 use Rattle.fact_store.specs.View.{Facts, cells_of, AreInRange}
 use Rattle.record_file.specs.FactsText.{facts_text}
@@ -9,7 +9,8 @@ use Rattle.lid_assign.specs.LidFault.{no_room}
 use Rattle.lid_assign.specs.declared.fault.NoRoom.{NoRoom as LacksRoom}
 use Rattle.lft_blocks.specs.Plan.{plan_of}
 use Rattle.lft_blocks.specs.PlanText.{plan_text}
-use Rattle.lft_blocks.specs.Rules.{RuleValue}
+use Rattle.lft_blocks.specs.Rules.{RuleValue, order_of, spread_in, up_and_down}
+use Rattle.subnet_view.specs.Reading.{Cells}
 use Rattle.sm_cli.specs.declared.asked.Output.{Output}
 use Rattle.sm_cli.specs.declared.asked.Output.TheVariants as output
 use Rattle.sm_cli.specs.declared.asked.Invocation.{Invocation}
@@ -18,26 +19,35 @@ use Rattle.sm_cli.specs.declared.fault.Fault.TheVariants.{NoRoom, Write, Memory}
 use Rattle.sm_cli.specs.Asked.{rule_for}
 use Rattle.sm_cli.specs.InputReaders.{files_reader}
 use Rattle.sm_cli.specs.Inputs.{IsInputFault, WithInputs}
+use Rattle.sm_cli.specs.OrderText.{order_text}
 
 -- answers ---------------------------------------------------------------------------------------
 
--- what is written of the facts; a plan is by a rule
+-- the usable switches in the order by which a rule goes; up and down goes by none
+abbrev pub order_by : RuleValue → Cells → List ℕ
+order_by up_and_down cells = []
+order_by (spread_in order) cells = order_of order cells
+
+-- what is written of the facts; a plan or an order is by a rule
 abbrev pub answer_to : Output → RuleValue → Facts → List ℕ
 answer_to output.Facts rule facts = facts_text facts
 answer_to output.Join rule facts = store_bytes facts.floor (cells_of facts)
 answer_to (output.Plan lmc asked) rule facts = plan_text (plan_of rule lmc (cells_of facts))
+answer_to (output.Order asked) rule facts = order_text (order_by rule (cells_of facts))
 
 -- what is so of facts that are answered: they are in range, and a plan has room for their LIDs
 abbrev pub IsAnswered : Output → Facts → Type 0
 IsAnswered output.Facts facts = AreInRange facts
 IsAnswered output.Join facts = AreInRange facts
 IsAnswered (output.Plan lmc asked) facts = no_room lmc (cells_of facts) ≡ None
+IsAnswered (output.Order asked) facts = ⊤
 
--- a plan is asked for, and this is why there is no room for it, if anything is
+-- a plan is asked for, and this is why there is no room for it, if anything is; or an order, which needs none
 abbrev pub IsPlanned : Output → Facts → Option LacksRoom → Type 0
 IsPlanned output.Facts facts why = ⊥
 IsPlanned output.Join facts why = ⊥
 IsPlanned (output.Plan lmc asked) facts why = no_room lmc (cells_of facts) ≡ why
+IsPlanned (output.Order asked) facts why = why ≡ None
 
 -- why a plan of facts is not written
 abbrev pub IsWritingFault : ℕ → Facts → Bool → Fault → Type 0
@@ -45,6 +55,12 @@ IsWritingFault lmc facts sink_failed (NoRoom why) = no_room lmc (cells_of facts)
 IsWritingFault lmc facts sink_failed Write = IsTrue sink_failed
 IsWritingFault lmc facts sink_failed Memory = no_room lmc (cells_of facts) ≡ None
 IsWritingFault lmc facts sink_failed fault = ⊥
+
+-- why an order is not written
+abbrev pub IsOrderFault : Bool → Fault → Type 0
+IsOrderFault sink_failed Write = IsTrue sink_failed
+IsOrderFault sink_failed Memory = ⊤
+IsOrderFault sink_failed fault = ⊥
 
 -- why the facts are not answered
 abbrev pub IsAnswerFault : Output → Facts → Bool → Fault → Type 0

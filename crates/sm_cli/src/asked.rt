@@ -41,6 +41,8 @@ pub enum Output {
     /// The LID of each end port, with 2^LMC of them for each adapter port, and the forwarding blocks of each switch,
     /// that follow from it by a rule of routing.
     Plan(Lmc, RuleAsked),
+    /// The usable switches in the order by which a rule of routing goes; of up and down none.
+    Order(RuleAsked),
 }
 
 impl Output {
@@ -52,7 +54,7 @@ impl Output {
     {
         match self {
             Output::Facts | Output::Join => RuleAsked::UpDown,
-            Output::Plan(_, asked) => asked,
+            Output::Plan(_, asked) | Output::Order(asked) => asked,
         }
     }
 }

@@ -2,6 +2,7 @@ ghost use Rattle.std.specs.Prelude.{◌≡◌};
 
 use crate::text_fault::TextFault;
 use byte_io::WriteFault;
+use fact_store::Refused;
 use lid_assign::{LidFault, NoRoom};
 use record_file::FileFault;
 use thiserror::Error;
@@ -37,6 +38,17 @@ impl From<WriteFault> for Fault {
 
     fn from(_: WriteFault) -> Self {
         Fault::Write
+    }
+}
+
+impl From<Refused> for Fault {
+    ghost use Rattle.std.specs.Prelude.{◌≡◌};
+    ghost use Rattle.sm_cli.specs.declared.fault.Fault.TheVariants.{Memory};
+
+    ghost from_gives = { λ e fault. fault ≡ Memory };
+
+    fn from(_: Refused) -> Self {
+        Fault::Memory
     }
 }
 

@@ -1,4 +1,5 @@
 //! What the answer of a run depends on.
+ghost use Rattle.sm_cli.specs.OrderText.{OrderTextsAreRead};
 ghost use Rattle.sm_cli.specs.RunLaws.{FilesDecideAnswer, JoinedFileStands, SightingsDecideAnswer};
 ghost use Rattle.sm_cli.specs.RunLaws.{SplitFileStands, SplitStoreStands};
 
@@ -27,4 +28,9 @@ pub fn split_file_stands()
 /// So may a store file.
 pub fn split_store_stands()
     ensures { SplitStoreStands }
+{}
+
+/// The text of an order, given back, names the switches as they stand in it.
+pub fn order_texts_are_read()
+    ensures { OrderTextsAreRead }
 {}

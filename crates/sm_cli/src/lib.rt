@@ -9,6 +9,7 @@ mod input_files;
 mod input_tables;
 mod inputs;
 pub mod laws;
+mod order_text;
 mod run;
 mod text_fault;
 

@@ -1,5 +1,5 @@
 //! A run over files of records.
-ghost use Rattle.std.specs.Prelude.{◌≡◌, ◌⊎◌, ◌≤◌, Err, None, false, length, OnOk, OnErr, IfErr, IsTrue};
+ghost use Rattle.std.specs.Prelude.{◌≡◌, ◌⊎◌, ◌≤◌, Err, None, false, length, OnOk, OnErr, IfErr, IfOk, IsTrue};
 ghost use Rattle.std.specs.Io.KnownBytes.{Appends};
 ghost use Rattle.fact_store.specs.View.{cells_of};
 ghost use Rattle.lid_assign.specs.LidFault.{no_room};
@@ -7,17 +7,21 @@ ghost use Rattle.lft_blocks.specs.Rules.{value_of};
 ghost use Rattle.lft_blocks.specs.Plan.{plan_of};
 ghost use Rattle.lft_blocks.specs.PlanText.{plan_text};
 ghost use Rattle.sm_cli.specs.Asked.{rule_for, texts_for};
-ghost use Rattle.sm_cli.specs.Run.{HasAnswered, IsAnswer, IsAnswerFault, IsFaultOf, IsWritingFault};
+ghost use Rattle.sm_cli.specs.OrderText.{order_text};
+ghost use Rattle.sm_cli.specs.Run.{HasAnswered, IsAnswer, IsAnswerFault, IsFaultOf, IsOrderFault};
+ghost use Rattle.sm_cli.specs.Run.{IsWritingFault, order_by};
 
 use crate::asked::{Invocation, Output};
 use crate::fault::Fault;
 use crate::input_files::FilesFrom;
 use crate::inputs::read_inputs;
+use crate::order_text::write_order;
 use attr_codec::Lmc;
 use byte_io::{Sink, Source};
-use fact_store::Store;
-use lft_blocks::{Plan, Rule, write_plan};
+use fact_store::{Refused, Store};
+use lft_blocks::{Plan, Rule, switch_order, write_plan};
 use record_file::{write_facts, write_store};
+use smp_bytes::Guid;
 use std::alloc::Global;
 
 /// Reads the inputs in order, the text that a rule takes and then the files (`read_inputs`), and writes what is asked
@@ -47,7 +51,7 @@ pub fn run_files<S: Source, W: Sink>(
     }
 }
 
-/// Writes what is asked for of the facts that a store holds, a plan by this rule, and flushes.
+/// Writes what is asked for of the facts that a store holds, a plan or an order by this rule, and flushes.
 fn write_answer<W: Sink>(
     alloc: Global,
     sink: &mut W,
@@ -66,6 +70,7 @@ fn write_answer<W: Sink>(
         Output::Facts => write_facts(sink, store)?,
         Output::Join => write_store(sink, store)?,
         Output::Plan(lmc, _) => write_plan_by(alloc, sink, store, lmc, rule)?,
+        Output::Order(_) => write_order_by(alloc, sink, store, rule)?,
     }
     Ok(())
 }
@@ -90,4 +95,33 @@ fn write_plan_by<W: Sink>(
     let plan = Plan::of(alloc, store, lmc, rule)?;
     write_plan(sink, &plan)?;
     Ok(())
+}
+
+/// Writes the usable switches of the facts that a store holds in the order by which a rule goes, and flushes.
+fn write_order_by<W: Sink>(
+    alloc: Global,
+    sink: &mut W,
+    store: &Store,
+    rule: &Rule,
+) -> Result<(), Fault>
+    ensures written { OnOk result (Appends (W.written sink.old) (W.written sink.new)
+        (order_text (order_by (value_of rule.now) (cells_of store.now)))) }
+    ensures flushed { OnOk result (IsTrue (W.is_flushed sink.new)) }
+    ensures sink_works { OnOk result (W.has_failed sink.new ≡ false) }
+    ensures refused { IfErr result (IsOrderFault (W.has_failed sink.new)) }
+    ensures nothing_written { OnErr result ((result ≡ Err Fault.Write) ⊎ (sink.new ≡ sink.old)) }
+{
+    let switches = order_by(alloc, store, rule)?;
+    write_order(sink, &switches)?;
+    Ok(())
+}
+
+/// The usable switches in the order by which a rule goes; of up and down none.
+fn order_by(alloc: Global, store: &Store, rule: &Rule) -> Result<Vec<Guid>, Refused>
+    ensures { IfOk result (λ found. found.items ≡ order_by (value_of rule.now) (cells_of store.now)) }
+{
+    match rule {
+        Rule::UpDown => Ok(Vec::new(alloc)),
+        Rule::Spread { order } => switch_order(alloc, store, order),
+    }
 }

@@ -4,7 +4,7 @@ use Rattle.clap.specs.Faults.{fault_of, is_simple_and_free}
 use Rattle.clap.specs.Kinds.{IsAmong}
 use Rattle.clap.specs.Values.{kind_of}
 use Rattle.cli_arguments.specs.CommandLine.{AreRoutings, command_line}
-use Rattle.cli_arguments.specs.Words.{has_conflict, word_behind}
+use Rattle.cli_arguments.specs.Words.{has_conflict_behind}
 use Rattle.cli_arguments.proofs.Reading.{no_fault, reads}
 use Rattle.cli_arguments.proofs.WellFormed.{read_is_well_formed}
 use Rattle.cli_arguments.proofs.arguments.matches_of.Goals as goal
@@ -17,7 +17,7 @@ returns c =
     let routings : AreRoutings c.as_slice.result = search rules in
     let rows : subcommand_rows_of c.in-Ok.matches ≡ subcommand_of line words = reads _ line words is c.in-Ok.matches refl c.in-Ok.ensures.matches in
     let none : fault_of line words ≡ [] = no_fault _ line words is refl c.in-Ok.ensures.kinds in
-    let apart = ap (λ r. has_conflict (word_behind r)) (sym rows) ∙ sym c.if-has_conflict.ensures in
+    let apart = ap has_conflict_behind (sym rows) ∙ sym c.if-has_conflict.ensures in
     record {
       read = (c.as_slice.result, routings, (rows, none, apart));
       well_formed = read_is_well_formed c.as_slice.result words c.in-Ok.matches routings (rows, none, apart);
@@ -45,5 +45,5 @@ returns-then-has_conflict-clause-read c =
     let routings : AreRoutings c.as_slice.result = search rules in
     let rows : subcommand_rows_of c.in-Ok.matches ≡ subcommand_of line words = reads _ line words is c.in-Ok.matches refl c.in-Ok.ensures.matches in
     let none : fault_of line words ≡ [] = no_fault _ line words is refl c.in-Ok.ensures.kinds in
-    let conflict = ap (λ r. has_conflict (word_behind r)) (sym rows) ∙ sym c.has_conflict.ensures ∙ c.if-has_conflict.true in
+    let conflict = ap has_conflict_behind (sym rows) ∙ sym c.has_conflict.ensures ∙ c.if-has_conflict.true in
     (c.as_slice.result, routings, inr (inr (none, conflict, c.in_ok-error.ensures)))
