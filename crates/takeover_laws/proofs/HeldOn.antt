@@ -43,7 +43,7 @@ pub record KeepsHeld (plan : PlanValue) (a b : Agent) : Type 0 where
       → ((i : ℕ) → i < 64 → slice_get block i ≡ Some (entry_at a (64 * n + i)))
       → (i : ℕ) → i < 64 → slice_get block i ≡ Some (entry_at b (64 * n + i))
 
-itself : (plan : PlanValue) (a : Agent) → KeepsHeld plan a a
+pub itself : (plan : PlanValue) (a : Agent) → KeepsHeld plan a a
 itself plan a = record { ranges = λ m has is. refl; top = λ top among is upto. upto; blocks = λ n block is held. held }
 
 -- what is there by one reading is by the other

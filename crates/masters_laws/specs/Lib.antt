@@ -1,0 +1,2 @@
+pub mod Masters
+pub mod InForce
