@@ -6,3 +6,4 @@ pub mod Scenes
 pub mod Acting
 pub mod Side
 pub mod Together
+pub mod Runs

@@ -341,7 +341,7 @@ module _ (from : Scene) (plan : PlanValue) (IsSeat : NodePort → Type 0) (seat 
 -- one of the managers -----------------------------------------------------------------------------------------------
 
 -- no writing begins where it is not known that one sweep told all
-no_writing : (scene : Scene) (m : Seated) (b : Bool) → m.knows_one_sweep ≡ b → (event : ManagerEvent) → WritesOneSweep m event
+pub no_writing : (scene : Scene) (m : Seated) (b : Bool) → m.knows_one_sweep ≡ b → (event : ManagerEvent) → WritesOneSweep m event
     → BeginsNoWriting (seen_by scene m) event ⊎ (Old b → ⊥)
 no_writing scene m true e event writes = inr (λ none. none)
 no_writing scene m false e (Around event) writes = inl tt

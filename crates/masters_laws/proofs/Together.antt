@@ -17,7 +17,7 @@ use Rattle.lft_blocks.specs.Planning.{Planning}
 use Rattle.manager_laws.specs.Scene.{Scene, Sending, ByLid, ByPath, Answer, Event, Deliver, Lose, Repeat, Send as SendFrom, CanHappen, after_event}
 use Rattle.manager_laws.specs.Managing as one
 use Rattle.manager_laws.specs.Managing.{Managing, ManagerEvent, Starts, IsElsewhere, after_manager_event}
-use Rattle.manager_laws.specs.Sweeping.{Begins}
+use Rattle.manager_laws.specs.Written.{plan_at}
 use Rattle.manager_laws.proofs.Answers as scenes
 use Rattle.manager_laws.proofs.Done.{seat_end}
 use Rattle.manager_laws.proofs.Fair.{AreOwnPackets}
@@ -37,12 +37,12 @@ use Rattle.takeover_laws.proofs.Takeover.{none_seen}
 use Rattle.takeover_laws.proofs.Throughout.{in_use}
 use Rattle.masters_laws.specs.Masters.{AllCanBe, Around, At, CanBe, IsAt, IsItsOwn, Masters, MastersEvent, Seated, SetsNothing, StartTogether, WritesOneSweep, WritesWhole}
 use Rattle.masters_laws.specs.Masters.{IsWholeSweep, acting, after_masters_event, after_masters_events, seated_after, seen_by}
-use Rattle.masters_laws.specs.InForce.{AllSweepWhole, HoldTogether, IsInForceAlong, IsInForceAt, MastersChangeNothing, SweepsWhole}
+use Rattle.masters_laws.specs.InForce.{AllSweepWhole, HoldTogether, IsInForceAlong, IsInForceAt, MastersChangeNothing, MastersWriteTheSame, SweepsWhole}
 use Rattle.masters_laws.proofs.Acting.{Carried, Plans}
 use Rattle.masters_laws.proofs.Deliveries.{Sends, Tells}
 use Rattle.masters_laws.proofs.Harmless.{AreHarmless}
 use Rattle.masters_laws.proofs.Scenes.{SendsSo, SentSo, Stands, stands_on}
-use Rattle.masters_laws.proofs.Side.{Known, Old, SendsOne, Side, around_side, first_of, own_scene, own_side, sending_so}
+use Rattle.masters_laws.proofs.Side.{Known, Old, SendsOne, Side, around_side, first_of, own_scene, own_side, same_plan, sending_so}
 
 -- lists -----------------------------------------------------------------------------------------------------------
 
@@ -299,6 +299,13 @@ module _ (held : Facts) (planning : Planning) (t0 : Masters) (h : HoldTogether h
             (seat_end (first_of t0.scene m.seat 1) 1 1 (k.begins 1 (omega arith, omega arith))) t.scene all.stands.continues (all.stands.held m.seat is);
       }
 
+  -- what a manager would write
+  pub plans_the_same : (t : Masters) → AllStand t → (which : ℕ) (m : Seated) → IsAt t which m → m.knows_one_sweep ≡ true → IsWholeSweep m.manager.sweep
+      → plan_at (seen_by t.scene m) ≡ plan_by_it planning held
+  plans_the_same t all which m there knows whole =
+      let side = all.sides which m there in
+      same_plan t0.scene held planning m.seat (known m.seat (is_seat t all which m there)) (seen_by t.scene m) (side.follows knows) side.planning_is whole
+
   pub along : (events : List MastersEvent) (t : Masters) → AllStand t → AllCanBe events t → AllSweepWhole events t
       → IsInForceAlong held planning t0 events t
   along [] t all can_be whole = in_force t all
@@ -314,3 +321,8 @@ module _ (held : Facts) (planning : Planning) (t0 : Masters) (h : HoldTogether h
 pub masters_change_nothing : MastersChangeNothing
 masters_change_nothing held planning t events h can_be whole =
     along held planning t h events t (first_stand held planning t h) can_be whole
+
+pub masters_write_the_same : MastersWriteTheSame
+masters_write_the_same held planning t events h can_be whole which m there knows answered =
+    plans_the_same held planning t h (after_masters_events events t)
+    (after_all held planning t h events t (first_stand held planning t h) can_be whole) which m there knows answered

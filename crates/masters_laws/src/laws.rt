@@ -1,7 +1,28 @@
 //! What is so of several managers on one fabric.
-ghost use Rattle.masters_laws.specs.InForce.{MastersChangeNothing};
+ghost use Rattle.masters_laws.specs.InForce.{MastersChangeNothing, MastersWriteTheSame};
+ghost use Rattle.masters_laws.specs.Runs.{EachRunsOnItsOwn, WhatIsGivenOutCanBeSent};
 
-/// masters
+/// Each packet that a manager gives out can be sent from its seat: it is forwarded by LIDs, or is a request over a
+/// path that leaves by the seat's port, or answers a request for SMInfo that was handed up there. So it is as long as
+/// the manager begins no writing before a sweep.
+pub fn what_is_given_out_can_be_sent()
+    ensures { WhatIsGivenOutCanBeSent }
+{}
+
+/// Whatever several managers do, each of them runs as one manager does to which the others are what happens around it.
+pub fn each_runs_on_its_own()
+    ensures { EachRunsOnItsOwn }
+{}
+
+/// What a manager would write that knows one sweep with every answer is the plan that the subnet holds, whatever other
+/// managers sweep and write meanwhile.
+pub fn masters_write_the_same()
+    ensures { MastersWriteTheSame }
+{}
+
+/// However many masters sweep and write a subnet that holds a plan, in any order, the plan stays in force: at each
+/// moment each end port has its LID and each switch its blocks and no lower top, no port has another LID, and every
+/// ping from an end port there, for each LID of the plan, reaches the owner of the LID.
 pub fn masters_change_nothing()
     ensures { MastersChangeNothing }
 {}
