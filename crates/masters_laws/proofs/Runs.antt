@@ -18,8 +18,8 @@ use Rattle.manager_laws.proofs.Fair.{own_there}
 use Rattle.manager_laws.proofs.Goes.{Goes}
 use Rattle.manager_laws.proofs.Held as held_laws
 use Rattle.manager_laws.proofs.WritingSweeps.{Ground}
-use Rattle.masters_laws.specs.Masters.{AllCanBe, Around, At, CanBe, IsAt, IsItsOwn, Masters, MastersEvent, Seated, StartTogether, WritesOneSweep, acting}
-use Rattle.masters_laws.specs.Masters.{after_masters_event, after_masters_events, knows_one_after, seated_after, seen_by}
+use Rattle.masters_laws.specs.Masters.{AllCanBe, Around, At, CanBe, IsAt, IsItsOwn, Masters, MastersEvent, Seated, StartTogether, WritesSwept, acting}
+use Rattle.masters_laws.specs.Masters.{after_masters_event, after_masters_events, has_swept_after, seated_after, seen_by}
 use Rattle.masters_laws.specs.Runs.{EachRunsOnItsOwn, IsSendable, OwnRun, WhatIsGivenOutCanBeSent}
 use Rattle.masters_laws.proofs.Side.{Old, SendsOne, goes_after, no_writing, own_scene, view_after}
 use Rattle.masters_laws.proofs.Together.{SeatsStay, ground_of, seats_set, set_at, set_elsewhere, set_there, still_apart}
@@ -70,13 +70,13 @@ first_more (e ∷ events) event w (inr (still, first)) quiet = inr (still, first
 
 -- each on its own --------------------------------------------------------------------------------------------------
 
--- it knows one sweep for the first time once this begins
-newly : (scene : Scene) (m : Seated) (event : ManagerEvent) → IsItsOwn event → m.knows_one_sweep ≡ false → knows_one_after m event ≡ true
+-- its first sweep begins by what makes that it has swept
+newly : (scene : Scene) (m : Seated) (event : ManagerEvent) → IsItsOwn event → m.has_swept ≡ false → has_swept_after m event ≡ true
     → BeginsSweep (seen_by scene m) event
 newly scene m (one.Around event) its e knows = absurd its
 newly scene m one.Begin its e knows = by_fault (is_none (begin_fault m.manager)) refl knows
   where
-    by_fault : (b : Bool) → is_none (begin_fault m.manager) ≡ b → cond b (length (cells_of m.manager.store) == 0) m.knows_one_sweep ≡ true
+    by_fault : (b : Bool) → is_none (begin_fault m.manager) ≡ b → cond b true m.has_swept ≡ true
         → begin_fault m.manager ≡ None
     by_fault true none k = is_none-none _ none
     by_fault false some k = absurd (cc (sym e ∙ k))
@@ -85,8 +85,8 @@ newly scene m one.Take its e knows = absurd (cc (sym e ∙ knows))
 newly scene m (one.Send which) its e knows = absurd (cc (sym e ∙ knows))
 newly scene m (one.Hear which) its e knows = absurd (cc (sym e ∙ knows))
 newly scene m (one.TimeOut transaction) its e knows = absurd (cc (sym e ∙ knows))
-newly scene m (one.Raise floor) its e knows = absurd (cc (sym e ∙ (and_parts m.knows_one_sweep _ knows).0))
-newly scene m (one.Merge floor sightings) its e knows = absurd (cc (sym e ∙ (and_parts m.knows_one_sweep _ knows).0))
+newly scene m (one.Raise floor) its e knows = absurd (cc (sym e ∙ knows))
+newly scene m (one.Merge floor sightings) its e knows = absurd (cc (sym e ∙ knows))
 newly scene m (one.Poll lid) its e knows = absurd (cc (sym e ∙ knows))
 newly scene m one.HandOver its e knows = absurd (cc (sym e ∙ knows))
 
@@ -94,8 +94,8 @@ module _ (t0 : Masters) (starts : StartTogether t0) (plan : PlanValue) where
   record Runs (t : Masters) (which : ℕ) (m0 : Seated) : Type 0 where
     pub run : OwnRun t0 m0 t which
     pub seat : run.later.seat ≡ m0.seat
-    pub swept : run.later.knows_one_sweep ≡ true → Swept run.events (seen_by t0.scene m0)
-    pub goes : Goes t0.scene.fabric run.later.seat plan (Old run.later.knows_one_sweep) (seen_by t.scene run.later)
+    pub swept : run.later.has_swept ≡ true → Swept run.events (seen_by t0.scene m0)
+    pub goes : Goes t0.scene.fabric run.later.seat plan (Old run.later.has_swept) (seen_by t.scene run.later)
 
   ground : (which : ℕ) (m0 : Seated) → IsAt t0 which m0 → (seat : _) → seat ≡ m0.seat → Ground t0.scene.fabric seat
   ground which m0 there seat same = subst (Ground t0.scene.fabric) (sym same) (ground_of (seen_by t0.scene m0) (starts.each which m0 there))
@@ -104,7 +104,7 @@ module _ (t0 : Masters) (starts : StartTogether t0) (plan : PlanValue) where
   around_run : (t after : Masters) (which : ℕ) (m0 : Seated) → IsAt t0 which m0 → (r : Runs t which m0) → IsAt after which r.run.later → (event : Event)
       → one.CanBe r.run.later.seat (one.Around event) → after.scene ≡ after_event t.scene event → Runs after which m0
   around_run t after which m0 at_first r there event can_be scene =
-      let g = event_goes t0.scene.fabric r.run.later.seat plan (ground which m0 at_first r.run.later.seat r.seat) (Old r.run.later.knows_one_sweep)
+      let g = event_goes t0.scene.fabric r.run.later.seat plan (ground which m0 at_first r.run.later.seat r.seat) (Old r.run.later.has_swept)
       (seen_by t.scene r.run.later) (one.Around event) (inl tt) r.goes can_be in
       record {
         run = record {
@@ -118,7 +118,7 @@ module _ (t0 : Masters) (starts : StartTogether t0) (plan : PlanValue) where
         };
         seat = r.seat;
         swept = λ knows. swept_more r.run.events (one.Around event) (seen_by t0.scene m0) (r.swept knows);
-        goes = subst (λ s. Goes t0.scene.fabric r.run.later.seat plan (Old r.run.later.knows_one_sweep) (seen_by s r.run.later)) (sym scene) g;
+        goes = subst (λ s. Goes t0.scene.fabric r.run.later.seat plan (Old r.run.later.has_swept) (seen_by s r.run.later)) (sym scene) g;
       }
 
   -- nothing does
@@ -136,13 +136,13 @@ module _ (t0 : Masters) (starts : StartTogether t0) (plan : PlanValue) where
         };
         seat = r.seat;
         swept = r.swept;
-        goes = subst (λ s. Goes t0.scene.fabric r.run.later.seat plan (Old r.run.later.knows_one_sweep) (seen_by s r.run.later)) (sym scene) r.goes;
+        goes = subst (λ s. Goes t0.scene.fabric r.run.later.seat plan (Old r.run.later.has_swept) (seen_by s r.run.later)) (sym scene) r.goes;
       }
 
   -- it does something itself
   own_run : (t : Masters) (which : ℕ) (m0 : Seated) → IsAt t0 which m0 → (r : Runs t which m0) (event : ManagerEvent) → IsItsOwn event
       → one.CanBe r.run.later.seat event
-      → WritesOneSweep r.run.later event → Runs (acting t which event (Some r.run.later)) which m0
+      → WritesSwept r.run.later event → Runs (acting t which event (Some r.run.later)) which m0
   own_run t which m0 at_first r event its can_be writes =
       let m = r.run.later in
       let w = after_manager_event (seen_by t.scene m) event in
@@ -150,25 +150,25 @@ module _ (t0 : Masters) (starts : StartTogether t0) (plan : PlanValue) where
         run = record {
           events = r.run.events ++ event ∷ [];
           can_be = all_more (one.CanBe m0.seat) r.run.events event r.run.can_be (subst (λ p. one.CanBe p event) r.seat can_be);
-          sweeps_first = by_knowledge r.run.later.knows_one_sweep refl;
+          sweeps_first = by_knowledge r.run.later.has_swept refl;
           later = seated_after m event w;
           there = set_there t.managers which (seated_after m event w) m r.run.there;
           is = events_more r.run.events event (seen_by t0.scene m0) ∙ ap (λ x. after_manager_event x event) r.run.is ∙ sym (view_after t.scene m event);
         };
         seat = r.seat;
-        swept = λ knows. by_before r.run.later.knows_one_sweep refl knows;
-        goes = subst (Goes t0.scene.fabric m.seat plan (Old (knows_one_after m event))) (sym (view_after t.scene m event))
+        swept = λ knows. by_before r.run.later.has_swept refl knows;
+        goes = subst (Goes t0.scene.fabric m.seat plan (Old (has_swept_after m event))) (sym (view_after t.scene m event))
             (goes_after t0.scene.fabric plan t.scene m (ground which m0 at_first m.seat r.seat) r.goes event its can_be writes);
       }
     where
-      by_knowledge : (b : Bool) → r.run.later.knows_one_sweep ≡ b → SweepsFirst (r.run.events ++ event ∷ []) (seen_by t0.scene m0)
+      by_knowledge : (b : Bool) → r.run.later.has_swept ≡ b → SweepsFirst (r.run.events ++ event ∷ []) (seen_by t0.scene m0)
       by_knowledge true e = r.swept e (event ∷ [])
       by_knowledge false e =
           first_more r.run.events event (seen_by t0.scene m0) r.run.sweeps_first
           (subst (λ x. BeginsNoWriting x event) (sym r.run.is)
           (elim (no_writing t.scene r.run.later false e event writes) [ inl quiet ↦ quiet | inr never ↦ absurd (never tt) ]))
 
-      by_before : (b : Bool) → r.run.later.knows_one_sweep ≡ b → knows_one_after r.run.later event ≡ true
+      by_before : (b : Bool) → r.run.later.has_swept ≡ b → has_swept_after r.run.later event ≡ true
           → Swept (r.run.events ++ event ∷ []) (seen_by t0.scene m0)
       by_before true e knows = swept_more r.run.events event (seen_by t0.scene m0) (r.swept e)
       by_before false e knows =
@@ -193,7 +193,7 @@ module _ (t0 : Masters) (starts : StartTogether t0) (plan : PlanValue) where
       }
 
   module _ (t : Masters) (all : AllRun t) (which : ℕ) (m0 : Seated) (at_first : IsAt t0 which m0) (r : Runs t which m0) (event : ManagerEvent)
-      (its : IsItsOwn event) (can_be : one.CanBe r.run.later.seat event) (writes : WritesOneSweep r.run.later event) where
+      (its : IsItsOwn event) (can_be : one.CanBe r.run.later.seat event) (writes : WritesSwept r.run.later event) where
     -- another one
     other_runs : (k : ℕ) (n0 : Seated) → IsAt t0 k n0 → which ≢ k → Runs (acting t which event (Some r.run.later)) k n0
     other_runs k n0 first other =
@@ -243,8 +243,8 @@ module _ (t0 : Masters) (starts : StartTogether t0) (plan : PlanValue) where
         each = λ which m0 there. record {
           run = record { events = []; can_be = All-nil (one.CanBe m0.seat); sweeps_first = tt; later = m0; there = there; is = refl };
           seat = refl;
-          swept = λ knows. absurd (cc (sym (starts.none_swept which m0 there) ∙ knows));
-          goes = subst (λ b. Goes t0.scene.fabric m0.seat plan (Old b) (seen_by t0.scene m0)) (sym (starts.none_swept which m0 there))
+          swept = λ knows. absurd (cc (sym (starts.none_swept which m0 there).0 ∙ knows));
+          goes = subst (λ b. Goes t0.scene.fabric m0.seat plan (Old b) (seen_by t0.scene m0)) (sym (starts.none_swept which m0 there).0)
               (held_laws.starting (seen_by t0.scene m0) (starts.each which m0 there) plan);
         };
         seats = record { was = λ which m there. (m, there, refl) };

@@ -63,12 +63,12 @@ use Rattle.takeover_laws.specs.Takeover.{plan_by_it}
 use Rattle.takeover_laws.proofs.Claimed.{takeovers_change_nothing}
 use Rattle.takeover_laws.proofs.Following.{IsFollowed, event_followed}
 use Rattle.takeover_laws.proofs.Seen.{SeenKeeping, asks_lids, lids_append}
-use Rattle.masters_laws.specs.Masters.{IsItsOwn, IsWholeSweep, Seated, WritesOneSweep, WritesWhole, knows_one_after, seated_after, seen_by}
+use Rattle.masters_laws.specs.Masters.{IsItsOwn, IsWholeSweep, Seated, WritesSwept, WritesWhole, has_swept_after, knows_one_after, seated_after, seen_by}
 use Rattle.masters_laws.proofs.Acting.{AreCarried, Carried, Plans, WritesCarried, event_plans}
 use Rattle.masters_laws.proofs.Deliveries.{IsPlannedFrom, Sends}
 use Rattle.masters_laws.proofs.Scenes.{SendsSo, SentSo, Stands}
 
--- an old sweep may be left where it is not known that one sweep told all
+-- an old sweep may be left where none began
 abbrev pub Old : Bool → Type 0
 Old true = ⊥
 Old false = Unit {0}
@@ -340,8 +340,8 @@ module _ (from : Scene) (plan : PlanValue) (IsSeat : NodePort → Type 0) (seat 
 
 -- one of the managers -----------------------------------------------------------------------------------------------
 
--- no writing begins where it is not known that one sweep told all
-pub no_writing : (scene : Scene) (m : Seated) (b : Bool) → m.knows_one_sweep ≡ b → (event : ManagerEvent) → WritesOneSweep m event
+-- no writing begins where no sweep did
+pub no_writing : (scene : Scene) (m : Seated) (b : Bool) → m.has_swept ≡ b → (event : ManagerEvent) → WritesSwept m event
     → BeginsNoWriting (seen_by scene m) event ⊎ (Old b → ⊥)
 no_writing scene m true e event writes = inr (λ none. none)
 no_writing scene m false e (Around event) writes = inl tt
@@ -365,28 +365,23 @@ view_after scene m event =
     (λ j. record { scene = w.scene; seat = sym (seat_stays (seen_by scene m) event) j; manager = w.manager; out = w.out })
 
 module _ (start : Simulation) (plan : PlanValue) (scene : Scene) (m : Seated) (ground : Ground start m.seat)
-    (goes : Goes start m.seat plan (Old m.knows_one_sweep) (seen_by scene m)) where
-  weaker : (b t : Bool) (w : Managing) → Goes start m.seat plan (Old b) w → Goes start m.seat plan (Old (b && t)) w
-  weaker true t w g = any_goes start m.seat plan ground (Old t) w g
-  weaker false t w g = g
-
+    (goes : Goes start m.seat plan (Old m.has_swept) (seen_by scene m)) where
   -- it goes on by an event of its own
-  pub goes_after : (event : ManagerEvent) → IsItsOwn event → CanBe m.seat event → WritesOneSweep m event
-      → Goes start m.seat plan (Old (knows_one_after m event)) (after_manager_event (seen_by scene m) event)
+  pub goes_after : (event : ManagerEvent) → IsItsOwn event → CanBe m.seat event → WritesSwept m event
+      → Goes start m.seat plan (Old (has_swept_after m event)) (after_manager_event (seen_by scene m) event)
   goes_after event its can_be writes = by_event event its can_be
-      (event_goes start m.seat plan ground (Old m.knows_one_sweep) (seen_by scene m) event (no_writing scene m m.knows_one_sweep refl event writes) goes can_be)
+      (event_goes start m.seat plan ground (Old m.has_swept) (seen_by scene m) event (no_writing scene m m.has_swept refl event writes) goes can_be)
     where
       by_fault : (b : Bool) → is_none (begin_fault m.manager) ≡ b
-          → Goes start m.seat plan (Old (cond b (length (cells_of m.manager.store) == 0) m.knows_one_sweep))
+          → Goes start m.seat plan (Old (cond b true m.has_swept))
           (record { scene = scene; seat = m.seat; manager = cond b (after_begin_sweep m.manager) m.manager; out = m.out })
       by_fault true e =
-          any_goes start m.seat plan ground (Old (length (cells_of m.manager.store) == 0)) _
-          (begin_goes start m.seat plan ground (Old m.knows_one_sweep) (seen_by scene m) goes (is_none-none _ e))
+          begin_goes start m.seat plan ground (Old m.has_swept) (seen_by scene m) goes (is_none-none _ e)
       by_fault false e = goes
 
       by_event : (event : ManagerEvent) → IsItsOwn event → CanBe m.seat event
-          → Goes start m.seat plan (Old m.knows_one_sweep) (after_manager_event (seen_by scene m) event)
-          → Goes start m.seat plan (Old (knows_one_after m event)) (after_manager_event (seen_by scene m) event)
+          → Goes start m.seat plan (Old m.has_swept) (after_manager_event (seen_by scene m) event)
+          → Goes start m.seat plan (Old (has_swept_after m event)) (after_manager_event (seen_by scene m) event)
       by_event (Around event) its can_be g = absurd its
       by_event Begin its can_be g = by_fault (is_none (begin_fault m.manager)) refl
       by_event Write its can_be g = g
@@ -394,17 +389,17 @@ module _ (start : Simulation) (plan : PlanValue) (scene : Scene) (m : Seated) (g
       by_event (Send which) its can_be g = g
       by_event (Hear which) its can_be g = g
       by_event (TimeOut transaction) its can_be g = g
-      by_event (Raise floor) its can_be g = weaker m.knows_one_sweep (nat_le floor m.manager.store.floor) _ g
-      by_event (Merge floor sightings) its can_be g =
-          weaker m.knows_one_sweep (length sightings == 0 && nat_le floor m.manager.store.floor) _ g
+      by_event (Raise floor) its can_be g = g
+      by_event (Merge floor sightings) its can_be g = g
       by_event (Poll lid) its can_be g = g
       by_event HandOver its can_be g = g
 
 module _ (from : Scene) (held : Facts) (planning : Planning) where
   pub record Side (scene : Scene) (m : Seated) : Type 0 where
-    pub goes : Goes from.fabric m.seat (plan_by_it planning held) (Old m.knows_one_sweep) (seen_by scene m)
+    pub goes : Goes from.fabric m.seat (plan_by_it planning held) (Old m.has_swept) (seen_by scene m)
     pub plans : Plans from.fabric m.seat (plan_by_it planning held) (seen_by scene m)
     pub planning_is : m.manager.planning ≡ planning
+    pub swept : m.knows_one_sweep ≡ true → m.has_swept ≡ true
     pub follows : m.knows_one_sweep ≡ true → FollowsOne from m.seat (seen_by scene m)
 
   module _ (scene : Scene) (m : Seated) (side : Side scene m) (known : Known from held planning m.seat) where
@@ -412,7 +407,7 @@ module _ (from : Scene) (held : Facts) (planning : Planning) where
     plan = plan_by_it planning held
 
     goes_new : m.knows_one_sweep ≡ true → Goes from.fabric m.seat (plan_by_it planning held) ⊥ (seen_by scene m)
-    goes_new knows = subst (λ b. Goes from.fabric m.seat (plan_by_it planning held) (Old b) (seen_by scene m)) knows side.goes
+    goes_new knows = subst (λ b. Goes from.fabric m.seat (plan_by_it planning held) (Old b) (seen_by scene m)) (side.swept knows) side.goes
 
     -- what it knows afterwards from one sweep
     follows_after : (event : ManagerEvent) → IsItsOwn event → CanBe m.seat event → SeenKeeping (fabric_of from.fabric) from scene
@@ -430,7 +425,7 @@ module _ (from : Scene) (held : Facts) (planning : Planning) where
         by_fault : (b : Bool) → is_none (begin_fault m.manager) ≡ b → cond b (length (cells_of m.manager.store) == 0) m.knows_one_sweep ≡ true
             → FollowsOne from m.seat (record { scene = scene; seat = m.seat; manager = cond b (after_begin_sweep m.manager) m.manager; out = m.out })
         by_fault true e knows =
-            follows_first from m.seat (plan_by_it planning held) known.ground (Old m.knows_one_sweep) (seen_by scene m) seen now side.goes
+            follows_first from m.seat (plan_by_it planning held) known.ground (Old m.has_swept) (seen_by scene m) seen now side.goes
             (none_of (cells_of m.manager.store) knows)
         by_fault false e knows = side.follows knows
 
@@ -454,24 +449,42 @@ module _ (from : Scene) (held : Facts) (planning : Planning) where
         by_event (Poll lid) its can_be lids knows = on (Poll lid) knows tt can_be lids
         by_event HandOver its can_be lids knows = on HandOver knows tt can_be lids
 
-    carried_if : (event : ManagerEvent) → WritesOneSweep m event → WritesWhole m event
+    swept_after : (event : ManagerEvent) → IsItsOwn event → knows_one_after m event ≡ true → has_swept_after m event ≡ true
+    swept_after (Around event) its knows = absurd its
+    swept_after Begin its knows = by_fault (is_none (begin_fault m.manager)) knows
+      where
+        by_fault : (b : Bool) → cond b (length (cells_of m.manager.store) == 0) m.knows_one_sweep ≡ true → cond b true m.has_swept ≡ true
+        by_fault true k = refl
+        by_fault false k = side.swept k
+    swept_after Write its knows = side.swept knows
+    swept_after Take its knows = side.swept knows
+    swept_after (Send which) its knows = side.swept knows
+    swept_after (Hear which) its knows = side.swept knows
+    swept_after (TimeOut transaction) its knows = side.swept knows
+    swept_after (Raise floor) its knows = side.swept (and_parts m.knows_one_sweep _ knows).0
+    swept_after (Merge floor sightings) its knows = side.swept (and_parts m.knows_one_sweep _ knows).0
+    swept_after (Poll lid) its knows = side.swept knows
+    swept_after HandOver its knows = side.swept knows
+
+    carried_if : (event : ManagerEvent) → WritesWhole m event
         → WritesCarried from.fabric m.seat (plan_by_it planning held) (seen_by scene m) event
-    carried_if Write writes whole = λ none.
-        writing_carried from held planning m.seat known (seen_by scene m) (goes_new (writes none)) none
-        (same_plan from held planning m.seat known (seen_by scene m) (side.follows (writes none)) side.planning_is (whole none))
-    carried_if (Around event) writes whole = tt
-    carried_if Begin writes whole = tt
-    carried_if Take writes whole = tt
-    carried_if (Send which) writes whole = tt
-    carried_if (Hear which) writes whole = tt
-    carried_if (TimeOut transaction) writes whole = tt
-    carried_if (Raise floor) writes whole = tt
-    carried_if (Merge floor sightings) writes whole = tt
-    carried_if (Poll lid) writes whole = tt
-    carried_if HandOver writes whole = tt
+    carried_if Write whole = λ none.
+        let knows = (whole none).0 in
+        writing_carried from held planning m.seat known (seen_by scene m) (goes_new knows) none
+        (same_plan from held planning m.seat known (seen_by scene m) (side.follows knows) side.planning_is (whole none).1)
+    carried_if (Around event) whole = tt
+    carried_if Begin whole = tt
+    carried_if Take whole = tt
+    carried_if (Send which) whole = tt
+    carried_if (Hear which) whole = tt
+    carried_if (TimeOut transaction) whole = tt
+    carried_if (Raise floor) whole = tt
+    carried_if (Merge floor sightings) whole = tt
+    carried_if (Poll lid) whole = tt
+    carried_if HandOver whole = tt
 
     -- by an event of its own
-    pub own_side : (event : ManagerEvent) → IsItsOwn event → CanBe m.seat event → WritesOneSweep m event → WritesWhole m event
+    pub own_side : (event : ManagerEvent) → IsItsOwn event → CanBe m.seat event → WritesSwept m event → WritesWhole m event
         → SeenKeeping (fabric_of from.fabric) from scene → HasLidsOf (fabric_of from.fabric) scene
         → HasLidsOf (fabric_of from.fabric) (after_manager_event (seen_by scene m) event).scene
         → Side (after_manager_event (seen_by scene m) event).scene (seated_after m event (after_manager_event (seen_by scene m) event))
@@ -479,12 +492,13 @@ module _ (from : Scene) (held : Facts) (planning : Planning) where
         let w = after_manager_event (seen_by scene m) event in
         let view = view_after scene m event in
         record {
-          goes = subst (Goes from.fabric m.seat (plan_by_it planning held) (Old (knows_one_after m event))) (sym view)
+          goes = subst (Goes from.fabric m.seat (plan_by_it planning held) (Old (has_swept_after m event))) (sym view)
               (goes_after from.fabric (plan_by_it planning held) scene m known.ground side.goes event its can_be writes);
           plans = subst (Plans from.fabric m.seat (plan_by_it planning held)) (sym view)
-              (event_plans from.fabric m.seat (plan_by_it planning held) known.ground (Old m.knows_one_sweep) (seen_by scene m) event
-              (carried_if event writes whole) side.goes can_be side.plans);
+              (event_plans from.fabric m.seat (plan_by_it planning held) known.ground (Old m.has_swept) (seen_by scene m) event
+              (carried_if event whole) side.goes can_be side.plans);
           planning_is = planning_kept (seen_by scene m) event ∙ side.planning_is;
+          swept = swept_after event its;
           follows = λ knows. subst (FollowsOne from m.seat) (sym view) (follows_after event its can_be seen now lids knows);
         }
 
@@ -493,11 +507,12 @@ module _ (from : Scene) (held : Facts) (planning : Planning) where
         → HasLidsOf (fabric_of from.fabric) (after_event scene event) → Side (after_event scene event) m
     around_side event can_be now lids =
         record {
-          goes = event_goes from.fabric m.seat (plan_by_it planning held) known.ground (Old m.knows_one_sweep) (seen_by scene m) (Around event) (inl tt)
+          goes = event_goes from.fabric m.seat (plan_by_it planning held) known.ground (Old m.has_swept) (seen_by scene m) (Around event) (inl tt)
               side.goes can_be;
-          plans = event_plans from.fabric m.seat (plan_by_it planning held) known.ground (Old m.knows_one_sweep) (seen_by scene m) (Around event) tt
+          plans = event_plans from.fabric m.seat (plan_by_it planning held) known.ground (Old m.has_swept) (seen_by scene m) (Around event) tt
               side.goes can_be side.plans;
           planning_is = side.planning_is;
+          swept = side.swept;
           follows = λ knows. follows_on from m.seat (plan_by_it planning held) known.ground (seen_by scene m) (Around event) (side.follows knows)
               (goes_new knows) tt can_be now lids;
         }

@@ -35,7 +35,7 @@ use Rattle.takeover_laws.proofs.HeldOn.{AreListed, HeldOn}
 use Rattle.takeover_laws.proofs.Listed.{are_listed}
 use Rattle.takeover_laws.proofs.Takeover.{none_seen}
 use Rattle.takeover_laws.proofs.Throughout.{in_use}
-use Rattle.masters_laws.specs.Masters.{AllCanBe, Around, At, CanBe, IsAt, IsItsOwn, Masters, MastersEvent, Seated, SetsNothing, StartTogether, WritesOneSweep, WritesWhole}
+use Rattle.masters_laws.specs.Masters.{AllCanBe, Around, At, CanBe, IsAt, IsItsOwn, Masters, MastersEvent, Seated, SetsNothing, StartTogether, WritesSwept, WritesWhole}
 use Rattle.masters_laws.specs.Masters.{IsWholeSweep, acting, after_masters_event, after_masters_events, seated_after, seen_by}
 use Rattle.masters_laws.specs.InForce.{AllSweepWhole, HoldTogether, IsInForceAlong, IsInForceAt, MastersChangeNothing, MastersWriteTheSame, SweepsWhole}
 use Rattle.masters_laws.proofs.Acting.{Carried, Plans}
@@ -188,7 +188,7 @@ module _ (held : Facts) (planning : Planning) (t0 : Masters) (h : HoldTogether h
 
   -- a manager does something
   module _ (t : Masters) (all : AllStand t) (which : ℕ) (m : Seated) (there : IsAt t which m) (event : ManagerEvent) (its : IsItsOwn event)
-      (can_be : one.CanBe m.seat event) (writes : WritesOneSweep m event) (whole : WritesWhole m event) where
+      (can_be : one.CanBe m.seat event) (writes : WritesSwept m event) (whole : WritesWhole m event) where
     abbrev after : Managing
     after = after_manager_event (seen_by t.scene m) event
 
@@ -254,7 +254,7 @@ module _ (held : Facts) (planning : Planning) (t0 : Masters) (h : HoldTogether h
       let starts = h.starts.each which m there in
       let none = h.starts.none_swept which m there in
       record {
-        goes = subst (λ b. Goes t0.scene.fabric m.seat (plan_by_it planning held) (Old b) (seen_by t0.scene m)) (sym none)
+        goes = subst (λ b. Goes t0.scene.fabric m.seat (plan_by_it planning held) (Old b) (seen_by t0.scene m)) (sym none.0)
             (held_laws.starting (seen_by t0.scene m) starts (plan_by_it planning held));
         plans = record {
           all = [];
@@ -264,7 +264,8 @@ module _ (held : Facts) (planning : Planning) (t0 : Masters) (h : HoldTogether h
           waits = inl (λ p at is. contains_none p (subst (λ ps. Contains ps p) starts.at_rest.pending at));
         };
         planning_is = h.plans which m there;
-        follows = λ knows. absurd (cc (sym none ∙ knows));
+        swept = λ knows. absurd (cc (sym none.1 ∙ knows));
+        follows = λ knows. absurd (cc (sym none.1 ∙ knows));
       }
 
   pub first_stand : AllStand t0

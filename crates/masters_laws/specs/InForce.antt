@@ -26,7 +26,7 @@ pub record HoldTogether (held : Facts) (planning : Planning) (t : Masters) : Typ
   pub holds : (which : ℕ) (m : Seated) → IsAt t which m
       → HoldsPlan (IsJoinedTo (fabric_of t.scene.fabric) m.seat) (plan_by_it planning held) (fabric_of t.scene.fabric)
 
--- others set nothing but SMInfo, and a manager begins a writing only once its sweep has every answer
+-- others set nothing but SMInfo, and what a manager writes it knows from one sweep, which has every answer
 abbrev pub SweepsWhole : Masters → MastersEvent → Type 0
 SweepsWhole t (Around event) = SetsNothing event
 SweepsWhole t (At which event) = (m : Seated) → IsAt t which m → WritesWhole m event

@@ -15,12 +15,13 @@ use Rattle.manager_laws.specs.Managing as one
 use Rattle.manager_laws.specs.Managing.{Managing, ManagerEvent, Starts, IsElsewhere, after_manager_event}
 use Rattle.manager_laws.specs.Complete.{IsWhole}
 
--- a manager at its seat, the packets that it gave out, and whether all that it knows is from one sweep: the last one
--- that it began, as it knew nothing
+-- a manager at its seat, the packets that it gave out, whether a sweep of it began here, and whether all that it knows
+-- is from one sweep: the last one that it began, as it knew nothing
 pub record Seated : Type 0 where
   pub seat : NodePort
   pub manager : Manager
   pub out : List Outgoing
+  pub has_swept : Bool
   pub knows_one_sweep : Bool
 
 -- the scene, and the managers on it
@@ -43,6 +44,11 @@ seen_by scene m = record { scene = scene; seat = m.seat; manager = m.manager; ou
 
 -- what they do --------------------------------------------------------------------------------
 
+-- whether a sweep began by then
+abbrev pub has_swept_after : Seated → ManagerEvent → Bool
+has_swept_after m one.Begin = if is_none (begin_fault m.manager) then true else m.has_swept
+has_swept_after m event = m.has_swept
+
 -- whether what it knows is from one sweep afterwards: it is, once a sweep begins as it knows nothing, until facts of
 -- others are merged or its floor is raised
 abbrev pub knows_one_after : Seated → ManagerEvent → Bool
@@ -55,7 +61,13 @@ knows_one_after m event = m.knows_one_sweep
 
 abbrev pub seated_after : Seated → ManagerEvent → Managing → Seated
 seated_after m event w =
-    record { seat = m.seat; manager = w.manager; out = w.out; knows_one_sweep = knows_one_after m event }
+    record {
+      seat = m.seat;
+      manager = w.manager;
+      out = w.out;
+      has_swept = has_swept_after m event;
+      knows_one_sweep = knows_one_after m event;
+    }
 
 abbrev pub acting : Masters → ℕ → ManagerEvent → Option Seated → Masters
 acting t which event None = t
@@ -86,25 +98,26 @@ abbrev pub IsItsOwn : ManagerEvent → Type 0
 IsItsOwn (one.Around event) = ⊥
 IsItsOwn event = Unit {0}
 
--- it begins a writing only once all that it knows is from one sweep
-abbrev pub WritesOneSweep : Seated → ManagerEvent → Type 0
-WritesOneSweep m one.Write = writing_fault m.manager ≡ None → m.knows_one_sweep ≡ true
-WritesOneSweep m event = Unit {0}
+-- it begins no writing before a sweep
+abbrev pub WritesSwept : Seated → ManagerEvent → Type 0
+WritesSwept m one.Write = writing_fault m.manager ≡ None → m.has_swept ≡ true
+WritesSwept m event = Unit {0}
 
 abbrev pub IsWholeSweep : Option Sweep → Type 0
 IsWholeSweep None = ⊥
 IsWholeSweep (Some s) = IsWhole s
 
--- and has every answer
+-- it begins a writing only once all that it knows is from one sweep, which has every answer
 abbrev pub WritesWhole : Seated → ManagerEvent → Type 0
-WritesWhole m one.Write = writing_fault m.manager ≡ None → IsWholeSweep m.manager.sweep
+WritesWhole m one.Write =
+    writing_fault m.manager ≡ None → (m.knows_one_sweep ≡ true) × IsWholeSweep m.manager.sweep
 WritesWhole m event = Unit {0}
 
 abbrev pub CanBe : Masters → MastersEvent → Type 0
 CanBe t (Around event) =
     CanHappen event × ((which : ℕ) (m : Seated) → IsAt t which m → IsElsewhere m.seat event)
 CanBe t (At which event) =
-    (m : Seated) → IsAt t which m → IsItsOwn event × one.CanBe m.seat event × WritesOneSweep m event
+    (m : Seated) → IsAt t which m → IsItsOwn event × one.CanBe m.seat event × WritesSwept m event
 
 abbrev pub AllCanBe : List MastersEvent → Masters → Type 0
 AllCanBe [] t = Unit {0}
@@ -116,5 +129,5 @@ AllCanBe (event ∷ events) t = CanBe t event × AllCanBe events (after_masters_
 pub record StartTogether (t : Masters) : Type 0 where
   pub quiet : IsQuiet t.scene
   pub each : (which : ℕ) (m : Seated) → IsAt t which m → Starts (seen_by t.scene m)
-  pub none_swept : (which : ℕ) (m : Seated) → IsAt t which m → m.knows_one_sweep ≡ false
+  pub none_swept : (which : ℕ) (m : Seated) → IsAt t which m → (m.has_swept ≡ false) × (m.knows_one_sweep ≡ false)
   pub apart : (which other : ℕ) (m n : Seated) → IsAt t which m → IsAt t other n → m.seat ≡ n.seat → which ≡ other
