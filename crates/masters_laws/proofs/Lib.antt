@@ -7,3 +7,4 @@ pub mod Acting
 pub mod Side
 pub mod Together
 pub mod Runs
+pub mod Known

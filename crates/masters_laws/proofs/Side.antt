@@ -74,7 +74,7 @@ Old true = ⊥
 Old false = Unit {0}
 
 -- no elements
-none_of : {X : Type 0} (xs : List X) → (length xs == 0) ≡ true → xs ≡ []
+pub none_of : {X : Type 0} (xs : List X) → (length xs == 0) ≡ true → xs ≡ []
 none_of [] e = refl
 none_of (x ∷ xs) e = let none = eqb-true _ _ e in absurd (omega (arith, none))
 

@@ -1,3 +1,4 @@
 pub mod Masters
+pub mod Known
 pub mod Runs
 pub mod InForce

@@ -1,5 +1,6 @@
 //! What is so of several managers on one fabric.
 ghost use Rattle.masters_laws.specs.InForce.{MastersChangeNothing, MastersWriteTheSame};
+ghost use Rattle.masters_laws.specs.Known.{HasSweptMeans, KnowsOneSweepMeans};
 ghost use Rattle.masters_laws.specs.Runs.{EachRunsOnItsOwn, WhatIsGivenOutCanBeSent};
 
 /// Each packet that a manager gives out can be sent from its seat: it is forwarded by LIDs, or is a request over a
@@ -7,6 +8,17 @@ ghost use Rattle.masters_laws.specs.Runs.{EachRunsOnItsOwn, WhatIsGivenOutCanBeS
 /// the manager begins no writing before a sweep.
 pub fn what_is_given_out_can_be_sent()
     ensures { WhatIsGivenOutCanBeSent }
+{}
+
+/// One of several managers has swept exactly where it began a sweep that was not refused.
+pub fn has_swept_means()
+    ensures { HasSweptMeans }
+{}
+
+/// It knows one sweep exactly where it began that sweep as it held no facts, and began no other one, merged no facts of
+/// others and raised its floor no more since.
+pub fn knows_one_sweep_means()
+    ensures { KnowsOneSweepMeans }
 {}
 
 /// Whatever several managers do, each of them runs as one manager does to which the others are what happens around it.
