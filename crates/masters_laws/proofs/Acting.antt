@@ -1,6 +1,6 @@
 -- A manager whose writings write a plan: each packet that it gave out or is about to give out is its own, and each Set among them, like each step
 -- that is still to come, carries the plan's values.
-use Rattle.std.proofs.Common.{◌≡◌, ◌⊎◌, inl, inr, ℕ, ◌+◌, ◌≤◌, ◌^◌, Bool, true, false, cond, List, [], ◌∷◌, ◌++◌, length, map, refl, sym, ap, ◌∙◌, subst, arith}
+use Rattle.std.proofs.Common.{◌≡◌, ◌⊎◌, inl, inr, ℕ, ◌+◌, ◌≤◌, ◌^◌, Bool, true, false, cond, List, [], ◌∷◌, ◌++◌, length, refl, sym, ap, ◌∙◌, subst, arith}
 use Rattle.std.proofs.lemmas.Bool.{cond_both, ltb-false}
 use Rattle.std.specs.Prelude.{Contains, Option, Some, None, drop, is_none, not, slice_get, ◌&&◌, ◌||◌}
 use Rattle.fabric_model.specs.declared.cable.NodePort.{NodePort}
@@ -14,8 +14,7 @@ use Rattle.plan_steps.specs.declared.step.Step.{Step}
 use Rattle.plan_steps.specs.Phases.{Phase}
 use Rattle.sm_manager.specs.declared.outgoing.Outgoing.{Outgoing}
 use Rattle.sm_manager.specs.declared.pending.Pending.{Pending}
-use Rattle.sm_manager.specs.Election.{after_handover, after_poll, handover_fault, poll_fault}
-use Rattle.sm_manager.specs.Manager.{Manager, Writing, after_begin_sweep, after_take_outgoing, begin_fault, taken_of}
+use Rattle.sm_manager.specs.Manager.{Manager, Writing, after_begin_sweep, begin_fault, taken_of}
 use Rattle.sm_manager.specs.ManagerRequests.{counts, is_for_step, is_step, no_step_waits, without_number}
 use Rattle.sm_manager.specs.Packets.{Called, after_packet, after_timeout, unless_spent}
 use Rattle.sm_manager.specs.Plans.{writing_fault}

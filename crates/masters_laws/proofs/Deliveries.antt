@@ -1,9 +1,9 @@
 -- A delivery keeps the plan in force, and each port's LID, where each Set on its way was sent from a seat and carries the plan's values at the
 -- end of its path.
-use Rattle.std.proofs.Common.{◌≡◌, ◌≢◌, ◌⊎◌, inl, inr, ℕ, ◌+◌, ◌<◌, ◌≤◌, Bool, true, false, cond, List, length, refl, sym, ap, ◌∙◌, subst, arith}
+use Rattle.std.proofs.Common.{◌≡◌, ◌⊎◌, inl, inr, ℕ, ◌+◌, ◌≤◌, Bool, true, false, cond, List, length, refl, sym, ap, ◌∙◌, subst, arith}
 use Rattle.std.proofs.lemmas.Bool.{and_parts, eqb-true, eqb-false, leb-true}
 use Rattle.std.proofs.lemmas.Option.{same_Some, slice_get-map}
-use Rattle.std.specs.Prelude.{Option, Some, None, not, nat_le, option_map, slice_get, slice_set, ◌==◌, ◌||◌}
+use Rattle.std.specs.Prelude.{Some, None, not, nat_le, option_map, slice_get, slice_set, ◌==◌, ◌||◌}
 use Rattle.std.specs.Option.{option_map_or}
 use Rattle.fabric_model.specs.declared.cable.NodePort.{NodePort}
 use Rattle.fabric_model.specs.Fabric as fabrics
@@ -12,13 +12,13 @@ use Rattle.fabric_model.specs.FabricWalks.{IsJoinedTo, vertex_of}
 use Rattle.fabric_model.specs.DirectedWalk.{directed_end}
 use Rattle.fabric_model.proofs.FabricWalks.{adapter_vertex, port_at, switch_vertex, type_at, vertex_is_end}
 use Rattle.smp_bytes.specs.Header.{set, port_info, switch_info, linear_forwarding_table, sm_info}
-use Rattle.smp_bytes.specs.Field.{bytes_in, number_in}
-use Rattle.smp_bytes.specs.Packet.{attribute_data, attribute_id, attribute_modifier, is_directed, method}
+use Rattle.smp_bytes.specs.Field.{number_in}
+use Rattle.smp_bytes.specs.Packet.{attribute_id, attribute_modifier, is_directed, method}
 use Rattle.dr_forward.proofs.Trips.{IsOut, IsRequestOver, field_kept}
 use Rattle.node_agents.specs.Agent.{Agent, IsAgent, base_lid_at, is_switch, lmc_at, node_of, range_at}
 use Rattle.node_agents.specs.Answers.{after_answer}
 use Rattle.node_agents.specs.PortInfo.{has_lid, port_meant}
-use Rattle.fabric_sim.specs.Simulation.{Simulation, AreCables, IsSimulation, agent_at, fabric_of, is_cable_port, port_count}
+use Rattle.fabric_sim.specs.Simulation.{Simulation, AreCables, IsSimulation, agent_at, fabric_of, port_count}
 use Rattle.fabric_sim.specs.Delivery.{after_deliver, with_changed}
 use Rattle.fabric_sim.proofs.AgentLists.{changed_at_id}
 use Rattle.fabric_sim.proofs.Traced.{IsRequestFor}
@@ -26,7 +26,6 @@ use Rattle.fabric_sim.proofs.TracedCalls.{AreTraced}
 use Rattle.fabric_sim.proofs.TripShapes.{IsAlong, agent_there}
 use Rattle.lid_assign.specs.Lids.{range_of}
 use Rattle.lft_blocks.specs.Plan.{PlanValue}
-use Rattle.subnet_view.specs.Agreement.{IsEndPortIn}
 use Rattle.manager_laws.specs.Sets.{Carries}
 use Rattle.manager_laws.proofs.Alike.{nodes_along}
 use Rattle.manager_laws.proofs.Sound.{CanBeSwept}

@@ -4,7 +4,6 @@ use Rattle.std.proofs.Common.{length, refl, sym, ap, ◌∙◌, subst, arith}
 use Rattle.std.proofs.lemmas.Bool.{cond_both}
 use Rattle.std.specs.Prelude.{Option, Some, None, Ok, not, ◌==◌, ◌&&◌, ◌||◌, nat_lt, is_none, is_some}
 use Rattle.std.specs.Option.{option_map_or}
-use Rattle.std.specs.List.{AllByRecursion}
 use Rattle.fabric_model.specs.declared.cable.NodePort.{NodePort}
 use Rattle.fabric_model.specs.declared.course.Course.{Course}
 use Rattle.fabric_model.specs.declared.course.Course.TheVariants as course_is
@@ -17,7 +16,7 @@ use Rattle.dr_forward.specs.declared.here.Here.{Here}
 use Rattle.dr_forward.specs.declared.verdict.Verdict.{Verdict}
 use Rattle.dr_forward.specs.declared.verdict.Verdict.TheVariants.{Out, ToAgent, ToManager, Discard}
 use Rattle.dr_forward.proofs.Rows.{moved_on_is, pointed_is}
-use Rattle.dr_forward.proofs.Trips.{IsKeptFrom, back_returning, field_kept, out_not_returning}
+use Rattle.dr_forward.proofs.Trips.{IsKeptFrom, back_returning, field_kept}
 use Rattle.node_agents.specs.Agent.{Agent}
 use Rattle.node_agents.specs.Answers.{after_answer}
 use Rattle.node_agents.proofs.Outcomes.{answers_hold}
@@ -28,7 +27,7 @@ use Rattle.fabric_sim.specs.declared.flight.Flight.{Flight}
 use Rattle.fabric_sim.specs.declared.delivered.Delivered.{Delivered}
 use Rattle.fabric_sim.specs.declared.delivered.Delivered.TheVariants as delivered_is
 use Rattle.fabric_sim.specs.declared.delivered.Reason.TheVariants.{Down}
-use Rattle.fabric_sim.specs.declared.fault.FabricFault.TheVariants.{NoSuchPort, SerialsSpent}
+use Rattle.fabric_sim.specs.declared.fault.FabricFault.TheVariants.{SerialsSpent}
 use Rattle.fabric_sim.specs.Called.{Called, refused}
 use Rattle.fabric_sim.specs.Changes.{addressed, after_inject, after_lose, after_repeat, copied}
 use Rattle.fabric_sim.specs.Delivery.{after_deliver, after_enqueue, after_outcome, answer_at, asked, by_course, by_verdict, carrying, delivered_flight, here_at}
@@ -37,12 +36,11 @@ use Rattle.fabric_sim.specs.Outcome.{Outcome, Moves, Asks, HandsUp, Drops}
 use Rattle.fabric_sim.specs.Simulation.{Simulation, AreCables, IsSimulation, across, agent_at, fabric_of, flight_with, is_at_seat, is_by_wire, is_cable_port}
 use Rattle.fabric_sim.specs.Simulation.{is_numbered, is_seat_at, port_count, port_of, with_moved, without_flight}
 use Rattle.fabric_sim.proofs.Kept.{found_waits}
-use Rattle.fabric_sim.proofs.Traced.{Fares, IsForAgent, IsOnCourse, fares_well, noted_small}
+use Rattle.fabric_sim.proofs.Traced.{Fares, IsForAgent, IsOnCourse, fares_well}
 use Rattle.fabric_sim.proofs.TracedCalls.{AreTraced}
 use Rattle.fabric_sim.proofs.TripShapes.{IsAlong, agent_there}
 use Rattle.fabric_sim.proofs.Walks.{noted}
 use Rattle.smp_bytes.specs.Packet as field
-use Rattle.fabric_sim.specs.Changes as changes
 use Rattle.manager_laws.proofs.Scenes.{SetsInfoAlone}
 
 -- a packet that is not directed sets nothing but SMInfo

@@ -6,11 +6,11 @@ use Rattle.std.specs.Prelude.{Option, Some, None, option_map, option_and_then, s
 use Rattle.smp_bytes.specs.Header.{set, done, port_info}
 use Rattle.smp_bytes.specs.Field.{bits_in, bytes_in, number_in}
 use Rattle.smp_bytes.specs.Packet.{attribute_data, attribute_id, attribute_modifier, method, status}
-use Rattle.attr_codec.specs.PortInfo.{base_lid, port_state, range_in, state_of_number}
+use Rattle.attr_codec.specs.PortInfo.{base_lid, port_state, state_of_number}
 use Rattle.attr_codec.specs.declared.port_state.PortState.{PortState}
 use Rattle.attr_codec.specs.declared.port_state.PortState.TheVariants.{Down}
 use Rattle.node_agents.specs.declared.port.Port.{Port}
-use Rattle.node_agents.specs.Agent.{Agent, IsAgent, base_lid_at, port_at, port_in, range_at, with_port}
+use Rattle.node_agents.specs.Agent.{Agent, IsAgent, base_lid_at, port_at, port_in, range_at}
 use Rattle.node_agents.specs.AnswerLaws.{IsPacket, IsTaken}
 use Rattle.node_agents.specs.Answers.{after_answer}
 use Rattle.node_agents.specs.PortInfo.{are_lids_taken, has_lid, max_lmc, port_after, port_meant, port_with, state_after}

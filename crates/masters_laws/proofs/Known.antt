@@ -1,9 +1,8 @@
 -- A manager knows one sweep exactly where it began one as it knew nothing, and learnt of nothing else since.
-use Rattle.std.proofs.Common.{◌≡◌, ◌≢◌, ◌⊎◌, inl, inr, ℕ, ◌≤◌, Bool, true, false, cond, List, [], ◌∷◌, ◌++◌, length, refl, sym, ap, ◌∙◌, subst, append_assoc}
+use Rattle.std.proofs.Common.{◌≡◌, ◌≢◌, ◌⊎◌, inl, inr, ℕ, Bool, true, false, cond, List, [], ◌∷◌, ◌++◌, length, refl, sym, ap, ◌∙◌, subst}
 use Rattle.std.proofs.lemmas.Bool.{and_from, and_parts, eq-eqb, eqb-true, eqb-false, le-leb, leb-true}
 use Rattle.std.proofs.lemmas.Option.{same_Some}
 use Rattle.std.specs.Prelude.{Option, Some, None, is_none, nat_le, slice_get, ◌==◌, ◌&&◌}
-use Rattle.reply_facts.specs.Report.{Sightings}
 use Rattle.fact_store.specs.View.{cells_of}
 use Rattle.sm_manager.specs.Manager.{begin_fault}
 use Rattle.manager_laws.specs.Managing as one

@@ -1,15 +1,12 @@
 -- Each of several managers has a run of its own, to which the others are what happens around it.
-use Rattle.std.proofs.Common.{◌≡◌, ◌≢◌, ◌⊎◌, inl, inr, ℕ, Bool, true, false, cond, List, [], ◌∷◌, ◌++◌, length, refl, sym, ap, ◌∙◌, subst, append_assoc, append-nil}
-use Rattle.std.proofs.lemmas.Bool.{and_parts, eqb-true, eqb-false}
+use Rattle.std.proofs.Common.{◌≡◌, ◌≢◌, inl, inr, ℕ, Bool, true, false, cond, List, [], ◌∷◌, ◌++◌, refl, sym, ap, ◌∙◌, subst, append_assoc}
+use Rattle.std.proofs.lemmas.Bool.{eqb-true, eqb-false}
 use Rattle.std.proofs.lemmas.Option.{same_Some}
 use Rattle.std.proofs.lemmas.List.Elements.{All-nil, All-cons, All-head, All-tail}
-use Rattle.std.specs.Prelude.{Option, Some, None, All, is_none, slice_get, slice_set, ◌==◌}
-use Rattle.fact_store.specs.View.{cells_of}
-use Rattle.fabric_sim.specs.Simulation.{Simulation}
+use Rattle.std.specs.Prelude.{Option, Some, None, All, is_none, slice_get, ◌==◌}
 use Rattle.lft_blocks.specs.Plan.{PlanValue}
-use Rattle.sm_manager.specs.declared.outgoing.Outgoing.{Outgoing}
 use Rattle.sm_manager.specs.Manager.{begin_fault}
-use Rattle.manager_laws.specs.Scene.{Scene, Sending, Event, CanSend, Send as SendFrom, after_event, sent, sent_from}
+use Rattle.manager_laws.specs.Scene.{Scene, Event, CanSend, Send as SendFrom, after_event, sent, sent_from}
 use Rattle.manager_laws.specs.Managing as one
 use Rattle.manager_laws.specs.Managing.{Managing, ManagerEvent, Starts, after_manager_event, after_manager_events, packet_of}
 use Rattle.manager_laws.specs.Written.{BeginsNoWriting, BeginsSweep, SweepsFirst, plan_at}
@@ -20,9 +17,9 @@ use Rattle.manager_laws.proofs.Held as held_laws
 use Rattle.manager_laws.proofs.WritingSweeps.{Ground}
 use Rattle.masters_laws.specs.Masters.{AllCanBe, Around, At, CanBe, IsAt, IsItsOwn, Masters, MastersEvent, Seated, StartTogether, WritesSwept, acting}
 use Rattle.masters_laws.specs.Masters.{after_masters_event, after_masters_events, has_swept_after, seated_after, seen_by}
-use Rattle.masters_laws.specs.Runs.{EachRunsOnItsOwn, IsSendable, OwnRun, WhatIsGivenOutCanBeSent}
-use Rattle.masters_laws.proofs.Side.{Old, SendsOne, goes_after, no_writing, own_scene, view_after}
-use Rattle.masters_laws.proofs.Together.{SeatsStay, ground_of, seats_set, set_at, set_elsewhere, set_there, still_apart}
+use Rattle.masters_laws.specs.Runs.{EachRunsOnItsOwn, OwnRun, WhatIsGivenOutCanBeSent}
+use Rattle.masters_laws.proofs.Side.{Old, goes_after, no_writing, own_scene, view_after}
+use Rattle.masters_laws.proofs.Together.{SeatsStay, ground_of, seats_set, set_elsewhere, set_there, still_apart}
 
 -- what is given out ------------------------------------------------------------------------------------------------
 

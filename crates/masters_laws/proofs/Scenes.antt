@@ -1,18 +1,16 @@
 -- A scene on which managers keep a plan in force: what is so of it at first is so whatever happens there.
-use Rattle.std.proofs.Common.{◌≡◌, ◌⊎◌, inl, inr, ℕ, ◌<◌, ◌≤◌, ◌^◌, Bool, true, false, List, length, refl, sym, ap, ◌∙◌, subst, arith}
+use Rattle.std.proofs.Common.{◌≡◌, ℕ, ◌<◌, ◌≤◌, ◌^◌, true, List, length, refl, sym, ap, ◌∙◌, subst, arith}
 use Rattle.std.proofs.lemmas.Bool.{cond_both}
 use Rattle.std.specs.Prelude.{Option, Some, None, slice_get}
 use Rattle.std.specs.Option.{option_map_or}
 use Rattle.fabric_model.specs.declared.cable.NodePort.{NodePort}
-use Rattle.fabric_model.specs.Fabric.{Fabric}
 use Rattle.fabric_model.specs.FabricWalks.{IsJoinedTo}
 use Rattle.smp_bytes.specs.Header.{get_resp, set}
 use Rattle.smp_bytes.specs.Requests.{answer_packet, directed}
 use Rattle.smp_bytes.proofs.Answered.{answer_reads_back}
 use Rattle.node_agents.specs.Agent.{Agent, base_lid_at}
 use Rattle.fabric_sim.specs.declared.packet.Packet.{Packet}
-use Rattle.fabric_sim.specs.Simulation.{Simulation, AreCables, agent_at, fabric_of, is_seat_at, port_count}
-use Rattle.fabric_sim.specs.Changes.{after_inject, after_lose, after_repeat}
+use Rattle.fabric_sim.specs.Simulation.{AreCables, agent_at, fabric_of, is_seat_at, port_count}
 use Rattle.fabric_sim.specs.Delivery.{after_deliver}
 use Rattle.fabric_sim.specs.ThereAndBack.{directed_packet}
 use Rattle.fabric_sim.proofs.Traced.{IsForManager, IsOnCourse}

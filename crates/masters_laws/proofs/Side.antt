@@ -1,25 +1,18 @@
 -- One of several managers, to which the others are what happens around it: its sweeps find the plan that is held, and so it writes this plan.
-use Rattle.std.proofs.Common.{◌≡◌, ◌≢◌, ◌⊎◌, inl, inr, ℕ, ◌<◌, ◌≤◌, ◌^◌, Bool, true, false, cond, List, [], ◌∷◌, ◌++◌, length, map, refl, sym, ap, ◌∙◌, subst, arith}
+use Rattle.std.proofs.Common.{◌≡◌, ◌⊎◌, inl, inr, ℕ, ◌<◌, ◌≤◌, ◌^◌, Bool, true, false, cond, List, [], ◌∷◌, ◌++◌, length, map, refl, sym, ap, ◌∙◌, subst, arith}
 use Rattle.std.proofs.lemmas.Bool.{and_parts, cond_both, eqb-true, leb-true}
-use Rattle.std.proofs.lemmas.Option.{same_Some}
 use Rattle.std.specs.Prelude.{Contains, Option, Some, None, All, is_none, nat_le, slice_get, ◌==◌, ◌&&◌}
 use Rattle.fabric_model.specs.declared.cable.NodePort.{NodePort}
 use Rattle.fabric_model.specs.Cables.{is_same_port}
-use Rattle.fabric_model.specs.Fabric.{Fabric}
 use Rattle.fabric_model.specs.FabricWalks.{IsJoinedTo}
 use Rattle.fabric_model.specs.DirectedWalk.{directed_end}
 use Rattle.smp_bytes.specs.Header.{get, set}
-use Rattle.smp_bytes.specs.Field.{number_in}
-use Rattle.smp_bytes.specs.Packet.{method}
 use Rattle.smp_bytes.specs.Requests.{directed}
-use Rattle.dr_forward.proofs.Trips.{IsOut, IsRequestOver}
 use Rattle.reply_facts.specs.declared.report.Report.{Report}
 use Rattle.fact_store.specs.Seen.{newest_of}
 use Rattle.fact_store.specs.View.{Facts, cells_of, view_at}
 use Rattle.fact_store.proofs.Views.{view_of_its_cells}
-use Rattle.node_agents.specs.Agent.{Agent}
-use Rattle.fabric_sim.specs.Simulation.{Simulation, agent_at, fabric_of}
-use Rattle.fabric_sim.proofs.TripShapes.{IsAlong}
+use Rattle.fabric_sim.specs.Simulation.{Simulation, fabric_of}
 use Rattle.subnet_view.specs.Agreement.{AgreesOn}
 use Rattle.lid_assign.specs.Lids.{IsNoRoom}
 use Rattle.lft_blocks.specs.Arrival.{HoldsPlan}
@@ -31,28 +24,25 @@ use Rattle.sweep.specs.declared.request.Request.{Request}
 use Rattle.sweep.specs.Sweep.{Sweep, started}
 use Rattle.sm_manager.specs.declared.outgoing.Outgoing.{Outgoing}
 use Rattle.sm_manager.specs.Calls as calls
-use Rattle.sm_manager.specs.Manager.{Manager, after_begin_sweep, begin_fault, newest_held, next_generation, with_all_sent}
+use Rattle.sm_manager.specs.Manager.{after_begin_sweep, begin_fault, newest_held, next_generation, with_all_sent}
 use Rattle.sm_manager.specs.Plans.{writing_fault}
 use Rattle.sm_manager.specs.Writing.{phases_by}
 use Rattle.sm_manager.proofs.Lives.{planning_stays}
-use Rattle.manager_laws.specs.Complete.{IsWhole, facts_of}
-use Rattle.manager_laws.specs.Scene.{Handed, Scene, Sending, ByLid, ByPath, Answer, Event, CanHappen, CanSend, Send as SendFrom, after_event, sent_from}
+use Rattle.manager_laws.specs.Scene.{Handed, Scene, Sending, ByLid, ByPath, Answer, Event, CanSend, Send as SendFrom, after_event, sent_from}
 use Rattle.manager_laws.specs.Managing.{Managing, ManagerEvent, Around, Begin, Write, Take, Send, Hear, TimeOut, Raise, Merge, Poll, HandOver}
-use Rattle.manager_laws.specs.Managing.{CanBe, Starts, after_manager_event, hearing, packet_of, sending}
-use Rattle.manager_laws.specs.Sets.{Carries, IsOwnSet}
+use Rattle.manager_laws.specs.Managing.{CanBe, after_manager_event, hearing, packet_of, sending}
+use Rattle.manager_laws.specs.Sets.{Carries}
 use Rattle.manager_laws.specs.Sweeping as sweeping
 use Rattle.manager_laws.specs.Sweeping.{Sweeping, SweepEvent, Begins, after_sweep_events}
-use Rattle.manager_laws.specs.Truth.{AreGuidsDistinct}
 use Rattle.manager_laws.specs.Written.{BeginsNoWriting}
 use Rattle.manager_laws.specs.WritingPings.{BeginsNoSweep}
-use Rattle.manager_laws.proofs.AgentSets.{AsksFor}
-use Rattle.manager_laws.proofs.Before.{any_goes, begin_goes, event_goes, is_none-none, none-is_none}
+use Rattle.manager_laws.proofs.Before.{begin_goes, event_goes, is_none-none}
 use Rattle.manager_laws.proofs.Fair.{AreOwnPackets, own_there}
 use Rattle.manager_laws.proofs.Followed.{HasAskedAll, asks, asks_all, asks_can, can_append, on_scene, runs_append}
 use Rattle.manager_laws.proofs.Follows.{Follows, holds_all}
 use Rattle.manager_laws.proofs.Generations.{AreOf, floor_small}
 use Rattle.manager_laws.proofs.Goes.{Goes}
-use Rattle.manager_laws.proofs.Scenes.{IsOfStep, IsOwn, IsOwnSending, SetsInfoAlone}
+use Rattle.manager_laws.proofs.Scenes.{IsOfStep, IsOwn, IsOwnSending}
 use Rattle.manager_laws.proofs.Steps.{IsOf, StepSent}
 use Rattle.manager_laws.proofs.Sweeps.{told_in}
 use Rattle.manager_laws.proofs.WritingSweeps.{Ground, IsSwept, IsSweptOne, SweepIs}
@@ -61,12 +51,12 @@ use Rattle.manager_laws.proofs.Writings.{MayWrite, may_write, own_carries, writi
 use Rattle.takeover_laws.specs.Claims.{HasLidsOf, LidsStay}
 use Rattle.takeover_laws.specs.Takeover.{plan_by_it}
 use Rattle.takeover_laws.proofs.Claimed.{takeovers_change_nothing}
-use Rattle.takeover_laws.proofs.Following.{IsFollowed, event_followed}
+use Rattle.takeover_laws.proofs.Following.{event_followed}
 use Rattle.takeover_laws.proofs.Seen.{SeenKeeping, asks_lids, lids_append}
 use Rattle.masters_laws.specs.Masters.{IsItsOwn, IsWholeSweep, Seated, WritesSwept, WritesWhole, has_swept_after, knows_one_after, seated_after, seen_by}
 use Rattle.masters_laws.proofs.Acting.{AreCarried, Carried, Plans, WritesCarried, event_plans}
 use Rattle.masters_laws.proofs.Deliveries.{IsPlannedFrom, Sends}
-use Rattle.masters_laws.proofs.Scenes.{SendsSo, SentSo, Stands}
+use Rattle.masters_laws.proofs.Scenes.{SendsSo}
 
 -- an old sweep may be left where none began
 abbrev pub Old : Bool → Type 0

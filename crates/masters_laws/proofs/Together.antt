@@ -1,20 +1,17 @@
 -- Several managers: whatever they do, each goes on, what is joined to their seats holds the plan, and no port gets another LID.
-use Rattle.std.proofs.Common.{◌≡◌, ◌≢◌, ◌⊎◌, inl, inr, ℕ, zero, suc, ◌<◌, ◌≤◌, ◌^◌, Bool, true, false, List, [], ◌∷◌, refl, sym, ap, ◌∙◌, subst, arith}
+use Rattle.std.proofs.Common.{◌≡◌, ◌≢◌, ◌⊎◌, inl, inr, ℕ, zero, suc, ◌≤◌, true, List, [], ◌∷◌, refl, sym, ap, ◌∙◌, subst, arith}
 use Rattle.std.proofs.lemmas.Option.{same_Some}
 use Rattle.std.specs.Prelude.{Contains, Option, Some, None, slice_get, slice_set}
 use Rattle.fabric_model.specs.declared.cable.NodePort.{NodePort}
-use Rattle.fabric_model.specs.Fabric as fabrics
 use Rattle.fabric_model.specs.FabricWalks.{IsJoinedTo}
-use Rattle.smp_bytes.specs.Header.{set}
-use Rattle.smp_bytes.specs.Requests.{directed}
 use Rattle.smp_bytes.proofs.Made.{directed_reads_back}
-use Rattle.fact_store.specs.View.{Facts, cells_of}
-use Rattle.fabric_sim.specs.Simulation.{Simulation, AreCables, IsSimulation, fabric_of, port_count}
+use Rattle.fact_store.specs.View.{Facts}
+use Rattle.fabric_sim.specs.Simulation.{AreCables, fabric_of, port_count}
 use Rattle.fabric_sim.proofs.TripEnds.{along_itself, few_ports}
 use Rattle.fabric_sim.proofs.TracedCalls.{AreTraced}
 use Rattle.lft_blocks.specs.Plan.{PlanValue}
 use Rattle.lft_blocks.specs.Planning.{Planning}
-use Rattle.manager_laws.specs.Scene.{Scene, Sending, ByLid, ByPath, Answer, Event, Deliver, Lose, Repeat, Send as SendFrom, CanHappen, after_event}
+use Rattle.manager_laws.specs.Scene.{Scene, ByLid, ByPath, Answer, Event, Deliver, Lose, Repeat, Send as SendFrom, CanHappen, after_event}
 use Rattle.manager_laws.specs.Managing as one
 use Rattle.manager_laws.specs.Managing.{Managing, ManagerEvent, Starts, IsElsewhere, after_manager_event}
 use Rattle.manager_laws.specs.Written.{plan_at}
@@ -24,21 +21,18 @@ use Rattle.manager_laws.proofs.Fair.{AreOwnPackets}
 use Rattle.manager_laws.proofs.Goes.{Goes}
 use Rattle.manager_laws.proofs.Held as held_laws
 use Rattle.manager_laws.proofs.Sound.{CanBeSwept}
-use Rattle.manager_laws.proofs.Steps.{StepSent}
 use Rattle.manager_laws.proofs.Swept as swept_laws
 use Rattle.manager_laws.proofs.TracedScenes.{WereTraced}
 use Rattle.manager_laws.proofs.WritingSweeps.{Ground}
 use Rattle.subnet_view.proofs.Members.{contains_none}
-use Rattle.takeover_laws.specs.Claims.{HasLidsOf}
-use Rattle.takeover_laws.specs.Takeover.{IsInUse, plan_by_it}
-use Rattle.takeover_laws.proofs.HeldOn.{AreListed, HeldOn}
+use Rattle.takeover_laws.specs.Takeover.{plan_by_it}
+use Rattle.takeover_laws.proofs.HeldOn.{AreListed}
 use Rattle.takeover_laws.proofs.Listed.{are_listed}
 use Rattle.takeover_laws.proofs.Takeover.{none_seen}
 use Rattle.takeover_laws.proofs.Throughout.{in_use}
 use Rattle.masters_laws.specs.Masters.{AllCanBe, Around, At, CanBe, IsAt, IsItsOwn, Masters, MastersEvent, Seated, SetsNothing, StartTogether, WritesSwept, WritesWhole}
 use Rattle.masters_laws.specs.Masters.{IsWholeSweep, acting, after_masters_event, after_masters_events, seated_after, seen_by}
 use Rattle.masters_laws.specs.InForce.{AllSweepWhole, HoldTogether, IsInForceAlong, IsInForceAt, MastersChangeNothing, MastersWriteTheSame, SweepsWhole}
-use Rattle.masters_laws.proofs.Acting.{Carried, Plans}
 use Rattle.masters_laws.proofs.Deliveries.{Sends, Tells}
 use Rattle.masters_laws.proofs.Harmless.{AreHarmless}
 use Rattle.masters_laws.proofs.Scenes.{SendsSo, SentSo, Stands, stands_on}
