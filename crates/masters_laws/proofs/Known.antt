@@ -15,7 +15,7 @@ use Rattle.masters_laws.specs.Known.{BeganSweep, HasSweptMeans, KnowsOneSweepMea
 use Rattle.masters_laws.proofs.Side.{none_of}
 use Rattle.masters_laws.proofs.Together.{set_elsewhere, set_there}
 
-after_both : (es fs : List MastersEvent) (t : Masters) → after_masters_events (es ++ fs) t ≡ after_masters_events fs (after_masters_events es t)
+pub after_both : (es fs : List MastersEvent) (t : Masters) → after_masters_events (es ++ fs) t ≡ after_masters_events fs (after_masters_events es t)
 after_both [] fs t = refl
 after_both (e ∷ es) fs t = after_both es fs (after_masters_event t e)
 

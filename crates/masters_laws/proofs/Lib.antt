@@ -8,3 +8,5 @@ pub mod Side
 pub mod Together
 pub mod Runs
 pub mod Known
+pub mod SameParts
+pub mod Example

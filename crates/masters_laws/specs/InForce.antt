@@ -1,5 +1,6 @@
 -- Several masters at once on a subnet that holds a plan: what they write, and that the plan stays in force.
-use Rattle.std.specs.Prelude.{◌≡◌, ℕ, true, List, [], ◌∷◌}
+use Rattle.std.specs.Prelude.{◌≡◌, ℕ, true, false, List, [], ◌∷◌, ◌++◌, None}
+use Rattle.fabric_model.specs.declared.cable.NodePort.{NodePort}
 use Rattle.fabric_model.specs.FabricWalks.{IsJoinedTo}
 use Rattle.fact_store.specs.View.{Facts, cells_of}
 use Rattle.fabric_sim.specs.Simulation.{fabric_of}
@@ -7,6 +8,9 @@ use Rattle.subnet_view.specs.Agreement.{AgreesOn}
 use Rattle.lid_assign.specs.Lids.{IsNoRoom}
 use Rattle.lft_blocks.specs.Arrival.{HoldsPlan}
 use Rattle.lft_blocks.specs.Planning.{Planning}
+use Rattle.sm_manager.specs.Manager.{new_manager}
+use Rattle.sm_manager.specs.Plans.{writing_fault}
+use Rattle.manager_laws.specs.Managing as one
 use Rattle.manager_laws.specs.Written.{plan_at}
 use Rattle.takeover_laws.specs.Claims.{HasLidsOf}
 use Rattle.takeover_laws.specs.Takeover.{IsInUse, plan_by_it}
@@ -61,3 +65,39 @@ abbrev pub MastersChangeNothing : Type 0
 MastersChangeNothing =
     (held : Facts) (planning : Planning) (t : Masters) (events : List MastersEvent) → HoldTogether held planning t
     → AllCanBe events t → AllSweepWhole events t → IsInForceAlong held planning t events t
+
+-- there are two managers that were just made and write such a subnet at once ----------------------
+
+-- at its seat, where it has done nothing
+abbrev pub new_at : NodePort → ℕ → Planning → Seated
+new_at seat port_guid planning =
+    record {
+      seat = seat;
+      manager = new_manager port_guid seat.port 0 planning;
+      out = [];
+      has_swept = false;
+      knows_one_sweep = false;
+    }
+
+pub record SomeMastersWriteAtOnce : Type 0 where
+  pub masters : Masters
+  pub held : Facts
+  pub planning : Planning
+  pub hold : HoldTogether held planning masters
+  pub seat : NodePort
+  pub guid : ℕ
+  pub other_seat : NodePort
+  pub other_guid : ℕ
+  pub are_new : masters.managers ≡ new_at seat guid planning ∷ new_at other_seat other_guid planning ∷ []
+  -- what happens until they are told to write, and from then on
+  pub sweeping : List MastersEvent
+  pub writing : List MastersEvent
+  pub can_be : AllCanBe (sweeping ++ At 0 one.Write ∷ At 1 one.Write ∷ writing) masters
+  pub whole : AllSweepWhole (sweeping ++ At 0 one.Write ∷ At 1 one.Write ∷ writing) masters
+  -- neither is refused
+  pub first : Seated
+  pub first_there : IsAt (after_masters_events sweeping masters) 0 first
+  pub first_begins : writing_fault first.manager ≡ None
+  pub second : Seated
+  pub second_there : IsAt (after_masters_events (sweeping ++ At 0 one.Write ∷ []) masters) 1 second
+  pub second_begins : writing_fault second.manager ≡ None

@@ -1,5 +1,5 @@
 //! What is so of several managers on one fabric.
-ghost use Rattle.masters_laws.specs.InForce.{MastersChangeNothing, MastersWriteTheSame};
+ghost use Rattle.masters_laws.specs.InForce.{MastersChangeNothing, MastersWriteTheSame, SomeMastersWriteAtOnce};
 ghost use Rattle.masters_laws.specs.Known.{HasSweptMeans, KnowsOneSweepMeans};
 ghost use Rattle.masters_laws.specs.Runs.{EachRunsOnItsOwn, WhatIsGivenOutCanBeSent};
 
@@ -37,4 +37,11 @@ pub fn masters_write_the_same()
 /// ping from an end port there, for each LID of the plan, reaches the owner of the LID.
 pub fn masters_change_nothing()
     ensures { MastersChangeNothing }
+{}
+
+/// Such masters there are: two managers that were just made, each on an adapter, which are wired to one switch and hold
+/// LIDs of their own choice, as it does, and a table. Their sweeps go on at once, and each is silent to the other; then
+/// both are told to write, and each writing begins.
+pub fn some_masters_write_at_once()
+    ensures { SomeMastersWriteAtOnce }
 {}
