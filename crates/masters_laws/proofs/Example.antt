@@ -1,9 +1,9 @@
 -- Two managers that sweep and write at once: each at an adapter, on a switch to which both are wired, and each silent to the other.
-use Rattle.std.proofs.Common.{◌≡◌, ◌≢◌, ℕ, zero, suc, ◌+◌, ◌*◌, ◌-◌, ◌^◌, ◌<◌, Bool, true, false, List, [], ◌∷◌, ◌++◌, length, map, replicate}
+use Rattle.std.proofs.Common.{◌≡◌, ◌≢◌, ℕ, zero, suc, ◌+◌, ◌*◌, ◌-◌, ◌^◌, Bool, true, false, List, [], ◌∷◌, ◌++◌, length, replicate}
 use Rattle.std.proofs.Common.{refl, sym, ap, ◌∙◌, subst, arith}
 use Rattle.std.proofs.lemmas.Bool.{and_parts}
 use Rattle.std.proofs.lemmas.Option.{same_Some}
-use Rattle.std.specs.Prelude.{if◌then◌else◌, Option, Some, None, is_none, is_some, max, slice_get, slice_index_or, ◌==◌, ◌&&◌, not}
+use Rattle.std.specs.Prelude.{if◌then◌else◌, Option, Some, None, is_none, is_some, max, slice_get, slice_index_or, ◌==◌, ◌&&◌}
 use Rattle.fabric_model.specs.declared.cable.NodePort.{NodePort}
 use Rattle.smp_bytes.specs.Field.{with_bytes}
 use Rattle.node_agents.specs.Agent.{fresh_agent}
@@ -43,7 +43,7 @@ use Rattle.takeover_laws.proofs.Example.{its_planning}
 use Rattle.takeover_laws.specs.Takeover.{plan_by_it}
 use Rattle.takeover_laws.proofs.ExampleFabric.{distinct, is_network, network}
 use Rattle.manager_laws.proofs.Rests.{new_managers_rest}
-use Rattle.masters_laws.specs.Masters.{AllCanBe, Around, At, CanBe, IsAt, IsItsOwn, IsWholeSweep, Masters, MastersEvent, Seated, StartTogether, WritesSwept}
+use Rattle.masters_laws.specs.Masters.{AllCanBe, Around, At, CanBe, IsAt, IsItsOwn, IsWholeSweep, Masters, MastersEvent, Seated, StartTogether}
 use Rattle.masters_laws.specs.Masters.{WritesWhole, acting, after_masters_event, after_masters_events, seated_after, seen_by}
 use Rattle.masters_laws.specs.InForce.{AllSweepWhole, HoldTogether, SomeMastersWriteAtOnce, SweepsWhole}
 use Rattle.masters_laws.proofs.Known.{after_both}
@@ -136,16 +136,15 @@ record HasAnswers (m : Seated) : Type 0 where
   pub whole : IsWhole (sweep_in m.manager.sweep)
   pub is_sweep : is_some m.manager.sweep ≡ true
   pub planning : m.manager.planning ≡ its_planning
-  pub swept : m.has_swept ≡ true
   pub knows : m.knows_one_sweep ≡ true
 
 first_answers : HasAnswers (seated_at 0)
 unfolding cabled_at fresh_agent after_inject after_deliver after_lose outcome_of after_answer get_of set_of changed_port with_bytes
-first_answers = record { whole = record { done = refl; answered = refl; near = refl }; is_sweep = refl; planning = refl; swept = refl; knows = refl }
+first_answers = record { whole = record { done = refl; answered = refl; near = refl }; is_sweep = refl; planning = refl; knows = refl }
 
 second_answers : HasAnswers (seated_at 1)
 unfolding cabled_at fresh_agent after_inject after_deliver after_lose outcome_of after_answer get_of set_of changed_port with_bytes
-second_answers = record { whole = record { done = refl; answered = refl; near = refl }; is_sweep = refl; planning = refl; swept = refl; knows = refl }
+second_answers = record { whole = record { done = refl; answered = refl; near = refl }; is_sweep = refl; planning = refl; knows = refl }
 
 first_at : IsAt swept 0 (seated_at 0)
 unfolding cabled_at fresh_agent after_inject after_deliver after_lose outcome_of after_answer get_of set_of changed_port with_bytes
@@ -240,12 +239,12 @@ plain_may t (Around (Lose n)) e = ((tt, λ which m there. tt), tt)
 plain_may t (Around (Repeat n)) e = ((tt, λ which m there. tt), tt)
 plain_may t (Around (SendFrom seat sending)) e = absurd (cc)
 plain_may t (At which (one.Around event)) e = absurd (cc)
-plain_may t (At which one.Begin) e = (λ m there. (tt, tt, tt), λ m there. tt)
+plain_may t (At which one.Begin) e = (λ m there. (tt, tt), λ m there. tt)
 plain_may t (At which one.Write) e = absurd (cc)
-plain_may t (At which one.Take) e = (λ m there. (tt, tt, tt), λ m there. tt)
-plain_may t (At which (one.Send number)) e = (λ m there. (tt, tt, tt), λ m there. tt)
-plain_may t (At which (one.Hear number)) e = (λ m there. (tt, tt, tt), λ m there. tt)
-plain_may t (At which (one.TimeOut transaction)) e = (λ m there. (tt, tt, tt), λ m there. tt)
+plain_may t (At which one.Take) e = (λ m there. (tt, tt), λ m there. tt)
+plain_may t (At which (one.Send number)) e = (λ m there. (tt, tt), λ m there. tt)
+plain_may t (At which (one.Hear number)) e = (λ m there. (tt, tt), λ m there. tt)
+plain_may t (At which (one.TimeOut transaction)) e = (λ m there. (tt, tt), λ m there. tt)
 plain_may t (At which (one.Raise floor)) e = absurd (cc)
 plain_may t (At which (one.Merge floor sightings)) e = absurd (cc)
 plain_may t (At which (one.Poll lid)) e = absurd (cc)
@@ -268,8 +267,8 @@ may_append (e ∷ es) fs t now later =
 -- a manager writes whose sweep has every answer
 answers_may : (t : Masters) (which : ℕ) (m : Seated) → IsAt t which m → HasAnswers m → May t (At which one.Write)
 answers_may t which m there has = (
-  λ n at. subst (λ (x : Seated). IsItsOwn one.Write × one.CanBe x.seat one.Write × WritesSwept x one.Write) (same_Some _ _ (sym there ∙ at))
-      (tt, tt, λ none. has.swept),
+  λ n at. subst (λ (x : Seated). IsItsOwn one.Write × one.CanBe x.seat one.Write) (same_Some _ _ (sym there ∙ at))
+      (tt, tt),
   λ n at. subst (λ (x : Seated). WritesWhole x one.Write) (same_Some _ _ (sym there ∙ at))
       (λ none. (has.knows, subst IsWholeSweep (sym (sweep_there m.manager.sweep has.is_sweep)) has.whole)),
 )

@@ -15,9 +15,9 @@ use Rattle.manager_laws.proofs.Fair.{own_there}
 use Rattle.manager_laws.proofs.Goes.{Goes}
 use Rattle.manager_laws.proofs.Held as held_laws
 use Rattle.manager_laws.proofs.WritingSweeps.{Ground}
-use Rattle.masters_laws.specs.Masters.{AllCanBe, Around, At, CanBe, IsAt, IsItsOwn, Masters, MastersEvent, Seated, StartTogether, WritesSwept, acting}
+use Rattle.masters_laws.specs.Masters.{AllCanBe, Around, At, CanBe, IsAt, IsItsOwn, Masters, MastersEvent, Seated, StartTogether, acting}
 use Rattle.masters_laws.specs.Masters.{after_masters_event, after_masters_events, has_swept_after, seated_after, seen_by}
-use Rattle.masters_laws.specs.Runs.{EachRunsOnItsOwn, OwnRun, WhatIsGivenOutCanBeSent}
+use Rattle.masters_laws.specs.Runs.{AllSweepBefore, EachRunsOnItsOwn, OwnRun, SweepsBefore, WhatIsGivenOutCanBeSent, WritesSwept}
 use Rattle.masters_laws.proofs.Side.{Old, goes_after, no_writing, own_scene, view_after}
 use Rattle.masters_laws.proofs.Together.{SeatsStay, ground_of, seats_set, set_elsewhere, set_there, still_apart}
 
@@ -220,19 +220,19 @@ module _ (t0 : Masters) (starts : StartTogether t0) (plan : PlanValue) where
             (subst (Runs (acting t which event (Some r.run.later)) which) same (own_run t which m0 at_first r event its can_be writes))
         by_place k n0 first false e = other_runs k n0 first (eqb-false _ _ e)
 
-  acts : (t : Masters) (which : ℕ) (event : ManagerEvent) → AllRun t → CanBe t (At which event) → (o : Option Seated) → slice_get t.managers which ≡ o
+  acts : (t : Masters) (which : ℕ) (event : ManagerEvent) → AllRun t → CanBe t (At which event) → SweepsBefore t (At which event) → (o : Option Seated) → slice_get t.managers which ≡ o
       → AllRun (acting t which event o)
-  acts t which event all can_be None there = all
-  acts t which event all can_be (Some m) there =
+  acts t which event all can_be swept None there = all
+  acts t which event all can_be swept (Some m) there =
       let (m0, at_first, seat) = all.seats.was which m there in
       let r = all.each which m0 at_first in
       let same = now_at t which m m0 there r in
       let may = can_be r.run.later r.run.there in
-      subst (λ n. AllRun (acting t which event (Some n))) same (acts_at t all which m0 at_first r event may.0 may.1 may.2)
+      subst (λ n. AllRun (acting t which event (Some n))) same (acts_at t all which m0 at_first r event may.0 may.1 (swept r.run.later r.run.there))
 
-  next : (t : Masters) (event : MastersEvent) → AllRun t → CanBe t event → AllRun (after_masters_event t event)
-  next t (Around event) all can_be = around t event all can_be
-  next t (At which event) all can_be = acts t which event all can_be (slice_get t.managers which) refl
+  next : (t : Masters) (event : MastersEvent) → AllRun t → CanBe t event → SweepsBefore t event → AllRun (after_masters_event t event)
+  next t (Around event) all can_be swept = around t event all can_be
+  next t (At which event) all can_be swept = acts t which event all can_be swept (slice_get t.managers which) refl
 
   first_run : AllRun t0
   first_run =
@@ -247,11 +247,13 @@ module _ (t0 : Masters) (starts : StartTogether t0) (plan : PlanValue) where
         seats = record { was = λ which m there. (m, there, refl) };
       }
 
-  all_run : (events : List MastersEvent) (t : Masters) → AllRun t → AllCanBe events t → AllRun (after_masters_events events t)
-  all_run [] t all can_be = all
-  all_run (event ∷ events) t all can_be = all_run events (after_masters_event t event) (next t event all can_be.0) can_be.1
+  all_run : (events : List MastersEvent) (t : Masters) → AllRun t → AllCanBe events t → AllSweepBefore events t
+      → AllRun (after_masters_events events t)
+  all_run [] t all can_be swept = all
+  all_run (event ∷ events) t all can_be swept =
+      all_run events (after_masters_event t event) (next t event all can_be.0 swept.0) can_be.1 swept.1
 
 pub each_runs_on_its_own : EachRunsOnItsOwn
-each_runs_on_its_own t events starts can_be which m there =
+each_runs_on_its_own t events starts can_be swept which m there =
     let plan = plan_at (seen_by t.scene m) in
-    ((all_run t starts plan events t (first_run t starts plan) can_be).each which m there).run
+    ((all_run t starts plan events t (first_run t starts plan) can_be swept).each which m there).run

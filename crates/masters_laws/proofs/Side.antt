@@ -53,7 +53,8 @@ use Rattle.takeover_laws.specs.Takeover.{plan_by_it}
 use Rattle.takeover_laws.proofs.Claimed.{takeovers_change_nothing}
 use Rattle.takeover_laws.proofs.Following.{event_followed}
 use Rattle.takeover_laws.proofs.Seen.{SeenKeeping, asks_lids, lids_append}
-use Rattle.masters_laws.specs.Masters.{IsItsOwn, IsWholeSweep, Seated, WritesSwept, WritesWhole, has_swept_after, knows_one_after, seated_after, seen_by}
+use Rattle.masters_laws.specs.Masters.{IsItsOwn, IsWholeSweep, Seated, WritesWhole, has_swept_after, knows_one_after, seated_after, seen_by}
+use Rattle.masters_laws.specs.Runs.{WritesSwept}
 use Rattle.masters_laws.proofs.Acting.{AreCarried, Carried, Plans, WritesCarried, event_plans}
 use Rattle.masters_laws.proofs.Deliveries.{IsPlannedFrom, Sends}
 use Rattle.masters_laws.proofs.Scenes.{SendsSo}
@@ -473,17 +474,31 @@ module _ (from : Scene) (held : Facts) (planning : Planning) where
     carried_if (Poll lid) whole = tt
     carried_if HandOver whole = tt
 
+    swept_if : (event : ManagerEvent) → WritesWhole m event → WritesSwept m event
+    swept_if Write whole = λ none. side.swept (whole none).0
+    swept_if (Around event) whole = tt
+    swept_if Begin whole = tt
+    swept_if Take whole = tt
+    swept_if (Send which) whole = tt
+    swept_if (Hear which) whole = tt
+    swept_if (TimeOut transaction) whole = tt
+    swept_if (Raise floor) whole = tt
+    swept_if (Merge floor sightings) whole = tt
+    swept_if (Poll lid) whole = tt
+    swept_if HandOver whole = tt
+
     -- by an event of its own
-    pub own_side : (event : ManagerEvent) → IsItsOwn event → CanBe m.seat event → WritesSwept m event → WritesWhole m event
+    pub own_side : (event : ManagerEvent) → IsItsOwn event → CanBe m.seat event → WritesWhole m event
         → SeenKeeping (fabric_of from.fabric) from scene → HasLidsOf (fabric_of from.fabric) scene
         → HasLidsOf (fabric_of from.fabric) (after_manager_event (seen_by scene m) event).scene
         → Side (after_manager_event (seen_by scene m) event).scene (seated_after m event (after_manager_event (seen_by scene m) event))
-    own_side event its can_be writes whole seen now lids =
+    own_side event its can_be whole seen now lids =
         let w = after_manager_event (seen_by scene m) event in
         let view = view_after scene m event in
         record {
           goes = subst (Goes from.fabric m.seat (plan_by_it planning held) (Old (has_swept_after m event))) (sym view)
-              (goes_after from.fabric (plan_by_it planning held) scene m known.ground side.goes event its can_be writes);
+              (goes_after from.fabric (plan_by_it planning held) scene m known.ground side.goes event its can_be
+              (swept_if event whole));
           plans = subst (Plans from.fabric m.seat (plan_by_it planning held)) (sym view)
               (event_plans from.fabric m.seat (plan_by_it planning held) known.ground (Old m.has_swept) (seen_by scene m) event
               (carried_if event whole) side.goes can_be side.plans);

@@ -30,7 +30,7 @@ use Rattle.takeover_laws.proofs.HeldOn.{AreListed}
 use Rattle.takeover_laws.proofs.Listed.{are_listed}
 use Rattle.takeover_laws.proofs.Takeover.{none_seen}
 use Rattle.takeover_laws.proofs.Throughout.{in_use}
-use Rattle.masters_laws.specs.Masters.{AllCanBe, Around, At, CanBe, IsAt, IsItsOwn, Masters, MastersEvent, Seated, SetsNothing, StartTogether, WritesSwept, WritesWhole}
+use Rattle.masters_laws.specs.Masters.{AllCanBe, Around, At, CanBe, IsAt, IsItsOwn, Masters, MastersEvent, Seated, SetsNothing, StartTogether, WritesWhole}
 use Rattle.masters_laws.specs.Masters.{IsWholeSweep, acting, after_masters_event, after_masters_events, seated_after, seen_by}
 use Rattle.masters_laws.specs.InForce.{AllSweepWhole, HoldTogether, IsInForceAlong, IsInForceAt, MastersChangeNothing, MastersWriteTheSame, SweepsWhole}
 use Rattle.masters_laws.proofs.Deliveries.{Sends, Tells}
@@ -182,7 +182,7 @@ module _ (held : Facts) (planning : Planning) (t0 : Masters) (h : HoldTogether h
 
   -- a manager does something
   module _ (t : Masters) (all : AllStand t) (which : ℕ) (m : Seated) (there : IsAt t which m) (event : ManagerEvent) (its : IsItsOwn event)
-      (can_be : one.CanBe m.seat event) (writes : WritesSwept m event) (whole : WritesWhole m event) where
+      (can_be : one.CanBe m.seat event) (whole : WritesWhole m event) where
     abbrev after : Managing
     after = after_manager_event (seen_by t.scene m) event
 
@@ -224,7 +224,7 @@ module _ (held : Facts) (planning : Planning) (t0 : Masters) (h : HoldTogether h
           stands = turns.stands;
           sides = λ k n at. elim (set_at t.managers which k (seated_after m event (after_manager_event (seen_by t.scene m) event)) n at) [
             | inl here ↦ subst (Side t0.scene held planning (after_manager_event (seen_by t.scene m) event).scene) here.1
-                (own_side t0.scene held planning t.scene m side known_here event its can_be writes whole all.stands.seen all.stands.lids turns.stands.lids)
+                (own_side t0.scene held planning t.scene m side known_here event its can_be whole all.stands.seen all.stands.lids turns.stands.lids)
             | inr other ↦ turns.others k n other.0 other.1
           ];
           seats = seats_set t0 t which m (seated_after m event (after_manager_event (seen_by t.scene m) event))
@@ -235,7 +235,7 @@ module _ (held : Facts) (planning : Planning) (t0 : Masters) (h : HoldTogether h
       → (o : Option Seated) → slice_get t.managers which ≡ o → AllStand (acting t which event o)
   acts t which event all can_be whole None there = all
   acts t which event all can_be whole (Some m) there =
-      let may = can_be m there in own t all which m there event may.0 may.1 may.2 (whole m there)
+      let may = can_be m there in own t all which m there event may.0 may.1 (whole m there)
 
   pub next : (t : Masters) (event : MastersEvent) → AllStand t → CanBe t event → SweepsWhole t event → AllStand (after_masters_event t event)
   next t (Around event) all can_be whole = around t event all can_be whole

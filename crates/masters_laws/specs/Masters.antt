@@ -98,11 +98,6 @@ abbrev pub IsItsOwn : ManagerEvent → Type 0
 IsItsOwn (one.Around event) = ⊥
 IsItsOwn event = Unit {0}
 
--- it begins no writing before a sweep
-abbrev pub WritesSwept : Seated → ManagerEvent → Type 0
-WritesSwept m one.Write = writing_fault m.manager ≡ None → m.has_swept ≡ true
-WritesSwept m event = Unit {0}
-
 abbrev pub IsWholeSweep : Option Sweep → Type 0
 IsWholeSweep None = ⊥
 IsWholeSweep (Some s) = IsWhole s
@@ -117,7 +112,7 @@ abbrev pub CanBe : Masters → MastersEvent → Type 0
 CanBe t (Around event) =
     CanHappen event × ((which : ℕ) (m : Seated) → IsAt t which m → IsElsewhere m.seat event)
 CanBe t (At which event) =
-    (m : Seated) → IsAt t which m → IsItsOwn event × one.CanBe m.seat event × WritesSwept m event
+    (m : Seated) → IsAt t which m → IsItsOwn event × one.CanBe m.seat event
 
 abbrev pub AllCanBe : List MastersEvent → Masters → Type 0
 AllCanBe [] t = Unit {0}
