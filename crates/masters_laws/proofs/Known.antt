@@ -19,7 +19,7 @@ pub after_both : (es fs : List MastersEvent) (t : Masters) → after_masters_eve
 after_both [] fs t = refl
 after_both (e ∷ es) fs t = after_both es fs (after_masters_event t e)
 
--- the one at a place after an event: the same, or as its own event leaves it
+-- the manager of an index after an event: as it was, or as its own event leaves it
 record AfterIt (t : Masters) (event : MastersEvent) (which : ℕ) (m : Seated) : Type 0 where
   pub next : Seated
   pub there : IsAt (after_masters_event t event) which next
@@ -28,7 +28,7 @@ record AfterIt (t : Masters) (event : MastersEvent) (which : ℕ) (m : Seated) :
 
 after_it : (t : Masters) (event : MastersEvent) (which : ℕ) (m : Seated) → IsAt t which m → AfterIt t event which m
 after_it t (Around event) which m there = record { next = m; there = there; how = inl (refl, λ own e. cc) }
-after_it t (At other event) which m there = by_place (which == other) refl
+after_it t (At other event) which m there = by_index (which == other) refl
   where
     not_it : which ≢ other → (own : ManagerEvent) → ◌≡◌ {A = MastersEvent} (At other event) (At which own) → ⊥
     not_it differs own e = let same : other ≡ which = cc in differs (sym same)
@@ -38,21 +38,21 @@ after_it t (At other event) which m there = by_place (which == other) refl
     elsewhere differs (Some n) =
         set_elsewhere t.managers other which (seated_after n event (after_manager_event (seen_by t.scene n) event)) (λ same. differs (sym same))
 
-    here : (place : ℕ) → place ≡ which → slice_get t.managers place ≡ Some m → AfterIt t (At place event) which m
-    here place same at =
+    here : (index : ℕ) → index ≡ which → slice_get t.managers index ≡ Some m → AfterIt t (At index event) which m
+    here index same at =
         let w = after_manager_event (seen_by t.scene m) event in
-        let acted : acting t place event (slice_get t.managers place) ≡ acting t place event (Some m) = ap (acting t place event) at in
+        let acted : acting t index event (slice_get t.managers index) ≡ acting t index event (Some m) = ap (acting t index event) at in
         record {
           next = seated_after m event w;
           there = ap (λ (x : Masters). slice_get x.managers which) acted
-              ∙ subst (λ k. slice_get (acting t place event (Some m)).managers k ≡ Some (seated_after m event w)) same
-              (set_there t.managers place (seated_after m event w) m at);
+              ∙ subst (λ k. slice_get (acting t index event (Some m)).managers k ≡ Some (seated_after m event w)) same
+              (set_there t.managers index (seated_after m event w) m at);
           how = inr (event, ap (λ k. At k event) same, refl, refl);
         }
 
-    by_place : (b : Bool) → (which == other) ≡ b → AfterIt t (At other event) which m
-    by_place true e = let same = eqb-true _ _ e in here other (sym same) (ap (slice_get t.managers) (sym same) ∙ there)
-    by_place false e =
+    by_index : (b : Bool) → (which == other) ≡ b → AfterIt t (At other event) which m
+    by_index true e = let same = eqb-true _ _ e in here other (sym same) (ap (slice_get t.managers) (sym same) ∙ there)
+    by_index false e =
         let differs = eqb-false _ _ e in
         record { next = m; there = elsewhere differs (slice_get t.managers other) ∙ there; how = inl (refl, not_it differs) }
 

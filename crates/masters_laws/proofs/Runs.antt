@@ -176,7 +176,7 @@ module _ (t0 : Masters) (starts : StartTogether t0) (plan : PlanValue) where
     pub each : (which : ℕ) (m0 : Seated) → IsAt t0 which m0 → Runs t which m0
     pub seats : SeatsStay t0 t
 
-  -- the one at a place now
+  -- the manager of an index now
   now_at : (t : Masters) (which : ℕ) (m m0 : Seated) → IsAt t which m → (r : Runs t which m0) → r.run.later ≡ m
   now_at t which m m0 there r = same_Some _ _ (sym r.run.there ∙ there)
 
@@ -207,18 +207,18 @@ module _ (t0 : Masters) (starts : StartTogether t0) (plan : PlanValue) where
     acts_at : AllRun (acting t which event (Some r.run.later))
     acts_at =
         record {
-          each = λ k n0 first. by_place k n0 first (which == k) refl;
+          each = λ k n0 first. by_index k n0 first (which == k) refl;
           seats = seats_set t0 t which r.run.later (seated_after r.run.later event (after_manager_event (seen_by t.scene r.run.later) event))
               (after_manager_event (seen_by t.scene r.run.later) event).scene all.seats r.run.there refl;
         }
       where
-        by_place : (k : ℕ) (n0 : Seated) → IsAt t0 k n0 → (b : Bool) → (which == k) ≡ b → Runs (acting t which event (Some r.run.later)) k n0
-        by_place k n0 first true e =
+        by_index : (k : ℕ) (n0 : Seated) → IsAt t0 k n0 → (b : Bool) → (which == k) ≡ b → Runs (acting t which event (Some r.run.later)) k n0
+        by_index k n0 first true e =
             let here : which ≡ k = eqb-true _ _ e in
-            let same : m0 ≡ n0 = same_Some _ _ (sym at_first ∙ subst (λ place. IsAt t0 place n0) (sym here) first) in
-            subst (λ place. Runs (acting t which event (Some r.run.later)) place n0) here
+            let same : m0 ≡ n0 = same_Some _ _ (sym at_first ∙ subst (λ index. IsAt t0 index n0) (sym here) first) in
+            subst (λ index. Runs (acting t which event (Some r.run.later)) index n0) here
             (subst (Runs (acting t which event (Some r.run.later)) which) same (own_run t which m0 at_first r event its can_be writes))
-        by_place k n0 first false e = other_runs k n0 first (eqb-false _ _ e)
+        by_index k n0 first false e = other_runs k n0 first (eqb-false _ _ e)
 
   acts : (t : Masters) (which : ℕ) (event : ManagerEvent) → AllRun t → CanBe t (At which event) → SweepsBefore t (At which event) → (o : Option Seated) → slice_get t.managers which ≡ o
       → AllRun (acting t which event o)

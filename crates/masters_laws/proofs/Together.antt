@@ -30,7 +30,7 @@ use Rattle.takeover_laws.proofs.HeldOn.{AreListed}
 use Rattle.takeover_laws.proofs.Listed.{are_listed}
 use Rattle.takeover_laws.proofs.Takeover.{none_seen}
 use Rattle.takeover_laws.proofs.Throughout.{in_use}
-use Rattle.masters_laws.specs.Masters.{AllCanBe, Around, At, CanBe, IsAt, IsItsOwn, Masters, MastersEvent, Seated, SetsNothing, StartTogether, WritesWhole}
+use Rattle.masters_laws.specs.Masters.{AllCanBe, Around, At, CanBe, IsAt, IsItsOwn, Masters, MastersEvent, Seated, SetsInfoOnly, StartTogether, WritesWhole}
 use Rattle.masters_laws.specs.Masters.{IsWholeSweep, acting, after_masters_event, after_masters_events, seated_after, seen_by}
 use Rattle.masters_laws.specs.InForce.{AllSweepWhole, HoldTogether, IsInForceAlong, IsInForceAt, MastersChangeNothing, MastersWriteTheSame, SweepsWhole}
 use Rattle.masters_laws.proofs.Deliveries.{Sends, Tells}
@@ -40,30 +40,30 @@ use Rattle.masters_laws.proofs.Side.{Known, Old, SendsOne, Side, around_side, fi
 
 -- lists -----------------------------------------------------------------------------------------------------------
 
--- what is at a place after another one was set
-pub set_at : {X : Type 0} (xs : List X) (place k : ℕ) (new x : X) → slice_get (slice_set xs place new) k ≡ Some x
-    → ((place ≡ k) × (new ≡ x)) ⊎ ((place ≢ k) × (slice_get xs k ≡ Some x))
-set_at [] place k new x e = absurd (cc)
+-- what a list has at an index after one was set
+pub set_at : {X : Type 0} (xs : List X) (index k : ℕ) (new x : X) → slice_get (slice_set xs index new) k ≡ Some x
+    → ((index ≡ k) × (new ≡ x)) ⊎ ((index ≢ k) × (slice_get xs k ≡ Some x))
+set_at [] index k new x e = absurd (cc)
 set_at (y ∷ xs) zero zero new x e = inl (refl, same_Some new x e)
 set_at (y ∷ xs) zero (suc k) new x e = inr ((λ same. absurd (omega (arith, same))), e)
-set_at (y ∷ xs) (suc place) zero new x e = inr ((λ same. absurd (omega (arith, same))), e)
-set_at (y ∷ xs) (suc place) (suc k) new x e = elim (set_at xs place k new x e) [
+set_at (y ∷ xs) (suc index) zero new x e = inr ((λ same. absurd (omega (arith, same))), e)
+set_at (y ∷ xs) (suc index) (suc k) new x e = elim (set_at xs index k new x e) [
   | inl same ↦ inl (ap suc same.0, same.1)
   | inr other ↦ inr ((λ same. other.0 (omega (arith, same))), other.1)
 ]
 
 -- it is there, where one was
-pub set_there : {X : Type 0} (xs : List X) (place : ℕ) (new x : X) → slice_get xs place ≡ Some x → slice_get (slice_set xs place new) place ≡ Some new
-set_there [] place new x e = absurd (cc)
+pub set_there : {X : Type 0} (xs : List X) (index : ℕ) (new x : X) → slice_get xs index ≡ Some x → slice_get (slice_set xs index new) index ≡ Some new
+set_there [] index new x e = absurd (cc)
 set_there (y ∷ xs) zero new x e = refl
-set_there (y ∷ xs) (suc place) new x e = set_there xs place new x e
+set_there (y ∷ xs) (suc index) new x e = set_there xs index new x e
 
-pub set_elsewhere : {X : Type 0} (xs : List X) (place k : ℕ) (new : X) → place ≢ k → slice_get (slice_set xs place new) k ≡ slice_get xs k
-set_elsewhere [] place k new other = refl
+pub set_elsewhere : {X : Type 0} (xs : List X) (index k : ℕ) (new : X) → index ≢ k → slice_get (slice_set xs index new) k ≡ slice_get xs k
+set_elsewhere [] index k new other = refl
 set_elsewhere (y ∷ xs) zero zero new other = absurd (other refl)
 set_elsewhere (y ∷ xs) zero (suc k) new other = refl
-set_elsewhere (y ∷ xs) (suc place) zero new other = refl
-set_elsewhere (y ∷ xs) (suc place) (suc k) new other = set_elsewhere xs place k new (λ same. other (ap suc same))
+set_elsewhere (y ∷ xs) (suc index) zero new other = refl
+set_elsewhere (y ∷ xs) (suc index) (suc k) new other = set_elsewhere xs index k new (λ same. other (ap suc same))
 
 -- what a manager starts on
 pub ground_of : (w : Managing) → Starts w → Ground w.scene.fabric w.seat
@@ -85,7 +85,7 @@ seats_set t0 t which m n scene stay there same =
     record {
       was = λ k x at. elim (set_at t.managers which k n x at) [
         | inl here ↦ let old = stay.was which m there in
-            (old.0, subst (λ place. IsAt t0 place old.0) here.0 old.1, old.2 ∙ sym same ∙ ap (λ (y : Seated). y.seat) here.1)
+            (old.0, subst (λ index. IsAt t0 index old.0) here.0 old.1, old.2 ∙ sym same ∙ ap (λ (y : Seated). y.seat) here.1)
         | inr other ↦ stay.was k x other.1
       ];
     }
@@ -159,7 +159,7 @@ module _ (held : Facts) (planning : Planning) (t0 : Masters) (h : HoldTogether h
   on w event st can_happen so = stands_on t0.scene (plan_by_it planning held) IsSeat cables counts can listed w event st can_happen so
 
   -- others set nothing
-  others_so : (event : Event) → CanHappen event → SetsNothing event → SentSo t0.scene (plan_by_it planning held) IsSeat event
+  others_so : (event : Event) → CanHappen event → SetsInfoOnly event → SentSo t0.scene (plan_by_it planning held) IsSeat event
   others_so (Deliver serial) can_happen nothing = tt
   others_so (Lose serial) can_happen nothing = tt
   others_so (Repeat serial) can_happen nothing = tt
@@ -170,7 +170,7 @@ module _ (held : Facts) (planning : Planning) (t0 : Masters) (h : HoldTogether h
   others_so (SendFrom seat (Answer which given payload)) can_happen nothing = tt
 
   -- something happens on the fabric
-  around : (t : Masters) (event : Event) → AllStand t → CanBe t (Around event) → SetsNothing event → AllStand (after_masters_event t (Around event))
+  around : (t : Masters) (event : Event) → AllStand t → CanBe t (Around event) → SetsInfoOnly event → AllStand (after_masters_event t (Around event))
   around t event all can_be nothing =
       let stands = on t.scene event all.stands can_be.0 (others_so event can_be.0 nothing) in
       record {

@@ -15,7 +15,7 @@ use Rattle.manager_laws.specs.Written.{plan_at}
 use Rattle.takeover_laws.specs.Claims.{HasLidsOf}
 use Rattle.takeover_laws.specs.Takeover.{IsInUse, plan_by_it}
 use Rattle.masters_laws.specs.Masters.{Seated, Masters, MastersEvent, Around, At, IsAt, seen_by, after_masters_event, after_masters_events}
-use Rattle.masters_laws.specs.Masters.{SetsNothing, WritesWhole, IsWholeSweep, AllCanBe, StartTogether}
+use Rattle.masters_laws.specs.Masters.{SetsInfoOnly, WritesWhole, IsWholeSweep, AllCanBe, StartTogether}
 
 -- on a subnet that holds a plan -------------------------------------------------------------------
 
@@ -32,7 +32,7 @@ pub record HoldTogether (held : Facts) (planning : Planning) (t : Masters) : Typ
 
 -- others set nothing but SMInfo, and what a manager writes it knows from one sweep, which has every answer
 abbrev pub SweepsWhole : Masters → MastersEvent → Type 0
-SweepsWhole t (Around event) = SetsNothing event
+SweepsWhole t (Around event) = SetsInfoOnly event
 SweepsWhole t (At which event) = (m : Seated) → IsAt t which m → WritesWhole m event
 
 abbrev pub AllSweepWhole : List MastersEvent → Masters → Type 0

@@ -15,7 +15,7 @@ pub record BeganSweep (t : Masters) (events : List MastersEvent) (which : ℕ) :
   pub there : IsAt (after_masters_events before t) which then
   pub begins : begin_fault then.manager ≡ None
 
--- the manager at a place begins no sweep, merges no facts of others, and raises its floor to none above its own
+-- the manager of an index begins no sweep, merges no facts of others, and raises its floor to none above its own
 abbrev pub LearnsNothingElse : ℕ → Masters → MastersEvent → Type 0
 LearnsNothingElse which t (Around event) = Unit {0}
 LearnsNothingElse which t (At other event) =

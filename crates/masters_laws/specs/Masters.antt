@@ -29,12 +29,12 @@ pub record Masters : Type 0 where
   pub scene : Scene
   pub managers : List Seated
 
--- something happens on the fabric, or to a manager, which is told by its place in the list
+-- something happens on the fabric, or to a manager, which is told by its index in the list
 pub data MastersEvent : Type 0 where
   Around : (event : Event) → MastersEvent
   At : (which : ℕ) → (event : ManagerEvent) → MastersEvent
 
--- the manager at a place
+-- the manager of an index
 abbrev pub IsAt : Masters → ℕ → Seated → Type 0
 IsAt t which m = slice_get t.managers which ≡ Some m
 
@@ -86,12 +86,12 @@ after_masters_events (event ∷ events) t = after_masters_events events (after_m
 -- what there may be ------------------------------------------------------------------------------
 
 -- whoever else sends sets nothing but SMInfo
-abbrev pub SetsNothing : Event → Type 0
-SetsNothing (around.Send seat (ByLid packet)) =
+abbrev pub SetsInfoOnly : Event → Type 0
+SetsInfoOnly (around.Send seat (ByLid packet)) =
     number_in method packet.bytes ≡ set → number_in attribute_id packet.bytes ≡ sm_info
-SetsNothing (around.Send seat (ByPath method_number attribute modifier tid path payload)) =
+SetsInfoOnly (around.Send seat (ByPath method_number attribute modifier tid path payload)) =
     method_number ≡ set → attribute ≡ sm_info
-SetsNothing event = Unit {0}
+SetsInfoOnly event = Unit {0}
 
 -- what happens to a manager itself
 abbrev pub IsItsOwn : ManagerEvent → Type 0

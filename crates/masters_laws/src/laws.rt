@@ -4,8 +4,8 @@ ghost use Rattle.masters_laws.specs.Known.{HasSweptMeans, KnowsOneSweepMeans};
 ghost use Rattle.masters_laws.specs.Runs.{EachRunsOnItsOwn, WhatIsGivenOutCanBeSent};
 
 /// Each packet that a manager gives out can be sent from its seat: it is forwarded by LIDs, or is a request over a
-/// path that leaves by the seat's port, or answers a request for SMInfo that was handed up there. So it is as long as
-/// the manager begins no writing before a sweep.
+/// path that leaves by the seat's port, or answers a request for SMInfo that was handed up there. So it is if the
+/// manager begins no writing before a sweep.
 pub fn what_is_given_out_can_be_sent()
     ensures { WhatIsGivenOutCanBeSent }
 {}
@@ -15,26 +15,29 @@ pub fn has_swept_means()
     ensures { HasSweptMeans }
 {}
 
-/// It knows one sweep exactly where it began that sweep as it held no facts, and began no other one, merged no facts of
-/// others and raised its floor no more since.
+/// One of several managers knows one sweep exactly where it began that sweep as it held no facts, and since then began
+/// no other one, merged no facts of others and raised its floor no more.
 pub fn knows_one_sweep_means()
     ensures { KnowsOneSweepMeans }
 {}
 
 /// Whatever several managers do, each of them runs as one manager does to which the others are what happens around it.
+/// So what `manager_laws` and `takeover_laws` say of one manager among others is so of each of them. None begins a
+/// writing before a sweep.
 pub fn each_runs_on_its_own()
     ensures { EachRunsOnItsOwn }
 {}
 
-/// What a manager would write that knows one sweep with every answer is the plan that the subnet holds, whatever other
+/// A manager that knows one sweep, which has every answer, would write the plan that the subnet holds, whatever other
 /// managers sweep and write meanwhile.
 pub fn masters_write_the_same()
     ensures { MastersWriteTheSame }
 {}
 
 /// However many masters sweep and write a subnet that holds a plan, in any order, the plan stays in force: at each
-/// moment each end port has its LID and each switch its blocks and no lower top, no port has another LID, and every
-/// ping from an end port there, for each LID of the plan, reaches the owner of the LID.
+/// moment each end port has its LID, each switch its blocks and no lower top, no port has another LID than at first, and
+/// every ping from an end port there, for each LID of the plan, reaches the owner of the LID. Each plans by the rule,
+/// the roots and the LMC of the plan, and what it writes it knows from one sweep, which has every answer.
 pub fn masters_change_nothing()
     ensures { MastersChangeNothing }
 {}
