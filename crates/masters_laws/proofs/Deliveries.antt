@@ -1,4 +1,4 @@
--- A delivery keeps the plan in force, and each port's LID, where each Set on its way was sent from a seat and carries the plan's values at the
+-- By a delivery each agent keeps what it holds of the plan, and each port its LID, where each Set on its way was sent from a seat and carries the plan's values at the
 -- end of its path.
 use Rattle.std.proofs.Common.{◌≡◌, ◌⊎◌, inl, inr, ℕ, ◌+◌, ◌≤◌, Bool, true, false, cond, List, length, refl, sym, ap, ◌∙◌, subst, arith}
 use Rattle.std.proofs.lemmas.Bool.{and_parts, eqb-true, eqb-false, leb-true}
@@ -30,7 +30,8 @@ use Rattle.manager_laws.specs.Sets.{Carries}
 use Rattle.manager_laws.proofs.Alike.{nodes_along}
 use Rattle.manager_laws.proofs.Sound.{CanBeSwept}
 use Rattle.manager_laws.proofs.WritingTaken.{changed_other}
-use Rattle.takeover_laws.proofs.HeldOn.{HeldOn, KeepsHeld, answered_keeps, itself}
+use Rattle.takeover_laws.proofs.HeldOn.{KeepsHeld, answered_keeps, itself}
+use Rattle.masters_laws.proofs.HeldLids.{HasLids}
 use Rattle.masters_laws.proofs.Harmless.{AreHarmless, Asked, asks_or_not}
 use Rattle.masters_laws.proofs.Joined.{end_joined}
 use Rattle.masters_laws.proofs.KeptLids.{KeepsLids, answered_keeps_lids}
@@ -62,7 +63,7 @@ module _ (start : Simulation) (plan : PlanValue) (IsSeat : NodePort → Type 0) 
 
   module _ (cables : AreCables start) (counts : (id : ℕ) → port_count start id ≤ 254) (can : (seat : NodePort) → IsSeat seat → CanBeSwept (fabric_of start) seat)
       {s : Simulation} (along : IsAlong start s) (is : IsSimulation s) (on : AreTraced Sends Tells start s.flights) (harmless : AreHarmless s.flights)
-      (held : (seat : NodePort) → IsSeat seat → HeldOn start plan (IsJoinedTo (fabric_of start) seat) s) where
+      (has_lids : (seat : NodePort) → IsSeat seat → HasLids start plan (IsJoinedTo (fabric_of start) seat) s) where
     abbrev f : Fabric
     f = fabric_of start
 
@@ -147,8 +148,8 @@ module _ (start : Simulation) (plan : PlanValue) (IsSeat : NodePort → Type 0) 
               let end : fabrics.IsEndPort (fabric_of start) (port_at x.at.node port) =
               subst (fabrics.IsEndPort (fabric_of start)) same
               (vertex_is_end (fabric_of start) x.at (node_of a, node_there, at_least.0, at_least.1)) in
-              let h = held r.origin planned.is_seat (port_at x.at.node port) (node_of a) (record { node_there = node_there; end_port = end; in_part = joined }) in
-              h.lids ∙ ap (λ o. Some (option_map_or (λ y. base_lid_at y port) o 0, option_map_or (λ y. lmc_at y port) o 0)) there
+              let h = has_lids r.origin planned.is_seat (port_at x.at.node port) (node_of a) (record { node_there = node_there; end_port = end; in_part = joined }) in
+              h ∙ ap (λ o. Some (option_map_or (λ y. base_lid_at y port) o 0, option_map_or (λ y. lmc_at y port) o 0)) there
 
     -- what an agent keeps --------------------------------------------------------------------------
 

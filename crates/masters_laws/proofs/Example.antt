@@ -45,7 +45,7 @@ use Rattle.takeover_laws.proofs.ExampleFabric.{distinct, is_network, network}
 use Rattle.manager_laws.proofs.Rests.{new_managers_rest}
 use Rattle.masters_laws.specs.Masters.{AllCanBe, Around, At, CanBe, IsAt, IsItsOwn, IsWholeSweep, Masters, MastersEvent, Seated, StartTogether}
 use Rattle.masters_laws.specs.Masters.{WritesWhole, acting, after_masters_event, after_masters_events, seated_after, seen_by}
-use Rattle.masters_laws.specs.InForce.{AllSweepWhole, HoldTogether, SomeMastersWriteAtOnce, SweepsWhole}
+use Rattle.masters_laws.specs.InForce.{AllHold, AllSweepWhole, ShareLids, SomeMastersWriteAtOnce, SweepsWhole}
 use Rattle.masters_laws.proofs.Known.{after_both}
 use Rattle.masters_laws.proofs.SameParts.{IsAtSwitch, agrees_too, joined_too}
 use Rattle.masters_laws.proofs.Together.{set_elsewhere}
@@ -370,16 +370,20 @@ start =
           (by_two (λ j y. port 2 1 ≡ y.seat → 1 ≡ j) (λ e. absurd (two_nodes 2 0 1 1 (λ k. omega (arith, k)) e)) (λ e. refl)) which m one other n two same;
     }
 
-hold : HoldTogether alone.swept.manager.store its_planning beginning
+hold : AllHold alone.swept.manager.store its_planning beginning
 hold =
+    by_two (λ which m. HoldsPlan (IsJoinedTo (fabric_of network) m.seat) (plan_by_it its_planning alone.swept.manager.store) (fabric_of network))
+    (holds_by (IsJoinedTo (fabric_of network) (port 0 1))) (holds_by (IsJoinedTo (fabric_of network) (port 2 1)))
+
+share : ShareLids alone.swept.manager.store its_planning beginning
+share =
     record {
       starts = start;
       has_room = alone.has_room;
       plans = by_two (λ which m. m.manager.planning ≡ its_planning) refl refl;
       agrees = by_two (λ which m. AgreesOn (IsJoinedTo (fabric_of network) m.seat) (cells_of alone.swept.manager.store) (fabric_of network))
           alone.agrees agrees_second;
-      holds = by_two (λ which m. HoldsPlan (IsJoinedTo (fabric_of network) m.seat) (plan_by_it its_planning alone.swept.manager.store)
-          (fabric_of network)) (holds_by (IsJoinedTo (fabric_of network) (port 0 1))) (holds_by (IsJoinedTo (fabric_of network) (port 2 1)));
+      lids = λ which m there q node is. (hold which m there q node is).lids;
     }
 
 pub some_masters_write_at_once : SomeMastersWriteAtOnce
@@ -388,6 +392,7 @@ some_masters_write_at_once =
       masters = beginning;
       held = alone.swept.manager.store;
       planning = its_planning;
+      share = share;
       hold = hold;
       seat = port 0 1;
       guid = 17;

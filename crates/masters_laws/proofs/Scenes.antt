@@ -25,11 +25,12 @@ use Rattle.manager_laws.proofs.Scenes.{SetsInfoAlone}
 use Rattle.manager_laws.proofs.Sound.{CanBeSwept}
 use Rattle.manager_laws.proofs.TracedScenes.{WereTraced, manager_traced, other_traced, sent_traced, traced_by, traced_more, traced_there}
 use Rattle.takeover_laws.specs.Claims.{HasLidsOf}
-use Rattle.takeover_laws.proofs.HeldOn.{AreListed, HeldOn, KeepsHeld, held_later, same_keep}
+use Rattle.takeover_laws.proofs.HeldOn.{AgentsKeep, AreListed, HeldOn, KeepsHeld, held_later, same_keep}
 use Rattle.takeover_laws.proofs.Seen.{SeenKeeping, one_seen}
 use Rattle.takeover_laws.proofs.Takeover.{seen_further}
 use Rattle.masters_laws.proofs.Deliveries.{Sends, Tells, agents_keep, none_comes}
 use Rattle.masters_laws.proofs.KeptLids.{KeepsLids}
+use Rattle.masters_laws.proofs.HeldLids.{HasLids, lids_later}
 use Rattle.masters_laws.proofs.Harmless.{AreHarmless, IsHarmless, copied_harmless, delivered_harmless, directed_harmless, injected_harmless, lost_harmless}
 
 module _ (from : Scene) (plan : PlanValue) (IsSeat : NodePort → Type 0) where
@@ -46,7 +47,7 @@ module _ (from : Scene) (plan : PlanValue) (IsSeat : NodePort → Type 0) where
   SentSo (Lose serial) = Unit {0}
   SentSo (Repeat serial) = Unit {0}
 
-  -- what is so at each moment: what is joined to each seat holds the plan, and each port has its LID
+  -- what is so at each moment: what is joined to each seat holds the plan's LIDs, and each port has its own
   pub record Stands (w : Scene) : Type 0 where
     pub continues : Continues from.fabric w
     pub seen : SeenKeeping (fabric_of from.fabric) from w
@@ -54,7 +55,7 @@ module _ (from : Scene) (plan : PlanValue) (IsSeat : NodePort → Type 0) where
     pub flights : AreTraced (Sends from.fabric plan IsSeat) (Tells from.fabric plan IsSeat) from.fabric w.fabric.flights
     pub handed : WereTraced (Sends from.fabric plan IsSeat) (Tells from.fabric plan IsSeat) from.fabric w.handed
     pub harmless : AreHarmless w.fabric.flights
-    pub held : (seat : NodePort) → IsSeat seat → HeldOn from.fabric plan (IsJoinedTo (fabric_of from.fabric) seat) w.fabric
+    pub has_lids : (seat : NodePort) → IsSeat seat → HasLids from.fabric plan (IsJoinedTo (fabric_of from.fabric) seat) w.fabric
 
   module _ (cables : AreCables from.fabric) (counts : (id : ℕ) → port_count from.fabric id ≤ 254)
       (can : (seat : NodePort) → IsSeat seat → CanBeSwept (fabric_of from.fabric) seat)
@@ -86,9 +87,9 @@ module _ (from : Scene) (plan : PlanValue) (IsSeat : NodePort → Type 0) where
           flights = so.flights;
           handed = so.handed;
           harmless = so.harmless;
-          held = λ seat is. held_later from.fabric plan (IsJoinedTo (fabric_of from.fabric) seat) (listed seat is) w.fabric (after_event w event).fabric
+          has_lids = λ seat is. lids_later from.fabric plan (IsJoinedTo (fabric_of from.fabric) seat) w.fabric (after_event w event).fabric
               st.continues.fabric.along
-              (same_keep from.fabric plan (IsJoinedTo (fabric_of from.fabric) seat) w.fabric (after_event w event).fabric so.agents) (st.held seat is);
+              (same_keep from.fabric plan (IsJoinedTo (fabric_of from.fabric) seat) w.fabric (after_event w event).fabric so.agents) (st.has_lids seat is);
         }
 
     -- what is sent -----------------------------------------------------------------------------------
@@ -141,6 +142,11 @@ module _ (from : Scene) (plan : PlanValue) (IsSeat : NodePort → Type 0) where
 
     -- whatever happens ---------------------------------------------------------------------------------
 
+    keep : (w : Scene) (n : ℕ) → Stands w → (id : ℕ) (a : Agent) → agent_at w.fabric id ≡ Some a
+        → (b : Agent) × (agent_at (after_deliver w.fabric n).fabric id ≡ Some b) × (KeepsHeld plan a b × KeepsLids a b)
+    keep w n st id a there =
+        agents_keep from.fabric plan IsSeat cables counts can st.continues.fabric.along st.continues.fabric.is st.flights st.harmless st.has_lids n id a there
+
     delivered_stands : (w : Scene) (n : ℕ) → Stands w → Stands (after_event w (Deliver n))
     delivered_stands w n st =
         let after = after_event w (Deliver n) in
@@ -153,15 +159,10 @@ module _ (from : Scene) (plan : PlanValue) (IsSeat : NodePort → Type 0) where
               (traced_by Requests Told from.fabric (after_deliver w.fabric n).result
               (deliveries_hand_up_traced Requests Told cables counts st.continues.fabric.along st.continues.fabric.is st.flights n));
           harmless = delivered_harmless Requests Told cables counts st.continues.fabric.along st.continues.fabric.is st.flights st.harmless n;
-          held = λ seat is. held_later from.fabric plan (IsJoinedTo (fabric_of from.fabric) seat) (listed seat is) w.fabric (after_deliver w.fabric n).fabric
-              st.continues.fabric.along (λ id a there. let (b, now, keeps) = keep id a there in (b, now, keeps.0)) (st.held seat is);
+          has_lids = λ seat is. lids_later from.fabric plan (IsJoinedTo (fabric_of from.fabric) seat) w.fabric (after_deliver w.fabric n).fabric
+              st.continues.fabric.along (λ id a there. let (b, now, keeps) = keep w n st id a there in (b, now, keeps.0)) (st.has_lids seat is);
         }
       where
-        keep : (id : ℕ) (a : Agent) → agent_at w.fabric id ≡ Some a
-            → (b : Agent) × (agent_at (after_deliver w.fabric n).fabric id ≡ Some b) × (KeepsHeld plan a b × KeepsLids a b)
-        keep id a there =
-            agents_keep from.fabric plan IsSeat cables counts can st.continues.fabric.along st.continues.fabric.is st.flights st.harmless st.held n id a there
-
         lids : HasLidsOf (fabric_of from.fabric) (after_event w (Deliver n))
         lids p = by_agent (agent_at w.fabric p.node) refl
           where
@@ -169,30 +170,55 @@ module _ (from : Scene) (plan : PlanValue) (IsSeat : NodePort → Type 0) where
                 → (fabric_of (after_deliver w.fabric n).fabric).base_lid p ≡ (fabric_of from.fabric).base_lid p
             by_agent None none =
                 ap (λ o. option_map_or (λ a. base_lid_at a p.port) o 0)
-                (none_comes from.fabric plan IsSeat cables counts can st.continues.fabric.along st.continues.fabric.is st.flights st.harmless st.held n p.node none
+                (none_comes from.fabric plan IsSeat cables counts can st.continues.fabric.along st.continues.fabric.is st.flights st.harmless st.has_lids n p.node none
                 ∙ sym none)
                 ∙ st.lids p
             by_agent (Some a) there =
-                let (b, now, keeps) = keep p.node a there in
+                let (b, now, keeps) = keep w n st p.node a there in
                 ap (λ o. option_map_or (λ y. base_lid_at y p.port) o 0) now ∙ keeps.1 p.port
                 ∙ sym (ap (λ o. option_map_or (λ y. base_lid_at y p.port) o 0) there)
                 ∙ st.lids p
 
-    pub stands_on : (w : Scene) (event : Event) → Stands w → CanHappen event → SentSo event → Stands (after_event w event)
-    stands_on w (Deliver n) st can_happen so = delivered_stands w n st
-    stands_on w (Lose n) st can_happen so =
-        stays_on w (Lose n) st tt (record {
+    lost_on : (w : Scene) (n : ℕ) → Stands w → StaysOn w (after_event w (Lose n))
+    lost_on w n st =
+        record {
           flights = losses_trace Requests Told cables counts st.continues.fabric.along st.continues.fabric.is st.flights n;
           handed = st.handed;
           harmless = lost_harmless Requests Told cables counts st.continues.fabric.along st.continues.fabric.is st.flights st.harmless n;
           agents = lost_agents Requests Told cables counts st.continues.fabric.along st.continues.fabric.is st.flights n;
-        })
-    stands_on w (Repeat n) st can_happen so =
-        stays_on w (Repeat n) st tt (record {
+        }
+
+    repeated_on : (w : Scene) (n : ℕ) → Stands w → StaysOn w (after_event w (Repeat n))
+    repeated_on w n st =
+        record {
           flights = copies_trace Requests Told cables counts st.continues.fabric.along st.continues.fabric.is st.flights n;
           handed = st.handed;
           harmless = copied_harmless Requests Told cables counts st.continues.fabric.along st.continues.fabric.is st.flights st.harmless n;
           agents = repeated_agents Requests Told cables counts st.continues.fabric.along st.continues.fabric.is st.flights n;
-        })
+        }
+
+    pub stands_on : (w : Scene) (event : Event) → Stands w → CanHappen event → SentSo event → Stands (after_event w event)
+    stands_on w (Deliver n) st can_happen so = delivered_stands w n st
+    stands_on w (Lose n) st can_happen so = stays_on w (Lose n) st tt (lost_on w n st)
+    stands_on w (Repeat n) st can_happen so = stays_on w (Repeat n) st tt (repeated_on w n st)
     stands_on w (Send seat sending) st can_happen so =
         stays_on w (Send seat sending) st can_happen (sending_on w st seat sending can_happen so)
+
+    -- what is joined to a seat goes on holding the plan
+    pub held_on : (w : Scene) (event : Event) → Stands w → CanHappen event → SentSo event → (seat : NodePort) → IsSeat seat
+        → HeldOn from.fabric plan (IsJoinedTo (fabric_of from.fabric) seat) w.fabric
+        → HeldOn from.fabric plan (IsJoinedTo (fabric_of from.fabric) seat) (after_event w event).fabric
+    held_on w event st can_happen so seat is h =
+        held_later from.fabric plan (IsJoinedTo (fabric_of from.fabric) seat) (listed seat is) w.fabric (after_event w event).fabric
+        st.continues.fabric.along (by_event event can_happen so) h
+      where
+        still_kept : (event : Event) → (after_event w event).fabric.agents ≡ w.fabric.agents
+            → AgentsKeep from.fabric plan (IsJoinedTo (fabric_of from.fabric) seat) w.fabric (after_event w event).fabric
+        still_kept event same = same_keep from.fabric plan (IsJoinedTo (fabric_of from.fabric) seat) w.fabric (after_event w event).fabric same
+
+        by_event : (event : Event) → CanHappen event → SentSo event
+            → AgentsKeep from.fabric plan (IsJoinedTo (fabric_of from.fabric) seat) w.fabric (after_event w event).fabric
+        by_event (Deliver n) can_happen so = λ id a there. let (b, now, keeps) = keep w n st id a there in (b, now, keeps.0)
+        by_event (Lose n) can_happen so = still_kept (Lose n) (lost_on w n st).agents
+        by_event (Repeat n) can_happen so = still_kept (Repeat n) (repeated_on w n st).agents
+        by_event (Send from_seat sending) can_happen so = still_kept (Send from_seat sending) (sending_on w st from_seat sending can_happen so).agents

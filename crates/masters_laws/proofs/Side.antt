@@ -15,7 +15,6 @@ use Rattle.fact_store.proofs.Views.{view_of_its_cells}
 use Rattle.fabric_sim.specs.Simulation.{Simulation, fabric_of}
 use Rattle.subnet_view.specs.Agreement.{AgreesOn}
 use Rattle.lid_assign.specs.Lids.{IsNoRoom}
-use Rattle.lft_blocks.specs.Arrival.{HoldsPlan}
 use Rattle.lft_blocks.specs.Plan.{PlanValue, plan_of}
 use Rattle.lft_blocks.specs.Planning.{Planning}
 use Rattle.plan_steps.specs.declared.step.Step.{Step}
@@ -28,6 +27,7 @@ use Rattle.sm_manager.specs.Manager.{after_begin_sweep, begin_fault, newest_held
 use Rattle.sm_manager.specs.Plans.{writing_fault}
 use Rattle.sm_manager.specs.Writing.{phases_by}
 use Rattle.sm_manager.proofs.Lives.{planning_stays}
+use Rattle.manager_laws.specs.Complete.{facts_of}
 use Rattle.manager_laws.specs.Scene.{Handed, Scene, Sending, ByLid, ByPath, Answer, Event, CanSend, Send as SendFrom, after_event, sent_from}
 use Rattle.manager_laws.specs.Managing.{Managing, ManagerEvent, Around, Begin, Write, Take, Send, Hear, TimeOut, Raise, Merge, Poll, HandOver}
 use Rattle.manager_laws.specs.Managing.{CanBe, after_manager_event, hearing, packet_of, sending}
@@ -37,6 +37,7 @@ use Rattle.manager_laws.specs.Sweeping.{Sweeping, SweepEvent, Begins, after_swee
 use Rattle.manager_laws.specs.Written.{BeginsNoWriting}
 use Rattle.manager_laws.specs.WritingPings.{BeginsNoSweep}
 use Rattle.manager_laws.proofs.Before.{begin_goes, event_goes, is_none-none}
+use Rattle.manager_laws.proofs.Done.{done_sweeps_are_complete}
 use Rattle.manager_laws.proofs.Fair.{AreOwnPackets, own_there}
 use Rattle.manager_laws.proofs.Followed.{HasAskedAll, asks, asks_all, asks_can, can_append, on_scene, runs_append}
 use Rattle.manager_laws.proofs.Follows.{Follows, holds_all}
@@ -50,10 +51,12 @@ use Rattle.manager_laws.proofs.WritingTaken.{asks_for_step, same_path}
 use Rattle.manager_laws.proofs.Writings.{MayWrite, may_write, own_carries, writing_goes}
 use Rattle.takeover_laws.specs.Claims.{HasLidsOf, LidsStay}
 use Rattle.takeover_laws.specs.Takeover.{plan_by_it}
-use Rattle.takeover_laws.proofs.Claimed.{takeovers_change_nothing}
+use Rattle.takeover_laws.proofs.Claimed.{swept_claims_are_true}
 use Rattle.takeover_laws.proofs.Following.{event_followed}
+use Rattle.takeover_laws.proofs.Seeing.{held_lids}
 use Rattle.takeover_laws.proofs.Seen.{SeenKeeping, asks_lids, lids_append}
 use Rattle.masters_laws.specs.Masters.{IsItsOwn, IsWholeSweep, Seated, WritesWhole, has_swept_after, knows_one_after, seated_after, seen_by}
+use Rattle.masters_laws.specs.InForce.{HoldsLids}
 use Rattle.masters_laws.specs.Runs.{WritesSwept}
 use Rattle.masters_laws.proofs.Acting.{AreCarried, Carried, Plans, WritesCarried, event_plans}
 use Rattle.masters_laws.proofs.Deliveries.{IsPlannedFrom, Sends}
@@ -208,7 +211,7 @@ module _ (from : Scene) (seat : NodePort) where
 pub record Known (from : Scene) (held : Facts) (planning : Planning) (seat : NodePort) : Type 0 where
   pub has_room : ¬ (IsNoRoom planning.lmc (cells_of held))
   pub agrees : AgreesOn (IsJoinedTo (fabric_of from.fabric) seat) (cells_of held) (fabric_of from.fabric)
-  pub holds : HoldsPlan (IsJoinedTo (fabric_of from.fabric) seat) (plan_by_it planning held) (fabric_of from.fabric)
+  pub lids : HoldsLids (IsJoinedTo (fabric_of from.fabric) seat) (plan_by_it planning held) (fabric_of from.fabric)
   pub begins : (at : ℕ) → (1 ≤ at) × (at < 2 ^ 32) → Begins (first_of from seat at) at 1
   pub ground : Ground from.fabric seat
 
@@ -218,8 +221,12 @@ module _ (from : Scene) (held : Facts) (planning : Planning) (seat : NodePort) (
       → plan_of w.manager.planning.rule w.manager.planning.lmc (cells_of w.manager.store) ≡ plan_by_it planning held
   same_plan w one planning_is whole =
       let u = after_sweep_events one.events (first_of from seat one.at) in
-      let taken = takeovers_change_nothing planning.rule planning.lmc held (first_of from seat one.at) one.at 1 one.events (known.begins one.at one.few)
-      one.can_be known.has_room known.agrees known.holds one.lids (subst IsWholeSweep one.follows.sweep whole) in
+      let begins = known.begins one.at one.few in
+      let answered = subst IsWholeSweep one.follows.sweep whole in
+      let taken = held_lids (IsJoinedTo (fabric_of from.fabric) seat) (fabric_of from.fabric) planning.rule planning.lmc held (facts_of u.reports)
+      known.has_room known.agrees
+      (done_sweeps_are_complete (first_of from seat one.at) one.at 1 one.events begins one.can_be answered).at_first known.lids
+      (swept_claims_are_true (first_of from seat one.at) one.at 1 one.events begins one.can_be one.lids answered) in
       (λ j. plan_of (planning_is j).rule (planning_is j).lmc (cells_of w.manager.store))
       ∙ ap (plan_of planning.rule planning.lmc) (holds_all w u one.follows) ∙ taken.1
 

@@ -1,5 +1,5 @@
--- Several managers: whatever they do, each goes on, what is joined to their seats holds the plan, and no port gets another LID.
-use Rattle.std.proofs.Common.{◌≡◌, ◌≢◌, ◌⊎◌, inl, inr, ℕ, zero, suc, ◌≤◌, true, List, [], ◌∷◌, refl, sym, ap, ◌∙◌, subst, arith}
+-- Several managers: whatever they do, each goes on, no port gets another LID, and what is joined to their seats goes on holding the plan.
+use Rattle.std.proofs.Common.{◌≡◌, ◌≢◌, ◌⊎◌, inl, inr, ℕ, zero, suc, ◌++◌, ◌≤◌, true, List, [], ◌∷◌, refl, sym, ap, ◌∙◌, subst, arith}
 use Rattle.std.proofs.lemmas.Option.{same_Some}
 use Rattle.std.specs.Prelude.{Contains, Option, Some, None, slice_get, slice_set}
 use Rattle.fabric_model.specs.declared.cable.NodePort.{NodePort}
@@ -26,16 +26,18 @@ use Rattle.manager_laws.proofs.TracedScenes.{WereTraced}
 use Rattle.manager_laws.proofs.WritingSweeps.{Ground}
 use Rattle.subnet_view.proofs.Members.{contains_none}
 use Rattle.takeover_laws.specs.Takeover.{plan_by_it}
-use Rattle.takeover_laws.proofs.HeldOn.{AreListed}
+use Rattle.takeover_laws.proofs.HeldOn.{AreListed, HeldOn}
 use Rattle.takeover_laws.proofs.Listed.{are_listed}
 use Rattle.takeover_laws.proofs.Takeover.{none_seen}
 use Rattle.takeover_laws.proofs.Throughout.{in_use}
 use Rattle.masters_laws.specs.Masters.{AllCanBe, Around, At, CanBe, IsAt, IsItsOwn, Masters, MastersEvent, Seated, SetsInfoOnly, StartTogether, WritesWhole}
 use Rattle.masters_laws.specs.Masters.{IsWholeSweep, acting, after_masters_event, after_masters_events, seated_after, seen_by}
-use Rattle.masters_laws.specs.InForce.{AllSweepWhole, HoldTogether, IsInForceAlong, IsInForceAt, MastersChangeNothing, MastersWriteTheSame, SweepsWhole}
+use Rattle.masters_laws.specs.InForce.{AllHold, AllInUse, AllSweepWhole, InUseAlong, MastersChangeNothing, MastersKeepLids, MastersWriteTheSame, ShareLids}
+use Rattle.masters_laws.specs.InForce.{SweepsWhole}
 use Rattle.masters_laws.proofs.Deliveries.{Sends, Tells}
 use Rattle.masters_laws.proofs.Harmless.{AreHarmless}
-use Rattle.masters_laws.proofs.Scenes.{SendsSo, SentSo, Stands, stands_on}
+use Rattle.masters_laws.proofs.HeldLids.{held_of_now}
+use Rattle.masters_laws.proofs.Scenes.{SendsSo, SentSo, Stands, held_on, stands_on}
 use Rattle.masters_laws.proofs.Side.{Known, Old, SendsOne, Side, around_side, first_of, own_scene, own_side, same_plan, sending_so}
 
 -- lists -----------------------------------------------------------------------------------------------------------
@@ -98,7 +100,7 @@ still_apart t0 t starts stay which other m n there also same =
     let two = stay.was other n also in
     starts.apart which other one.0 two.0 one.1 two.1 (one.2 ∙ same ∙ sym two.2)
 
-module _ (held : Facts) (planning : Planning) (t0 : Masters) (h : HoldTogether held planning t0) where
+module _ (held : Facts) (planning : Planning) (t0 : Masters) (h : ShareLids held planning t0) where
   abbrev from : Scene
   from = t0.scene
 
@@ -115,7 +117,7 @@ module _ (held : Facts) (planning : Planning) (t0 : Masters) (h : HoldTogether h
       record {
         has_room = h.has_room;
         agrees = h.agrees which m there;
-        holds = h.holds which m there;
+        lids = h.lids which m there;
         begins = λ at few. record {
           quiet = starts.quiet;
           distinct = starts.distinct;
@@ -145,6 +147,13 @@ module _ (held : Facts) (planning : Planning) (t0 : Masters) (h : HoldTogether h
   counts : (id : ℕ) → port_count t0.scene.fabric id ≤ 254
   counts = few_ports t0.scene.fabric (along_itself t0.scene.fabric h.starts.quiet.fabric).agents
 
+  -- what is joined to a seat holds the plan
+  abbrev Holds : NodePort → Scene → Type 0
+  Holds seat w = HeldOn t0.scene.fabric (plan_by_it planning held) (IsJoinedTo (fabric_of t0.scene.fabric) seat) w.fabric
+
+  abbrev AllHeld : Masters → Type 0
+  AllHeld t = (which : ℕ) (m : Seated) → IsAt t which m → Holds m.seat t.scene
+
   pub record AllStand (t : Masters) : Type 0 where
     pub stands : Stands t0.scene (plan_by_it planning held) IsSeat t.scene
     pub sides : (which : ℕ) (m : Seated) → IsAt t which m → Side t0.scene held planning t.scene m
@@ -157,6 +166,12 @@ module _ (held : Facts) (planning : Planning) (t0 : Masters) (h : HoldTogether h
       → SentSo t0.scene (plan_by_it planning held) IsSeat event
       → Stands t0.scene (plan_by_it planning held) IsSeat (after_event w event)
   on w event st can_happen so = stands_on t0.scene (plan_by_it planning held) IsSeat cables counts can listed w event st can_happen so
+
+  holds_on : (w : Scene) (event : Event) → Stands t0.scene (plan_by_it planning held) IsSeat w → CanHappen event
+      → SentSo t0.scene (plan_by_it planning held) IsSeat event
+      → (seat : NodePort) → IsSeat seat → Holds seat w → Holds seat (after_event w event)
+  holds_on w event st can_happen so seat is now =
+      held_on t0.scene (plan_by_it planning held) IsSeat cables counts can listed w event st can_happen so seat is now
 
   -- others set nothing
   others_so : (event : Event) → CanHappen event → SetsInfoOnly event → SentSo t0.scene (plan_by_it planning held) IsSeat event
@@ -196,6 +211,7 @@ module _ (held : Facts) (planning : Planning) (t0 : Masters) (h : HoldTogether h
     record Turns (scene : Scene) : Type 0 where
       pub stands : Stands t0.scene (plan_by_it planning held) IsSeat scene
       pub others : (k : ℕ) (n : Seated) → which ≢ k → IsAt t k n → Side t0.scene held planning scene n
+      pub holds : (seat : NodePort) → IsSeat seat → Holds seat t.scene → Holds seat scene
 
     sends : (x : SendsOne (SendsSo t0.scene (plan_by_it planning held) IsSeat m.seat) m.seat t.scene
         (after_manager_event (seen_by t.scene m) event).scene) → Turns (after_event t.scene (SendFrom m.seat x.sending))
@@ -207,6 +223,7 @@ module _ (held : Facts) (planning : Planning) (t0 : Masters) (h : HoldTogether h
               (SendFrom m.seat x.sending)
               (x.can, λ same. other (still_apart t0 t h.starts all.seats which k m n there at same))
               all.stands.lids stands.lids;
+          holds = holds_on t.scene (SendFrom m.seat x.sending) all.stands x.can x.so;
         }
 
     turns : Turns (after_manager_event (seen_by t.scene m) event).scene
@@ -214,7 +231,7 @@ module _ (held : Facts) (planning : Planning) (t0 : Masters) (h : HoldTogether h
         elim (own_scene t0.scene.fabric m.seat (plan_by_it planning held) 0 side.plans.all (SendsSo t0.scene (plan_by_it planning held) IsSeat m.seat)
         (sending_so t0.scene (plan_by_it planning held) IsSeat m.seat (is_seat t all which m there) side.plans.all side.plans.known)
         (seen_by t.scene m) refl side.plans.out event its) [
-          | inl same ↦ subst Turns (sym same) (record { stands = all.stands; others = λ k n other at. all.sides k n at })
+          | inl same ↦ subst Turns (sym same) (record { stands = all.stands; others = λ k n other at. all.sides k n at; holds = λ seat is now. now })
           | inr x ↦ subst Turns x.is (sends x)
         ]
 
@@ -231,6 +248,14 @@ module _ (held : Facts) (planning : Planning) (t0 : Masters) (h : HoldTogether h
               (after_manager_event (seen_by t.scene m) event).scene all.seats there refl;
         }
 
+    -- what is joined to the seats goes on holding the plan
+    own_held : AllHeld t → AllHeld (acting t which event (Some m))
+    own_held now k n at = elim (set_at t.managers which k (seated_after m event (after_manager_event (seen_by t.scene m) event)) n at) [
+      | inl here ↦ subst (λ (x : Seated). Holds x.seat (after_manager_event (seen_by t.scene m) event).scene) here.1
+          (turns.holds m.seat (is_seat t all which m there) (now which m there))
+      | inr other ↦ turns.holds n.seat (is_seat t all k n other.1) (now k n other.1)
+    ]
+
   acts : (t : Masters) (which : ℕ) (event : ManagerEvent) → AllStand t → CanBe t (At which event) → SweepsWhole t (At which event)
       → (o : Option Seated) → slice_get t.managers which ≡ o → AllStand (acting t which event o)
   acts t which event all can_be whole None there = all
@@ -240,6 +265,17 @@ module _ (held : Facts) (planning : Planning) (t0 : Masters) (h : HoldTogether h
   pub next : (t : Masters) (event : MastersEvent) → AllStand t → CanBe t event → SweepsWhole t event → AllStand (after_masters_event t event)
   next t (Around event) all can_be whole = around t event all can_be whole
   next t (At which event) all can_be whole = acts t which event all can_be whole (slice_get t.managers which) refl
+
+  acts_held : (t : Masters) (which : ℕ) (event : ManagerEvent) → AllStand t → CanBe t (At which event) → SweepsWhole t (At which event)
+      → (o : Option Seated) → slice_get t.managers which ≡ o → AllHeld t → AllHeld (acting t which event o)
+  acts_held t which event all can_be whole None there now = now
+  acts_held t which event all can_be whole (Some m) there now =
+      let may = can_be m there in own_held t all which m there event may.0 may.1 (whole m there) now
+
+  next_held : (t : Masters) (event : MastersEvent) → AllStand t → CanBe t event → SweepsWhole t event → AllHeld t → AllHeld (after_masters_event t event)
+  next_held t (Around event) all can_be whole now = λ which m there.
+      holds_on t.scene event all.stands can_be.0 (others_so event can_be.0 whole) m.seat (is_seat t all which m there) (now which m there)
+  next_held t (At which event) all can_be whole now = acts_held t which event all can_be whole (slice_get t.managers which) refl now
 
   -- at first ------------------------------------------------------------------------------------------------------
 
@@ -275,7 +311,7 @@ module _ (held : Facts) (planning : Planning) (t0 : Masters) (h : HoldTogether h
           handed = subst (WereTraced (Sends t0.scene.fabric (plan_by_it planning held) IsSeat) (Tells t0.scene.fabric (plan_by_it planning held) IsSeat)
               t0.scene.fabric) (sym quiet.handed) tt;
           harmless = subst AreHarmless (sym quiet.flights) tt;
-          held = λ seat is. (known seat is).holds;
+          has_lids = λ seat is. (known seat is).lids;
         };
         sides = side_first;
         seats = record { was = λ which m there. (m, there, refl) };
@@ -283,16 +319,17 @@ module _ (held : Facts) (planning : Planning) (t0 : Masters) (h : HoldTogether h
 
   -- at a moment ----------------------------------------------------------------------------------------------------
 
-  pub in_force : (t : Masters) → AllStand t → IsInForceAt held planning t0 t
-  in_force t all =
-      record {
-        lids = all.stands.lids;
-        in_use = λ which m there.
-            let is = is_seat t all which m there in
-            let k = known m.seat is in
-            in_use t0.scene.fabric m.seat (plan_by_it planning held) (listed m.seat is) k.ground planning.rule planning.lmc held h.has_room refl k.agrees
-            (seat_end (first_of t0.scene m.seat 1) 1 1 (k.begins 1 (omega arith, omega arith))) t.scene all.stands.continues (all.stands.held m.seat is);
-      }
+  in_force : (t : Masters) → AllStand t → AllHeld t → AllInUse held planning t
+  in_force t all now which m there =
+      let is = is_seat t all which m there in
+      let k = known m.seat is in
+      in_use t0.scene.fabric m.seat (plan_by_it planning held) (listed m.seat is) k.ground planning.rule planning.lmc held h.has_room refl k.agrees
+      (seat_end (first_of t0.scene m.seat 1) 1 1 (k.begins 1 (omega arith, omega arith))) t.scene all.stands.continues (now which m there)
+
+  -- what holds the plan now is what was there at first
+  held_of : (t : Masters) → AllStand t → AllHold held planning t → AllHeld t
+  held_of t all holds which m there =
+      held_of_now t0.scene.fabric t.scene.fabric (plan_by_it planning held) m.seat all.stands.continues.fabric.along (holds which m there)
 
   -- what a manager would write
   pub plans_the_same : (t : Masters) → AllStand t → (which : ℕ) (m : Seated) → IsAt t which m → m.knows_one_sweep ≡ true → IsWholeSweep m.manager.sweep
@@ -301,23 +338,40 @@ module _ (held : Facts) (planning : Planning) (t0 : Masters) (h : HoldTogether h
       let side = all.sides which m there in
       same_plan t0.scene held planning m.seat (known m.seat (is_seat t all which m there)) (seen_by t.scene m) (side.follows knows) side.planning_is whole
 
-  pub along : (events : List MastersEvent) (t : Masters) → AllStand t → AllCanBe events t → AllSweepWhole events t
-      → IsInForceAlong held planning t0 events t
-  along [] t all can_be whole = in_force t all
-  along (event ∷ events) t all can_be whole =
-      (in_force t all, along events (after_masters_event t event) (next t event all can_be.0 whole.0) can_be.1 whole.1)
+  along : (events : List MastersEvent) (t : Masters) → AllStand t → AllCanBe events t → AllSweepWhole events t → AllHeld t
+      → InUseAlong held planning events t
+  along [] t all can_be whole now = in_force t all now
+  along (event ∷ events) t all can_be whole now = (
+    in_force t all now,
+    along events (after_masters_event t event) (next t event all can_be.0 whole.0) can_be.1 whole.1 (next_held t event all can_be.0 whole.0 now),
+  )
 
-  pub after_all : (events : List MastersEvent) (t : Masters) → AllStand t → AllCanBe events t → AllSweepWhole events t
+  after_all : (events : List MastersEvent) (t : Masters) → AllStand t → AllCanBe events t → AllSweepWhole events t
       → AllStand (after_masters_events events t)
   after_all [] t all can_be whole = all
   after_all (event ∷ events) t all can_be whole =
       after_all events (after_masters_event t event) (next t event all can_be.0 whole.0) can_be.1 whole.1
 
-pub masters_change_nothing : MastersChangeNothing
-masters_change_nothing held planning t events h can_be whole =
-    along held planning t h events t (first_stand held planning t h) can_be whole
+  -- once it is held
+  along_from : (before after : List MastersEvent) (t : Masters) → AllStand t → AllCanBe (before ++ after) t → AllSweepWhole (before ++ after) t
+      → AllHold held planning (after_masters_events before t) → InUseAlong held planning after (after_masters_events before t)
+  along_from [] after t all can_be whole holds = along after t all can_be whole (held_of t all holds)
+  along_from (event ∷ before) after t all can_be whole holds =
+      along_from before after (after_masters_event t event) (next t event all can_be.0 whole.0) can_be.1 whole.1 holds
+
+  pub ends : (events : List MastersEvent) → AllCanBe events t0 → AllSweepWhole events t0 → AllStand (after_masters_events events t0)
+  ends events can_be whole = after_all events t0 first_stand can_be whole
+
+  pub stays_in_use : (before after : List MastersEvent) → AllCanBe (before ++ after) t0 → AllSweepWhole (before ++ after) t0
+      → AllHold held planning (after_masters_events before t0) → InUseAlong held planning after (after_masters_events before t0)
+  stays_in_use before after can_be whole holds = along_from before after t0 first_stand can_be whole holds
+
+pub masters_keep_lids : MastersKeepLids
+masters_keep_lids facts planning t events h can_be whole = (ends facts planning t h events can_be whole).stands.lids
 
 pub masters_write_the_same : MastersWriteTheSame
-masters_write_the_same held planning t events h can_be whole which m there knows answered =
-    plans_the_same held planning t h (after_masters_events events t)
-    (after_all held planning t h events t (first_stand held planning t h) can_be whole) which m there knows answered
+masters_write_the_same facts planning t events h can_be whole which m there knows answered =
+    plans_the_same facts planning t h (after_masters_events events t) (ends facts planning t h events can_be whole) which m there knows answered
+
+pub masters_change_nothing : MastersChangeNothing
+masters_change_nothing facts planning t before after h can_be whole holds = stays_in_use facts planning t h before after can_be whole holds

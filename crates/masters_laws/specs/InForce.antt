@@ -1,11 +1,15 @@
--- Several masters at once on a subnet that holds a plan: what they write, and that the plan stays in force.
-use Rattle.std.specs.Prelude.{◌≡◌, ℕ, true, false, List, [], ◌∷◌, ◌++◌, None}
+-- Several masters at once on a subnet that holds the LIDs of a plan: what they write, and that the plan stays in force
+-- once it is held.
+use Rattle.std.specs.Prelude.{◌≡◌, ℕ, true, false, List, [], ◌∷◌, ◌++◌, None, Some}
 use Rattle.fabric_model.specs.declared.cable.NodePort.{NodePort}
+use Rattle.fabric_model.specs.Fabric as fabric
+use Rattle.fabric_model.specs.Fabric.{Fabric, range_at}
 use Rattle.fabric_model.specs.FabricWalks.{IsJoinedTo}
 use Rattle.fact_store.specs.View.{Facts, cells_of}
 use Rattle.fabric_sim.specs.Simulation.{fabric_of}
-use Rattle.subnet_view.specs.Agreement.{AgreesOn}
-use Rattle.lid_assign.specs.Lids.{IsNoRoom}
+use Rattle.subnet_view.specs.Agreement.{Part, IsEndPortIn, AgreesOn}
+use Rattle.lid_assign.specs.Lids.{IsNoRoom, range_of}
+use Rattle.lft_blocks.specs.Plan.{PlanValue}
 use Rattle.lft_blocks.specs.Arrival.{HoldsPlan}
 use Rattle.lft_blocks.specs.Planning.{Planning}
 use Rattle.sm_manager.specs.Manager.{new_manager}
@@ -17,18 +21,23 @@ use Rattle.takeover_laws.specs.Takeover.{IsInUse, plan_by_it}
 use Rattle.masters_laws.specs.Masters.{Seated, Masters, MastersEvent, Around, At, IsAt, seen_by, after_masters_event, after_masters_events}
 use Rattle.masters_laws.specs.Masters.{SetsInfoOnly, WritesWhole, IsWholeSweep, AllCanBe, StartTogether}
 
--- on a subnet that holds a plan -------------------------------------------------------------------
+-- on a subnet that holds LIDs ----------------------------------------------------------------------
 
--- Facts describe all that is joined to a seat exactly, and it holds their plan by the rule and the LMC of each of the
--- managers.
-pub record HoldTogether (held : Facts) (planning : Planning) (t : Masters) : Type 0 where
+-- the end ports of a part have the LIDs and the LMC of a plan
+abbrev pub HoldsLids : Part → PlanValue → Fabric → Type 0
+HoldsLids part plan f = (port : NodePort) (node : fabric.Node) → IsEndPortIn part f port node
+    → range_of plan.given (record { node = node.guid; port = port.port }) ≡ Some (range_at f port)
+
+-- Facts describe all that is joined to a seat exactly, and its end ports have the LIDs of their plan by the rule and the
+-- LMC of each of the managers.
+pub record ShareLids (facts : Facts) (planning : Planning) (t : Masters) : Type 0 where
   pub starts : StartTogether t
-  pub has_room : ¬ (IsNoRoom planning.lmc (cells_of held))
+  pub has_room : ¬ (IsNoRoom planning.lmc (cells_of facts))
   pub plans : (which : ℕ) (m : Seated) → IsAt t which m → m.manager.planning ≡ planning
   pub agrees : (which : ℕ) (m : Seated) → IsAt t which m
-      → AgreesOn (IsJoinedTo (fabric_of t.scene.fabric) m.seat) (cells_of held) (fabric_of t.scene.fabric)
-  pub holds : (which : ℕ) (m : Seated) → IsAt t which m
-      → HoldsPlan (IsJoinedTo (fabric_of t.scene.fabric) m.seat) (plan_by_it planning held) (fabric_of t.scene.fabric)
+      → AgreesOn (IsJoinedTo (fabric_of t.scene.fabric) m.seat) (cells_of facts) (fabric_of t.scene.fabric)
+  pub lids : (which : ℕ) (m : Seated) → IsAt t which m
+      → HoldsLids (IsJoinedTo (fabric_of t.scene.fabric) m.seat) (plan_by_it planning facts) (fabric_of t.scene.fabric)
 
 -- others set nothing but SMInfo, and what a manager writes it knows from one sweep, which has every answer
 abbrev pub SweepsWhole : Masters → MastersEvent → Type 0
@@ -39,32 +48,48 @@ abbrev pub AllSweepWhole : List MastersEvent → Masters → Type 0
 AllSweepWhole [] t = Unit {0}
 AllSweepWhole (event ∷ events) t = SweepsWhole t event × AllSweepWhole events (after_masters_event t event)
 
--- what a manager would write that knows one sweep with every answer is the plan that is held
+-- no port gets another LID
+abbrev pub MastersKeepLids : Type 0
+MastersKeepLids =
+    (facts : Facts) (planning : Planning) (t : Masters) (events : List MastersEvent) → ShareLids facts planning t
+    → AllCanBe events t → AllSweepWhole events t
+    → HasLidsOf (fabric_of t.scene.fabric) (after_masters_events events t).scene
+
+-- what a manager would write that knows one sweep with every answer is the plan of these facts
 abbrev pub MastersWriteTheSame : Type 0
 MastersWriteTheSame =
-    (held : Facts) (planning : Planning) (t : Masters) (events : List MastersEvent) → HoldTogether held planning t
+    (facts : Facts) (planning : Planning) (t : Masters) (events : List MastersEvent) → ShareLids facts planning t
     → AllCanBe events t → AllSweepWhole events t
     → (which : ℕ) (m : Seated) → IsAt (after_masters_events events t) which m → m.knows_one_sweep ≡ true
     → IsWholeSweep m.manager.sweep
-    → plan_at (seen_by (after_masters_events events t).scene m) ≡ plan_by_it planning held
+    → plan_at (seen_by (after_masters_events events t).scene m) ≡ plan_by_it planning facts
 
--- what is joined to the seats holds the plan, each port has the LID that it had, and each ping there arrives
-pub record IsInForceAt (held : Facts) (planning : Planning) (start t : Masters) : Type 0 where
-  pub lids : HasLidsOf (fabric_of start.scene.fabric) t.scene
-  pub in_use : (which : ℕ) (m : Seated) → IsAt t which m
-      → IsInUse planning.rule held (plan_by_it planning held) t.scene.fabric m.seat
+-- on a subnet that holds a plan -------------------------------------------------------------------
+
+-- what is joined to the seats holds it
+abbrev pub AllHold : Facts → Planning → Masters → Type 0
+AllHold facts planning t = (which : ℕ) (m : Seated) → IsAt t which m
+    → HoldsPlan (IsJoinedTo (fabric_of t.scene.fabric) m.seat) (plan_by_it planning facts) (fabric_of t.scene.fabric)
+
+-- and each ping there arrives
+abbrev pub AllInUse : Facts → Planning → Masters → Type 0
+AllInUse facts planning t =
+    (which : ℕ) (m : Seated) → IsAt t which m
+    → IsInUse planning.rule facts (plan_by_it planning facts) t.scene.fabric m.seat
 
 -- so it is at each moment
-abbrev pub IsInForceAlong : Facts → Planning → Masters → List MastersEvent → Masters → Type 0
-IsInForceAlong held planning start [] t = IsInForceAt held planning start t
-IsInForceAlong held planning start (event ∷ events) t =
-    IsInForceAt held planning start t × IsInForceAlong held planning start events (after_masters_event t event)
+abbrev pub InUseAlong : Facts → Planning → List MastersEvent → Masters → Type 0
+InUseAlong facts planning [] t = AllInUse facts planning t
+InUseAlong facts planning (event ∷ events) t =
+    AllInUse facts planning t × InUseAlong facts planning events (after_masters_event t event)
 
--- however many masters sweep and write at once, the plan stays in force
+-- once it is held, however many masters sweep and write at once, it stays in force
 abbrev pub MastersChangeNothing : Type 0
 MastersChangeNothing =
-    (held : Facts) (planning : Planning) (t : Masters) (events : List MastersEvent) → HoldTogether held planning t
-    → AllCanBe events t → AllSweepWhole events t → IsInForceAlong held planning t events t
+    (facts : Facts) (planning : Planning) (t : Masters) (before after : List MastersEvent) → ShareLids facts planning t
+    → AllCanBe (before ++ after) t → AllSweepWhole (before ++ after) t
+    → AllHold facts planning (after_masters_events before t)
+    → InUseAlong facts planning after (after_masters_events before t)
 
 -- there are two managers that were just made and write such a subnet at once ----------------------
 
@@ -83,7 +108,8 @@ pub record SomeMastersWriteAtOnce : Type 0 where
   pub masters : Masters
   pub held : Facts
   pub planning : Planning
-  pub hold : HoldTogether held planning masters
+  pub share : ShareLids held planning masters
+  pub hold : AllHold held planning masters
   pub seat : NodePort
   pub guid : ℕ
   pub other_seat : NodePort

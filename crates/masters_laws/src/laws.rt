@@ -1,5 +1,6 @@
 //! What is so of several managers on one fabric.
-ghost use Rattle.masters_laws.specs.InForce.{MastersChangeNothing, MastersWriteTheSame, SomeMastersWriteAtOnce};
+ghost use Rattle.masters_laws.specs.InForce.{MastersChangeNothing, MastersKeepLids, MastersWriteTheSame};
+ghost use Rattle.masters_laws.specs.InForce.{SomeMastersWriteAtOnce};
 ghost use Rattle.masters_laws.specs.Known.{HasSweptMeans, KnowsOneSweepMeans};
 ghost use Rattle.masters_laws.specs.Runs.{EachRunsOnItsOwn, WhatIsGivenOutCanBeSent};
 
@@ -28,16 +29,22 @@ pub fn each_runs_on_its_own()
     ensures { EachRunsOnItsOwn }
 {}
 
-/// A manager that knows one sweep, which has every answer, would write the plan that the subnet holds, whatever other
-/// managers sweep and write meanwhile.
+/// However many masters sweep and write a subnet whose end ports have the LIDs of a plan, no port gets another LID. Each
+/// plans by the rule, the roots and the LMC of the plan, and what it writes it knows from one sweep, which has every
+/// answer.
+pub fn masters_keep_lids()
+    ensures { MastersKeepLids }
+{}
+
+/// So each of them that knows one sweep with every answer would write this plan, whatever the switches hold, and whatever
+/// the others sweep and write meanwhile.
 pub fn masters_write_the_same()
     ensures { MastersWriteTheSame }
 {}
 
-/// However many masters sweep and write a subnet that holds a plan, in any order, the plan stays in force: at each
-/// moment each end port has its LID, each switch its blocks and no lower top, no port has another LID than at first, and
-/// every ping from an end port there, for each LID of the plan, reaches the owner of the LID. Each plans by the rule,
-/// the roots and the LMC of the plan, and what it writes it knows from one sweep, which has every answer.
+/// Once such a subnet holds the plan, it stays in force, however many masters sweep and write, in any order: at each
+/// moment each end port has its LID, each switch its blocks and no lower top, and every ping from an end port there, for
+/// each LID of the plan, reaches the owner of the LID.
 pub fn masters_change_nothing()
     ensures { MastersChangeNothing }
 {}

@@ -125,7 +125,7 @@ module _ (plan : PlanValue) (a : Agent) (packet : List ℕ) (arrival : ℕ) (is 
 -- a part of a fabric -----------------------------------------------------------------------------------------
 
 -- an end port's own port has a LID
-lid_there : (kind local : Bool) (port ports : ℕ) → kind ≡ local → MatchBool kind (port ≡ 0) ((1 ≤ port) × (port ≤ ports)) → (not local || port == 0) ≡ true
+pub lid_there : (kind local : Bool) (port ports : ℕ) → kind ≡ local → MatchBool kind (port ≡ 0) ((1 ≤ port) × (port ≤ ports)) → (not local || port == 0) ≡ true
 lid_there true local port ports e zero_is = ap (λ (t : Bool). not t || port == 0) (sym e) ∙ eq-eqb port 0 zero_is
 lid_there false local port ports e within = ap (λ (t : Bool). not t || port == 0) (sym e)
 
