@@ -57,7 +57,7 @@ takes_first m = by_list m.outgoing
 
 module _ (start : Simulation) (seat : NodePort) (plan : PlanValue) (ground : Ground start seat) where
   -- a sweep that began is one, whether an old one may be or not
-  any_goes : (old : Type 0) (w : Managing) → Goes start seat plan ⊥ w → Goes start seat plan old w
+  pub any_goes : (old : Type 0) (w : Managing) → Goes start seat plan ⊥ w → Goes start seat plan old w
   any_goes old w g =
       record {
         fair = record {

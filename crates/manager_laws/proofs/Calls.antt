@@ -6,7 +6,7 @@ use Rattle.std.specs.Prelude.{Contains, Option, Some, None, drop, is_none, nat_l
 use Rattle.fabric_model.specs.declared.cable.NodePort.{NodePort}
 use Rattle.smp_bytes.specs.declared.smp_fault.SmpFault.{SmpFault}
 use Rattle.fabric_model.specs.Cables.{is_same_port}
-use Rattle.smp_bytes.specs.Header.{get, set, done, sm_info}
+use Rattle.smp_bytes.specs.Header.{get, get_resp, set, done, sm_info}
 use Rattle.smp_bytes.specs.Field.{bytes_in, number_in, with_bits}
 use Rattle.smp_bytes.specs.Packet.{attribute_data, attribute_id, attribute_modifier, fault_of, is_directed, is_response, method, mgmt_class, status}
 use Rattle.smp_bytes.specs.Requests.{answer_packet, lid_routed, request_entries}
@@ -45,6 +45,7 @@ use Rattle.manager_laws.specs.Scene.{Handed, asks_manager}
 use Rattle.manager_laws.proofs.Fair.{BesideCall, IsOwnPacket, answer_own, asked_are_own, lid_own, own_more}
 use Rattle.manager_laws.proofs.WritingLists.{in_left, in_either}
 use Rattle.manager_laws.proofs.Numbered.{AreOnce, once_more, once_without, one_once, others_wait, others_waited}
+use Rattle.manager_laws.proofs.Scenes.{SetsInfoAlone}
 use Rattle.manager_laws.proofs.Steps.{StepSent}
 use Rattle.manager_laws.proofs.WritingSweeps.{Ground, SweepCall, SweepSide, sweep_replied, sweep_timed, unchanged}
 
@@ -61,6 +62,16 @@ module _ (method_number attribute modifier tid : ℕ) (payload : List ℕ) (whol
   not_directed =
       ap (λ n. n == 0x81) (lid_routed_field method_number attribute modifier tid mgmt_class payload whole (omega arith)
       ∙ number_in-with_numbers 256 (request_entries 0x01 method_number attribute modifier tid) (replicate 256 0) 1 _ refl refl refl (omega arith))
+
+-- one for SMInfo sets SMInfo, if anything
+info_alone : (method_number modifier tid : ℕ) (payload : List ℕ) → length payload ≡ 64 → SetsInfoAlone (lid_routed method_number sm_info modifier tid payload)
+info_alone method_number modifier tid payload whole sets =
+    lid_routed_field method_number sm_info modifier tid attribute_id payload whole (omega arith)
+    ∙ number_in-with_numbers 256 (request_entries 0x01 method_number sm_info modifier tid) (replicate 256 0) 5 _ refl refl refl (omega arith)
+
+-- an answer sets nothing
+answers_set_nothing : (bytes : List ℕ) → number_in method bytes ≡ get_resp → SetsInfoAlone bytes
+answers_set_nothing bytes answer sets = let clash : get_resp ≡ set = sym answer ∙ sets in absurd (omega (arith, clash))
 
 -- what a manager tells of itself fills an attribute
 length-sm_info : (info : SmInfo) → length (sm_info_bytes info) ≡ 64
@@ -158,9 +169,9 @@ module _ (start : Simulation) (seat : NodePort) (plan : PlanValue) (g : Ground s
   -- a request by LIDs goes out, and waits
   asks : (m : Manager) → SweepSide start seat old m → AreOnce m.counter m.pending → (waits : Pending) (out : Outgoing) → waits.number ≡ m.counter
       → is_step waits ≡ false
-      → length out.packet ≡ 256 → is_directed out.packet ≡ false → Beside m (asked m waits out)
+      → length out.packet ≡ 256 → is_directed out.packet ≡ false → SetsInfoAlone out.packet → Beside m (asked m waits out)
   unfolding Beside
-  asks m side once waits out number other count by_lids =
+  asks m side once waits out number other count by_lids sets =
       record {
         writing = refl;
         steps_stay = λ q among is. in_left m.pending (waits ∷ []) q among;
@@ -174,7 +185,7 @@ module _ (start : Simulation) (seat : NodePort) (plan : PlanValue) (g : Ground s
             (λ q k. let same = ap (λ (x : Pending). x.number) (only q k) in omega (arith, same, number));
         more = out ∷ [];
         outgoing = refl;
-        own = λ c all. (lid_own start seat plan c all handed out count by_lids, tt);
+        own = λ c all. (lid_own start seat plan c all handed out count by_lids sets, tt);
         side = record { port = side.port; lmc = side.lmc; sweep = side.sweep; knows = side.knows };
       }
     where
@@ -185,7 +196,7 @@ module _ (start : Simulation) (seat : NodePort) (plan : PlanValue) (g : Ground s
   polls m side once lid =
       let whole = length-replicate {A = ℕ} 64 0 in
       asks m side once _ _ refl refl (length-lid_routed get sm_info 0 m.counter (replicate 64 0) whole)
-      (not_directed get sm_info 0 m.counter (replicate 64 0) whole)
+      (not_directed get sm_info 0 m.counter (replicate 64 0) whole) (info_alone get 0 m.counter (replicate 64 0) whole)
 
   controls : (m : Manager) → SweepSide start seat old m → AreOnce m.counter m.pending → (lid : ℕ) (control : Control) → Beside m (control_sent m lid control)
   controls m side once lid control =
@@ -193,6 +204,7 @@ module _ (start : Simulation) (seat : NodePort) (plan : PlanValue) (g : Ground s
       let whole = length-sm_info (info_of m.standing) in
       asks m side once _ _ refl refl (length-lid_routed set sm_info (modifier_of_control control) m.counter payload whole)
       (not_directed set sm_info (modifier_of_control control) m.counter payload whole)
+      (info_alone set (modifier_of_control control) m.counter payload whole)
 
   tells : (m : Manager) → SweepSide start seat old m → AreOnce m.counter m.pending → (lid : Option ℕ) (message : Option Message)
       → Beside m (after_message m lid message)
@@ -251,7 +263,9 @@ module _ (start : Simulation) (seat : NodePort) (plan : PlanValue) (g : Ground s
               let same : answer_out m.standing h.packet.bytes lid given ≡ out None = ap (λ b. out (if b then None else lid)) e in
               subst (IsOwnPacket start seat plan c all handed) (sym same)
               (answer_own start seat plan c all handed which h given (answer_data m.standing h.packet.bytes given) there asks_here e small whole)
-          by_class false e = lid_own start seat plan c all handed (answer_out m.standing h.packet.bytes lid given) holds.count (holds.class ∙ e)
+          by_class false e =
+              lid_own start seat plan c all handed (answer_out m.standing h.packet.bytes lid given) holds.count (holds.class ∙ e)
+              (answers_set_nothing (answer_out m.standing h.packet.bytes lid given).packet holds.method)
 
       answers_it : Beside m (answering m h.packet.bytes lid given)
       unfolding Beside

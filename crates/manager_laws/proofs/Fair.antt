@@ -28,7 +28,8 @@ use Rattle.manager_laws.proofs.Swept as swept
 use Rattle.fabric_sim.proofs.TracedCalls.{weaker_manager, weaker_all}
 use Rattle.manager_laws.specs.Managing.{Managing, IsElsewhere, taking, packet_of, sending}
 use Rattle.manager_laws.proofs.Numbered.{AreOnce, out_of}
-use Rattle.manager_laws.proofs.Scenes.{IsOld, IsOwn, IsOwnSending, Sends, Tells, WereTraced, IsTraced, Stays, sending_traced, around_traced}
+use Rattle.manager_laws.proofs.Scenes.{IsEarlier, IsOld, IsOwn, IsOwnSending, Sends, SetsInfoAlone, Tells, WereTraced, IsTraced, Stays, sending_traced}
+use Rattle.manager_laws.proofs.Scenes.{around_traced}
 use Rattle.manager_laws.proofs.Steps.{StepSent, IsSendable}
 use Rattle.manager_laws.proofs.WritingSweeps.{Ground, IsAsked, AreAsked, SweepSide}
 use Rattle.manager_laws.proofs.WritingTaken.{IsGood, fits_step}
@@ -89,7 +90,7 @@ module _ (start : Simulation) (seat : NodePort) (plan : PlanValue) where
   own_there c all handed (x ∷ out) (suc which) o own e = own_there c all handed out which o own.1 e
 
   -- as more is handed up
-  own_still : (c : ℕ) (all : List StepSent) (handed later : List Handed) (out : List Outgoing) → StaysHanded handed later → AreOwnPackets c all handed out
+  pub own_still : (c : ℕ) (all : List StepSent) (handed later : List Handed) (out : List Outgoing) → StaysHanded handed later → AreOwnPackets c all handed out
       → AreOwnPackets c all later out
   own_still c all handed later [] stays own = tt
   own_still c all handed later (o ∷ out) stays own = (
@@ -112,8 +113,8 @@ module _ (start : Simulation) (seat : NodePort) (plan : PlanValue) where
 
   -- what goes by LIDs
   pub lid_own : (c : ℕ) (all : List StepSent) (handed : List Handed) (o : Outgoing) → length o.packet ≡ 256 → is_directed o.packet ≡ false
-      → IsOwnPacket c all handed o
-  lid_own c all handed o count other = record { sending = ByLid (packet_of o); can = (count, other); own = tt; is = λ w still. refl }
+      → SetsInfoAlone o.packet → IsOwnPacket c all handed o
+  lid_own c all handed o count other sets = record { sending = ByLid (packet_of o); can = (count, other); own = sets; is = λ w still. refl }
 
   -- the answer to a directed request for SMInfo
   pub answer_own : (c : ℕ) (all : List StepSent) (handed : List Handed) (which : ℕ) (h : Handed) (given : ℕ) (payload : List ℕ)
@@ -137,7 +138,7 @@ module _ (start : Simulation) (seat : NodePort) (plan : PlanValue) where
       subst (IsOwnPacket c all handed) (sym a.is)
       (path_own c all handed get (attribute_asked a.request.question) (modifier_asked a.request.question) (transaction_of a.generation a.request.number)
       a.request.path (replicate 64 0) fits (omega arith) a.sound.sound.short a.sound.sound.own
-      (inl (inr (let number = reads.transaction_id in let few = a.few.0 in omega (arith, number, few)))))
+      (inl (inr (let number = reads.transaction_id in let few = a.few.0 in omega (arith, number, few), reads.method))))
     where
       fits : FitsRequest get (attribute_asked a.request.question) (modifier_asked a.request.question) (transaction_of a.generation a.request.number)
           (replicate 64 0)
@@ -283,8 +284,12 @@ module _ (start : Simulation) (seat : NodePort) (plan : PlanValue) where
     older bytes (inl low) = inl (omega (arith, low, upto))
     older bytes (inr high) = inr high
 
+    earlier : (request : List ℕ) → IsEarlier start seat plan c all request → IsEarlier start seat plan later more request
+    earlier request (inl low) = inl (omega (arith, low, upto))
+    earlier request (inr high) = inr high
+
     own_of : (request : List ℕ) → IsOwn start seat plan c all request → IsOwn start seat plan later more request
-    own_of request (inl old) = inl (older request old)
+    own_of request (inl old) = inl (earlier request old)
     own_of request (inr x) = inr (record { step = x.step; there = among x.step x.there; small = x.small; is = x.is })
 
     sends_of : (origin : NodePort) (request : List ℕ) → Sends start seat plan c all origin request → Sends start seat plan later more origin request
@@ -307,11 +312,11 @@ module _ (start : Simulation) (seat : NodePort) (plan : PlanValue) where
     )
 
     sending_of : (s : Sending) → IsOwnSending start seat plan c all s → IsOwnSending start seat plan later more s
-    sending_of (ByLid packet) own = tt
+    sending_of (ByLid packet) own = own
     sending_of (ByPath method attribute modifier tid path payload) own = own_of (directed method attribute modifier tid path payload) own
     sending_of (Answer which given payload) own = tt
 
-    packets_of : (handed : List Handed) (out : List Outgoing) → AreOwnPackets c all handed out → AreOwnPackets later more handed out
+    pub packets_of : (handed : List Handed) (out : List Outgoing) → AreOwnPackets c all handed out → AreOwnPackets later more handed out
     packets_of handed [] own = tt
     packets_of handed (o ∷ out) own = (
       record { sending = own.0.sending; can = own.0.can; own = sending_of own.0.sending own.0.own; is = own.0.is },

@@ -6,9 +6,9 @@ use Rattle.std.proofs.lemmas.Bool.{cond_both}
 use Rattle.std.specs.Prelude.{Contains, Option, Some, None, slice_get}
 use Rattle.std.specs.Option.{option_map_or}
 use Rattle.fabric_model.specs.declared.cable.NodePort.{NodePort}
-use Rattle.smp_bytes.specs.Header.{set, done, sm_info}
+use Rattle.smp_bytes.specs.Header.{get, set, done, sm_info}
 use Rattle.smp_bytes.specs.Field.{number_in}
-use Rattle.smp_bytes.specs.Packet.{attribute_id, transaction_id, status}
+use Rattle.smp_bytes.specs.Packet.{attribute_id, method, transaction_id, status}
 use Rattle.smp_bytes.specs.Requests.{directed, answer_packet}
 use Rattle.smp_bytes.specs.ReadBack.{HoldsRequest, HoldsAnswer}
 use Rattle.fabric_model.specs.DirectedWalk.{directed_end}
@@ -37,6 +37,10 @@ use Rattle.manager_laws.specs.Managing.{IsElsewhere}
 use Rattle.manager_laws.proofs.Steps.{StepSent}
 use Rattle.manager_laws.proofs.WritingTaken.{IsGood, IsDone, fits_step, own_done}
 
+-- a packet that sets nothing but SMInfo
+abbrev pub SetsInfoAlone : List ℕ → Type 0
+SetsInfoAlone bytes = number_in method bytes ≡ set → number_in attribute_id bytes ≡ sm_info
+
 module _ (start : Simulation) (seat : NodePort) (plan : PlanValue) (c : ℕ) (all : List StepSent) where
   -- a number that no step has: one that was used up before, or one of a sweep
   abbrev pub IsOld : List ℕ → Type 0
@@ -49,17 +53,22 @@ module _ (start : Simulation) (seat : NodePort) (plan : PlanValue) (c : ℕ) (al
     pub small : step.number < 2 ^ 32
     pub is : request ≡ set_packet step.number step.step
 
+  -- a request whose number was used up before, or a sweep's, which sets nothing
+  abbrev pub IsEarlier : List ℕ → Type 0
+  IsEarlier request =
+      (number_in transaction_id request < c) ⊎ ((2 ^ 32 ≤ number_in transaction_id request) × (number_in method request ≡ get))
+
   -- a request of the manager's own
   abbrev pub IsOwn : List ℕ → Type 0
-  IsOwn request = IsOld request ⊎ IsOfStep request
+  IsOwn request = IsEarlier request ⊎ IsOfStep request
 
   abbrev pub Sends : NodePort → List ℕ → Type 0
   Sends origin request = origin ≡ seat → IsOwn request
 
-  -- what it sends over a path is such a request, or an answer
+  -- what it sends over a path is such a request, or an answer; by LIDs it sets SMInfo alone
   abbrev pub IsOwnSending : Sending → Type 0
   IsOwnSending (ByPath method attribute modifier tid path payload) = IsOwn (directed method attribute modifier tid path payload)
-  IsOwnSending (ByLid packet) = Unit {0}
+  IsOwnSending (ByLid packet) = SetsInfoAlone packet.bytes
   IsOwnSending (Answer which given payload) = Unit {0}
 
   -- the answer to a step's Set, which was done if it says so
@@ -132,9 +141,9 @@ module _ (start : Simulation) (seat : NodePort) (plan : PlanValue) (c : ℕ) (al
       by_agent (Some a) there = of_agent a there
 
   -- an answer to an old request is old
-  old_kept : (request answer : List ℕ) → number_in transaction_id answer ≡ number_in transaction_id request → IsOld request → IsOld answer
+  old_kept : (request answer : List ℕ) → number_in transaction_id answer ≡ number_in transaction_id request → IsEarlier request → IsOld answer
   old_kept request answer number (inl low) = inl (omega (arith, low, number))
-  old_kept request answer number (inr high) = inr (omega (arith, high, number))
+  old_kept request answer number (inr (high, gets)) = inr (omega (arith, high, number))
 
   module _ (cables : AreCables start) (counts : (id : ℕ) → port_count start id ≤ 254)
       (good : (x : StepSent) → Contains all x → IsGood start seat plan x) where

@@ -81,7 +81,7 @@ fits_step p sendable small =
     }
 
 -- a request over a path, which is a step's Set, goes the step's path
-same_path : (p : StepSent) (path request : List ℕ) → IsSendable p.step → length p.step.path ≤ 63 → p.number < 2 ^ 32 → IsRequestOver path request
+pub same_path : (p : StepSent) (path request : List ℕ) → IsSendable p.step → length p.step.path ≤ 63 → p.number < 2 ^ 32 → IsRequestOver path request
     → request ≡ set_packet p.number p.step → path ≡ p.step.path
 same_path p path request sendable short small over e =
     let (holds, along) = directed_reads_back set p.step.attribute p.step.modifier p.number p.step.path p.step.payload (fits_step p sendable small) short in
@@ -90,7 +90,7 @@ same_path p path request sendable short small over e =
     sym (over.ports i less) ∙ ap (number_in (record { at = 128 + (i + 1); len = 1 })) e ∙ along.ports i (omega (arith, less, size)))
 
 -- as it comes to the agent, it asks for what the step sets
-asks_for_step : (p : StepSent) (request bytes : List ℕ) (notes : ℕ → ℕ) (k : ℕ) → IsSendable p.step → length p.step.path ≤ 63 → p.number < 2 ^ 32
+pub asks_for_step : (p : StepSent) (request bytes : List ℕ) (notes : ℕ → ℕ) (k : ℕ) → IsSendable p.step → length p.step.path ≤ 63 → p.number < 2 ^ 32
     → request ≡ set_packet p.number p.step → IsOut request notes k bytes → AsksFor p.step bytes
 asks_for_step p request bytes notes k sendable short small e out =
     let (holds, along) = directed_reads_back set p.step.attribute p.step.modifier p.number p.step.path p.step.payload (fits_step p sendable small) short in

@@ -69,7 +69,7 @@ its_planning = record { lmc = 0; rule = up_and_down }
 abbrev pub beginning : Managing
 beginning = record { scene = record { fabric = network; handed = [] }; seat = port 0 1; manager = new_manager 17 1 0 its_planning; out = [] }
 
-starts : Starts beginning
+pub starts : Starts beginning
 unfolding cabled_at fresh_agent
 starts =
     record {
@@ -93,7 +93,7 @@ sweeping_with generation =
       }) (started 1 generation 1);
     }
 
-may_begin : begin_fault (new_manager 17 1 0 its_planning) ≡ None
+pub may_begin : begin_fault (new_manager 17 1 0 its_planning) ≡ None
 may_begin = ap (λ n. if n == 2 ^ 32 - 1 then Some GenerationsSpent else None) nothing_newest
 
 begun : after_manager_event beginning Begin ≡ sweeping_with 1
@@ -121,7 +121,7 @@ between =
 abbrev pub swept : Managing
 swept = after_manager_events between (sweeping_with 1)
 
-whole : IsWhole (sweep_in swept.manager.sweep)
+pub whole : IsWhole (sweep_in swept.manager.sweep)
 unfolding cabled_at fresh_agent after_inject after_deliver after_lose outcome_of after_answer get_of set_of changed_port with_bytes
 whole = record { done = refl; answered = refl; near = refl }
 
@@ -132,7 +132,7 @@ is_silent = refl
 
 -- what it was told ----------------------------------------------------------------------------------------------
 
-abbrev replies : List Sightings
+abbrev pub replies : List Sightings
 replies =
     (one (NodeKey 16) (Kind ChannelAdapter 1) ∷ one (PortGuid 16 1) (Guid 17) ∷ [])
     ∷ (one (PortKey 16 1) (Up true) ∷ one (Claim 16 1) (Lid 2) ∷ [])
@@ -151,21 +151,21 @@ merged_all = refl
 abbrev pub all_told : Sightings
 all_told = joined_told [] replies
 
-abbrev cells : Cells
+abbrev pub cells : Cells
 cells = cells_of_view all_told
 
-known : cells_of swept.manager.store ≡ cells_of_view all_told
+pub known : cells_of swept.manager.store ≡ cells_of_view all_told
 known = ap cells_of (merged_all ∙ one_view [] replies) ∙ entries-view all_told
 
 -- its plan is what is held ----------------------------------------------------------------------------------------
 
-has_room : ¬ (IsNoRoom 0 (cells_of swept.manager.store))
+pub has_room : ¬ (IsNoRoom 0 (cells_of swept.manager.store))
 has_room = subst (λ c. ¬ (IsNoRoom 0 c)) (sym known) there_is
   where
     there_is : ¬ (IsNoRoom 0 cells)
     there_is e = absurd (cc)
 
-abbrev plan : PlanValue
+abbrev pub plan : PlanValue
 plan = plan_of up_and_down 0 cells
 
 -- the one block of the switch, and none of an adapter
@@ -184,7 +184,7 @@ in_table [] i less = absurd (omega (arith, less))
 in_table (x ∷ xs) zero less = refl
 in_table (x ∷ xs) (suc i) less = in_table xs i (omega (arith, less))
 
-holds_at : (id p : ℕ) (node : fabric.Node) → IsNodeAt (fabric_of network) id node → IsEndPortNumber node p
+pub holds_at : (id p : ℕ) (node : fabric.Node) → IsNodeAt (fabric_of network) id node → IsEndPortNumber node p
     → HoldsPlanAt plan (fabric_of network) (port id p) node
 unfolding cabled_at fresh_agent
 holds_at zero p node there number =
@@ -231,7 +231,7 @@ holds_at (suc (suc zero)) p node there number = third (same_Some _ _ there)
         by_port (suc (suc p)) within = absurd (omega (arith, within.1))
 holds_at (suc (suc (suc n))) p node there number = absurd (cc)
 
-holds_plan : HoldsPlan (IsJoinedTo (fabric_of network) (port 0 1)) plan (fabric_of network)
+pub holds_plan : HoldsPlan (IsJoinedTo (fabric_of network) (port 0 1)) plan (fabric_of network)
 holds_plan q node is =
     let (other, there, number) = is.end_port in
     holds_at q.node q.port node is.node_there (subst (λ (n : fabric.Node). IsEndPortNumber n q.port) (same_Some _ _ (sym there ∙ is.node_there)) number)
@@ -337,7 +337,7 @@ no_fault : fault_with its_planning swept.manager (Some (sweep_in swept.manager.s
 unfolding cabled_at fresh_agent after_inject after_deliver after_lose outcome_of after_answer get_of set_of changed_port with_bytes
 no_fault = refl
 
-may_write : writing_fault swept.manager ≡ None
+pub may_write : writing_fault swept.manager ≡ None
 may_write =
     fault_is swept.manager its_planning (Some (sweep_in swept.manager.sweep)) cells planning_is (sweep_there swept.manager.sweep has_swept) known ∙ no_fault
 
@@ -391,7 +391,7 @@ sweeps =
     }
 
 -- what it comes to know is as it was
-agrees : AgreesOn (IsJoinedTo (fabric_of network) (port 0 1)) (cells_of swept.manager.store) (fabric_of network)
+pub agrees : AgreesOn (IsJoinedTo (fabric_of network) (port 0 1)) (cells_of swept.manager.store) (fabric_of network)
 agrees =
     subst (λ (x : Managing). AgreesOn (IsJoinedTo (fabric_of network) (port 0 1)) (cells_of x.manager.store) (fabric_of network)) at_is
     (found_agrees beginning [] between after run sweeps.knew_nothing sweeps.alone sweeps.sweep sweeps.is_last sweeps.lids_before sweeps.lids_between

@@ -43,7 +43,7 @@ pub record KeepsHeld (plan : PlanValue) (a b : Agent) : Type 0 where
       → ((i : ℕ) → i < 64 → slice_get block i ≡ Some (entry_at a (64 * n + i)))
       → (i : ℕ) → i < 64 → slice_get block i ≡ Some (entry_at b (64 * n + i))
 
-itself : (plan : PlanValue) (a : Agent) → KeepsHeld plan a a
+pub itself : (plan : PlanValue) (a : Agent) → KeepsHeld plan a a
 itself plan a = record { ranges = λ m has is. refl; top = λ top among is upto. upto; blocks = λ n block is held. held }
 
 -- what is there by one reading is by the other
@@ -125,7 +125,7 @@ module _ (plan : PlanValue) (a : Agent) (packet : List ℕ) (arrival : ℕ) (is 
 -- a part of a fabric -----------------------------------------------------------------------------------------
 
 -- an end port's own port has a LID
-lid_there : (kind local : Bool) (port ports : ℕ) → kind ≡ local → MatchBool kind (port ≡ 0) ((1 ≤ port) × (port ≤ ports)) → (not local || port == 0) ≡ true
+pub lid_there : (kind local : Bool) (port ports : ℕ) → kind ≡ local → MatchBool kind (port ≡ 0) ((1 ≤ port) × (port ≤ ports)) → (not local || port == 0) ≡ true
 lid_there true local port ports e zero_is = ap (λ (t : Bool). not t || port == 0) (sym e) ∙ eq-eqb port 0 zero_is
 lid_there false local port ports e within = ap (λ (t : Bool). not t || port == 0) (sym e)
 

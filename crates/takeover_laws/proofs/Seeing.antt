@@ -8,11 +8,12 @@ use Rattle.smp_bytes.specs.declared.node_type.NodeType.TheVariants.{Switch}
 use Rattle.smp_bytes.specs.NodeType.{is_switch}
 use Rattle.fabric_model.specs.Fabric as fabric
 use Rattle.fabric_model.specs.Fabric.{Fabric, IsEndPortNumber, range_at}
+use Rattle.fabric_model.specs.declared.cable.NodePort.{NodePort}
 use Rattle.fabric_model.specs.FabricWalks.{IsJoinedTo}
 use Rattle.reply_facts.specs.declared.key.Key.{Key}
 use Rattle.reply_facts.specs.declared.key.Key.TheVariants.{Node, PortGuid, Link, Port, Claim, Cap}
 use Rattle.reply_facts.specs.Known.{kind_in, guid_in, peer_in, up_in, lid_in, count_in, known_in, node_of, port_guid_of, link_of, cap_of, claim_of}
-use Rattle.fact_store.specs.View.{cells_of}
+use Rattle.fact_store.specs.View.{Facts, cells_of}
 use Rattle.subnet_view.specs.Reading.{Cells, is_up, port_count_of, IsUsable}
 use Rattle.subnet_view.specs.EndPorts.{IsEndPort}
 use Rattle.subnet_view.specs.Wires.{CanHaveWire, IsWire}
@@ -22,7 +23,9 @@ use Rattle.subnet_view.proofs.Apart.{contains_map}
 use Rattle.subnet_view.proofs.BesideClaims.{is_claim}
 use Rattle.subnet_view.proofs.EndPortList.{end_ports_law}
 use Rattle.subnet_view.proofs.Members.{contains_in}
-use Rattle.lid_assign.specs.Lids.{lids, lmc_of, range_of}
+use Rattle.lid_assign.specs.Lids.{IsNoRoom, lids, lmc_of, range_of}
+use Rattle.lft_blocks.specs.Plan.{plan_of}
+use Rattle.lft_blocks.specs.Rules.{RuleValue}
 use Rattle.lid_assign.specs.Stability.{ClaimLids}
 use Rattle.lid_assign.proofs.LidLaws.{ports-lids}
 use Rattle.lid_assign.proofs.Owners.{given-from_lid}
@@ -195,9 +198,14 @@ true_claims part f rule lmc x y a b one other =
 pub who_sees_the_truth_plans_the_same : WhoSeesTheTruthPlansTheSame
 who_sees_the_truth_plans_the_same f = (true_claims WholeFabric f, λ origin. true_claims (IsJoinedTo f origin) f)
 
--- a plan that is held is planned again
-pub held_plan : (part : Part) (f : Fabric) → HeldPlanIsPlanned part f
-held_plan part f rule lmc x y has_room a b holds claims =
+-- a plan whose LIDs are held is planned again
+pub held_lids : (part : Part) (f : Fabric) (rule : RuleValue) (lmc : ℕ) (x y : Facts) → ¬ (IsNoRoom lmc (cells_of x)) → AgreesOn part (cells_of x) f
+    → AgreesOn part (cells_of y) f
+    → ((port : NodePort) (node : fabric.Node) → IsEndPortIn part f port node
+    → range_of (lids lmc (cells_of x)) (record { node = node.guid; port = port.port }) ≡ Some (range_at f port))
+    → ClaimsAreTrue part (cells_of y) f
+    → ¬ (IsNoRoom lmc (cells_of y)) × (plan_of rule lmc (cells_of y) ≡ plan_of rule lmc (cells_of x))
+held_lids part f rule lmc x y has_room a b holds claims =
     claimed_plans_stay rule lmc x y has_room (agreeing_alike part f (cells_of x) (cells_of y) a b) claimed
   where
     claimed : ClaimLids lmc (cells_of x) (cells_of y)
@@ -206,7 +214,7 @@ held_plan part f rule lmc x y has_room a b holds claims =
         let listed = contains_in e (ports-lids lmc (cells_of x) has_room) (contains_map (λ (g : EndPort × ℕ). g.0) (lids lmc (cells_of x)).ports (e, lid) there)
         in
         let has = a.end_ports_exist e.node e.port (((end_ports_law x).0 e).0 listed) in
-        let held = (holds has.port has.named.node (inside part f e.node e.port has)).lids in
+        let held = holds has.port has.named.node (inside part f e.node e.port has) in
         let same : range_of (lids lmc (cells_of x)) e ≡ Some (range_at f has.port) =
         named_so part f e.node e.port has (λ n p. range_of (lids lmc (cells_of x)) (record { node = n; port = p }) ≡ Some (range_at f has.port)) held in
         let range : range_of (lids lmc (cells_of x)) e ≡ Some (lid, lmc_of (lids lmc (cells_of x)) e) =
@@ -215,6 +223,10 @@ held_plan part f rule lmc x y has_room a b holds claims =
         named_so part f e.node e.port has (λ n p. claim_of (cells_of y) n p
         ≡ Some (f.base_lid has.port)) (claims has.port has.named.node (inside part f e.node e.port has))
         ∙ ap (λ (r : ℕ × ℕ). Some r.0) pair
+
+-- so is one that is held
+pub held_plan : (part : Part) (f : Fabric) → HeldPlanIsPlanned part f
+held_plan part f rule lmc x y has_room a b holds claims = held_lids part f rule lmc x y has_room a b (λ port node is. (holds port node is).lids) claims
 
 pub held_plans_are_planned : HeldPlansArePlanned
 held_plans_are_planned f = (held_plan WholeFabric f, λ origin. held_plan (IsJoinedTo f origin) f)

@@ -31,7 +31,7 @@ pub record SeenKeeping (f : Fabric) (before after : Scene) : Type 0 where
 pub nothing_seen : (f : Fabric) (scene : Scene) → SeenKeeping f scene scene
 nothing_seen f scene = record { lids = λ u e. tt; events = []; can_be = All-nil sweeping.CanBe; is = λ u e. λ i. on_scene u (e i) }
 
-one_seen : (f : Fabric) (scene : Scene) (event : Event) → CanHappen event → HasLidsOf f (after_event scene event)
+pub one_seen : (f : Fabric) (scene : Scene) (event : Event) → CanHappen event → HasLidsOf f (after_event scene event)
     → SeenKeeping f scene (after_event scene event)
 one_seen f scene event can_happen lids =
     record {

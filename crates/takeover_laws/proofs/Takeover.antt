@@ -45,7 +45,7 @@ use Rattle.manager_laws.proofs.Held as held
 
 -- scenes one after the other ---------------------------------------------------------------------------------
 
-seen_further : (f : Fabric) (a b c : Scene) → SeenKeeping f a b → SeenKeeping f b c → SeenKeeping f a c
+pub seen_further : (f : Fabric) (a b c : Scene) → SeenKeeping f a b → SeenKeeping f b c → SeenKeeping f a c
 seen_further f a b c one other =
     record {
       events = one.events ++ other.events;
@@ -55,7 +55,7 @@ seen_further f a b c one other =
           (subst (LidsStay f other.events) (sym (one.is u e)) (other.lids (on_scene u b) refl));
     }
 
-none_seen : (f : Fabric) (a : Scene) → SeenKeeping f a a
+pub none_seen : (f : Fabric) (a : Scene) → SeenKeeping f a a
 none_seen f a = record { lids = λ u e. tt; events = []; can_be = All-nil sweeping.CanBe; is = λ u e. λ i. on_scene u (e i) }
 
 module _ (w : Managing) (before between after : List ManagerEvent) (run : IsWritingRun w before between after) where

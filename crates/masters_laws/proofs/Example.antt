@@ -1,0 +1,415 @@
+-- Two managers that sweep and write at once: each at an adapter, on a switch to which both are wired, and each silent to the other.
+use Rattle.std.proofs.Common.{◌≡◌, ◌≢◌, ℕ, zero, suc, ◌+◌, ◌*◌, ◌-◌, ◌^◌, Bool, true, false, List, [], ◌∷◌, ◌++◌, length, replicate}
+use Rattle.std.proofs.Common.{refl, sym, ap, ◌∙◌, subst, arith}
+use Rattle.std.proofs.lemmas.Bool.{and_parts}
+use Rattle.std.proofs.lemmas.Option.{same_Some}
+use Rattle.std.specs.Prelude.{if◌then◌else◌, Option, Some, None, is_none, is_some, max, slice_get, slice_index_or, ◌==◌, ◌&&◌}
+use Rattle.fabric_model.specs.declared.cable.NodePort.{NodePort}
+use Rattle.smp_bytes.specs.Field.{with_bytes}
+use Rattle.node_agents.specs.Agent.{fresh_agent}
+use Rattle.node_agents.specs.Answers.{after_answer, get_of, set_of}
+use Rattle.node_agents.specs.PortInfo.{changed_port}
+use Rattle.smp_bytes.specs.declared.node_type.NodeType.TheVariants.{ChannelAdapter, Switch}
+use Rattle.reply_facts.specs.declared.key.Key.TheVariants.{Node as NodeKey, PortGuid, Link, Port as PortKey, Claim, Cap}
+use Rattle.reply_facts.specs.declared.value.Value.TheVariants.{Kind, Guid, Peer, Up, Lid, Count}
+use Rattle.reply_facts.specs.Report.{Sightings}
+use Rattle.fact_store.specs.View.{cells_of, no_facts}
+use Rattle.fact_store.proofs.Entries.{cells_of_view, entries-view}
+use Rattle.subnet_view.specs.Agreement.{AgreesOn, Part}
+use Rattle.subnet_view.specs.Reading.{Cells}
+use Rattle.lft_blocks.specs.Arrival.{HoldsPlan}
+use Rattle.lft_blocks.specs.Plan.{plan_of}
+use Rattle.lft_blocks.specs.Rules.{up_and_down}
+use Rattle.fabric_model.specs.Fabric.{IsEndPortNumber, Node}
+use Rattle.fabric_model.specs.FabricWalks.{IsJoinedTo}
+use Rattle.fabric_sim.specs.Simulation.{fabric_of}
+use Rattle.fabric_sim.specs.Delivery.{outcome_of, after_deliver}
+use Rattle.fabric_sim.specs.Changes.{after_inject, after_lose, cabled_at}
+use Rattle.sweep.specs.Sweep.{started}
+use Rattle.sm_manager.specs.declared.fault.ManagerFault.{ManagerFault}
+use Rattle.sm_manager.specs.declared.fault.ManagerFault.TheVariants.{GenerationsSpent}
+use Rattle.sm_manager.specs.Plans.{writing_fault}
+use Rattle.sm_manager.specs.Manager.{Manager, begin_fault, new_manager, newest_held, with_sweep}
+use Rattle.sm_state.specs.Standing.{active_once_more}
+use Rattle.manager_laws.specs.Complete.{IsWhole}
+use Rattle.manager_laws.specs.Scene.{Deliver, Lose, Repeat, Send as SendFrom}
+use Rattle.manager_laws.specs.Managing as one
+use Rattle.manager_laws.specs.Managing.{Starts, after_manager_event}
+use Rattle.manager_laws.proofs.Computed.{fault_is, fault_with, joined_told, merged_with, one as told, one_view, sweep_in, sweep_there}
+use Rattle.manager_laws.proofs.ExampleFabric.{port}
+use Rattle.manager_laws.proofs.Generations.{nothing_found, nothing_newest}
+use Rattle.takeover_laws.proofs.Example as alone
+use Rattle.takeover_laws.proofs.Example.{its_planning}
+use Rattle.takeover_laws.specs.Takeover.{plan_by_it}
+use Rattle.takeover_laws.proofs.ExampleFabric.{distinct, is_network, network}
+use Rattle.manager_laws.proofs.Rests.{new_managers_rest}
+use Rattle.masters_laws.specs.Masters.{AllCanBe, Around, At, CanBe, IsAt, IsItsOwn, IsWholeSweep, Masters, MastersEvent, Seated, StartTogether}
+use Rattle.masters_laws.specs.Masters.{WritesWhole, acting, after_masters_event, after_masters_events, seated_after, seen_by}
+use Rattle.masters_laws.specs.InForce.{AllHold, AllSweepWhole, ShareLids, SomeMastersWriteAtOnce, SweepsWhole}
+use Rattle.masters_laws.proofs.Known.{after_both}
+use Rattle.masters_laws.proofs.SameParts.{IsAtSwitch, agrees_too, joined_too}
+use Rattle.masters_laws.proofs.Together.{set_elsewhere}
+
+-- a manager of a port GUID at port 1 of a node
+abbrev pub seated : ℕ → Manager → Bool → Seated
+seated node m swept = record { seat = port node 1; manager = m; out = []; has_swept = swept; knows_one_sweep = swept }
+
+abbrev pub fresh : ℕ → Manager
+fresh guid = new_manager guid 1 0 its_planning
+
+abbrev pub beginning : Masters
+beginning = record { scene = record { fabric = network; handed = [] }; managers = seated 0 (fresh 17) false ∷ seated 2 (fresh 49) false ∷ [] }
+
+-- as it is when its first sweep has begun
+abbrev pub sweeper : ℕ → ℕ → Manager
+sweeper guid generation = with_sweep (record (fresh guid) { standing = active_once_more (fresh guid).standing; seen = [] }) (started 1 generation 1)
+
+abbrev pub sweeping_both : Masters
+sweeping_both =
+    record { scene = record { fabric = network; handed = [] }; managers = seated 0 (sweeper 17 1) true ∷ seated 2 (sweeper 49 1) true ∷ [] }
+
+-- so many deliveries of a packet
+abbrev deliveries : ℕ → ℕ → List MastersEvent
+deliveries hops serial = replicate (hops + 1) (Around (Deliver serial))
+
+-- a request of a manager goes out over as many cables as its path has ports, and its answer comes back over as many
+abbrev trip : ℕ → ℕ → ℕ → ℕ → ℕ → List MastersEvent
+trip which number hops serial heard =
+    At which one.Take ∷ At which (one.Send number)
+    ∷ (deliveries hops serial ++ (deliveries hops (serial + 1) ++ At which (one.Hear heard) ∷ []))
+
+-- first of the one and then of the other
+abbrev trips : ℕ → ℕ → List MastersEvent
+trips number hops = trip 0 number hops (4 * number) (2 * number) ++ trip 1 number hops (4 * number + 2) (2 * number + 1)
+
+-- the last request of each goes to the other; it is lost, and given up
+abbrev gives_up : ℕ → ℕ → List MastersEvent
+gives_up which serial = At which one.Take ∷ At which (one.Send 9) ∷ Around (Lose serial) ∷ At which (one.TimeOut (2 ^ 32 + 10)) ∷ []
+
+abbrev pub answering : List MastersEvent
+answering =
+    trips 0 0 ++ (trips 1 0 ++ (trips 2 1 ++ (trips 3 1 ++ (trips 4 1 ++ (trips 5 1 ++ (trips 6 1 ++ (trips 7 2 ++ (trips 8 2
+    ++ (gives_up 0 36 ++ gives_up 1 37)))))))))
+
+abbrev pub swept : Masters
+swept = after_masters_events answering sweeping_both
+
+abbrev pub seated_at : ℕ → Seated
+seated_at which = slice_index_or swept.managers which (seated 0 (fresh 17) false)
+
+-- how they begin -------------------------------------------------------------------------------------------------------
+
+may_begin : (guid : ℕ) → begin_fault (fresh guid) ≡ None
+may_begin guid = ap (λ n. if n == 2 ^ 32 - 1 then Some GenerationsSpent else None) nothing_newest
+
+-- by what forbids their sweeps, and what is known at first
+abbrev begun_at : ℕ → Manager → Manager → Option ManagerFault → Cells → Seated
+begun_at node before after o known =
+    record {
+      seat = port node 1;
+      manager = if is_none o then after else before;
+      out = [];
+      has_swept = if is_none o then true else false;
+      knows_one_sweep = if is_none o then length known == 0 else false;
+    }
+
+abbrev begun_by : Option ManagerFault → Option ManagerFault → Cells → ℕ → Masters
+begun_by o q known newest =
+    record {
+      scene = record { fabric = network; handed = [] };
+      managers = begun_at 0 (fresh 17) (sweeper 17 (max (newest + 1) 1)) o known
+          ∷ begun_at 2 (fresh 49) (sweeper 49 (max (newest + 1) 1)) q known
+          ∷ [];
+    }
+
+abbrev pub begins : List MastersEvent
+begins = At 0 one.Begin ∷ At 1 one.Begin ∷ []
+
+begun : after_masters_events (At 0 one.Begin ∷ At 1 one.Begin ∷ []) beginning ≡ sweeping_both
+begun =
+    (λ j. begun_by (may_begin 17 j) (may_begin 49 j) (cells_of no_facts) (newest_held no_facts))
+    ∙ (λ j. begun_by None None (nothing_found j) (nothing_newest j))
+
+-- what their sweeps end with ----------------------------------------------------------------------------------------------
+
+record HasAnswers (m : Seated) : Type 0 where
+  pub whole : IsWhole (sweep_in m.manager.sweep)
+  pub is_sweep : is_some m.manager.sweep ≡ true
+  pub planning : m.manager.planning ≡ its_planning
+  pub knows : m.knows_one_sweep ≡ true
+
+first_answers : HasAnswers (seated_at 0)
+unfolding cabled_at fresh_agent after_inject after_deliver after_lose outcome_of after_answer get_of set_of changed_port with_bytes
+first_answers = record { whole = record { done = refl; answered = refl; near = refl }; is_sweep = refl; planning = refl; knows = refl }
+
+second_answers : HasAnswers (seated_at 1)
+unfolding cabled_at fresh_agent after_inject after_deliver after_lose outcome_of after_answer get_of set_of changed_port with_bytes
+second_answers = record { whole = record { done = refl; answered = refl; near = refl }; is_sweep = refl; planning = refl; knows = refl }
+
+first_at : IsAt swept 0 (seated_at 0)
+unfolding cabled_at fresh_agent after_inject after_deliver after_lose outcome_of after_answer get_of set_of changed_port with_bytes
+first_at = refl
+
+second_at : IsAt swept 1 (seated_at 1)
+unfolding cabled_at fresh_agent after_inject after_deliver after_lose outcome_of after_answer get_of set_of changed_port with_bytes
+second_at = refl
+
+-- the one was told what a manager on its own is told
+merged_first : (seated_at 0).manager.store ≡ merged_with no_facts alone.replies
+unfolding cabled_at fresh_agent after_inject after_deliver after_lose outcome_of after_answer get_of set_of changed_port with_bytes
+merged_first = refl
+
+known_first : cells_of (seated_at 0).manager.store ≡ alone.cells
+known_first = ap cells_of (merged_first ∙ one_view [] alone.replies) ∙ entries-view alone.all_told
+
+no_fault_first : fault_with its_planning (seated_at 0).manager (Some (sweep_in (seated_at 0).manager.sweep)) alone.cells ≡ None
+unfolding cabled_at fresh_agent after_inject after_deliver after_lose outcome_of after_answer get_of set_of changed_port with_bytes
+no_fault_first = refl
+
+first_writes : writing_fault (seated_at 0).manager ≡ None
+first_writes =
+    fault_is (seated_at 0).manager its_planning (Some (sweep_in (seated_at 0).manager.sweep)) alone.cells first_answers.planning
+    (sweep_there (seated_at 0).manager.sweep first_answers.is_sweep) known_first ∙ no_fault_first
+
+-- the other one from its side
+abbrev replies : List Sightings
+replies =
+    (told (NodeKey 48) (Kind ChannelAdapter 1) ∷ told (PortGuid 48 1) (Guid 49) ∷ [])
+    ∷ (told (PortKey 48 1) (Up true) ∷ told (Claim 48 1) (Lid 7) ∷ [])
+    ∷ (told (NodeKey 32) (Kind Switch 2) ∷ told (PortGuid 32 0) (Guid 32) ∷ told (Link 32 2) (Peer 48 1) ∷ told (Link 48 1) (Peer 32 2) ∷ [])
+    ∷ (told (Cap 32) (Count 64) ∷ [])
+    ∷ (told (PortKey 32 0) (Up true) ∷ told (Claim 32 0) (Lid 5) ∷ [])
+    ∷ (told (PortKey 32 1) (Up true) ∷ told (Claim 32 1) (Lid 0) ∷ [])
+    ∷ (told (PortKey 32 2) (Up true) ∷ told (Claim 32 2) (Lid 0) ∷ [])
+    ∷ (told (NodeKey 16) (Kind ChannelAdapter 1) ∷ told (PortGuid 16 1) (Guid 17) ∷ told (Link 16 1) (Peer 32 1) ∷ told (Link 32 1) (Peer 16 1) ∷ [])
+    ∷ (told (PortKey 16 1) (Up true) ∷ told (Claim 16 1) (Lid 2) ∷ []) ∷ []
+
+merged_second : (seated_at 1).manager.store ≡ merged_with no_facts replies
+unfolding cabled_at fresh_agent after_inject after_deliver after_lose outcome_of after_answer get_of set_of changed_port with_bytes
+merged_second = refl
+
+abbrev cells : Cells
+cells = cells_of_view (joined_told [] replies)
+
+known_second : cells_of (seated_at 1).manager.store ≡ cells
+known_second = ap cells_of (merged_second ∙ one_view [] replies) ∙ entries-view (joined_told [] replies)
+
+no_fault_second : fault_with its_planning (seated_at 1).manager (Some (sweep_in (seated_at 1).manager.sweep)) cells ≡ None
+unfolding cabled_at fresh_agent after_inject after_deliver after_lose outcome_of after_answer get_of set_of changed_port with_bytes
+no_fault_second = refl
+
+second_writes : writing_fault (seated_at 1).manager ≡ None
+second_writes =
+    fault_is (seated_at 1).manager its_planning (Some (sweep_in (seated_at 1).manager.sweep)) cells second_answers.planning
+    (sweep_there (seated_at 1).manager.sweep second_answers.is_sweep) known_second ∙ no_fault_second
+
+-- what may happen -----------------------------------------------------------------------------------------------------------
+
+-- nobody else sends, and a manager does nothing but begin a sweep, send and hear, and give requests up
+abbrev is_plain : MastersEvent → Bool
+is_plain (Around (Deliver n)) = true
+is_plain (Around (Lose n)) = true
+is_plain (Around (Repeat n)) = true
+is_plain (Around (SendFrom seat sending)) = false
+is_plain (At which (one.Around event)) = false
+is_plain (At which one.Begin) = true
+is_plain (At which one.Write) = false
+is_plain (At which one.Take) = true
+is_plain (At which (one.Send number)) = true
+is_plain (At which (one.Hear number)) = true
+is_plain (At which (one.TimeOut transaction)) = true
+is_plain (At which (one.Raise floor)) = false
+is_plain (At which (one.Merge floor sightings)) = false
+is_plain (At which (one.Poll lid)) = false
+is_plain (At which one.HandOver) = false
+
+abbrev are_plain : List MastersEvent → Bool
+are_plain [] = true
+are_plain (event ∷ events) = is_plain event && are_plain events
+
+abbrev May : Masters → MastersEvent → Type 0
+May t event = CanBe t event × SweepsWhole t event
+
+abbrev AllMay : List MastersEvent → Masters → Type 0
+AllMay events t = AllCanBe events t × AllSweepWhole events t
+
+plain_may : (t : Masters) (event : MastersEvent) → is_plain event ≡ true → May t event
+plain_may t (Around (Deliver n)) e = ((tt, λ which m there. tt), tt)
+plain_may t (Around (Lose n)) e = ((tt, λ which m there. tt), tt)
+plain_may t (Around (Repeat n)) e = ((tt, λ which m there. tt), tt)
+plain_may t (Around (SendFrom seat sending)) e = absurd (cc)
+plain_may t (At which (one.Around event)) e = absurd (cc)
+plain_may t (At which one.Begin) e = (λ m there. (tt, tt), λ m there. tt)
+plain_may t (At which one.Write) e = absurd (cc)
+plain_may t (At which one.Take) e = (λ m there. (tt, tt), λ m there. tt)
+plain_may t (At which (one.Send number)) e = (λ m there. (tt, tt), λ m there. tt)
+plain_may t (At which (one.Hear number)) e = (λ m there. (tt, tt), λ m there. tt)
+plain_may t (At which (one.TimeOut transaction)) e = (λ m there. (tt, tt), λ m there. tt)
+plain_may t (At which (one.Raise floor)) e = absurd (cc)
+plain_may t (At which (one.Merge floor sightings)) e = absurd (cc)
+plain_may t (At which (one.Poll lid)) e = absurd (cc)
+plain_may t (At which one.HandOver) e = absurd (cc)
+
+all_plain_may : (events : List MastersEvent) (t : Masters) → are_plain events ≡ true → AllMay events t
+all_plain_may [] t e = (tt, tt)
+all_plain_may (event ∷ events) t e =
+    let parts = and_parts (is_plain event) (are_plain events) e in
+    let now = plain_may t event parts.0 in
+    let later = all_plain_may events (after_masters_event t event) parts.1 in
+    ((now.0, later.0), (now.1, later.1))
+
+may_append : (es fs : List MastersEvent) (t : Masters) → AllMay es t → AllMay fs (after_masters_events es t) → AllMay (es ++ fs) t
+may_append [] fs t now later = later
+may_append (e ∷ es) fs t now later =
+    let rest = may_append es fs (after_masters_event t e) (now.0.1, now.1.1) later in
+    ((now.0.0, rest.0), (now.1.0, rest.1))
+
+-- a manager writes whose sweep has every answer
+answers_may : (t : Masters) (which : ℕ) (m : Seated) → IsAt t which m → HasAnswers m → May t (At which one.Write)
+answers_may t which m there has = (
+  λ n at. subst (λ (x : Seated). IsItsOwn one.Write × one.CanBe x.seat one.Write) (same_Some _ _ (sym there ∙ at))
+      (tt, tt),
+  λ n at. subst (λ (x : Seated). WritesWhole x one.Write) (same_Some _ _ (sym there ∙ at))
+      (λ none. (has.knows, subst IsWholeSweep (sym (sweep_there m.manager.sweep has.is_sweep)) has.whole)),
+)
+
+abbrev pub sweeping : List MastersEvent
+sweeping = At 0 one.Begin ∷ At 1 one.Begin ∷ answering
+
+-- each sends its first step, which gives the first adapter's port the LID that it has
+abbrev pub writing : List MastersEvent
+writing = trip 0 10 0 38 18 ++ trip 1 10 2 40 19
+
+swept_is : after_masters_events sweeping beginning ≡ swept
+swept_is = ap (after_masters_events answering) begun
+
+-- the one writes, and the other one is as it was
+abbrev first_writing : Masters
+first_writing = after_masters_event swept (At 0 one.Write)
+
+second_still : IsAt first_writing 1 (seated_at 1)
+second_still = by_first (slice_get swept.managers 0)
+  where
+    by_first : (o : Option Seated) → IsAt (acting swept 0 one.Write o) 1 (seated_at 1)
+    by_first None = second_at
+    by_first (Some m) =
+        set_elsewhere swept.managers 0 1 (seated_after m one.Write (after_manager_event (seen_by swept.scene m) one.Write)) (λ e. cc) ∙ second_at
+
+all_may : AllMay (sweeping ++ At 0 one.Write ∷ At 1 one.Write ∷ writing) beginning
+all_may =
+    may_append sweeping (At 0 one.Write ∷ At 1 one.Write ∷ writing) beginning (all_plain_may sweeping beginning refl)
+    (subst (AllMay (At 0 one.Write ∷ At 1 one.Write ∷ writing)) (sym swept_is) writes)
+  where
+    writes : AllMay (At 0 one.Write ∷ At 1 one.Write ∷ writing) swept
+    writes =
+        let first = answers_may swept 0 (seated_at 0) first_at first_answers in
+        let second = answers_may first_writing 1 (seated_at 1) second_still second_answers in
+        let later = all_plain_may writing (after_masters_event first_writing (At 1 one.Write)) refl in
+        ((first.0, (second.0, later.0)), (first.1, (second.1, later.1)))
+
+-- the plan that is held ------------------------------------------------------------------------------------------------------
+
+-- ports of two nodes
+two_nodes : (i j p q : ℕ) → i ≢ j → port i p ≢ port j q
+two_nodes i j p q other same = other (ap (λ (x : NodePort). x.node) same)
+
+first_at_switch : IsAtSwitch (fabric_of network) (port 0 1) (port 1 0)
+unfolding cabled_at fresh_agent
+first_at_switch =
+    record { adapter = refl; into = port 1 1; cable = refl; back = refl; vertex = refl; different = two_nodes 0 1 1 1 (λ e. omega (arith, e)); is_switch = refl }
+
+second_at_switch : IsAtSwitch (fabric_of network) (port 2 1) (port 1 0)
+unfolding cabled_at fresh_agent
+second_at_switch =
+    record { adapter = refl; into = port 1 2; cable = refl; back = refl; vertex = refl; different = two_nodes 2 1 1 2 (λ e. omega (arith, e)); is_switch = refl }
+
+agrees_second : AgreesOn (IsJoinedTo (fabric_of network) (port 2 1)) (cells_of alone.swept.manager.store) (fabric_of network)
+agrees_second =
+    agrees_too (fabric_of network) (IsJoinedTo (fabric_of network) (port 0 1)) (IsJoinedTo (fabric_of network) (port 2 1))
+    (joined_too (fabric_of network) (port 0 1) (port 2 1) (port 1 0) first_at_switch second_at_switch)
+    (joined_too (fabric_of network) (port 2 1) (port 0 1) (port 1 0) second_at_switch first_at_switch)
+    (cells_of alone.swept.manager.store) alone.agrees
+
+-- each end port that there is holds it
+holds_by : (part : Part) → HoldsPlan part (plan_by_it its_planning alone.swept.manager.store) (fabric_of network)
+holds_by part =
+    subst (λ c. HoldsPlan part (plan_of up_and_down 0 c) (fabric_of network)) (sym alone.known)
+    (λ q node is. let (other, there, number) = is.end_port in
+    alone.holds_at q.node q.port node is.node_there
+    (subst (λ (n : Node). IsEndPortNumber n q.port) (same_Some _ _ (sym there ∙ is.node_there)) number))
+
+starts_second : Starts (seen_by beginning.scene (seated 2 (fresh 49) false))
+unfolding cabled_at fresh_agent
+starts_second =
+    record {
+      quiet = record { fabric = is_network; flights = refl; handed = refl };
+      distinct = distinct;
+      seat = refl;
+      port = refl;
+      lmc = omega arith;
+      at_rest = new_managers_rest 49 1 0 its_planning;
+      out = refl;
+    }
+
+-- of one of two
+by_two : (P : ℕ → Seated → Type 0) → P 0 (seated 0 (fresh 17) false) → P 1 (seated 2 (fresh 49) false) → (which : ℕ) (m : Seated)
+    → IsAt beginning which m → P which m
+by_two P one two zero m there = subst (P 0) (same_Some _ _ there) one
+by_two P one two (suc zero) m there = subst (P 1) (same_Some _ _ there) two
+by_two P one two (suc (suc which)) m there = absurd (cc)
+
+start : StartTogether beginning
+start =
+    record {
+      quiet = starts_second.quiet;
+      each = by_two (λ which m. Starts (seen_by beginning.scene m)) alone.starts starts_second;
+      none_swept = by_two (λ which m. (m.has_swept ≡ false) × (m.knows_one_sweep ≡ false)) (refl, refl) (refl, refl);
+      apart = λ which other m n one two same.
+          by_two (λ k x. (j : ℕ) (y : Seated) → IsAt beginning j y → x.seat ≡ y.seat → k ≡ j)
+          (by_two (λ j y. port 0 1 ≡ y.seat → 0 ≡ j) (λ e. refl) (λ e. absurd (two_nodes 0 2 1 1 (λ k. omega (arith, k)) e)))
+          (by_two (λ j y. port 2 1 ≡ y.seat → 1 ≡ j) (λ e. absurd (two_nodes 2 0 1 1 (λ k. omega (arith, k)) e)) (λ e. refl)) which m one other n two same;
+    }
+
+hold : AllHold alone.swept.manager.store its_planning beginning
+hold =
+    by_two (λ which m. HoldsPlan (IsJoinedTo (fabric_of network) m.seat) (plan_by_it its_planning alone.swept.manager.store) (fabric_of network))
+    (holds_by (IsJoinedTo (fabric_of network) (port 0 1))) (holds_by (IsJoinedTo (fabric_of network) (port 2 1)))
+
+share : ShareLids alone.swept.manager.store its_planning beginning
+share =
+    record {
+      starts = start;
+      has_room = alone.has_room;
+      plans = by_two (λ which m. m.manager.planning ≡ its_planning) refl refl;
+      agrees = by_two (λ which m. AgreesOn (IsJoinedTo (fabric_of network) m.seat) (cells_of alone.swept.manager.store) (fabric_of network))
+          alone.agrees agrees_second;
+      lids = λ which m there q node is. (hold which m there q node is).lids;
+    }
+
+pub some_masters_write_at_once : SomeMastersWriteAtOnce
+some_masters_write_at_once =
+    record {
+      masters = beginning;
+      held = alone.swept.manager.store;
+      planning = its_planning;
+      share = share;
+      hold = hold;
+      seat = port 0 1;
+      guid = 17;
+      other_seat = port 2 1;
+      other_guid = 49;
+      are_new = refl;
+      sweeping = sweeping;
+      writing = writing;
+      can_be = all_may.0;
+      whole = all_may.1;
+      first = seated_at 0;
+      first_there = subst (λ t. IsAt t 0 (seated_at 0)) (sym swept_is) first_at;
+      first_begins = first_writes;
+      second = seated_at 1;
+      second_there = subst (λ t. IsAt t 1 (seated_at 1)) (sym after_first) second_still;
+      second_begins = second_writes;
+    }
+  where
+    after_first : after_masters_events (sweeping ++ At 0 one.Write ∷ []) beginning ≡ first_writing
+    after_first = after_both sweeping (At 0 one.Write ∷ []) beginning ∙ ap (λ t. after_masters_event t (At 0 one.Write)) swept_is

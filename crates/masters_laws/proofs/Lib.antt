@@ -1,0 +1,13 @@
+pub mod Joined
+pub mod KeptLids
+pub mod Harmless
+pub mod HeldLids
+pub mod Deliveries
+pub mod Scenes
+pub mod Acting
+pub mod Side
+pub mod Together
+pub mod Runs
+pub mod Known
+pub mod SameParts
+pub mod Example

@@ -1,0 +1,129 @@
+-- Several masters at once on a subnet that holds the LIDs of a plan: what they write, and that the plan stays in force
+-- once it is held.
+use Rattle.std.specs.Prelude.{◌≡◌, ℕ, true, false, List, [], ◌∷◌, ◌++◌, None, Some}
+use Rattle.fabric_model.specs.declared.cable.NodePort.{NodePort}
+use Rattle.fabric_model.specs.Fabric as fabric
+use Rattle.fabric_model.specs.Fabric.{Fabric, range_at}
+use Rattle.fabric_model.specs.FabricWalks.{IsJoinedTo}
+use Rattle.fact_store.specs.View.{Facts, cells_of}
+use Rattle.fabric_sim.specs.Simulation.{fabric_of}
+use Rattle.subnet_view.specs.Agreement.{Part, IsEndPortIn, AgreesOn}
+use Rattle.lid_assign.specs.Lids.{IsNoRoom, range_of}
+use Rattle.lft_blocks.specs.Plan.{PlanValue}
+use Rattle.lft_blocks.specs.Arrival.{HoldsPlan}
+use Rattle.lft_blocks.specs.Planning.{Planning}
+use Rattle.sm_manager.specs.Manager.{new_manager}
+use Rattle.sm_manager.specs.Plans.{writing_fault}
+use Rattle.manager_laws.specs.Managing as one
+use Rattle.manager_laws.specs.Written.{plan_at}
+use Rattle.takeover_laws.specs.Claims.{HasLidsOf}
+use Rattle.takeover_laws.specs.Takeover.{IsInUse, plan_by_it}
+use Rattle.masters_laws.specs.Masters.{Seated, Masters, MastersEvent, Around, At, IsAt, seen_by, after_masters_event, after_masters_events}
+use Rattle.masters_laws.specs.Masters.{SetsInfoOnly, WritesWhole, IsWholeSweep, AllCanBe, StartTogether}
+
+-- on a subnet that holds LIDs ----------------------------------------------------------------------
+
+-- the end ports of a part have the LIDs and the LMC of a plan
+abbrev pub HoldsLids : Part → PlanValue → Fabric → Type 0
+HoldsLids part plan f = (port : NodePort) (node : fabric.Node) → IsEndPortIn part f port node
+    → range_of plan.given (record { node = node.guid; port = port.port }) ≡ Some (range_at f port)
+
+-- Facts describe all that is joined to a seat exactly, and its end ports have the LIDs of their plan by the rule and the
+-- LMC of each of the managers.
+pub record ShareLids (facts : Facts) (planning : Planning) (t : Masters) : Type 0 where
+  pub starts : StartTogether t
+  pub has_room : ¬ (IsNoRoom planning.lmc (cells_of facts))
+  pub plans : (which : ℕ) (m : Seated) → IsAt t which m → m.manager.planning ≡ planning
+  pub agrees : (which : ℕ) (m : Seated) → IsAt t which m
+      → AgreesOn (IsJoinedTo (fabric_of t.scene.fabric) m.seat) (cells_of facts) (fabric_of t.scene.fabric)
+  pub lids : (which : ℕ) (m : Seated) → IsAt t which m
+      → HoldsLids (IsJoinedTo (fabric_of t.scene.fabric) m.seat) (plan_by_it planning facts) (fabric_of t.scene.fabric)
+
+-- others set nothing but SMInfo, and what a manager writes it knows from one sweep, which has every answer
+abbrev pub SweepsWhole : Masters → MastersEvent → Type 0
+SweepsWhole t (Around event) = SetsInfoOnly event
+SweepsWhole t (At which event) = (m : Seated) → IsAt t which m → WritesWhole m event
+
+abbrev pub AllSweepWhole : List MastersEvent → Masters → Type 0
+AllSweepWhole [] t = Unit {0}
+AllSweepWhole (event ∷ events) t = SweepsWhole t event × AllSweepWhole events (after_masters_event t event)
+
+-- no port gets another LID
+abbrev pub MastersKeepLids : Type 0
+MastersKeepLids =
+    (facts : Facts) (planning : Planning) (t : Masters) (events : List MastersEvent) → ShareLids facts planning t
+    → AllCanBe events t → AllSweepWhole events t
+    → HasLidsOf (fabric_of t.scene.fabric) (after_masters_events events t).scene
+
+-- what a manager would write that knows one sweep with every answer is the plan of these facts
+abbrev pub MastersWriteTheSame : Type 0
+MastersWriteTheSame =
+    (facts : Facts) (planning : Planning) (t : Masters) (events : List MastersEvent) → ShareLids facts planning t
+    → AllCanBe events t → AllSweepWhole events t
+    → (which : ℕ) (m : Seated) → IsAt (after_masters_events events t) which m → m.knows_one_sweep ≡ true
+    → IsWholeSweep m.manager.sweep
+    → plan_at (seen_by (after_masters_events events t).scene m) ≡ plan_by_it planning facts
+
+-- on a subnet that holds a plan -------------------------------------------------------------------
+
+-- what is joined to the seats holds it
+abbrev pub AllHold : Facts → Planning → Masters → Type 0
+AllHold facts planning t = (which : ℕ) (m : Seated) → IsAt t which m
+    → HoldsPlan (IsJoinedTo (fabric_of t.scene.fabric) m.seat) (plan_by_it planning facts) (fabric_of t.scene.fabric)
+
+-- and each ping there arrives
+abbrev pub AllInUse : Facts → Planning → Masters → Type 0
+AllInUse facts planning t =
+    (which : ℕ) (m : Seated) → IsAt t which m
+    → IsInUse planning.rule facts (plan_by_it planning facts) t.scene.fabric m.seat
+
+-- so it is at each moment
+abbrev pub InUseAlong : Facts → Planning → List MastersEvent → Masters → Type 0
+InUseAlong facts planning [] t = AllInUse facts planning t
+InUseAlong facts planning (event ∷ events) t =
+    AllInUse facts planning t × InUseAlong facts planning events (after_masters_event t event)
+
+-- once it is held, however many masters sweep and write at once, it stays in force
+abbrev pub MastersChangeNothing : Type 0
+MastersChangeNothing =
+    (facts : Facts) (planning : Planning) (t : Masters) (before after : List MastersEvent) → ShareLids facts planning t
+    → AllCanBe (before ++ after) t → AllSweepWhole (before ++ after) t
+    → AllHold facts planning (after_masters_events before t)
+    → InUseAlong facts planning after (after_masters_events before t)
+
+-- there are two managers that were just made and write such a subnet at once ----------------------
+
+-- at its seat, where it has done nothing
+abbrev pub new_at : NodePort → ℕ → Planning → Seated
+new_at seat port_guid planning =
+    record {
+      seat = seat;
+      manager = new_manager port_guid seat.port 0 planning;
+      out = [];
+      has_swept = false;
+      knows_one_sweep = false;
+    }
+
+pub record SomeMastersWriteAtOnce : Type 0 where
+  pub masters : Masters
+  pub held : Facts
+  pub planning : Planning
+  pub share : ShareLids held planning masters
+  pub hold : AllHold held planning masters
+  pub seat : NodePort
+  pub guid : ℕ
+  pub other_seat : NodePort
+  pub other_guid : ℕ
+  pub are_new : masters.managers ≡ new_at seat guid planning ∷ new_at other_seat other_guid planning ∷ []
+  -- what happens until they are told to write, and from then on
+  pub sweeping : List MastersEvent
+  pub writing : List MastersEvent
+  pub can_be : AllCanBe (sweeping ++ At 0 one.Write ∷ At 1 one.Write ∷ writing) masters
+  pub whole : AllSweepWhole (sweeping ++ At 0 one.Write ∷ At 1 one.Write ∷ writing) masters
+  -- neither is refused
+  pub first : Seated
+  pub first_there : IsAt (after_masters_events sweeping masters) 0 first
+  pub first_begins : writing_fault first.manager ≡ None
+  pub second : Seated
+  pub second_there : IsAt (after_masters_events (sweeping ++ At 0 one.Write ∷ []) masters) 1 second
+  pub second_begins : writing_fault second.manager ≡ None

@@ -1,0 +1,4 @@
+pub mod Masters
+pub mod Known
+pub mod Runs
+pub mod InForce

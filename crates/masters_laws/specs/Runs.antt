@@ -1,0 +1,52 @@
+-- What one of several managers does on its own: what it gives out, and the run of it alone.
+use Rattle.std.specs.Prelude.{◌≡◌, ℕ, true, List, [], ◌∷◌, All, slice_get, Some, None}
+use Rattle.sm_manager.specs.declared.outgoing.Outgoing.{Outgoing}
+use Rattle.sm_manager.specs.Plans.{writing_fault}
+use Rattle.manager_laws.specs.Scene.{Sending, CanSend, sent, sent_from}
+use Rattle.manager_laws.specs.Managing as one
+use Rattle.manager_laws.specs.Managing.{Managing, ManagerEvent, Starts, packet_of, after_manager_events}
+use Rattle.manager_laws.specs.Written.{SweepsFirst}
+use Rattle.masters_laws.specs.Masters.{Seated, Masters, MastersEvent, Around, At, IsAt, seen_by, after_masters_event, after_masters_events}
+use Rattle.masters_laws.specs.Masters.{AllCanBe, StartTogether}
+
+-- a packet that a manager gave out can be sent from its seat, as one of those that other managers may send
+pub record IsSendable (w : Managing) (o : Outgoing) : Type 0 where
+  pub sending : Sending
+  pub can_send : CanSend w.seat sending
+  pub is : sent w.scene w.seat sending ≡ sent_from w.scene w.seat (packet_of o)
+
+-- so is each of a manager that begins no writing before a sweep
+abbrev pub WhatIsGivenOutCanBeSent : Type 0
+WhatIsGivenOutCanBeSent =
+    (w : Managing) (events : List ManagerEvent) → Starts w → SweepsFirst events w → All (one.CanBe w.seat) events
+    → (which : ℕ) (o : Outgoing) → slice_get (after_manager_events events w).out which ≡ Some o
+    → IsSendable (after_manager_events events w) o
+
+-- one of several managers begins no writing before a sweep
+abbrev pub WritesSwept : Seated → ManagerEvent → Type 0
+WritesSwept m one.Write = writing_fault m.manager ≡ None → m.has_swept ≡ true
+WritesSwept m event = Unit {0}
+
+abbrev pub SweepsBefore : Masters → MastersEvent → Type 0
+SweepsBefore t (Around event) = Unit {0}
+SweepsBefore t (At which event) = (m : Seated) → IsAt t which m → WritesSwept m event
+
+-- nor does any other one
+abbrev pub AllSweepBefore : List MastersEvent → Masters → Type 0
+AllSweepBefore [] t = Unit {0}
+AllSweepBefore (event ∷ events) t = SweepsBefore t event × AllSweepBefore events (after_masters_event t event)
+
+-- the run of one of several managers, to which the others are what happens around it
+pub record OwnRun (t : Masters) (m : Seated) (after : Masters) (which : ℕ) : Type 0 where
+  pub events : List ManagerEvent
+  pub can_be : All (one.CanBe m.seat) events
+  pub sweeps_first : SweepsFirst events (seen_by t.scene m)
+  pub later : Seated
+  pub there : IsAt after which later
+  pub is : after_manager_events events (seen_by t.scene m) ≡ seen_by after.scene later
+
+-- each has such a run, whatever they do: so what is so of a manager among others is so of each of them
+abbrev pub EachRunsOnItsOwn : Type 0
+EachRunsOnItsOwn =
+    (t : Masters) (events : List MastersEvent) → StartTogether t → AllCanBe events t → AllSweepBefore events t
+    → (which : ℕ) (m : Seated) → IsAt t which m → OwnRun t m (after_masters_events events t) which

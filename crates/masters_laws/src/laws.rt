@@ -1,0 +1,57 @@
+//! What is so of several managers on one fabric.
+ghost use Rattle.masters_laws.specs.InForce.{MastersChangeNothing, MastersKeepLids, MastersWriteTheSame};
+ghost use Rattle.masters_laws.specs.InForce.{SomeMastersWriteAtOnce};
+ghost use Rattle.masters_laws.specs.Known.{HasSweptMeans, KnowsOneSweepMeans};
+ghost use Rattle.masters_laws.specs.Runs.{EachRunsOnItsOwn, WhatIsGivenOutCanBeSent};
+
+/// Each packet that a manager gives out can be sent from its seat: it is forwarded by LIDs, or is a request over a
+/// path that leaves by the seat's port, or answers a request for SMInfo that was handed up there. So it is if the
+/// manager begins no writing before a sweep.
+pub fn what_is_given_out_can_be_sent()
+    ensures { WhatIsGivenOutCanBeSent }
+{}
+
+/// One of several managers has swept exactly where it began a sweep that was not refused.
+pub fn has_swept_means()
+    ensures { HasSweptMeans }
+{}
+
+/// One of several managers knows one sweep exactly where it began that sweep as it held no facts, and since then began
+/// no other one, merged no facts of others and raised its floor no more.
+pub fn knows_one_sweep_means()
+    ensures { KnowsOneSweepMeans }
+{}
+
+/// Whatever several managers do, each of them runs as one manager does to which the others are what happens around it.
+/// So what `manager_laws` and `takeover_laws` say of one manager among others is so of each of them. None begins a
+/// writing before a sweep.
+pub fn each_runs_on_its_own()
+    ensures { EachRunsOnItsOwn }
+{}
+
+/// However many masters sweep and write a subnet whose end ports have the LIDs of a plan, no port gets another LID. Each
+/// plans by the rule, the roots and the LMC of the plan, and what it writes it knows from one sweep, which has every
+/// answer.
+pub fn masters_keep_lids()
+    ensures { MastersKeepLids }
+{}
+
+/// So each of them that knows one sweep with every answer would write this plan, whatever the switches hold, and whatever
+/// the others sweep and write meanwhile.
+pub fn masters_write_the_same()
+    ensures { MastersWriteTheSame }
+{}
+
+/// Once such a subnet holds the plan, it stays in force, however many masters sweep and write, in any order: at each
+/// moment each end port has its LID, each switch its blocks and no lower top, and every ping from an end port there, for
+/// each LID of the plan, reaches the owner of the LID.
+pub fn masters_change_nothing()
+    ensures { MastersChangeNothing }
+{}
+
+/// Such masters there are: two managers that were just made, each on an adapter, which are wired to one switch and hold
+/// LIDs of their own choice, as it does, and a table. Their sweeps go on at once, and each is silent to the other; then
+/// both are told to write, and each writing begins.
+pub fn some_masters_write_at_once()
+    ensures { SomeMastersWriteAtOnce }
+{}
