@@ -1,8 +1,7 @@
 -- Where tables pass, each node that the facts name is known, and each port that they name is known or told.
-use Rattle.std.proofs.Common.{◌≡◌, ◌⊎◌, ℕ, Bool, true, refl, sym, ap, ◌∙◌, inl, inr, cond}
+use Rattle.std.proofs.Common.{◌≡◌, ℕ, refl, ap, inl, inr, cond}
 use Rattle.std.specs.Prelude.{Contains, Option, None, Some, option_map}
 use Rattle.std.specs.FinMap.{find}
-use Rattle.smp_bytes.specs.declared.node_type.NodeType.{NodeType}
 use Rattle.smp_bytes.specs.declared.node_type.NodeType.TheVariants.{Switch}
 use Rattle.fact_join.specs.declared.cell.Cell.{Cell}
 use Rattle.reply_facts.specs.declared.key.Key.{Key}
@@ -13,11 +12,10 @@ use Rattle.reply_facts.specs.Known.{kind_in, link_of, node_of, peer_in, value_in
 use Rattle.fact_store.specs.View.{cells_of}
 use Rattle.subnet_view.specs.Reading.{Cells, is_switch_in}
 use Rattle.subnet_view.proofs.Taken.{found_in}
-use Rattle.fact_gaps.specs.Gaps.{IsKnownNode}
-use Rattle.fact_gaps.specs.Named.{IsNamedNode, far_node, far_port, own_port}
+use Rattle.fact_gaps.specs.Named.{far_node, far_port, own_port}
 use Rattle.fact_gaps.proofs.Gaps.{ports_law}
 use Rattle.audit_report.specs.Passing.{EachNodeIsKnown}
-use Rattle.audit_laws.specs.Laws.{AreKnown, IsKnownOrTold, KnowsAll, PassingAuditsKnowAll}
+use Rattle.audit_laws.specs.Laws.{AreKnown, PassingAuditsKnowAll}
 
 module _ (cells : Cells) (known : EachNodeIsKnown cells) where
   -- what a cell is about
