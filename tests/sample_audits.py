@@ -69,6 +69,11 @@ NOTHING = (
     f"{NEITHER}credit loop none\n"
 )
 
+# An audit of facts that are the claim of the last port of the node with the greatest GUID, and of nothing else.
+CLAIM_ALONE = found(
+    f"{counted(0, 0)}unusable {'f' * 16}\nunjoined {'f' * 16}/254\nhops none\nload none\ncredit loop none\n"
+)
+
 
 def tables(plan):
     """Each with its title, the text of tables, and how the audit ends."""
@@ -192,17 +197,34 @@ def told_again(text, again):
 
 
 def unclear():
-    """Of the two switches and two adapters: the fact that is left out or told besides, the tables that are left of the good ones,
-    and how the audit ends. The room of 20 is not known, its type is disputed, and nothing is heard of 200."""
-    ports = "unjoined 10/1\nunjoined 20/1\nunjoined 20/2\nunjoined 200/1\n"
+    """Of the two switches and two adapters: what is not known, and how the audit by the good tables ends. The room of 20 is not
+    told, its type is disputed, nothing is heard of 200; of the wire between the switches, and of what 20 and others are, too
+    little is told."""
+    ports = "unjoined 20/1\nunjoined 20/2\nunjoined 200/1\n"
     # What is for a port comes from it, and between 10 and 100.
-    yield "no room", found(f"{counted(6, 2)}unknown {AT_20}\nunusable {AT_20}\n{ports}hops none\nload none\ncredit loop none\n")
+    yield "no room", found(f"{counted(6, 2)}unknown {AT_20}\nunusable {AT_20}\nunjoined 10/1\n{ports}hops none\nload none\ncredit loop none\n")
     yield "disputed type", found(
-        f"{counted(5, 2)}unowned 2 20/0\nunknown {AT_20}\nunusable {AT_20}\n{ports}disputed 1\nhops none\nload none\ncredit loop none\n"
+        f"{counted(5, 2)}unowned 2 20/0\nunknown {AT_20}\nunusable {AT_20}\nunjoined 10/1\nunjoined 20/0\n{ports}disputed 1\nhops none\nload none\ncredit loop none\n"
     )
     yield "silent adapter", prints(
         spelled(f"{counted(9, 1)}unowned 4 200/1\nunjoined 20/2\nhops none\nload max 0 mean 0.00\ncredit loop none\n")
     )
+    # Without the wire 10 and 100 are apart from 20 and 200.
+    apart = f"{counted(8, 2)}unjoined 10/1\nunjoined 20/1\n"
+    yield "wire without states", prints(spelled(f"{apart}hops none\nload none\ncredit loop none\n"))
+    yield "wire with a disputed state", prints(spelled(f"{apart}disputed 1\nhops none\nload none\ncredit loop none\n"))
+    # The LID of 20 is nobody's, and what is for the others passes through it.
+    nameless = f"{counted(9, 4)}unowned 2 20/0\nunjoined 20/0\n"
+    yield "switch without a GUID", prints(spelled(f"{nameless}{BOTH}credit loop none\n"))
+    yield "switch with a disputed GUID", prints(spelled(f"{nameless}disputed 1\n{BOTH}credit loop none\n"))
+    whole = counted(16, 4)
+    yield "table of nobody", found(f"{whole}unusable {0x300:016x}\n{BOTH}credit loop none\n")
+    named = "".join(f"unusable {guid:016x}\n" for guid in range(0x301, 0x306))
+    yield "name for each node", found(
+        f"{whole}{named}unjoined 301/1\nunjoined 303/1\nunjoined 304/1\nunjoined 305/2\n{BOTH}credit loop none\n"
+    )
+    yield "cable that is down", prints(f"{whole}{BOTH}credit loop none\n")
+    yield "disputed link", prints(spelled(f"{whole}unjoined 10/3\ndisputed 1\n{BOTH}credit loop none\n"))
 
 
 def otherwise(text):

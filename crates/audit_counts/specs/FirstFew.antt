@@ -18,6 +18,10 @@ pub record Listed (X : Type 0) : Type 0 where
 abbrev pub listed_of : {X : Type 0} → (X → Bool) → List X → Listed X
 listed_of test xs = record { first = first_of test xs; count = count_by test xs }
 
+-- all of a list
+abbrev pub all_listed : {X : Type 0} → List X → Listed X
+all_listed xs = record { first = take 20 xs; count = length xs }
+
 -- with one more
 abbrev pub listed : {X : Type 0} → Listed X → X → Listed X
 listed told x = record { first = first_few told.first x; count = told.count + 1 }

@@ -5,5 +5,4 @@ pub mod PacketTally
 pub mod Packets
 pub mod Pairs
 pub mod Sites
-pub mod Unclear
 pub mod Unmatched

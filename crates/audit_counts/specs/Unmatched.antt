@@ -4,13 +4,13 @@ use Rattle.std.specs.List.{list_any}
 use Rattle.subnet_view.specs.declared.end_port.EndPort.{EndPort}
 use Rattle.subnet_view.specs.EndPorts.{end_ports}
 use Rattle.subnet_view.specs.Reading.{Cells, is_usable, switches}
+use Rattle.fact_gaps.specs.Gaps.{unjoined_ports, unusable_nodes}
 use Rattle.plan_file.specs.declared.held.HeldLid.{HeldLid}
 use Rattle.plan_file.specs.Held.{HeldPlan}
 use Rattle.held_tables.specs.Owners.{is_told_twice}
 use Rattle.held_tables.specs.Tables.{is_owner, is_same_end, lines_of}
 use Rattle.audit_counts.specs.declared.unmatched.Unmatched.{Unmatched}
-use Rattle.audit_counts.specs.FirstFew.{Listed, listed_of}
-use Rattle.audit_counts.specs.Unclear.{unjoined, unusable}
+use Rattle.audit_counts.specs.FirstFew.{Listed, all_listed, listed_of}
 
 -- of some lines those with ports that are no end ports of the facts
 abbrev pub unowned_among : Cells → List HeldLid → Listed HeldLid
@@ -55,6 +55,14 @@ lidless_among ports held = listed_of (λ e. not (has_lid held e)) ports
 -- end ports of the facts without a LID
 abbrev pub lidless : Cells → HeldPlan → Listed EndPort
 lidless cells held = lidless_among (end_ports cells) held
+
+-- nodes that the facts name, and of which they do not tell what they are
+abbrev pub unusable : Cells → Listed ℕ
+unusable cells = all_listed (unusable_nodes cells)
+
+-- ports that the facts name, and of which they do not tell where they lead
+abbrev pub unjoined : Cells → Listed EndPort
+unjoined cells = all_listed (unjoined_ports cells)
 
 -- those of each kind
 pub record IsUnmatched (cells : Cells) (held : HeldPlan) (found : Unmatched) : Type 0 where

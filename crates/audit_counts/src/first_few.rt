@@ -1,6 +1,6 @@
 //! The first few of a kind, which are told, and how many there are.
-ghost use Rattle.std.specs.Prelude.{◌≡◌, [], OnOk};
-ghost use Rattle.audit_counts.specs.FirstFew.{listed, more_of, first_few};
+ghost use Rattle.std.specs.Prelude.{◌≡◌, [], IfOk, OnOk};
+ghost use Rattle.audit_counts.specs.FirstFew.{all_listed, listed, more_of, first_few};
 
 use std::alloc::{AllocError, Global};
 use std::marker::Model;
@@ -61,6 +61,18 @@ impl<T: Drop> FirstFew<T> {
         ensures { result ≡ more_of self.now }
     {
         self.count.saturating_sub(self.first.len() as u64)
+    }
+}
+
+impl<T: Copy + Drop> FirstFew<T> {
+    /// All of them.
+    pub(crate) fn of(alloc: Global, items: &[T]) -> Result<Self, AllocError>
+        ensures { IfOk result (λ few. few ≡ all_listed items.now) }
+    {
+        let told = items.len().min(MOST_TOLD);
+        let first = Vec::from_slice(alloc, &items[..told])?;
+        let count = items.len() as u64;
+        Ok(FirstFew { first, count })
     }
 }
 

@@ -10,7 +10,6 @@ mod packet_tally;
 mod pairs;
 mod sent_packet;
 mod site;
-mod unclear;
 mod unmatched;
 
 pub use all_packets::{PacketSurvey, survey};

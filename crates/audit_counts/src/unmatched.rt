@@ -2,11 +2,12 @@
 ghost use Rattle.std.specs.Prelude.{◌≡◌, IfOk};
 ghost use Rattle.fact_store.specs.View.{cells_of};
 ghost use Rattle.audit_counts.specs.Unmatched.{IsUnmatched, has_lid, is_held, lidless, lidless_among, tableless};
-ghost use Rattle.audit_counts.specs.Unmatched.{tableless_among, twice, unknown, unowned, unowned_among};
+ghost use Rattle.audit_counts.specs.Unmatched.{tableless_among, twice, unjoined, unknown, unowned, unowned_among};
+ghost use Rattle.audit_counts.specs.Unmatched.{unusable};
 
 use crate::first_few::FirstFew;
-use crate::unclear::unclear;
 use audit::{Network, is_same_end};
+use fact_gaps::{unjoined_ports, unusable_nodes};
 use fact_store::{Refused, Store};
 use plan_file::{Held, HeldLid};
 use smp_bytes::Guid;
@@ -24,24 +25,25 @@ pub struct Unmatched {
     pub unknown: FirstFew<Guid>,
     /// Usable switches without tables.
     pub tableless: FirstFew<Guid>,
-    /// Nodes of the facts whose type is not known, and switches whose table room is not.
+    /// Nodes that the facts name and whose type is not known, and switches whose table room is not.
     pub unusable: FirstFew<Guid>,
     /// End ports of the facts without a LID.
     pub lidless: FirstFew<EndPort>,
-    /// Ports that are up, and from which no wire leads on.
+    /// Ports that the facts name, and of which it is not known where they lead.
     pub unjoined: FirstFew<EndPort>,
 }
 
 impl Unmatched {
     /// Returns those of each kind. Takes two searches for each LID that is held; a walk over the switches that are held
-    /// for each switch; one over the LIDs for each end port; and what `unclear` takes.
+    /// for each switch; one over the LIDs for each end port; and what
+    /// `unusable_nodes` and `unjoined_ports` take.
     pub fn of(alloc: Global, network: &Network) -> Result<Self, Refused>
         ensures { IfOk result (IsUnmatched (cells_of network.now.facts) network.now.held) }
     {
         let (unowned, twice) = unowned_and_twice(alloc, network)?;
         let (unknown, tableless) = unknown_and_tableless(alloc, network)?;
         let lidless = lidless_of(alloc, network)?;
-        let (unusable, unjoined) = unclear(alloc, network.store())?;
+        let (unusable, unjoined) = unusable_and_unjoined(alloc, network.store())?;
         Ok(Unmatched {
             unowned,
             twice,
@@ -78,6 +80,35 @@ fn unknown_and_tableless(
     let unknown = unknown(alloc, network.held(), network.store())?;
     let tableless = tableless_of(alloc, network)?;
     Ok((unknown, tableless))
+}
+
+/// Nodes and ports that the facts name, and of which they do not tell what they are, or where they lead.
+fn unusable_and_unjoined(
+    alloc: Global,
+    store: &Store,
+) -> Result<(FirstFew<Guid>, FirstFew<EndPort>), Refused>
+    ensures unusable { IfOk result (λ both. both.0 ≡ unusable (cells_of store.now)) }
+    ensures unjoined { IfOk result (λ both. both.1 ≡ unjoined (cells_of store.now)) }
+{
+    let unusable = unusable_of(alloc, store)?;
+    let unjoined = unjoined_of(alloc, store)?;
+    Ok((unusable, unjoined))
+}
+
+/// Nodes that the facts name, and of which they do not tell what they are.
+fn unusable_of(alloc: Global, store: &Store) -> Result<FirstFew<Guid>, AllocError>
+    ensures { IfOk result (λ few. few ≡ unusable (cells_of store.now)) }
+{
+    let guids = unusable_nodes(alloc, store)?;
+    FirstFew::of(alloc, &guids)
+}
+
+/// Ports that the facts name, and of which they do not tell where they lead.
+fn unjoined_of(alloc: Global, store: &Store) -> Result<FirstFew<EndPort>, Refused>
+    ensures { IfOk result (λ few. few ≡ unjoined (cells_of store.now)) }
+{
+    let ports = unjoined_ports(alloc, store)?;
+    Ok(FirstFew::of(alloc, &ports)?)
 }
 
 /// Usable switches without tables.

@@ -1,19 +1,18 @@
 -- The laws of audits.
-use Rattle.std.specs.Prelude.{◌≡◌, ◌⊎◌, ◌≤◌, ℕ, false, Contains, IsSome, IsTrue, MatchBool}
-use Rattle.smp_bytes.specs.declared.node_type.NodeType.{NodeType}
-use Rattle.smp_bytes.specs.NodeType.{is_switch}
+use Rattle.std.specs.Prelude.{◌≡◌, ◌⊎◌, ◌≤◌, ℕ, false, Contains, IsTrue, Some}
+use Rattle.smp_bytes.specs.declared.node_type.NodeType.TheVariants.{Switch}
 use Rattle.fabric_model.specs.declared.cable.NodePort.{NodePort}
 use Rattle.fabric_model.specs.Fabric.{Node, Fabric, IsEndPort, owns}
 use Rattle.fabric_model.specs.FabricWalks.{IsJoinedTo}
 use Rattle.fact_join.specs.declared.cell.Cell.{Cell}
-use Rattle.reply_facts.specs.declared.key.Key.TheVariants.{Node as NodeKey}
+use Rattle.reply_facts.specs.declared.key.Key.TheVariants as key
 use Rattle.reply_facts.specs.declared.value.Value.{Value}
-use Rattle.reply_facts.specs.Known.{cap_of}
+use Rattle.reply_facts.specs.Known.{link_of}
 use Rattle.fact_store.specs.View.{Facts, cells_of, AreInRange}
-use Rattle.subnet_view.specs.EndPorts.{IsEndPort as IsEndPortOf, IsNodeWith}
-use Rattle.subnet_view.specs.Reading.{Cells, is_up}
-use Rattle.subnet_view.specs.Wires.{IsWire}
+use Rattle.subnet_view.specs.EndPorts.{IsNodeWith}
+use Rattle.subnet_view.specs.Reading.{Cells}
 use Rattle.subnet_view.specs.Agreement.{Part, IsEndPortIn, IsPortNamed}
+use Rattle.fact_gaps.specs.Gaps.{IsKnownNode, IsKnownPort, unjoined_ports}
 use Rattle.lid_assign.specs.Lids.{IsNoRoom}
 use Rattle.lft_blocks.specs.Rules.{RuleValue}
 use Rattle.lft_blocks.specs.Plan.{plan_of}
@@ -22,33 +21,35 @@ use Rattle.plan_file.specs.Printed.{held_plan}
 use Rattle.audit.specs.Fabrics.{ArrivesAt, IsSeenIn}
 use Rattle.audit_counts.specs.declared.sent_packet.SentPacket.{SentPacket}
 use Rattle.audit_counts.specs.Packets.{arrives, packets_of}
-use Rattle.audit_counts.specs.Unclear.{unjoined_ports}
-use Rattle.audit_report.specs.Passing.{EachIsClear, Passes}
+use Rattle.audit_report.specs.Passing.{EachNodeIsKnown, Passes}
 
 -- the tables that the text of a view's plan tells pass by that view, by each rule and under each LMC, where its facts
--- are in range, there is room, and of each node its type is known, and of a switch its table room
+-- are in range, there is room, and of each node that they name its type is known, and of a switch its table room
 abbrev pub PlansPass : Type 0
 PlansPass =
     (rule : RuleValue) (lmc : ℕ) (facts : Facts) → AreInRange facts → ¬ (IsNoRoom lmc (cells_of facts))
-    → EachIsClear (cells_of facts)
+    → EachNodeIsKnown (cells_of facts)
     → Passes (cells_of facts) (held_plan (plan_of rule lmc (cells_of facts)))
 
--- of a node its type and the number of its ports are known, and of a switch the room of its table
-abbrev pub IsKnownNode : Cells → ℕ → Type 0
-IsKnownNode cells g = (kind : NodeType) × (ports : ℕ) × IsNodeWith cells g kind ports
-    × MatchBool (is_switch kind) (IsSome (cap_of cells g)) (Unit {0})
+-- where a port leads is known, or it is one of those that lines `unjoined` name and count
+abbrev pub IsKnownOrTold : Cells → ℕ → ℕ → Type 0
+IsKnownOrTold cells g p = IsKnownPort cells g p ⊎ Contains (unjoined_ports cells) (record { node = g; port = p })
 
--- of a port it is known where it leads: port 0 is the end port of a switch, and any other has a wire, both ends of
--- which are known to be ports that can have one
-abbrev pub IsKnownPort : Cells → ℕ → ℕ → Type 0
-IsKnownPort cells g p = ((p ≡ 0) × IsEndPortOf cells g p) ⊎ ((h q : ℕ) × IsWire cells g p h q)
+-- what a fact is about: the node is known, and so is the port, or it is told
+abbrev pub AreKnown : Cells → ℕ → ℕ → Type 0
+AreKnown cells g p = IsKnownNode cells g × IsKnownOrTold cells g p
 
--- each node whose NodeInfo the facts have is known; and so is each port that is up, or it is one of those that lines
--- `unjoined` name and count
+-- whatever facts say, and whether or not they are disputed: each node that one names is known; and so is each port that
+-- one names, or it is told
 pub record KnowsAll (cells : Cells) : Type 0 where
-  pub nodes : (g : ℕ) (cell : Cell Value) → Contains cells ((NodeKey g), cell) → IsKnownNode cells g
-  pub ports : (g p : ℕ) → IsTrue (is_up cells g p)
-      → IsKnownPort cells g p ⊎ Contains (unjoined_ports cells) (record { node = g; port = p })
+  pub nodes : (g : ℕ) (c : Cell Value) → Contains cells ((key.Node g), c) → IsKnownNode cells g
+  pub rooms : (g : ℕ) (c : Cell Value) → Contains cells ((key.Cap g), c) → IsKnownNode cells g
+  pub guids : (g p : ℕ) (c : Cell Value) → Contains cells ((key.PortGuid g p), c) → AreKnown cells g p
+  pub states : (g p : ℕ) (c : Cell Value) → Contains cells ((key.Port g p), c) → AreKnown cells g p
+  pub claims : (g p : ℕ) (c : Cell Value) → Contains cells ((key.Claim g p), c) → AreKnown cells g p
+  pub links : (g p : ℕ) (c : Cell Value) → Contains cells ((key.Link g p), c) → AreKnown cells g p
+  pub far_ends : (g p h q : ℕ) → link_of cells g p ≡ Some (h, q) → AreKnown cells h q
+  pub switches : (g ports : ℕ) → IsNodeWith cells g Switch ports → AreKnown cells g 0
 
 -- where tables pass by facts, that is so
 abbrev pub PassingAuditsKnowAll : Type 0

@@ -11,6 +11,8 @@ use Rattle.subnet_view.specs.EndPorts.{end_ports}
 use Rattle.subnet_view.specs.Reading.{Cells, switches}
 use Rattle.subnet_view.proofs.Members.{contains_here, contains_later, contains_cases, contains_none, list_any_true, list_any_at}
 use Rattle.subnet_view.proofs.Apart.{contains_map, contains-from_map}
+use Rattle.fact_gaps.specs.Gaps.{unusable_nodes}
+use Rattle.fact_gaps.proofs.Gaps.{nodes_law}
 use Rattle.lid_assign.specs.Lids.{Given, IsNoRoom, lids, lmc_of, top_of, top_among}
 use Rattle.lid_assign.proofs.LidLaws.{lids_law}
 use Rattle.lft_blocks.specs.Rules.{RuleValue, routing_by}
@@ -25,10 +27,9 @@ use Rattle.held_tables.specs.Tables.{is_same_end}
 use Rattle.held_tables.proofs.HeldPlans.{made}
 use Rattle.audit.proofs.Judged.{same_ends, same_itself}
 use Rattle.audit_counts.specs.declared.unmatched.Unmatched.{Unmatched}
-use Rattle.audit_report.specs.Passing.{EachHasTables, EachHoldsLid, EachIsClear, HoldsLid, HoldsTables, IsWholeFor}
+use Rattle.audit_report.specs.Passing.{EachHasTables, EachHoldsLid, EachNodeIsKnown, HoldsLid, HoldsTables, IsWholeFor}
 use Rattle.audit_counts.specs.FirstFew.{Listed}
-use Rattle.audit_counts.specs.Unclear.{is_clear_node, told_nodes, unusable}
-use Rattle.audit_counts.specs.Unmatched.{IsUnmatched, has_lid, is_held, lidless, tableless}
+use Rattle.audit_counts.specs.Unmatched.{IsUnmatched, has_lid, is_held, lidless, tableless, unusable}
 
 -- all of a list pass exactly where none is counted that does not
 module _ {X : Type 0} (p : X → Bool) where
@@ -60,6 +61,10 @@ module _ {X : Type 0} (p : X → Bool) where
 
 none_there : {X : Type 0} (xs : List X) (x : X) → length xs ≡ 0 → Contains xs x → ⊥
 none_there xs x e c = let less = c.1 in omega arith
+
+empty : {X : Type 0} (xs : List X) → ((x : X) → Contains xs x → ⊥) → length xs ≡ 0
+empty [] none = refl
+empty (x ∷ xs) none = absurd (none x (contains_here x xs))
 
 module _ (cells : Cells) (held : HeldPlan) where
   -- what is held, in words
@@ -112,17 +117,19 @@ module _ (cells : Cells) (held : HeldPlan) where
         λ w. is ∙ ap (λ n. (n == 0) || (length (end_ports cells) == 0)) many ∙ some_tables (end_ports cells) w,
       )
 
-  pub nodes_is : (found : Unmatched) → IsUnmatched cells held found → IsTrue (found.unusable.count == 0) ↔ EachIsClear cells
+  pub nodes_is : (found : Unmatched) → IsUnmatched cells held found → IsTrue (found.unusable.count == 0) ↔ EachNodeIsKnown cells
   nodes_is found differ =
       let many = ap (λ (l : Listed ℕ). l.count) differ.unusable_are in (
-        λ t g there.
-            let none : (unusable cells).count ≡ 0 = sym many ∙ eqb-true found.unusable.count 0 t in
-            none_left (is_clear_node cells) (told_nodes cells) none g there,
-        λ w. eq-eqb found.unusable.count 0 (many ∙ all_pass (is_clear_node cells) (told_nodes cells) w),
+        λ t g named. (elim ((nodes_law cells).each g named) [
+          | inl known ↦ known
+          | inr there ↦ absurd (none_there (unusable_nodes cells) g (sym many ∙ eqb-true found.unusable.count 0 t) there)
+        ]),
+        λ w. eq-eqb found.unusable.count 0 (many ∙ empty (unusable_nodes cells)
+        (λ g there. (let gap = (nodes_law cells).only g there in gap.1 (w g gap.0)))),
       )
 
 -- a plan has a LID for each end port, and tables for each usable switch
-module _ (by : RuleValue) (lmc : ℕ) (facts : Facts) (has_room : ¬ (IsNoRoom lmc (cells_of facts))) (clear : EachIsClear (cells_of facts)) where
+module _ (by : RuleValue) (lmc : ℕ) (facts : Facts) (has_room : ¬ (IsNoRoom lmc (cells_of facts))) (clear : EachNodeIsKnown (cells_of facts)) where
   abbrev its_cells : Cells
   its_cells = cells_of facts
 

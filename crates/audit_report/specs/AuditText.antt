@@ -26,8 +26,7 @@ use Rattle.audit_counts.specs.Disputed.{disputed}
 use Rattle.audit_counts.specs.Packets.{arrives, goes_round, is_between, is_lost, is_misdelivered, packets_of}
 use Rattle.audit_report.specs.Passing.{Audited}
 use Rattle.audit_counts.specs.FirstFew.{Listed, listed_of, more_of}
-use Rattle.audit_counts.specs.Unclear.{unjoined, unusable}
-use Rattle.audit_counts.specs.Unmatched.{lidless, tableless, twice, unknown, unowned}
+use Rattle.audit_counts.specs.Unmatched.{lidless, tableless, twice, unjoined, unknown, unowned, unusable}
 
 -- of some packets, which words tell, how many there are, and how many arrive
 abbrev pub counts_line : List ℕ → ℕ → ℕ → List ℕ

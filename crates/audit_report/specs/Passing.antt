@@ -1,5 +1,5 @@
 -- When the tables that a subnet's switches hold pass.
-use Rattle.std.specs.Prelude.{◌≡◌, ℕ, true, List, [], ◌∷◌, Contains, Some, IsTrue}
+use Rattle.std.specs.Prelude.{◌≡◌, ℕ, true, List, [], ◌∷◌, Contains, Some}
 use Rattle.std.specs.Coded.{Coded, code_by, coded×, coded_ℕ}
 use Rattle.std.specs.Prelude.{refl}
 use base.Stored.{coded_list}
@@ -8,6 +8,8 @@ use Rattle.fact_store.specs.Coded.{facts_code}
 use Rattle.subnet_view.specs.declared.end_port.EndPort.{EndPort}
 use Rattle.subnet_view.specs.EndPorts.{end_ports}
 use Rattle.subnet_view.specs.Reading.{Cells, switches}
+use Rattle.fact_gaps.specs.Gaps.{IsKnownNode}
+use Rattle.fact_gaps.specs.Named.{IsNamedNode}
 use Rattle.plan_file.specs.contracts.held.Held as held_plan
 use Rattle.plan_file.specs.declared.held.HeldLid.{HeldLid}
 use Rattle.plan_file.specs.declared.held.HeldSwitch.{HeldSwitch}
@@ -24,7 +26,6 @@ use Rattle.audit_counts.specs.Disputed.{disputed}
 use Rattle.audit_counts.specs.Packets.{packets_of}
 use Rattle.audit_counts.specs.Sites.{in_one_component}
 use Rattle.audit_counts.specs.PacketTally.{IsTally}
-use Rattle.audit_counts.specs.Unclear.{is_clear_node, told_nodes}
 use Rattle.audit_counts.specs.Unmatched.{IsUnmatched}
 
 -- an end port of the facts holds the LID, and each packet for it that an end port of its component sends is delivered
@@ -64,15 +65,15 @@ abbrev pub EachHasTables : Cells → HeldPlan → Type 0
 EachHasTables cells held =
     (e : EndPort) (g : ℕ) → Contains (end_ports cells) e → Contains (switches cells) g → HoldsTables held g
 
--- of each node that the facts tell of it is known what it is, and of a switch what room its table has
-abbrev pub EachIsClear : Cells → Type 0
-EachIsClear cells = (g : ℕ) → Contains (told_nodes cells) g → IsTrue (is_clear_node cells g)
+-- of each node that the facts name it is known what it is, and of a switch what room its table has
+abbrev pub EachNodeIsKnown : Cells → Type 0
+EachNodeIsKnown cells = (g : ℕ) → IsNamedNode cells g → IsKnownNode cells g
 
 -- nothing is missing
 pub record IsWholeFor (cells : Cells) (held : HeldPlan) : Type 0 where
   pub lids : EachHoldsLid cells held
   pub tables : EachHasTables cells held
-  pub nodes : EachIsClear cells
+  pub nodes : EachNodeIsKnown cells
 
 -- and what is there is right: packets arrive, and never wait in a credit loop
 pub record IsSound (cells : Cells) (held : HeldPlan) : Type 0 where

@@ -5,8 +5,8 @@ ghost use Rattle.audit_ways.specs.Ways.{AreTold, IsToldOfWays};
 ghost use Rattle.audit_counts.specs.Packets.{packets_of};
 ghost use Rattle.audit_counts.specs.PacketTally.{IsTally};
 ghost use Rattle.audit_counts.specs.Unmatched.{IsUnmatched};
-ghost use Rattle.audit_report.specs.Passing.{EachHasTables, EachHoldsLid, EachIsClear, IsCycle, IsFound, IsSound};
-ghost use Rattle.audit_report.specs.Passing.{IsWholeFor, Passes};
+ghost use Rattle.audit_report.specs.Passing.{EachHasTables, EachHoldsLid, EachNodeIsKnown, IsCycle, IsFound};
+ghost use Rattle.audit_report.specs.Passing.{IsSound, IsWholeFor, Passes};
 
 use audit::Network;
 use audit_channels::{ChannelOrder, channel_order};
@@ -76,16 +76,16 @@ impl<'a> Audit<'a> {
     }
 
     /// Whether each end port of the view holds a LID; each usable switch has tables, where there is an end port; and of
-    /// each node the type is known, and of a switch its table room.
+    /// each node that the view names the type is known, and of a switch its table room.
     fn is_whole(&self) -> bool
         ensures { IsTrue result ↔ IsWholeFor (cells_of self.now.facts) self.now.held }
     {
         self.has_lids() && self.has_tables() && self.has_nodes()
     }
 
-    /// Whether of each node of the view the type is known, and of a switch its table room.
+    /// Whether of each node that the view names the type is known, and of a switch its table room.
     fn has_nodes(&self) -> bool
-        ensures { IsTrue result ↔ EachIsClear (cells_of self.now.facts) }
+        ensures { IsTrue result ↔ EachNodeIsKnown (cells_of self.now.facts) }
     {
         self.findings.unmatched.unusable.count() == 0
     }

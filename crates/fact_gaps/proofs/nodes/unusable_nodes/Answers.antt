@@ -1,0 +1,19 @@
+-- What cells are about, and to what links lead.
+use Rattle.std.proofs.Common.{ℕ, Bool, List, ◌++◌, ◌∙◌, ap}
+use Rattle.std.specs.Prelude.{not}
+use Rattle.std.specs.List.{filter_map}
+use Rattle.std.specs.Ordering.{nat_cmp}
+use Rattle.fact_store.specs.View.{cells_of}
+use Rattle.fact_gaps.specs.InOrder.{each_once}
+use Rattle.fact_gaps.specs.Gaps.{is_known_node}
+use Rattle.fact_gaps.specs.Named.{far_node, kept, own_node}
+use Rattle.fact_gaps.proofs.Named.{kept_both}
+use Rattle.fact_gaps.proofs.nodes.unusable_nodes.Goals as goal
+
+pub returns : goal.returns
+returns c =
+    let cells = cells_of c.args.store.now in
+    let test : ℕ → Bool = λ g. not (is_known_node cells g) in
+    let own = c.in_ok-add_own_nodes.ensures ∙ ap (λ (xs : List ℕ). xs ++ filter_map (kept test own_node) cells) c.new-guids.ensures.items in
+    let both = c.in_ok-add_far_nodes.ensures ∙ ap (λ (xs : List ℕ). xs ++ filter_map (kept test far_node) cells) own ∙ kept_both test own_node far_node cells in
+    c.order_guids.ensures ∙ ap (each_once nat_cmp) both

@@ -1,0 +1,25 @@
+-- Elements of a list in their order, each once.
+use Rattle.std.specs.Prelude.{ℕ, List, [], ◌∷◌}
+use Rattle.std.specs.declared.cmp.Ordering.{Ordering}
+use Rattle.std.specs.declared.cmp.Ordering.TheVariants.{Less, Equal, Greater}
+use Rattle.std.specs.Ordering.{nat_cmp, ordering_then}
+
+-- beside another element, as the two compare: before it, as it, or among those after it
+abbrev pub put_beside : {X : Type 0} → Ordering → X → X → List X → List X → List X
+put_beside Less x y ys later = x ∷ y ∷ ys
+put_beside Equal x y ys later = y ∷ ys
+put_beside Greater x y ys later = y ∷ later
+
+-- where it belongs, unless it is there
+abbrev pub put_once : {X : Type 0} → (X → X → Ordering) → X → List X → List X
+put_once cmp x [] = x ∷ []
+put_once cmp x (y ∷ ys) = put_beside (cmp x y) x y ys (put_once cmp x ys)
+
+-- each put where it belongs
+abbrev pub each_once : {X : Type 0} → (X → X → Ordering) → List X → List X
+each_once cmp [] = []
+each_once cmp (x ∷ xs) = put_once cmp x (each_once cmp xs)
+
+-- by node, then by port
+abbrev pub port_cmp : ℕ × ℕ → ℕ × ℕ → Ordering
+port_cmp a b = ordering_then (nat_cmp a.0 b.0) (nat_cmp a.1 b.1)

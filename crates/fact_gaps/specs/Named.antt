@@ -1,0 +1,59 @@
+-- The nodes and the ports that facts name.
+use Rattle.std.specs.Prelude.{◌≡◌, ◌⊎◌, ◌++◌, ℕ, Bool, List, Contains, Option, None, Some, option_and_then, option_map, if◌then◌else◌}
+use Rattle.std.specs.List.{filter_map}
+use Rattle.fact_join.specs.declared.cell.Cell.{Cell}
+use Rattle.reply_facts.specs.declared.key.Key.{Key}
+use Rattle.reply_facts.specs.declared.key.Key.TheVariants.{Node, PortGuid, Link, Port, Claim, Cap}
+use Rattle.reply_facts.specs.declared.value.Value.{Value}
+use Rattle.reply_facts.specs.Key.{key_guid}
+use Rattle.reply_facts.specs.Known.{kind_in, peer_in, value_in}
+use Rattle.subnet_view.specs.Reading.{Cells, is_switch_in}
+
+-- the node that a cell is about
+abbrev pub own_node : Key × Cell Value → Option ℕ
+own_node s = Some (key_guid s.0)
+
+-- the port that a cell is about; a switch has its management port, 0
+abbrev pub own_port : Key × Cell Value → Option (ℕ × ℕ)
+own_port ((Node g), c) = if is_switch_in (kind_in (value_in (Some c))) then Some (g, 0) else None
+own_port ((PortGuid g p), c) = Some (g, p)
+own_port ((Link g p), c) = Some (g, p)
+own_port ((Port g p), c) = Some (g, p)
+own_port ((Claim g p), c) = Some (g, p)
+own_port ((Cap g), c) = None
+
+-- the port to which a cell tells that a link leads
+abbrev pub far_port : Key × Cell Value → Option (ℕ × ℕ)
+far_port ((Link g p), c) = peer_in (value_in (Some c))
+far_port (_, c) = None
+
+-- and its node
+abbrev pub far_node : Key × Cell Value → Option ℕ
+far_node s = option_map (λ q. q.0) (far_port s)
+
+-- a cell names a node: it is about it or a port of it, or tells that a link leads there
+abbrev pub NamesNode : Key × Cell Value → ℕ → Type 0
+NamesNode s g = (key_guid s.0 ≡ g) ⊎ (far_node s ≡ Some g)
+
+-- a cell names a port: it is about it, or tells that a link leads there
+abbrev pub NamesPort : Key × Cell Value → ℕ × ℕ → Type 0
+NamesPort s e = (own_port s ≡ Some e) ⊎ (far_port s ≡ Some e)
+
+-- some cell does
+abbrev pub IsNamedNode : Cells → ℕ → Type 0
+IsNamedNode cells g = (s : Key × Cell Value) × Contains cells s × NamesNode s g
+
+abbrev pub IsNamedPort : Cells → ℕ × ℕ → Type 0
+IsNamedPort cells e = (s : Key × Cell Value) × Contains cells s × NamesPort s e
+
+-- the nodes that are named, as often as they are
+abbrev pub named_nodes : Cells → List ℕ
+named_nodes cells = filter_map own_node cells ++ filter_map far_node cells
+
+-- the ports that are named, as often as they are
+abbrev pub named_ports : Cells → List (ℕ × ℕ)
+named_ports cells = filter_map own_port cells ++ filter_map far_port cells
+
+-- what a cell names, where it passes a test
+abbrev pub kept : {X : Type 0} → (X → Bool) → (Key × Cell Value → Option X) → Key × Cell Value → Option X
+kept test name s = option_and_then (λ x. if test x then Some x else None) (name s)

@@ -1,0 +1,22 @@
+//! Lists in order, with each element once.
+ghost use Rattle.std.specs.Prelude.{◌≡◌};
+ghost use Rattle.std.specs.Ordering.{nat_cmp};
+ghost use Rattle.fact_gaps.specs.InOrder.{each_once, port_cmp};
+
+use smp_bytes::{Guid, PortNum};
+
+/// Puts GUIDs in order, and leaves each once.
+pub(crate) fn order_guids(guids: &mut Vec<Guid>)
+    ensures { guids.new.items ≡ each_once nat_cmp guids.old.items }
+{
+    guids.sort_unstable();
+    guids.dedup();
+}
+
+/// Puts ports in order, by node and port, and leaves each once.
+pub(crate) fn order_ports(ports: &mut Vec<(Guid, PortNum)>)
+    ensures { ports.new.items ≡ each_once port_cmp ports.old.items }
+{
+    ports.sort_unstable();
+    ports.dedup();
+}

@@ -1,0 +1,151 @@
+//! Ports of which it is not known where they lead.
+ghost use Rattle.std.specs.Prelude.{◌≡◌, ◌++◌, IfOk, None, OnOk, Some, map, not, if◌then◌else◌};
+ghost use Rattle.std.specs.List.{filter_map};
+ghost use Rattle.reply_facts.specs.Known.{kind_in, up_of, value_in};
+ghost use Rattle.fact_store.specs.View.{cells_of};
+ghost use Rattle.subnet_view.specs.Reading.{is_switch_in};
+ghost use Rattle.fact_gaps.specs.Gaps.{is_known_port, is_said_down, port_at, unjoined_ports};
+ghost use Rattle.fact_gaps.specs.Named.{far_port, kept, own_port};
+
+use crate::in_order::order_ports;
+use crate::nodes::far_port;
+use fact_store::{Key, Refused, Sighting, Store, Value};
+use smp_bytes::{Guid, NodeType, PortNum};
+use std::alloc::{AllocError, Global};
+use subnet_view::{EndPort, Wires, is_end_port};
+
+/// The ports that facts name, as what they are about, as a switch's management port or as the far end of a link, and
+/// which are neither known to be down nor have a wire, or with number 0 are not the end port of a switch; by node and
+/// port. Walks the cells twice, and takes three searches for each port that a cell names.
+pub fn unjoined_ports(alloc: Global, store: &Store) -> Result<Vec<EndPort>, Refused>
+    ensures { IfOk result (λ ports. ports.items ≡ unjoined_ports (cells_of store.now)) }
+{
+    let wires = Wires::of(alloc, store)?;
+    Ok(unjoined_by(alloc, &wires)?)
+}
+
+/// The same by the wires.
+fn unjoined_by(alloc: Global, wires: &Wires) -> Result<Vec<EndPort>, AllocError>
+    ensures { IfOk result (λ ports. ports.items ≡ unjoined_ports (cells_of wires.now)) }
+{
+    let mut ports = Vec::new(alloc);
+    add_own_ports(&mut ports, wires)?;
+    add_far_ports(&mut ports, wires)?;
+    order_ports(&mut ports);
+    end_ports_at(alloc, &ports)
+}
+
+/// Ports by the names of their parts.
+fn end_ports_at(alloc: Global, ports: &[(Guid, PortNum)]) -> Result<Vec<EndPort>, AllocError>
+    ensures { IfOk result (λ named. named.items ≡ map port_at ports.now) }
+{
+    ports.iter().map(end_port_at).collect(alloc)
+}
+
+/// A port by the names of its parts.
+fn end_port_at(port: &(Guid, PortNum)) -> EndPort
+    ensures { result ≡ port_at port.now }
+{
+    EndPort {
+        node: port.0,
+        port: port.1,
+    }
+}
+
+/// Adds those that cells are about, and management ports of switches.
+fn add_own_ports(ports: &mut Vec<(Guid, PortNum)>, wires: &Wires) -> Result<(), AllocError>
+    ensures { OnOk result (ports.new.items ≡ ports.old.items
+        ++ filter_map (kept (λ e. not (is_known_port (cells_of wires.now) e)) own_port) (cells_of wires.now)) }
+{
+    for sighting in wires.store().cells() {
+        if let Some(port) = unjoined_own_port(wires, &sighting) {
+            ports.push(port)?;
+        }
+    }
+    Ok(())
+}
+
+/// Adds those to which links lead.
+fn add_far_ports(ports: &mut Vec<(Guid, PortNum)>, wires: &Wires) -> Result<(), AllocError>
+    ensures { OnOk result (ports.new.items ≡ ports.old.items
+        ++ filter_map (kept (λ e. not (is_known_port (cells_of wires.now) e)) far_port) (cells_of wires.now)) }
+{
+    for sighting in wires.store().cells() {
+        if let Some(port) = unjoined_far_port(wires, &sighting) {
+            ports.push(port)?;
+        }
+    }
+    Ok(())
+}
+
+/// The port that a cell is about, or a switch's management port, where it is not known where it leads.
+fn unjoined_own_port(wires: &Wires, sighting: &Sighting) -> Option<(Guid, PortNum)>
+    ensures { result ≡ kept (λ e. not (is_known_port (cells_of wires.now) e)) own_port sighting.now }
+{
+    let (node, port) = own_port(sighting)?;
+    if_unjoined(wires, node, port)
+}
+
+/// The port to which a cell tells that a link leads, where it is not known where that port leads.
+fn unjoined_far_port(wires: &Wires, sighting: &Sighting) -> Option<(Guid, PortNum)>
+    ensures { result ≡ kept (λ e. not (is_known_port (cells_of wires.now) e)) far_port sighting.now }
+{
+    let (node, port) = far_port(sighting)?;
+    if_unjoined(wires, node, port)
+}
+
+/// The port, where it is not known where it leads.
+fn if_unjoined(wires: &Wires, node: Guid, port: PortNum) -> Option<(Guid, PortNum)>
+    ensures { result ≡ (if not (is_known_port (cells_of wires.now) (node, port)) then Some (node, port) else None) }
+{
+    if is_known_port(wires, node, port) {
+        None
+    } else {
+        Some((node, port))
+    }
+}
+
+/// The port that a cell is about; of a cell that tells that a node is a switch, its management port.
+fn own_port(sighting: &Sighting) -> Option<(Guid, PortNum)>
+    ensures { result ≡ own_port sighting.now }
+{
+    match sighting.key() {
+        Key::Node(node) => {
+            if is_switch_said(sighting) {
+                Some((node, PortNum::MANAGEMENT))
+            } else {
+                None
+            }
+        }
+        Key::Cap(_) => None,
+        Key::PortGuid(node, port)
+        | Key::Link(node, port)
+        | Key::Port(node, port)
+        | Key::Claim(node, port) => Some((node, port)),
+    }
+}
+
+/// Whether a cell says that its node is a switch.
+fn is_switch_said(sighting: &Sighting) -> bool
+    ensures { result ≡ is_switch_in (kind_in (value_in (Some sighting.now.1))) }
+{
+    matches!(sighting.value(), Some(Value::Kind(NodeType::Switch, _)))
+}
+
+/// Whether a port is known to be down or has a wire, or port 0 is a switch's end port. Takes three searches at most.
+fn is_known_port(wires: &Wires, node: Guid, port: PortNum) -> bool
+    ensures { result ≡ is_known_port (cells_of wires.now) (node, port) }
+{
+    if port.number() == 0 {
+        is_end_port(wires.store(), node, port)
+    } else {
+        wires.across(node, port).is_some() || is_down(wires.store(), node, port)
+    }
+}
+
+/// Whether a port is known to be down. Takes a search.
+fn is_down(store: &Store, node: Guid, port: PortNum) -> bool
+    ensures { result ≡ is_said_down (up_of (cells_of store.now) node port) }
+{
+    store.is_up(node, port) == Some(false)
+}
