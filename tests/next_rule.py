@@ -206,6 +206,12 @@ def by_spread(subnet, roots):
     return Order(spread_rule.places_of(graph, spread_rule.keys_of(graph, subnet.leaves(), roots)))
 
 
+def as_named(subnet, named):
+    """The order by which that rule plans if switches are named."""
+    graph = subnet.graph()
+    return Order(spread_rule.places_of(graph, spread_rule.keys_as_named(graph, named)))
+
+
 def first_moved(held, plan):
     """The least LID that the plan gives to an end and that another one holds."""
     owners = held.owners()
