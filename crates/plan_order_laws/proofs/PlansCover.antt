@@ -42,7 +42,7 @@ use Rattle.ordered_steps.specs.StepLaws.{DeliverFrom}
 use Rattle.plan_order_laws.specs.PlanLaws.{PlansCover}
 use Rattle.next_tables.proofs.Hops.{none_taken, none_to, placed}
 use Rattle.plan_order_laws.proofs.PlanOrders.{in_one, is_switch}
-use Rattle.plan_order_laws.proofs.PlanWays.{from_switch, owned, attachment_there}
+use Rattle.audit.proofs.PlanPackets.{attachment_there, from_switch, owned}
 use Rattle.plan_order_laws.proofs.UpdownRight.{same_component}
 
 -- a way by wires stays in a component

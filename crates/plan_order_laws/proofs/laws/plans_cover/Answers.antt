@@ -1,5 +1,5 @@
 use Rattle.plan_order_laws.proofs.PlansCover.{plans_cover}
-use Rattle.ordered_steps.proofs.laws.plans_cover.Goals as goal
+use Rattle.plan_order_laws.proofs.laws.plans_cover.Goals as goal
 
 pub returns : goal.returns
 returns c = record { law = plans_cover }
