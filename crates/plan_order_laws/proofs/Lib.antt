@@ -1,6 +1,6 @@
-mod NamedPositions
-mod PlanRight
-mod UpdownRight
-mod PlanOrders
-mod PlansCover
-mod PlanSteps
+pub mod NamedPositions
+pub mod PlanRight
+pub mod UpdownRight
+pub mod PlanOrders
+pub mod PlansCover
+pub mod PlanSteps

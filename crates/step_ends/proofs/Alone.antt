@@ -8,7 +8,7 @@ use Rattle.smp_bytes.proofs.Members.{list_all_true}
 use Rattle.subnet_view.specs.declared.end_port.EndPort.{EndPort}
 use Rattle.subnet_view.specs.EndPorts.{end_ports}
 use Rattle.subnet_view.specs.Reading.{Cells}
-use Rattle.subnet_view.proofs.Members.{contains_here, list_any_true}
+use Rattle.subnet_view.proofs.Members.{contains_here, contains_none, list_any_true}
 use Rattle.lid_assign.specs.Lids.{IsNoRoom, lids, owner_of, top_of}
 use Rattle.lft_blocks.specs.Plan.{plan_of}
 use Rattle.lft_blocks.specs.Rules.{RuleValue}
@@ -52,10 +52,7 @@ module _ (rule : RuleValue) (lmc : ℕ) (facts : Facts) (has_room : ¬ (IsNoRoom
   -- what the plan's text tells is what was given
   given : (o : Option ℕ) → (line : HeldLid) → Contains (option_map_or (λ top. made rule lmc cells top) o nothing_held).lids line
       → owner_of (lids lmc cells) line.lid ≡ Some line.port
-  given None line there = absurd (nothing line there)
-    where
-      nothing : (line : HeldLid) → Contains [] line → ⊥
-      nothing line there = omega there.1
+  given None line there = absurd (contains_none line there)
   given (Some top) line there = line_owned lmc facts has_room line there
 
   abbrev plan : HeldPlan

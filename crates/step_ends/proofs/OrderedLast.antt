@@ -51,7 +51,7 @@ module _ (rule : RuleValue) (lmc : ℕ) (facts : Facts) (range : AreInRange fact
       (steps_towards_plans rule lmc facts range has_room tables (onward tables) right (ordered_tables_are_next facts positions tables plan)).1
 
   -- the tables after so many steps
-  pub after_steps : HeldPlan → ℕ → HeldPlan
+  abbrev pub after_steps : HeldPlan → ℕ → HeldPlan
   after_steps tables zero = tables
   after_steps tables (suc n) = onward (after_steps tables n)
 

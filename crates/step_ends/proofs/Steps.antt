@@ -41,7 +41,7 @@ module _ (rule : RuleValue) (lmc : ℕ) (facts : Facts) (range : AreInRange fact
   abbrev step : HeldPlan → HeldPlan
   step tables = stepped lmc rule facts tables
 
-  pub steps : HeldPlan → ℕ → HeldPlan
+  abbrev pub steps : HeldPlan → ℕ → HeldPlan
   steps tables zero = tables
   steps tables (suc n) = stepped lmc rule facts (steps tables n)
 
