@@ -17,7 +17,7 @@ use subnet_view::EndPort;
 
 /// What is known of the switches before any takes another entry.
 #[derive(Drop)]
-struct Findings {
+struct SwitchFlags {
     /// Whether the tables held deliver the packet from each switch.
     delivered: Vec<bool>,
     /// Whether each switch sends the packet up by an entry that is not the goal's.
@@ -41,12 +41,12 @@ pub(crate) fn ordered_entries(
     let delivered = delivered(alloc, port, held)?;
     let going_up = going_up(alloc, positions, held, goal)?;
     let entered = entered(alloc, positions, held, goal)?;
-    let findings = Findings {
+    let flags = SwitchFlags {
         delivered,
         going_up,
         entered,
     };
-    let tried = tried(alloc, port, positions, &findings, held, goal)?;
+    let tried = tried(alloc, port, positions, &flags, held, goal)?;
     entries_by(alloc, port, &tried)
 }
 
@@ -155,17 +155,17 @@ fn tried(
     alloc: Global,
     port: &EndPort,
     positions: &[usize],
-    findings: &Findings,
+    flags: &SwitchFlags,
     held: &[SwitchStep],
     goal: &[SwitchStep],
 ) -> Result<Vec<SwitchStep>, AllocError>
-    ensures { IfOk result (λ tried. tried.items ≡ tried_of positions.now port.now findings.now.delivered.items
-        findings.now.going_up.items findings.now.entered.items held.now goal.now) }
+    ensures { IfOk result (λ tried. tried.items ≡ tried_of positions.now port.now flags.now.delivered.items
+        flags.now.going_up.items flags.now.entered.items held.now goal.now) }
 {
     held.iter()
         .zip(goal.iter())
         .enumerate()
-        .map(|(index, (held, goal))| tried_by(port, positions, findings, index, held, goal))
+        .map(|(index, (held, goal))| tried_by(port, positions, flags, index, held, goal))
         .collect(alloc)
 }
 
@@ -173,15 +173,15 @@ fn tried(
 fn tried_by(
     port: &EndPort,
     positions: &[usize],
-    findings: &Findings,
+    flags: &SwitchFlags,
     index: usize,
     held: &SwitchStep,
     goal: &SwitchStep,
 ) -> SwitchStep
-    ensures { result ≡ tried_by positions.now port.now findings.now.delivered.items
-        findings.now.going_up.items findings.now.entered.items (index, (held.now, goal.now)) }
+    ensures { result ≡ tried_by positions.now port.now flags.now.delivered.items
+        flags.now.going_up.items flags.now.entered.items (index, (held.now, goal.now)) }
 {
-    if may_change(port, positions, findings, index, &goal.hop) {
+    if may_change(port, positions, flags, index, &goal.hop) {
         *goal
     } else {
         *held
@@ -192,27 +192,27 @@ fn tried_by(
 fn may_change(
     port: &EndPort,
     positions: &[usize],
-    findings: &Findings,
+    flags: &SwitchFlags,
     index: usize,
     hop: &NextHop,
 ) -> bool
-    ensures { result ≡ may_change_by positions.now port.now findings.now.delivered.items
-        findings.now.going_up.items findings.now.entered.items index hop.now }
+    ensures { result ≡ may_change_by positions.now port.now flags.now.delivered.items
+        flags.now.going_up.items flags.now.entered.items index hop.now }
 {
-    turns_well(positions, findings, index, hop)
-        && (!flag(&findings.delivered, index) || leads_in(port, &findings.delivered, hop))
+    turns_well(positions, flags, index, hop)
+        && (!flag(&flags.delivered, index) || leads_in(port, &flags.delivered, hop))
 }
 
 /// Whether no packet can turn up again behind a channel that leads down, if the switch at an index does so by the goal's
 /// entry: it leads up only if the packet does not come down to the switch, and down only if the next switch does not
 /// send it up.
-fn turns_well(positions: &[usize], findings: &Findings, index: usize, hop: &NextHop) -> bool
-    ensures { result ≡ turns_well_by positions.now findings.now.going_up.items findings.now.entered.items index hop.now }
+fn turns_well(positions: &[usize], flags: &SwitchFlags, index: usize, hop: &NextHop) -> bool
+    ensures { result ≡ turns_well_by positions.now flags.now.going_up.items flags.now.entered.items index hop.now }
 {
     match hop {
         NextHop::To(to) => {
-            (!is_up(positions, index, *to) || !flag(&findings.entered, index))
-                && (!is_down(positions, index, *to) || !flag(&findings.going_up, *to))
+            (!is_up(positions, index, *to) || !flag(&flags.entered, index))
+                && (!is_down(positions, index, *to) || !flag(&flags.going_up, *to))
         }
         NextHop::Ends(_) => true,
     }

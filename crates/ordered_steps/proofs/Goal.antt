@@ -374,18 +374,18 @@ end_in_the_goal cells q goal line tables are depth deep i g m at_g d most = ends
 -- a depth that there is always ----------------------------------------------------------
 
 module _ (cells : Cells) (q : ℕ → ℕ) (goal : HeldPlan) (line : HeldLid) (tables : ℕ → HeldPlan) (are : AreStepsByOrder cells q goal line tables) where
-  abbrev place : Bool → ℕ → ℕ
-  place up a = cond up (length (switches cells) + 1 + a) (length (switches cells) - a)
+  abbrev number_at : Bool → ℕ → ℕ
+  number_at up a = cond up (length (switches cells) + 1 + a) (length (switches cells) - a)
 
   abbrev is_upward : ℕ → Bool
   is_upward i = goes_up q i (step_at cells goal line.lid (switch_at cells i))
 
   -- those outside the switches have no depth to speak of
   abbrev depth_of : ℕ → ℕ
-  depth_of i = cond (nat_lt (q i) (length (switches cells))) (place (is_upward i) (q i)) 1
+  depth_of i = cond (nat_lt (q i) (length (switches cells))) (number_at (is_upward i) (q i)) 1
 
-  within_place : (i : ℕ) → i < length (switches cells) → depth_of i ≡ place (is_upward i) (q i)
-  within_place i less = ap (λ t. cond t (place (is_upward i) (q i)) 1) (lt_true (q i) (length (switches cells)) (are.order i less))
+  within_number : (i : ℕ) → i < length (switches cells) → depth_of i ≡ number_at (is_upward i) (q i)
+  within_number i less = ap (λ t. cond t (number_at (is_upward i) (q i)) 1) (lt_true (q i) (length (switches cells)) (are.order i less))
     where
       lt_true : (a b : ℕ) → a < b → nat_lt a b ≡ true
       lt_true a b h = grind arith
@@ -407,12 +407,12 @@ module _ (cells : Cells) (q : ℕ → ℕ) (goal : HeldPlan) (line : HeldLid) (t
       by (Ends e) is_s = refl
       by (To k) is_s = no_more (q i) (q j) (q k) down (are.goal_right i j k l (leads_from cells goal line.lid j k j_less is_s))
 
-  place_down : (n a b : ℕ) → a < n → b < n → not (nat_lt a b) ≡ false → n - b < n - a
-  place_down n a b x y h = grind arith
+  number_down : (n a b : ℕ) → a < n → b < n → not (nat_lt a b) ≡ false → n - b < n - a
+  number_down n a b x y h = grind arith
 
-  place_up : (n a b : ℕ) (t : Bool) → b < n → b < a → cond t (n + 1 + b) (n - b) < n + 1 + a
-  place_up n a b true y h = omega arith
-  place_up n a b false y h = omega arith
+  number_up : (n a b : ℕ) (t : Bool) → b < n → b < a → cond t (n + 1 + b) (n - b) < n + 1 + a
+  number_up n a b true y h = omega arith
+  number_up n a b false y h = omega arith
 
   lower : (a b : ℕ) → not (nat_lt a b) ≡ true → (b ≡ a → ⊥) → b < a
   lower a b h differ = grind arith
@@ -422,32 +422,32 @@ module _ (cells : Cells) (q : ℕ → ℕ) (goal : HeldPlan) (line : HeldLid) (t
       let less = leads_within cells goal line.lid i j l in
       let j_less = to_within cells goal line.lid (switch_at cells i) j (leads_at cells goal line.lid i j l) in
       let n = length (switches cells) in
-      subst (λ (x : ℕ). x < depth_of i) (sym (within_place j j_less))
-      (subst (λ (x : ℕ). place (is_upward j) (q j) < x) (sym (within_place i less ∙ ap (λ t. place t (q i)) (up_is i j l)))
-      ((elim (is_up q i j) as (λ t. is_up q i j ≡ t → place (is_upward j) (q j) < place t (q i)) [
+      subst (λ (x : ℕ). x < depth_of i) (sym (within_number j j_less))
+      (subst (λ (x : ℕ). number_at (is_upward j) (q j) < x) (sym (within_number i less ∙ ap (λ t. number_at t (q i)) (up_is i j l)))
+      ((elim (is_up q i j) as (λ t. is_up q i j ≡ t → number_at (is_upward j) (q j) < number_at t (q i)) [
         | true ↦ λ up.
-            place_up n (q i) (q j) (is_upward j) (are.order j j_less)
+            number_up n (q i) (q j) (is_upward j) (are.order j j_less)
             (lower (q i) (q j) up (λ same.
             let wired = to_wired cells goal line.lid (switch_at cells i) j (leads_at cells goal line.lid i j l) in
             let e : i ≡ j = are.apart i j less j_less wired (sym same) in
             let own = subst (λ (y : ℕ). Leads cells goal line.lid i y) (sym e) l in
             turns_not (q i) (are.goal_right i i i own own)))
         | false ↦ λ down.
-            subst (λ (t : Bool). place t (q j) < place false (q i)) (sym (on_down i j j_less l down))
-            (place_down n (q i) (q j) (are.order i less) (are.order j j_less) down)
+            subst (λ (t : Bool). number_at t (q j) < number_at false (q i)) (sym (on_down i j j_less l down))
+            (number_down n (q i) (q j) (are.order i less) (are.order j j_less) down)
       ]) refl))
 
   earlier_is : (i j x : ℕ) → Leads cells goal line.lid i j → is_up q i j ≡ true → x < length (switches cells) → q x < q i
       → depth_of x < depth_of i
   earlier_is i j x l up x_less h =
       let less = leads_within cells goal line.lid i j l in
-      subst (λ (y : ℕ). y < depth_of i) (sym (within_place x x_less))
-      (subst (λ (y : ℕ). place (is_upward x) (q x) < y) (sym (within_place i less ∙ ap (λ t. place t (q i)) (up_is i j l ∙ up)))
-      (place_up (length (switches cells)) (q i) (q x) (is_upward x) (are.order x x_less) h))
+      subst (λ (y : ℕ). y < depth_of i) (sym (within_number x x_less))
+      (subst (λ (y : ℕ). number_at (is_upward x) (q x) < y) (sym (within_number i less ∙ ap (λ t. number_at t (q i)) (up_is i j l ∙ up)))
+      (number_up (length (switches cells)) (q i) (q x) (is_upward x) (are.order x x_less) h))
 
-  place_most : (n a : ℕ) (t : Bool) → a < n → cond t (n + 1 + a) (n - a) ≤ 2 * n
-  place_most n a true h = omega arith
-  place_most n a false h = omega arith
+  number_most : (n a : ℕ) (t : Bool) → a < n → cond t (n + 1 + a) (n - a) ≤ 2 * n
+  number_most n a true h = omega arith
+  number_most n a false h = omega arith
 
   pub depth_is : IsDepth cells q goal line depth_of
   depth_is = record {
@@ -460,8 +460,8 @@ module _ (cells : Cells) (q : ℕ → ℕ) (goal : HeldPlan) (line : HeldLid) (t
       → (entry_for (tables m) line.lid g ≡ entry_for goal line.lid g) × DeliverFrom cells (tables m) line i
   in_all i g m at_g d most =
       let less = within_length (switches cells) i g at_g in
-      let few = place_most (length (switches cells)) (q i) (is_upward i) (are.order i less) in
-      let is = within_place i less in
+      let few = number_most (length (switches cells)) (q i) (is_upward i) (are.order i less) in
+      let is = within_number i less in
       end_in_the_goal cells q goal line tables are depth_of depth_is i g m at_g d (omega (arith, few, is))
 
 pub end_in_twice_as_many : EndInTwiceAsMany

@@ -67,9 +67,9 @@ fn positions_in(
 fn position_of(ordered: &[Guid], switch: Guid) -> usize
     ensures { result ≡ position_of ordered.now switch }
 {
-    for (place, other) in ordered.iter().enumerate() {
+    for (index, other) in ordered.iter().enumerate() {
         if *other == switch {
-            return place;
+            return index;
         }
     }
     ordered.len()

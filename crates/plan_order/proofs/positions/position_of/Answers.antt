@@ -8,10 +8,10 @@ use Rattle.plan_order.proofs.positions.position_of.Goals as goal
 pub returns-then-eq : goal.returns-then-eq
 returns-then-eq c =
     let ordered = c.args.ordered.now in
-    let less : c.loop-place.place < length ordered = c.loop-place-test.true in
-    let here = sym (get_or_default ordered c.loop-place.place c.index-ordered-place.result 0 less) ∙ sym c.index-ordered-place.is in
-    found_at ordered c.args.switch c.loop-place.place less (here ∙ eqb-true c.index-ordered-place.result c.args.switch (sym c.if-eq.ensures)) c.loop-place.invariant
+    let less : c.loop-index.index < length ordered = c.loop-index-test.true in
+    let here = sym (get_or_default ordered c.loop-index.index c.index-ordered-index.result 0 less) ∙ sym c.index-ordered-index.is in
+    found_at ordered c.args.switch c.loop-index.index less (here ∙ eqb-true c.index-ordered-index.result c.args.switch (sym c.if-eq.ensures)) c.loop-index.invariant
 
 pub returns : goal.returns
 returns c =
-    not_found c.args.ordered.now c.args.switch (λ i less. c.loop-place.invariant i (omega (arith, less, c.loop-place-test.false)))
+    not_found c.args.ordered.now c.args.switch (λ i less. c.loop-index.invariant i (omega (arith, less, c.loop-index-test.false)))

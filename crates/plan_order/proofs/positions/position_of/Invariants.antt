@@ -3,5 +3,5 @@ use Rattle.std.proofs.Common.{◌≡◌, ◌<◌, ℕ}
 use Rattle.std.specs.Prelude.{slice_index_or}
 use Rattle.plan_order.proofs.positions.position_of.Given as goal
 
-abbrev pub invariant-loop-place : goal.invariant-loop-place
-invariant-loop-place l = (i : ℕ) → i < l.place → slice_index_or l.ordered i 0 ≡ l.switch → ⊥
+abbrev pub invariant-loop-index : goal.invariant-loop-index
+invariant-loop-index l = (i : ℕ) → i < l.index → slice_index_or l.ordered i 0 ≡ l.switch → ⊥
