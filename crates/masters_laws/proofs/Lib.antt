@@ -11,3 +11,4 @@ pub mod Runs
 pub mod Known
 pub mod SameParts
 pub mod Example
+pub mod Segments

@@ -15,7 +15,8 @@ use Rattle.lft_blocks.specs.Planning.{Planning}
 use Rattle.sm_manager.specs.Manager.{new_manager}
 use Rattle.sm_manager.specs.Plans.{writing_fault}
 use Rattle.manager_laws.specs.Managing as one
-use Rattle.manager_laws.specs.Written.{plan_at}
+use Rattle.sm_manager.specs.Writing.{is_written}
+use Rattle.manager_laws.specs.Written.{BeginsNoWriting, plan_at}
 use Rattle.takeover_laws.specs.Claims.{HasLidsOf}
 use Rattle.takeover_laws.specs.Takeover.{IsInUse, plan_by_it}
 use Rattle.masters_laws.specs.Masters.{Seated, Masters, MastersEvent, Around, At, IsAt, seen_by, after_masters_event, after_masters_events}
@@ -82,6 +83,36 @@ abbrev pub InUseAlong : Facts → Planning → List MastersEvent → Masters →
 InUseAlong facts planning [] t = AllInUse facts planning t
 InUseAlong facts planning (event ∷ events) t =
     AllInUse facts planning t × InUseAlong facts planning events (after_masters_event t event)
+
+-- the manager of an index begins no writing
+abbrev pub WritesNothing : ℕ → Masters → MastersEvent → Type 0
+WritesNothing which t (Around event) = Unit {0}
+WritesNothing which t (At other event) =
+    which ≡ other → (m : Seated) → IsAt t which m → BeginsNoWriting (seen_by t.scene m) event
+
+abbrev pub WriteNothing : ℕ → List MastersEvent → Masters → Type 0
+WriteNothing which [] t = Unit {0}
+WriteNothing which (event ∷ events) t =
+    WritesNothing which t event × WriteNothing which events (after_masters_event t event)
+
+-- a manager begins a writing, and no other one since; then the plan counts as written
+pub record HasWritten (t : Masters) (before after : List MastersEvent) (which : ℕ) : Type 0 where
+  pub writer : Seated
+  pub there : IsAt (after_masters_events before t) which writer
+  pub begins : writing_fault writer.manager ≡ None
+  pub no_other : WriteNothing which after (after_masters_events (before ++ At which one.Write ∷ []) t)
+  pub later : Seated
+  pub there_later : IsAt (after_masters_events (before ++ At which one.Write ∷ after) t) which later
+  pub written : is_written later.manager ≡ true
+
+-- once one of them has written its plan, whatever the others do meanwhile, all that is joined to the seats holds it
+abbrev pub WrittenByOneIsHeld : Type 0
+WrittenByOneIsHeld =
+    (facts : Facts) (planning : Planning) (t : Masters) (before after : List MastersEvent) (which : ℕ)
+    → ShareLids facts planning t
+    → AllCanBe (before ++ At which one.Write ∷ after) t → AllSweepWhole (before ++ At which one.Write ∷ after) t
+    → HasWritten t before after which
+    → AllHold facts planning (after_masters_events (before ++ At which one.Write ∷ after) t)
 
 -- once it is held, however many masters sweep and write at once, it stays in force
 abbrev pub MastersChangeNothing : Type 0
