@@ -1,6 +1,6 @@
 -- The end ports of a part keep the LIDs of a plan, while each agent keeps what it holds of the plan; and what holds the plan now is what is
 -- joined to the seat as it was.
-use Rattle.std.proofs.Common.{◌≡◌, ℕ, true, List, refl, sym, ap, ◌∙◌, subst}
+use Rattle.std.proofs.Common.{◌≡◌, true, List, sym, ap, ◌∙◌, subst}
 use Rattle.std.proofs.lemmas.Option.{same_Some}
 use Rattle.std.specs.Prelude.{Option, Some, slice_get}
 use Rattle.std.specs.Option.{option_map_or}

@@ -12,3 +12,4 @@ pub mod Known
 pub mod SameParts
 pub mod Example
 pub mod Segments
+pub mod Written

@@ -1,7 +1,6 @@
 -- What one of several managers does while they do some things, one after the other.
-use Rattle.std.proofs.Common.{◌≡◌, ◌≢◌, ◌⊎◌, inl, inr, ℕ, Bool, true, false, List, [], ◌∷◌, ◌++◌, refl, sym, ap, ◌∙◌, subst}
+use Rattle.std.proofs.Common.{◌≡◌, ◌≢◌, ◌⊎◌, inl, inr, ℕ, Bool, true, false, List, [], ◌∷◌, refl, sym, ap, ◌∙◌, subst}
 use Rattle.std.proofs.lemmas.Bool.{eqb-true, eqb-false}
-use Rattle.std.proofs.lemmas.Option.{same_Some}
 use Rattle.std.proofs.lemmas.List.Elements.{All-nil, All-cons}
 use Rattle.std.specs.Prelude.{Option, Some, None, All, slice_get, ◌==◌}
 use Rattle.fact_store.specs.View.{Facts}
@@ -10,9 +9,9 @@ use Rattle.manager_laws.specs.Scene.{Event, Send as SendFrom}
 use Rattle.manager_laws.specs.Managing as one
 use Rattle.manager_laws.specs.Managing.{Managing, ManagerEvent, after_manager_event, after_manager_events}
 use Rattle.takeover_laws.specs.Takeover.{plan_by_it}
-use Rattle.masters_laws.specs.Masters.{AllCanBe, Around, At, CanBe, IsAt, IsItsOwn, Masters, MastersEvent, Seated, acting, after_masters_event, after_masters_events}
+use Rattle.masters_laws.specs.Masters.{AllCanBe, Around, At, CanBe, IsAt, Masters, MastersEvent, Seated, acting, after_masters_event, after_masters_events}
 use Rattle.masters_laws.specs.Masters.{seated_after, seen_by}
-use Rattle.masters_laws.specs.InForce.{AllSweepWhole, ShareLids, SweepsWhole}
+use Rattle.masters_laws.specs.InForce.{AllSweepWhole, ShareLids}
 use Rattle.masters_laws.proofs.Side.{own_scene, view_after}
 use Rattle.masters_laws.proofs.Together.{AllStand, next, set_elsewhere, set_there, still_apart}
 

@@ -1,6 +1,6 @@
 //! What is so of several managers on one fabric.
 ghost use Rattle.masters_laws.specs.InForce.{MastersChangeNothing, MastersKeepLids, MastersWriteTheSame};
-ghost use Rattle.masters_laws.specs.InForce.{SomeMastersWriteAtOnce};
+ghost use Rattle.masters_laws.specs.InForce.{SomeMastersWriteAtOnce, WrittenByOneIsHeld};
 ghost use Rattle.masters_laws.specs.Known.{HasSweptMeans, KnowsOneSweepMeans};
 ghost use Rattle.masters_laws.specs.Runs.{EachRunsOnItsOwn, WhatIsGivenOutCanBeSent};
 
@@ -40,6 +40,12 @@ pub fn masters_keep_lids()
 /// the others sweep and write meanwhile.
 pub fn masters_write_the_same()
     ensures { MastersWriteTheSame }
+{}
+
+/// Once one of them has written its plan, whatever the others sweep and write meanwhile, all that is joined to the seats
+/// holds it: one of its writings begins, and no other one since, and then the plan counts as written.
+pub fn written_by_one_is_held()
+    ensures { WrittenByOneIsHeld }
 {}
 
 /// Once such a subnet holds the plan, it stays in force, however many masters sweep and write, in any order: at each
