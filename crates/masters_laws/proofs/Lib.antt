@@ -13,3 +13,4 @@ pub mod SameParts
 pub mod Example
 pub mod Segments
 pub mod Written
+pub mod Rest

@@ -7,7 +7,7 @@ use Rattle.fabric_model.specs.Fabric.{Fabric, range_at}
 use Rattle.fabric_model.specs.FabricWalks.{IsJoinedTo}
 use Rattle.fact_store.specs.View.{Facts, cells_of}
 use Rattle.fabric_sim.specs.Simulation.{fabric_of}
-use Rattle.subnet_view.specs.Agreement.{Part, IsEndPortIn, AgreesOn}
+use Rattle.subnet_view.specs.Agreement.{Part, IsEndPortIn, TellsEndPort, AgreesOn}
 use Rattle.lid_assign.specs.Lids.{IsNoRoom, range_of}
 use Rattle.lft_blocks.specs.Plan.{PlanValue}
 use Rattle.lft_blocks.specs.Arrival.{HoldsPlan}
@@ -17,6 +17,7 @@ use Rattle.sm_manager.specs.Plans.{writing_fault}
 use Rattle.manager_laws.specs.Managing as one
 use Rattle.sm_manager.specs.Writing.{is_written}
 use Rattle.manager_laws.specs.Written.{BeginsNoWriting, plan_at}
+use Rattle.takeover_laws.specs.Alike.{ClaimsAreTrue}
 use Rattle.takeover_laws.specs.Claims.{HasLidsOf}
 use Rattle.takeover_laws.specs.Takeover.{IsInUse, plan_by_it}
 use Rattle.masters_laws.specs.Masters.{Seated, Masters, MastersEvent, Around, At, IsAt, seen_by, after_masters_event, after_masters_events}
@@ -39,6 +40,29 @@ pub record ShareLids (facts : Facts) (planning : Planning) (t : Masters) : Type 
       → AgreesOn (IsJoinedTo (fabric_of t.scene.fabric) m.seat) (cells_of facts) (fabric_of t.scene.fabric)
   pub lids : (which : ℕ) (m : Seated) → IsAt t which m
       → HoldsLids (IsJoinedTo (fabric_of t.scene.fabric) m.seat) (plan_by_it planning facts) (fabric_of t.scene.fabric)
+
+-- After a cut: earlier facts tell each end port that is joined to a seat, and it has the LID and the LMC of their plan;
+-- they may tell of others, which are gone. The facts describe what is left, and claim the LIDs that it has.
+pub record ShareRest (earlier facts : Facts) (planning : Planning) (t : Masters) : Type 0 where
+  pub starts : StartTogether t
+  pub had_room : ¬ (IsNoRoom planning.lmc (cells_of earlier))
+  pub has_room : ¬ (IsNoRoom planning.lmc (cells_of facts))
+  pub plans : (which : ℕ) (m : Seated) → IsAt t which m → m.manager.planning ≡ planning
+  pub agrees : (which : ℕ) (m : Seated) → IsAt t which m
+      → AgreesOn (IsJoinedTo (fabric_of t.scene.fabric) m.seat) (cells_of facts) (fabric_of t.scene.fabric)
+  pub claims : (which : ℕ) (m : Seated) → IsAt t which m
+      → ClaimsAreTrue (IsJoinedTo (fabric_of t.scene.fabric) m.seat) (cells_of facts) (fabric_of t.scene.fabric)
+  pub tells : (which : ℕ) (m : Seated) → IsAt t which m → (port : NodePort) (node : fabric.Node)
+      → IsEndPortIn (IsJoinedTo (fabric_of t.scene.fabric) m.seat) (fabric_of t.scene.fabric) port node
+      → TellsEndPort (cells_of earlier) node port.port
+  pub lids : (which : ℕ) (m : Seated) → IsAt t which m
+      → HoldsLids (IsJoinedTo (fabric_of t.scene.fabric) m.seat) (plan_by_it planning earlier) (fabric_of t.scene.fabric)
+
+-- then the end ports have the LIDs of the plan of what is left
+abbrev pub RestSharesLids : Type 0
+RestSharesLids =
+    (earlier facts : Facts) (planning : Planning) (t : Masters) → ShareRest earlier facts planning t
+    → ShareLids facts planning t
 
 -- others set nothing but SMInfo, and what a manager writes it knows from one sweep, which has every answer
 abbrev pub SweepsWhole : Masters → MastersEvent → Type 0

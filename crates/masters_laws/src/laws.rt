@@ -1,6 +1,6 @@
 //! What is so of several managers on one fabric.
 ghost use Rattle.masters_laws.specs.InForce.{MastersChangeNothing, MastersKeepLids, MastersWriteTheSame};
-ghost use Rattle.masters_laws.specs.InForce.{SomeMastersWriteAtOnce, WrittenByOneIsHeld};
+ghost use Rattle.masters_laws.specs.InForce.{RestSharesLids, SomeMastersWriteAtOnce, WrittenByOneIsHeld};
 ghost use Rattle.masters_laws.specs.Known.{HasSweptMeans, KnowsOneSweepMeans};
 ghost use Rattle.masters_laws.specs.Runs.{EachRunsOnItsOwn, WhatIsGivenOutCanBeSent};
 
@@ -27,6 +27,12 @@ pub fn knows_one_sweep_means()
 /// writing before a sweep.
 pub fn each_runs_on_its_own()
     ensures { EachRunsOnItsOwn }
+{}
+
+/// After a cut, end ports that have the LIDs of an earlier plan have those of the plan of what is left, if its facts
+/// claim them. So what the laws below say is so after a cut.
+pub fn rest_shares_lids()
+    ensures { RestSharesLids }
 {}
 
 /// However many masters sweep and write a subnet whose end ports have the LIDs of a plan, no port gets another LID. Each
