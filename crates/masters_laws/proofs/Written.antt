@@ -371,11 +371,14 @@ module _ (facts : Facts) (planning : Planning) (t : Masters) (h : ShareLids fact
         written = hw.written;
       }))
 
+  held_by : (before : List MastersEvent) → LearntFromOne t before which → Held before
+  held_by before l = subst Held (sym l.swept.events_are) (by_sweep before l)
+
 pub written_by_one_is_held : WrittenByOneIsHeld
 written_by_one_is_held facts planning t before after which h can_be whole hw =
     let can_es = can_parts before (At which one.Write ∷ after) t can_be in
     let whole_es = whole_parts before (At which one.Write ∷ after) t whole in
     let (m0, at_first, seat) = (ends facts planning t h before can_es.0 whole_es.0).seats.was which hw.writer hw.there in
     let knows = (whole_es.1.0 hw.writer hw.there hw.begins).0 in
-    let l = (knows_one_sweep_means t before which m0 hw.writer at_first (h.starts.none_swept which m0 at_first).1 hw.there).0 knows in
-    subst (Held facts planning t h which m0 at_first after) (sym l.swept.events_are) (by_sweep facts planning t h which m0 at_first after before l) can_be whole hw
+    held_by facts planning t h which m0 at_first after before
+    ((knows_one_sweep_means t before which m0 hw.writer at_first (h.starts.none_swept which m0 at_first).1 hw.there).0 knows) can_be whole hw

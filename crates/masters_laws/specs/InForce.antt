@@ -175,10 +175,6 @@ pub record SomeMastersWriteAtOnce : Type 0 where
   pub writing : List MastersEvent
   pub can_be : AllCanBe (sweeping ++ At 0 one.Write ∷ At 1 one.Write ∷ writing) masters
   pub whole : AllSweepWhole (sweeping ++ At 0 one.Write ∷ At 1 one.Write ∷ writing) masters
-  -- neither is refused
-  pub first : Seated
-  pub first_there : IsAt (after_masters_events sweeping masters) 0 first
-  pub first_begins : writing_fault first.manager ≡ None
-  pub second : Seated
-  pub second_there : IsAt (after_masters_events (sweeping ++ At 0 one.Write ∷ []) masters) 1 second
-  pub second_begins : writing_fault second.manager ≡ None
+  -- neither is refused, and both have written their plans in the end
+  pub first : HasWritten masters sweeping (At 1 one.Write ∷ writing) 0
+  pub second : HasWritten masters (sweeping ++ At 0 one.Write ∷ []) writing 1

@@ -63,7 +63,7 @@ pub fn masters_change_nothing()
 
 /// Such masters there are: two managers that were just made, each on an adapter, which are wired to one switch and hold
 /// LIDs of their own choice, as it does, and a table. Their sweeps go on at once, and each is silent to the other; then
-/// both are told to write, and each writing begins.
+/// both are told to write, and their Sets go out in turn, until each has written its plan.
 pub fn some_masters_write_at_once()
     ensures { SomeMastersWriteAtOnce }
 {}
