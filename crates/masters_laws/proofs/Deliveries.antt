@@ -33,8 +33,7 @@ use Rattle.manager_laws.specs.Sets.{Carries, TakesSet}
 use Rattle.manager_laws.proofs.Alike.{nodes_along}
 use Rattle.manager_laws.proofs.Sound.{CanBeSwept}
 use Rattle.manager_laws.proofs.WritingTaken.{changed_other}
-use Rattle.takeover_laws.proofs.HeldOn.{KeepsHeld, answered_keeps, itself}
-use Rattle.masters_laws.proofs.HeldLids.{HasLids}
+use Rattle.takeover_laws.proofs.HeldOn.{HasLids, KeepsHeld, answered_keeps, itself}
 use Rattle.masters_laws.proofs.Harmless.{AreHarmless, Asked, asks_or_not}
 use Rattle.masters_laws.proofs.Joined.{end_joined}
 use Rattle.masters_laws.proofs.KeptLids.{KeepsLids, answered_keeps_lids}

@@ -1,7 +1,6 @@
 pub mod Joined
 pub mod KeptLids
 pub mod Harmless
-pub mod HeldLids
 pub mod Deliveries
 pub mod Scenes
 pub mod Acting

@@ -26,7 +26,7 @@ use Rattle.manager_laws.proofs.TracedScenes.{WereTraced}
 use Rattle.manager_laws.proofs.WritingSweeps.{Ground}
 use Rattle.subnet_view.proofs.Members.{contains_none}
 use Rattle.takeover_laws.specs.Takeover.{plan_by_it}
-use Rattle.takeover_laws.proofs.HeldOn.{AreListed, HeldOn}
+use Rattle.takeover_laws.proofs.HeldOn.{AreListed, HeldOn, held_of_now}
 use Rattle.takeover_laws.proofs.Listed.{are_listed}
 use Rattle.takeover_laws.proofs.Takeover.{none_seen}
 use Rattle.takeover_laws.proofs.Throughout.{in_use}
@@ -36,7 +36,6 @@ use Rattle.masters_laws.specs.InForce.{AllHold, AllInUse, AllSweepWhole, InUseAl
 use Rattle.masters_laws.specs.InForce.{SweepsWhole}
 use Rattle.masters_laws.proofs.Deliveries.{Sends, Tells}
 use Rattle.masters_laws.proofs.Harmless.{AreHarmless}
-use Rattle.masters_laws.proofs.HeldLids.{held_of_now}
 use Rattle.masters_laws.proofs.Scenes.{SendsSo, SentSo, Stands, held_on, stands_on}
 use Rattle.masters_laws.proofs.Side.{Known, Old, SendsOne, Side, around_side, first_of, own_scene, own_side, same_plan, sending_so}
 
