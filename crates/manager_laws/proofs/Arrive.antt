@@ -12,6 +12,7 @@ use Rattle.fact_store.specs.View.{cells_of, view_at}
 use Rattle.fact_store.proofs.Views.{view_of_its_cells}
 use Rattle.subnet_view.specs.Agreement.{AgreesOn}
 use Rattle.subnet_view.specs.EndPorts.{IsEndPort}
+use Rattle.lft_blocks.specs.Arrival.{HoldsPlan}
 use Rattle.lft_blocks.specs.Plan.{PlanValue}
 use Rattle.sweep.specs.Sweep.{Sweep, path_to, started}
 use Rattle.sm_manager.specs.Manager.{newest_held, next_generation, with_all_sent}
@@ -262,6 +263,17 @@ module _ (w : Managing) (before between after : List ManagerEvent) (run : IsWrit
         end_port_along w.scene.fabric (at_end w before between after).scene.fabric (held.at_end_along w before between after run sweep sweep_is) w.seat
         (seat_end first at 1 first_begins)
 
+    -- and what is joined to it holds the plan
+    pub holds_it : IsWhole sweep → is_written (at_end w before between after).manager ≡ true
+        → HoldsPlan (IsJoinedTo (fabric_of (at_end w before between after).scene.fabric) w.seat) (plan_at (at_writing w before between))
+        (fabric_of (at_end w before between after).scene.fabric)
+    holds_it whole written =
+        let f = (at_end w before between after).scene.fabric in
+        let planning = (at_writing w before between).manager.planning in
+        holds_plan planning.rule planning.lmc (at_writing w before between).manager.store (held.may w before between after run sweep sweep_is).has_room
+        (IsJoinedTo (fabric_of f) w.seat) (fabric_of f) sweep (known_agrees whole) (held.is_held w before between after run sweep sweep_is written)
+        (reached_known whole)
+
     pub arrives : IsWhole sweep → is_written (at_end w before between after).manager ≡ true
         → EachPingArrives (at_writing w before between).manager.planning.rule (cells_of (at_writing w before between).manager.store)
         (plan_at (at_writing w before between))
@@ -272,11 +284,8 @@ module _ (w : Managing) (before between after : List ManagerEvent) (run : IsWrit
         let rule = (at_writing w before between).manager.planning.rule in
         let lmc = (at_writing w before between).manager.planning.lmc in
         let may = held.may w before between after run sweep sweep_is in
-        let agrees = known_agrees whole in
-        pings_arrive rule lmc facts f w.seat may.has_room (held.at_end_is w before between after run sweep sweep_is) seat_is_end agrees
-        (holds_plan rule lmc facts may.has_room (IsJoinedTo (fabric_of f) w.seat) (fabric_of f) sweep agrees
-        (held.is_held w before between after run sweep sweep_is written)
-        (reached_known whole))
+        pings_arrive rule lmc facts f w.seat may.has_room (held.at_end_is w before between after run sweep sweep_is) seat_is_end (known_agrees whole)
+        (holds_it whole written)
 
 pub pings_arrive_once_written : PingsArriveOnceWritten
 pings_arrive_once_written w before between after b = arrives w before between after b.run b.knew_nothing b.alone b.sweep b.is_last b.whole b.written

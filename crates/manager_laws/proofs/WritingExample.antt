@@ -3,7 +3,7 @@
 use Rattle.std.proofs.Common.{◌≡◌, ◌≢◌, ℕ, ◌+◌, ◌*◌, ◌-◌, ◌^◌, true, List, [], ◌∷◌, ◌++◌}
 use Rattle.std.proofs.Common.{replicate, refl, sym, ap, ◌∙◌, subst, arith}
 use Rattle.std.proofs.lemmas.List.Elements.{All-from_recursion}
-use Rattle.std.specs.Prelude.{Some, None, All, is_none, is_some, max, if◌then◌else◌, ◌==◌}
+use Rattle.std.specs.Prelude.{Some, None, is_none, is_some, max, if◌then◌else◌, ◌==◌}
 use Rattle.std.specs.List.{AllByRecursion}
 use Rattle.fabric_model.specs.declared.cable.NodePort.{NodePort}
 use Rattle.smp_bytes.specs.Field.{with_bytes}
@@ -11,7 +11,7 @@ use Rattle.node_agents.specs.Agent.{fresh_agent}
 use Rattle.node_agents.specs.Answers.{after_answer, get_of, set_of}
 use Rattle.node_agents.specs.PortInfo.{changed_port}
 use Rattle.reply_facts.specs.Report.{Sightings}
-use Rattle.fact_store.specs.View.{cells_of, no_facts, view}
+use Rattle.fact_store.specs.View.{cells_of, no_facts}
 use Rattle.fact_store.proofs.Entries.{cells_of_view, entries-view}
 use Rattle.subnet_view.specs.Reading.{Cells}
 use Rattle.lft_blocks.specs.Rules.{up_and_down}
@@ -35,7 +35,7 @@ use Rattle.manager_laws.specs.WritingPings.{BringsUp, SomeManagerBringsUp}
 use Rattle.manager_laws.specs.Written.{AllKeep, at_writing, own_sets, plan_at}
 use Rattle.manager_laws.proofs.Generations.{nothing_found, nothing_newest}
 use Rattle.manager_laws.proofs.Rests.{new_managers_rest}
-use Rattle.manager_laws.proofs.Computed.{all_can_be, all_keep, are_kept, fault_is, fault_with, in_pairs, joined_told, keeps_by, merged_with, no_sweeps, one, one_view}
+use Rattle.manager_laws.proofs.Computed.{all_can_be, all_keep, are_kept, fault_is, fault_with, in_pairs, joined_told, keeps_by, merged_with, no_sweeps, one_view}
 use Rattle.manager_laws.proofs.Computed.{phases_with, sweep_in, sweep_there, told_by_agents, writes_by}
 use Rattle.manager_laws.proofs.ExampleFabric.{bare, distinct_by, is_bare, port}
 

@@ -1,6 +1,6 @@
 -- A writing that begins: where none of what forbids it holds, its steps go where the sweep came to, and set what the plan has there.
 use Rattle.std.proofs.Common.{◌≡◌, ◌<◌, inl, inr, ℕ, ◌≤◌, ◌^◌, Bool, true, false, cond, List, [], ◌∷◌, length, refl, sym, ap, ◌∙◌, subst, arith}
-use Rattle.std.proofs.lemmas.Bool.{eqb-true, lt-ltb, le-leb, ltb-false}
+use Rattle.std.proofs.lemmas.Bool.{eqb-true}
 use Rattle.std.proofs.lemmas.Option.{same_Some}
 use Rattle.std.specs.Prelude.{Contains, Option, Some, None, nat_le, not, ◌==◌, ◌||◌}
 use Rattle.fabric_model.specs.declared.cable.NodePort.{NodePort}

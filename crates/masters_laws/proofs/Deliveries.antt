@@ -12,26 +12,28 @@ use Rattle.fabric_model.specs.FabricWalks.{IsJoinedTo, vertex_of}
 use Rattle.fabric_model.specs.DirectedWalk.{directed_end}
 use Rattle.fabric_model.proofs.FabricWalks.{adapter_vertex, port_at, switch_vertex, type_at, vertex_is_end}
 use Rattle.smp_bytes.specs.Header.{set, port_info, switch_info, linear_forwarding_table, sm_info}
-use Rattle.smp_bytes.specs.Field.{number_in}
-use Rattle.smp_bytes.specs.Packet.{attribute_id, attribute_modifier, is_directed, method}
+use Rattle.smp_bytes.specs.Field.{bytes_in, number_in}
+use Rattle.smp_bytes.specs.Packet.{attribute_data, attribute_id, attribute_modifier, is_directed, method}
 use Rattle.dr_forward.proofs.Trips.{IsOut, IsRequestOver, field_kept}
 use Rattle.node_agents.specs.Agent.{Agent, IsAgent, base_lid_at, is_switch, lmc_at, node_of, range_at}
 use Rattle.node_agents.specs.Answers.{after_answer}
 use Rattle.node_agents.specs.PortInfo.{has_lid, port_meant}
-use Rattle.fabric_sim.specs.Simulation.{Simulation, AreCables, IsSimulation, agent_at, fabric_of, port_count}
+use Rattle.fabric_sim.specs.Simulation.{Simulation, AreCables, IsSimulation, agent_at, fabric_of, port_count, port_of}
 use Rattle.fabric_sim.specs.Delivery.{after_deliver, with_changed}
 use Rattle.fabric_sim.proofs.AgentLists.{changed_at_id}
 use Rattle.fabric_sim.proofs.Traced.{IsRequestFor}
 use Rattle.fabric_sim.proofs.TracedCalls.{AreTraced}
 use Rattle.fabric_sim.proofs.TripShapes.{IsAlong, agent_there}
+use Rattle.attr_codec.specs.PortInfo.{range_in}
+use Rattle.attr_codec.specs.SwitchInfo.{linear_fdb_top}
+use Rattle.fabric_sim.specs.declared.flight.Flight.{Flight}
 use Rattle.lid_assign.specs.Lids.{range_of}
-use Rattle.lft_blocks.specs.Plan.{PlanValue}
-use Rattle.manager_laws.specs.Sets.{Carries}
+use Rattle.lft_blocks.specs.Plan.{PlanValue, block_at}
+use Rattle.manager_laws.specs.Sets.{Carries, TakesSet}
 use Rattle.manager_laws.proofs.Alike.{nodes_along}
 use Rattle.manager_laws.proofs.Sound.{CanBeSwept}
 use Rattle.manager_laws.proofs.WritingTaken.{changed_other}
-use Rattle.takeover_laws.proofs.HeldOn.{KeepsHeld, answered_keeps, itself}
-use Rattle.masters_laws.proofs.HeldLids.{HasLids}
+use Rattle.takeover_laws.proofs.HeldOn.{HasLids, KeepsHeld, answered_keeps, itself}
 use Rattle.masters_laws.proofs.Harmless.{AreHarmless, Asked, asks_or_not}
 use Rattle.masters_laws.proofs.Joined.{end_joined}
 use Rattle.masters_laws.proofs.KeptLids.{KeepsLids, answered_keeps_lids}
@@ -168,7 +170,7 @@ module _ (start : Simulation) (plan : PlanValue) (IsSeat : NodePort → Type 0) 
     pub agents_keep : (n id : ℕ) (a : Agent) → agent_at s id ≡ Some a
         → (b : Agent) × (agent_at (after_deliver s n).fabric id ≡ Some b) × (KeepsHeld plan a b × KeepsLids a b)
     agents_keep n id a there = elim (asks_or_not Sends Tells cables counts along is on harmless n) [
-      | inl same ↦ (a, ap (λ (xs : List Agent). slice_get xs id) same ∙ there, unchanged)
+      | inl nobody ↦ (a, ap (λ (xs : List Agent). slice_get xs id) nobody.agents ∙ there, unchanged)
       | inr x ↦ by_id x (x.at.node == id) refl
     ]
       where
@@ -198,7 +200,7 @@ module _ (start : Simulation) (plan : PlanValue) (IsSeat : NodePort → Type 0) 
     -- where none is, none comes
     pub none_comes : (n id : ℕ) → agent_at s id ≡ None → agent_at (after_deliver s n).fabric id ≡ None
     none_comes n id none = elim (asks_or_not Sends Tells cables counts along is on harmless n) [
-      | inl same ↦ ap (λ (xs : List Agent). slice_get xs id) same ∙ none
+      | inl nobody ↦ ap (λ (xs : List Agent). slice_get xs id) nobody.agents ∙ none
       | inr x ↦ by_id x (x.at.node == id) refl
     ]
       where
@@ -213,3 +215,33 @@ module _ (start : Simulation) (plan : PlanValue) (IsSeat : NodePort → Type 0) 
             let left : with_changed s.agents x.at.node (λ y. (after_answer y x.request x.at.port).agent) ≡ s.agents =
             ap (λ o. option_map_or (λ y. slice_set s.agents x.at.node (after_answer y x.request x.at.port).agent) o s.agents) here in
             ap (λ (xs : List Agent). slice_get xs id) (x.agents ∙ left) ∙ none
+
+    -- a Set that an agent takes --------------------------------------------------------------------
+
+    -- an agent is asked for it
+    taken_asked : (n : ℕ) (at : NodePort) (a : Agent) (packet : List ℕ) → TakesSet s n at a packet
+        → Asked Sends Tells cables counts along is on harmless n
+    taken_asked n at a packet takes = elim (asks_or_not Sends Tells cables counts along is on harmless n) [
+      | inl nobody ↦ absurd (nobody.unanswered s.next takes.result)
+      | inr x ↦ x
+    ]
+
+    -- it carries the plan's values
+    pub taken_carries : (n : ℕ) (at : NodePort) (a : Agent) (packet : List ℕ) → TakesSet s n at a packet → Carries plan a at.port packet
+    taken_carries n at a packet takes =
+        let x = taken_asked n at a packet takes in
+        let flight : x.flight ≡ takes.flight = same_Some _ _ (sym x.waits ∙ takes.waits) in
+        let where_is : x.at ≡ at = sym x.at_is ∙ ap (λ (f : Flight). port_of f.whereabouts) flight ∙ takes.waits_at in
+        let bytes : x.flight.packet.bytes ≡ packet = ap (λ (f : Flight). f.packet.bytes) flight ∙ takes.bytes in
+        let there : agent_at s x.at.node ≡ Some a = ap (λ (p : NodePort). agent_at s p.node) where_is ∙ takes.there in
+        let c = carries n x a there (x.same.method_is ∙ ap (number_in method) bytes ∙ takes.method) in
+        let attribute : number_in attribute_id x.request ≡ number_in attribute_id packet = x.same.attribute_is ∙ ap (number_in attribute_id) bytes in
+        let modifier : number_in attribute_modifier x.request ≡ number_in attribute_modifier packet =
+        x.same.modifier_is ∙ ap (number_in attribute_modifier) bytes in
+        let data_is : bytes_in attribute_data x.request ≡ bytes_in attribute_data packet = x.same.data_is ∙ ap (bytes_in attribute_data) bytes in
+        record {
+          lids = λ e port range meant has. ap range_in (sym data_is)
+              ∙ c.lids (attribute ∙ e) port range ((λ j. port_meant a (modifier j) (where_is j).port) ∙ meant) has;
+          top = λ e top switch is_top. ap (number_in linear_fdb_top) (sym data_is) ∙ c.top (attribute ∙ e) top switch is_top;
+          block = λ e block is_block. sym data_is ∙ c.block (attribute ∙ e) block (ap (block_at plan a.node.guid) modifier ∙ is_block);
+        }

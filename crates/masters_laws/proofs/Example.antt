@@ -1,9 +1,9 @@
 -- Two managers that sweep and write at once: each at an adapter, on a switch to which both are wired, and each silent to the other.
-use Rattle.std.proofs.Common.{◌≡◌, ◌≢◌, ℕ, zero, suc, ◌+◌, ◌*◌, ◌-◌, ◌^◌, Bool, true, false, List, [], ◌∷◌, ◌++◌, length, replicate}
+use Rattle.std.proofs.Common.{◌≡◌, ◌≢◌, ℕ, zero, suc, ◌+◌, ◌*◌, ◌-◌, ◌^◌, Bool, true, false, List, [], ◌∷◌, ◌++◌, length, replicate, append_assoc}
 use Rattle.std.proofs.Common.{refl, sym, ap, ◌∙◌, subst, arith}
 use Rattle.std.proofs.lemmas.Bool.{and_parts}
 use Rattle.std.proofs.lemmas.Option.{same_Some}
-use Rattle.std.specs.Prelude.{if◌then◌else◌, Option, Some, None, is_none, is_some, max, slice_get, slice_index_or, ◌==◌, ◌&&◌}
+use Rattle.std.specs.Prelude.{if◌then◌else◌, Option, Some, None, is_none, is_some, max, slice_get, slice_index_or, slice_set, ◌==◌, ◌&&◌}
 use Rattle.fabric_model.specs.declared.cable.NodePort.{NodePort}
 use Rattle.smp_bytes.specs.Field.{with_bytes}
 use Rattle.node_agents.specs.Agent.{fresh_agent}
@@ -18,6 +18,8 @@ use Rattle.fact_store.proofs.Entries.{cells_of_view, entries-view}
 use Rattle.subnet_view.specs.Agreement.{AgreesOn, Part}
 use Rattle.subnet_view.specs.Reading.{Cells}
 use Rattle.lft_blocks.specs.Arrival.{HoldsPlan}
+use Rattle.plan_steps.specs.Phases.{Phase}
+use Rattle.sm_manager.specs.Writing.{begun_with, is_written}
 use Rattle.lft_blocks.specs.Plan.{plan_of}
 use Rattle.lft_blocks.specs.Rules.{up_and_down}
 use Rattle.fabric_model.specs.Fabric.{IsEndPortNumber, Node}
@@ -34,8 +36,8 @@ use Rattle.sm_state.specs.Standing.{active_once_more}
 use Rattle.manager_laws.specs.Complete.{IsWhole}
 use Rattle.manager_laws.specs.Scene.{Deliver, Lose, Repeat, Send as SendFrom}
 use Rattle.manager_laws.specs.Managing as one
-use Rattle.manager_laws.specs.Managing.{Starts, after_manager_event}
-use Rattle.manager_laws.proofs.Computed.{fault_is, fault_with, joined_told, merged_with, one as told, one_view, sweep_in, sweep_there}
+use Rattle.manager_laws.specs.Managing.{Managing, Starts, after_manager_event}
+use Rattle.manager_laws.proofs.Computed.{fault_is, fault_with, joined_told, merged_with, one as told, one_view, phases_with, sweep_in, sweep_there, writes_by}
 use Rattle.manager_laws.proofs.ExampleFabric.{port}
 use Rattle.manager_laws.proofs.Generations.{nothing_found, nothing_newest}
 use Rattle.takeover_laws.proofs.Example as alone
@@ -45,7 +47,7 @@ use Rattle.takeover_laws.proofs.ExampleFabric.{distinct, is_network, network}
 use Rattle.manager_laws.proofs.Rests.{new_managers_rest}
 use Rattle.masters_laws.specs.Masters.{AllCanBe, Around, At, CanBe, IsAt, IsItsOwn, IsWholeSweep, Masters, MastersEvent, Seated, StartTogether}
 use Rattle.masters_laws.specs.Masters.{WritesWhole, acting, after_masters_event, after_masters_events, seated_after, seen_by}
-use Rattle.masters_laws.specs.InForce.{AllHold, AllSweepWhole, ShareLids, SomeMastersWriteAtOnce, SweepsWhole}
+use Rattle.masters_laws.specs.InForce.{AllHold, AllSweepWhole, HasWritten, ShareLids, SomeMastersWriteAtOnce, SweepsWhole, WriteNothing, WritesNothing}
 use Rattle.masters_laws.proofs.Known.{after_both}
 use Rattle.masters_laws.proofs.SameParts.{IsAtSwitch, agrees_too, joined_too}
 use Rattle.masters_laws.proofs.Together.{set_elsewhere}
@@ -258,6 +260,27 @@ all_plain_may (event ∷ events) t e =
     let later = all_plain_may events (after_masters_event t event) parts.1 in
     ((now.0, later.0), (now.1, later.1))
 
+-- and so begins no writing
+plain_writes_nothing : (which : ℕ) (events : List MastersEvent) (t : Masters) → are_plain events ≡ true → WriteNothing which events t
+plain_writes_nothing which [] t e = tt
+plain_writes_nothing which (event ∷ events) t e =
+    let parts = and_parts (is_plain event) (are_plain events) e in
+    (by_event event parts.0, plain_writes_nothing which events (after_masters_event t event) parts.1)
+  where
+    by_event : (event : MastersEvent) → is_plain event ≡ true → WritesNothing which t event
+    by_event (Around event) e = tt
+    by_event (At other (one.Around event)) e = absurd (cc)
+    by_event (At other one.Begin) e = λ same m there. tt
+    by_event (At other one.Write) e = absurd (cc)
+    by_event (At other one.Take) e = λ same m there. tt
+    by_event (At other (one.Send number)) e = λ same m there. tt
+    by_event (At other (one.Hear number)) e = λ same m there. tt
+    by_event (At other (one.TimeOut transaction)) e = λ same m there. tt
+    by_event (At other (one.Raise floor)) e = absurd (cc)
+    by_event (At other (one.Merge floor sightings)) e = absurd (cc)
+    by_event (At other (one.Poll lid)) e = absurd (cc)
+    by_event (At other one.HandOver) e = absurd (cc)
+
 may_append : (es fs : List MastersEvent) (t : Masters) → AllMay es t → AllMay fs (after_masters_events es t) → AllMay (es ++ fs) t
 may_append [] fs t now later = later
 may_append (e ∷ es) fs t now later =
@@ -276,9 +299,13 @@ answers_may t which m there has = (
 abbrev pub sweeping : List MastersEvent
 sweeping = At 0 one.Begin ∷ At 1 one.Begin ∷ answering
 
--- each sends its first step, which gives the first adapter's port the LID that it has
+-- each sends a step, of the one and then of the other
+abbrev steps : ℕ → ℕ → ℕ → ℕ → ℕ → List MastersEvent
+steps number hops other_hops serial heard = trip 0 number hops serial heard ++ trip 1 number other_hops (serial + 2) (heard + 1)
+
+-- the LIDs of three ports, the switch's block, and its top
 abbrev pub writing : List MastersEvent
-writing = trip 0 10 0 38 18 ++ trip 1 10 2 40 19
+writing = steps 10 0 2 38 18 ++ (steps 11 1 1 42 20 ++ (steps 12 2 0 46 22 ++ (steps 13 1 1 50 24 ++ steps 14 1 1 54 26)))
 
 swept_is : after_masters_events sweeping beginning ≡ swept
 swept_is = ap (after_masters_events answering) begun
@@ -294,6 +321,77 @@ second_still = by_first (slice_get swept.managers 0)
     by_first None = second_at
     by_first (Some m) =
         set_elsewhere swept.managers 0 1 (seated_after m one.Write (after_manager_event (seen_by swept.scene m) one.Write)) (λ e. cc) ∙ second_at
+
+-- each by the phases of its plan
+abbrev first_phases : List Phase
+first_phases = phases_with its_planning (seated_at 0).manager (Some (sweep_in (seated_at 0).manager.sweep)) alone.cells
+
+abbrev second_phases : List Phase
+second_phases = phases_with its_planning (seated_at 1).manager (Some (sweep_in (seated_at 1).manager.sweep)) cells
+
+-- a manager whose writing by these phases has begun
+abbrev writer : Seated → List Phase → Seated
+writer m phases = record m { manager = begun_with m.manager phases }
+
+abbrev both_writing : Masters
+both_writing = record { scene = swept.scene; managers = writer (seated_at 0) first_phases ∷ writer (seated_at 1) second_phases ∷ [] }
+
+-- as it writes
+writes_at : (t : Masters) (which : ℕ) (m : Seated) (phases : List Phase) → IsAt t which m
+    → after_manager_event (seen_by t.scene m) one.Write ≡ record (seen_by t.scene m) { manager = begun_with m.manager phases }
+    → after_masters_event t (At which one.Write) ≡ record { scene = t.scene; managers = slice_set t.managers which (writer m phases) }
+writes_at t which m phases there is =
+    ap (acting t which one.Write) there
+    ∙ ap (λ (w : Managing). record { scene = w.scene; managers = slice_set t.managers which (seated_after m one.Write w) }) is
+
+both_write : after_masters_event (after_masters_event swept (At 0 one.Write)) (At 1 one.Write)
+    ≡ record { scene = swept.scene; managers = slice_set (slice_set swept.managers 0 (writer (seated_at 0) first_phases)) 1 (writer (seated_at 1) second_phases) }
+both_write =
+    ap (λ t. after_masters_event t (At 1 one.Write))
+    (writes_at swept 0 (seated_at 0) first_phases first_at
+    (writes_by (seen_by swept.scene (seated_at 0)) its_planning (Some (sweep_in (seated_at 0).manager.sweep)) alone.cells first_answers.planning
+    (sweep_there (seated_at 0).manager.sweep first_answers.is_sweep) known_first first_writes))
+    ∙ writes_at (record { scene = swept.scene; managers = slice_set swept.managers 0 (writer (seated_at 0) first_phases) }) 1 (seated_at 1) second_phases
+    (set_elsewhere swept.managers 0 1 (writer (seated_at 0) first_phases) (λ e. absurd (omega (arith, e))) ∙ second_at)
+    (writes_by (seen_by swept.scene (seated_at 1)) its_planning (Some (sweep_in (seated_at 1).manager.sweep)) cells second_answers.planning
+    (sweep_there (seated_at 1).manager.sweep second_answers.is_sweep) known_second second_writes)
+
+-- both are there
+two_there : (xs : List Seated) (a b c d : Seated) → slice_get xs 0 ≡ Some a → slice_get xs 1 ≡ Some b → length xs ≡ 2
+    → slice_set (slice_set xs 0 c) 1 d ≡ c ∷ d ∷ []
+two_there [] a b c d first second two = absurd (cc)
+two_there (x ∷ []) a b c d first second two = absurd (omega (arith, two))
+two_there (x ∷ (y ∷ [])) a b c d first second two = refl
+two_there (x ∷ (y ∷ (z ∷ xs))) a b c d first second two = absurd (omega (arith, two))
+
+two_managers : length swept.managers ≡ 2
+unfolding cabled_at fresh_agent after_inject after_deliver after_lose outcome_of after_answer get_of set_of changed_port with_bytes
+two_managers = refl
+
+writing_is : after_masters_events (At 0 one.Write ∷ At 1 one.Write ∷ []) swept ≡ both_writing
+writing_is =
+    both_write
+    ∙ ap (λ ms. record { scene = swept.scene; managers = ms })
+    (two_there swept.managers (seated_at 0) (seated_at 1) (writer (seated_at 0) first_phases) (writer (seated_at 1) second_phases) first_at second_at
+    two_managers)
+
+abbrev pub ended : Masters
+ended = after_masters_events writing both_writing
+
+abbrev ended_at : ℕ → Seated
+ended_at which = slice_index_or ended.managers which (seated 0 (fresh 17) false)
+
+record HasEnded (which : ℕ) : Type 0 where
+  pub there : IsAt ended which (ended_at which)
+  pub written : is_written (ended_at which).manager ≡ true
+
+first_ends : HasEnded 0
+unfolding cabled_at fresh_agent after_inject after_deliver after_lose outcome_of after_answer get_of set_of changed_port with_bytes
+first_ends = record { there = refl; written = refl }
+
+second_ends : HasEnded 1
+unfolding cabled_at fresh_agent after_inject after_deliver after_lose outcome_of after_answer get_of set_of changed_port with_bytes
+second_ends = record { there = refl; written = refl }
 
 all_may : AllMay (sweeping ++ At 0 one.Write ∷ At 1 one.Write ∷ writing) beginning
 all_may =
@@ -386,6 +484,46 @@ share =
       lids = λ which m there q node is. (hold which m there q node is).lids;
     }
 
+ended_is : after_masters_events (sweeping ++ At 0 one.Write ∷ At 1 one.Write ∷ writing) beginning ≡ ended
+ended_is =
+    after_both sweeping (At 0 one.Write ∷ At 1 one.Write ∷ writing) beginning
+    ∙ ap (after_masters_events (At 0 one.Write ∷ At 1 one.Write ∷ writing)) swept_is
+    ∙ ap (after_masters_events writing) writing_is
+
+after_first : after_masters_events (sweeping ++ At 0 one.Write ∷ []) beginning ≡ first_writing
+after_first = after_both sweeping (At 0 one.Write ∷ []) beginning ∙ ap (λ t. after_masters_event t (At 0 one.Write)) swept_is
+
+first_written : HasWritten beginning sweeping (At 1 one.Write ∷ writing) 0
+first_written =
+    record {
+      writer = seated_at 0;
+      there = subst (λ t. IsAt t 0 (seated_at 0)) (sym swept_is) first_at;
+      begins = first_writes;
+      no_other = (
+        λ same. absurd (omega (arith, same)),
+        plain_writes_nothing 0 writing
+            (after_masters_event (after_masters_events (sweeping ++ At 0 one.Write ∷ []) beginning) (At 1 one.Write)) refl,
+      );
+      later = ended_at 0;
+      there_later = subst (λ t. IsAt t 0 (ended_at 0)) (sym ended_is) first_ends.there;
+      written = first_ends.written;
+    }
+
+second_written : HasWritten beginning (sweeping ++ At 0 one.Write ∷ []) writing 1
+second_written =
+    record {
+      writer = seated_at 1;
+      there = subst (λ t. IsAt t 1 (seated_at 1)) (sym after_first) second_still;
+      begins = second_writes;
+      no_other = plain_writes_nothing 1 writing
+          (after_masters_events ((sweeping ++ At 0 one.Write ∷ []) ++ At 1 one.Write ∷ []) beginning) refl;
+      later = ended_at 1;
+      there_later = subst (λ es. IsAt (after_masters_events es beginning) 1 (ended_at 1))
+          (sym (append_assoc sweeping (At 0 one.Write ∷ []) (At 1 one.Write ∷ writing)))
+          (subst (λ t. IsAt t 1 (ended_at 1)) (sym ended_is) second_ends.there);
+      written = second_ends.written;
+    }
+
 pub some_masters_write_at_once : SomeMastersWriteAtOnce
 some_masters_write_at_once =
     record {
@@ -403,13 +541,6 @@ some_masters_write_at_once =
       writing = writing;
       can_be = all_may.0;
       whole = all_may.1;
-      first = seated_at 0;
-      first_there = subst (λ t. IsAt t 0 (seated_at 0)) (sym swept_is) first_at;
-      first_begins = first_writes;
-      second = seated_at 1;
-      second_there = subst (λ t. IsAt t 1 (seated_at 1)) (sym after_first) second_still;
-      second_begins = second_writes;
+      first = first_written;
+      second = second_written;
     }
-  where
-    after_first : after_masters_events (sweeping ++ At 0 one.Write ∷ []) beginning ≡ first_writing
-    after_first = after_both sweeping (At 0 one.Write ∷ []) beginning ∙ ap (λ t. after_masters_event t (At 0 one.Write)) swept_is

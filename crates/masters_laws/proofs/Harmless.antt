@@ -2,7 +2,7 @@
 use Rattle.std.proofs.Common.{◌≡◌, ◌⊎◌, inl, inr, ℕ, ◌+◌, ◌-◌, ◌^◌, ◌<◌, ◌≤◌, Bool, true, false, cond, List, [], ◌∷◌, ◌++◌}
 use Rattle.std.proofs.Common.{length, refl, sym, ap, ◌∙◌, subst, arith}
 use Rattle.std.proofs.lemmas.Bool.{cond_both}
-use Rattle.std.specs.Prelude.{Option, Some, None, Ok, not, ◌==◌, ◌&&◌, ◌||◌, nat_lt, is_none, is_some}
+use Rattle.std.specs.Prelude.{Option, Some, None, Result, Ok, Err, not, ◌==◌, ◌&&◌, ◌||◌, nat_lt, is_none, is_some}
 use Rattle.std.specs.Option.{option_map_or}
 use Rattle.fabric_model.specs.declared.cable.NodePort.{NodePort}
 use Rattle.fabric_model.specs.declared.course.Course.{Course}
@@ -20,6 +20,8 @@ use Rattle.dr_forward.proofs.Trips.{IsKeptFrom, back_returning, field_kept}
 use Rattle.node_agents.specs.Agent.{Agent}
 use Rattle.node_agents.specs.Answers.{after_answer}
 use Rattle.node_agents.proofs.Outcomes.{answers_hold}
+use Rattle.node_agents.proofs.SameRequests.{AskSame}
+use Rattle.smp_bytes.proofs.OffsetLaws.{bytes_in-alike}
 use Rattle.fabric_sim.specs.declared.packet.Packet.{Packet}
 use Rattle.fabric_sim.specs.declared.flight.Whereabouts.{Whereabouts}
 use Rattle.fabric_sim.specs.declared.flight.Whereabouts.TheVariants.{Arrived, Seat}
@@ -27,7 +29,8 @@ use Rattle.fabric_sim.specs.declared.flight.Flight.{Flight}
 use Rattle.fabric_sim.specs.declared.delivered.Delivered.{Delivered}
 use Rattle.fabric_sim.specs.declared.delivered.Delivered.TheVariants as delivered_is
 use Rattle.fabric_sim.specs.declared.delivered.Reason.TheVariants.{Down}
-use Rattle.fabric_sim.specs.declared.fault.FabricFault.TheVariants.{SerialsSpent}
+use Rattle.fabric_sim.specs.declared.fault.FabricFault.{FabricFault}
+use Rattle.fabric_sim.specs.declared.fault.FabricFault.TheVariants.{NoSuchPacket, SerialsSpent}
 use Rattle.fabric_sim.specs.Called.{Called, refused}
 use Rattle.fabric_sim.specs.Changes.{addressed, after_inject, after_lose, after_repeat, copied}
 use Rattle.fabric_sim.specs.Delivery.{after_deliver, after_enqueue, after_outcome, answer_at, asked, by_course, by_verdict, carrying, delivered_flight, here_at}
@@ -92,59 +95,81 @@ module _ (bytes : List ℕ) (long : length bytes ≡ 256) (directed : is_directe
   still_directed : (new : List ℕ) → IsKeptFrom bytes new → is_directed new ≡ true
   still_directed new kept = ap (λ n. n == 0x81) (field_kept (record { at = 1; len = 1 }) bytes new (inl (omega arith)) kept) ∙ directed
 
-  pointed_directed : (pointer : ℕ) → pointer < 256 → is_directed (pointed pointer bytes) ≡ true
-  pointed_directed pointer small = still_directed (pointed pointer bytes) (pointed_is bytes long pointer small).kept
-
-  moved_directed : (here : Here) → is_returning bytes ≡ false → is_directed (moved_on here bytes) ≡ true
-  moved_directed here out = still_directed (moved_on here bytes) (moved_on_is bytes long here (less out)).kept
-
+  -- it is a packet that asks for what it asked for
   abbrev Well : Stepped → Type 0
-  Well x = is_directed x.packet ≡ true
+  Well x = (length x.packet ≡ 256) × IsKeptFrom bytes x.packet
 
-  stepped_directed : (here : Here) → is_directed (step here bytes).packet ≡ true
-  stepped_directed here =
+  unchanged : Well (record { packet = bytes; verdict = ToAgent })
+  unchanged = (long, λ offset k. refl)
+
+  pointed_well : (pointer : ℕ) → pointer < 256 → (length (pointed pointer bytes) ≡ 256) × IsKeptFrom bytes (pointed pointer bytes)
+  pointed_well pointer small = let is = pointed_is bytes long pointer small in (is.count, is.kept)
+
+  moved_well : (here : Here) → is_returning bytes ≡ false → (length (moved_on here bytes) ≡ 256) × IsKeptFrom bytes (moved_on here bytes)
+  moved_well here out = let is = moved_on_is bytes long here (less out) in (is.count, is.kept)
+
+  stepped_well : (here : Here) → (length (step here bytes).packet ≡ 256) × IsKeptFrom bytes (step here bytes).packet
+  stepped_well here =
       cond_both (is_returning bytes) _ _ Well
-      (λ _. cond_both (number_in hop_pointer bytes == 0) _ _ Well (λ _. directed)
-      (λ _. cond_both (number_in hop_pointer bytes == 1) _ _ Well (λ _. pointed_directed 0 (omega arith))
+      (λ _. cond_both (number_in hop_pointer bytes == 0) _ _ Well (λ _. unchanged)
+      (λ _. cond_both (number_in hop_pointer bytes == 1) _ _ Well (λ _. pointed_well 0 (omega arith))
       (λ _. cond_both (nat_lt (number_in hop_count bytes) (number_in hop_pointer bytes) || here.is_switch) _ _ Well
       (λ _. cond_both (is_port here (number_in (field.return_path (number_in hop_pointer bytes - 1)) bytes)) _ _ Well
-      (λ _. pointed_directed (number_in hop_pointer bytes - 1) (omega (arith, most))) (λ _. directed))
-      (λ _. directed))))
+      (λ _. pointed_well (number_in hop_pointer bytes - 1) (omega (arith, most))) (λ _. unchanged))
+      (λ _. unchanged))))
       (λ out. cond_both (nat_lt (number_in hop_pointer bytes) (number_in hop_count bytes)) _ _ Well
       (λ _. cond_both (number_in hop_pointer bytes == 0 || here.is_switch) _ _ Well
       (λ _. cond_both (is_port here (number_in (field.initial_path (number_in hop_pointer bytes + 1)) bytes)) _ _ Well
-      (λ _. moved_directed here out) (λ _. directed))
-      (λ _. directed))
-      (λ _. cond_both (number_in hop_pointer bytes == number_in hop_count bytes) _ _ Well (λ _. moved_directed here out) (λ _. directed)))
+      (λ _. moved_well here out) (λ _. unchanged))
+      (λ _. unchanged))
+      (λ _. cond_both (number_in hop_pointer bytes == number_in hop_count bytes) _ _ Well (λ _. moved_well here out) (λ _. unchanged)))
+
+  stepped_same : (here : Here) → AskSame (step here bytes).packet bytes
+  stepped_same here =
+      let (count, kept) = stepped_well here in
+      record {
+        method_is = field_kept method bytes (step here bytes).packet (inl (omega arith)) kept;
+        attribute_is = field_kept field.attribute_id bytes (step here bytes).packet (inr (omega arith, omega arith)) kept;
+        modifier_is = field_kept field.attribute_modifier bytes (step here bytes).packet (inr (omega arith, omega arith)) kept;
+        data_is = bytes_in-alike field.attribute_data (step here bytes).packet bytes (omega (arith, count)) (omega (arith, long))
+            (λ offset from under. kept offset (inr (omega (arith, from), omega (arith, under))));
+      }
+
+asks_itself : (bytes : List ℕ) → AskSame bytes bytes
+asks_itself bytes = record { method_is = refl; attribute_is = refl; modifier_is = refl; data_is = refl }
 
 -- what becomes of a packet --------------------------------------------------------------------------
 
-abbrev HarmlessOutcome : Outcome → Type 0
-HarmlessOutcome (Moves whereabouts packet) = IsHarmless packet.bytes
-HarmlessOutcome (Asks request slid dlid) = IsHarmless request
-HarmlessOutcome (HandsUp packet) = Unit {0}
-HarmlessOutcome (Drops reason) = Unit {0}
+-- an agent is asked what the packet on its way asks
+abbrev HarmlessOutcome : List ℕ → Outcome → Type 0
+HarmlessOutcome old (Moves whereabouts packet) = IsHarmless packet.bytes
+HarmlessOutcome old (Asks request slid dlid) = IsHarmless request × AskSame request old
+HarmlessOutcome old (HandsUp packet) = Unit {0}
+HarmlessOutcome old (Drops reason) = Unit {0}
 
-module _ (s : Simulation) (p : NodePort) where
-  leaving_harmless : (out : NodePort) (x : Packet) → IsHarmless x.bytes → HarmlessOutcome (leaving s out x)
+module _ (s : Simulation) (p : NodePort) (old : List ℕ) where
+  abbrev Fine : Outcome → Type 0
+  Fine o = HarmlessOutcome old o
+
+  leaving_harmless : (out : NodePort) (x : Packet) → IsHarmless x.bytes → Fine (leaving s out x)
   leaving_harmless out x is = by_cable (across s.peers out)
     where
-      by_cable : (m : Option NodePort) → HarmlessOutcome (option_map_or (λ into. Moves (Arrived into) x) m (Drops Down))
+      by_cable : (m : Option NodePort) → Fine (option_map_or (λ into. Moves (Arrived into) x) m (Drops Down))
       by_cable None = tt
       by_cable (Some into) = is
 
-  verdict_harmless : (x : Packet) → IsHarmless x.bytes → (v : Verdict) → HarmlessOutcome (by_verdict s p x v)
-  verdict_harmless x is (Out port) = leaving_harmless (record { node = p.node; port = port }) x is
-  verdict_harmless x is ToAgent =
-      cond_both (is_response x.bytes) _ _ HarmlessOutcome (λ _. tt) (λ _. cond_both (is_for_manager s p x.bytes) _ _ HarmlessOutcome (λ _. tt) (λ _. is))
-  verdict_harmless x is ToManager = tt
-  verdict_harmless x is (Discard reason) = tt
+  verdict_harmless : (x : Packet) → IsHarmless x.bytes → AskSame x.bytes old → (v : Verdict) → Fine (by_verdict s p x v)
+  verdict_harmless x is same (Out port) = leaving_harmless (record { node = p.node; port = port }) x is
+  verdict_harmless x is same ToAgent =
+      cond_both (is_response x.bytes) _ _ Fine (λ _. tt) (λ _. cond_both (is_for_manager s p x.bytes) _ _ Fine (λ _. tt) (λ _. (is, same)))
+  verdict_harmless x is same ToManager = tt
+  verdict_harmless x is same (Discard reason) = tt
 
-  course_harmless : (x : Packet) → IsHarmless x.bytes → (c : Course) → HarmlessOutcome (by_course s p x c)
-  course_harmless x is (course_is.Delivers q) =
-      cond_both (is_response x.bytes || is_for_manager s p x.bytes) _ _ HarmlessOutcome (λ _. tt) (λ _. is)
-  course_harmless x is (course_is.LeavesBy out) = leaving_harmless out x is
-  course_harmless x is course_is.Drops = tt
+  course_harmless : (x : Packet) → IsHarmless x.bytes → AskSame x.bytes old → (c : Course) → Fine (by_course s p x c)
+  course_harmless x is same (course_is.Delivers q) =
+      cond_both (is_response x.bytes || is_for_manager s p x.bytes) _ _ Fine (λ _. tt) (λ _. (is, same))
+  course_harmless x is same (course_is.LeavesBy out) = leaving_harmless out x is
+  course_harmless x is same course_is.Drops = tt
 
 module _ (Sends : NodePort → List ℕ → Type 0) (Tells : NodePort → NodePort → List ℕ → Type 0) {start s : Simulation} (cables : AreCables start)
     (counts : (id : ℕ) → port_count start id ≤ 254) (along : IsAlong start s) (is : IsSimulation s) (on : AreTraced Sends Tells start s.flights)
@@ -163,18 +188,22 @@ module _ (Sends : NodePort → List ℕ → Type 0) (Tells : NodePort → NodePo
       ]
 
   outcome_harmless : (whereabouts : Whereabouts) (packet : Packet) → IsOnCourse Sends Tells start (port_of whereabouts) packet.bytes
-      → IsHarmless packet.bytes → HarmlessOutcome (outcome_of s whereabouts packet)
+      → IsHarmless packet.bytes → HarmlessOutcome packet.bytes (outcome_of s whereabouts packet)
   unfolding outcome_of
   outcome_harmless whereabouts packet course_on its =
       let p = port_of whereabouts in
-      cond_both (is_some (fault_of packet.bytes)) _ _ HarmlessOutcome (λ _. tt)
-      (λ _. cond_both (not (is_at_seat whereabouts) && is_none (across s.peers p)) _ _ HarmlessOutcome (λ _. tt)
-      (λ _. cond_both (is_directed packet.bytes) _ _ HarmlessOutcome
+      cond_both (is_some (fault_of packet.bytes)) _ _ (HarmlessOutcome packet.bytes) (λ _. tt)
+      (λ _. cond_both (not (is_at_seat whereabouts) && is_none (across s.peers p)) _ _ (HarmlessOutcome packet.bytes) (λ _. tt)
+      (λ _. cond_both (is_directed packet.bytes) _ _ (HarmlessOutcome packet.bytes)
       (λ e. let (most, less) = pointer_most p packet.bytes course_on e in
-      verdict_harmless s p (carrying packet (step (here_at s p) packet.bytes).packet)
-      (directed_harmless (step (here_at s p) packet.bytes).packet (stepped_directed packet.bytes course_on.count e most less (here_at s p)))
+      let new = (step (here_at s p) packet.bytes).packet in
+      let kept = (stepped_well packet.bytes course_on.count e most less (here_at s p)).1 in
+      verdict_harmless s p packet.bytes (carrying packet new)
+      (directed_harmless new (still_directed packet.bytes course_on.count e most less new kept))
+      (stepped_same packet.bytes course_on.count e most less (here_at s p))
       (step (here_at s p) packet.bytes).verdict)
-      (λ e. course_harmless s p packet its (course (fabric_of s) packet.dlid (record { at = p; by_wire = is_by_wire whereabouts })))))
+      (λ e. course_harmless s p packet.bytes packet its (asks_itself packet.bytes)
+      (course (fabric_of s) packet.dlid (record { at = p; by_wire = is_by_wire whereabouts })))))
 
   -- a request that a delivery brings to an agent
   pub record Asked (n : ℕ) : Type 0 where
@@ -182,8 +211,18 @@ module _ (Sends : NodePort → List ℕ → Type 0) (Tells : NodePort → NodePo
     pub request : List ℕ
     pub for_agent : IsForAgent Sends Tells start at request
     pub its : IsHarmless request
+    -- as the packet that was on its way asks
+    pub flight : Flight
+    pub waits : flight_with s.flights n ≡ Some flight
+    pub at_is : port_of flight.whereabouts ≡ at
+    pub same : AskSame request flight.packet.bytes
     pub port : is_cable_port s at ≡ true
     pub agents : (after_deliver s n).fabric.agents ≡ with_changed s.agents at.node (λ a. (after_answer a request at.port).agent)
+
+  -- none is brought
+  pub record NobodyAsked (n : ℕ) : Type 0 where
+    pub agents : (after_deliver s n).fabric.agents ≡ s.agents
+    pub unanswered : (k : ℕ) → (after_deliver s n).result ≡ Ok (delivered_is.Answered k) → ⊥
 
   found_on : (flights : List Flight) (n : ℕ) (f : Flight) → AreTraced Sends Tells start flights → flight_with flights n ≡ Some f
       → IsOnCourse Sends Tells start (port_of f.whereabouts) f.packet.bytes
@@ -212,14 +251,14 @@ module _ (Sends : NodePort → List ℕ → Type 0) (Tells : NodePort → NodePo
     Done : Called Delivered → Type 0
     Done c = AreHarmless c.fabric.flights
 
-    by_outcome : (flight : Flight) (o : Outcome) → Fares Sends Tells start (port_of flight.whereabouts) o → HarmlessOutcome o
+    by_outcome : (flight : Flight) (o : Outcome) → Fares Sends Tells start (port_of flight.whereabouts) o → HarmlessOutcome flight.packet.bytes o
         → AreHarmless (after_outcome s flight o).fabric.flights
     unfolding Fares
     by_outcome flight (Moves whereabouts packet) well its = harmless_moved s.flights _ its harmless
     by_outcome flight (Asks request slid dlid) well its =
         cond_both (s.next == 2 ^ 64) _ _ (λ (c : Called Delivered). AreHarmless c.fabric.flights) (λ _. harmless)
         (λ _. harmless_more (without_flight s.flights flight.serial) _ (harmless_without s.flights flight.serial harmless)
-        (answer_harmless (port_of flight.whereabouts) request well its))
+        (answer_harmless (port_of flight.whereabouts) request well its.0))
     by_outcome flight (HandsUp packet) well its = harmless_without s.flights flight.serial harmless
     by_outcome flight (Drops reason) well its = harmless_without s.flights flight.serial harmless
 
@@ -240,45 +279,74 @@ module _ (Sends : NodePort → List ℕ → Type 0) (Tells : NodePort → NodePo
     unfolding after_deliver
     brings flight there o e = ap (delivered_flight s) there ∙ ap (after_outcome s flight) e
 
-    none_brought : flight_with s.flights n ≡ None → (after_deliver s n).fabric.agents ≡ s.agents
+    refusal_is : (k : ℕ) → ◌≡◌ {A = Result Delivered FabricFault} (Err SerialsSpent) (Ok (delivered_is.Answered k)) → ⊥
+    refusal_is k e = cc
+
+    no_packet_is : (k : ℕ) → ◌≡◌ {A = Result Delivered FabricFault} (Err NoSuchPacket) (Ok (delivered_is.Answered k)) → ⊥
+    no_packet_is k e = cc
+
+    none_is : flight_with s.flights n ≡ None → after_deliver s n ≡ refused s NoSuchPacket
     unfolding after_deliver
-    none_brought e = ap (λ m. (delivered_flight s m).fabric.agents) e
+    none_is e = ap (delivered_flight s) e
+
+    none_brought : flight_with s.flights n ≡ None → NobodyAsked n
+    none_brought e =
+        let is = none_is e in
+        record {
+          agents = ap (λ (c : Called Delivered). c.fabric.agents) is;
+          unanswered = λ k answered. no_packet_is k (sym (ap (λ (c : Called Delivered). c.result) is) ∙ answered);
+        }
+
+    nobody : (flight : Flight) → flight_with s.flights n ≡ Some flight → (o : Outcome) → outcome_of s flight.whereabouts flight.packet ≡ o
+        → (after_outcome s flight o).fabric.agents ≡ s.agents
+        → ((k : ℕ) → (after_outcome s flight o).result ≡ Ok (delivered_is.Answered k) → ⊥) → NobodyAsked n
+    nobody flight there o e same none =
+        let is = brings flight there o e in
+        record {
+          agents = ap (λ (c : Called Delivered). c.fabric.agents) is ∙ same;
+          unanswered = λ k answered. none k (sym (ap (λ (c : Called Delivered). c.result) is) ∙ answered);
+        }
 
     asks_by : (flight : Flight) → flight_with s.flights n ≡ Some flight → (o : Outcome) → outcome_of s flight.whereabouts flight.packet ≡ o
-        → Fares Sends Tells start (port_of flight.whereabouts) o → HarmlessOutcome o
-        → ((after_deliver s n).fabric.agents ≡ s.agents) ⊎ Asked n
+        → Fares Sends Tells start (port_of flight.whereabouts) o → HarmlessOutcome flight.packet.bytes o
+        → NobodyAsked n ⊎ Asked n
     unfolding Fares
-    asks_by flight there (Moves whereabouts packet) e well its =
-        inl (ap (λ (c : Called Delivered). c.fabric.agents) (brings flight there (Moves whereabouts packet) e))
-    asks_by flight there (HandsUp packet) e well its = inl (ap (λ (c : Called Delivered). c.fabric.agents) (brings flight there (HandsUp packet) e))
-    asks_by flight there (Drops reason) e well its = inl (ap (λ (c : Called Delivered). c.fabric.agents) (brings flight there (Drops reason) e))
+    asks_by flight there (Moves whereabouts packet) e well its = inl (nobody flight there (Moves whereabouts packet) e refl (λ k h. cc))
+    asks_by flight there (HandsUp packet) e well its = inl (nobody flight there (HandsUp packet) e refl (λ k h. cc))
+    asks_by flight there (Drops reason) e well its = inl (nobody flight there (Drops reason) e refl (λ k h. cc))
     asks_by flight there (Asks request slid dlid) e well its = by_serial (s.next == 2 ^ 64) refl
       where
-        agents : (b : Bool) → (s.next == 2 ^ 64) ≡ b → (after_deliver s n).fabric.agents
-            ≡ (cond b (refused s SerialsSpent) (record { fabric = asked s flight request slid dlid; result = Ok (delivered_is.Answered s.next) })).fabric.agents
-        agents b left =
-            ap (λ (c : Called Delivered). c.fabric.agents) (brings flight there (Asks request slid dlid) e)
-            ∙ ap (λ t. (cond t (refused s SerialsSpent) (record {
-              fabric = asked s flight request slid dlid;
-              result = Ok (delivered_is.Answered s.next);
-            })).fabric.agents) left
+        after : (b : Bool) → (s.next == 2 ^ 64) ≡ b → after_deliver s n
+            ≡ cond b (refused s SerialsSpent) (record { fabric = asked s flight request slid dlid; result = Ok (delivered_is.Answered s.next) })
+        after b left =
+            brings flight there (Asks request slid dlid) e
+            ∙ ap (λ t. cond t (refused s SerialsSpent) (record { fabric = asked s flight request slid dlid; result = Ok (delivered_is.Answered s.next) })) left
 
-        by_serial : (b : Bool) → (s.next == 2 ^ 64) ≡ b → ((after_deliver s n).fabric.agents ≡ s.agents) ⊎ Asked n
-        by_serial true spent = inl (agents true spent)
+        by_serial : (b : Bool) → (s.next == 2 ^ 64) ≡ b → NobodyAsked n ⊎ Asked n
+        by_serial true spent =
+            let is = after true spent in
+            inl (record {
+              agents = ap (λ (c : Called Delivered). c.fabric.agents) is;
+              unanswered = λ k answered. refusal_is k (sym (ap (λ (c : Called Delivered). c.result) is) ∙ answered);
+            })
         by_serial false left =
             inr (record {
               at = port_of flight.whereabouts;
               request = request;
               for_agent = well;
-              its = its;
+              its = its.0;
+              flight = flight;
+              waits = there;
+              at_is = refl;
+              same = its.1;
               port = (found_waits s s.flights n flight is.waiting there).whereabouts.port;
-              agents = agents false left;
+              agents = ap (λ (c : Called Delivered). c.fabric.agents) (after false left);
             })
 
-    pub asks_or_not : ((after_deliver s n).fabric.agents ≡ s.agents) ⊎ Asked n
+    pub asks_or_not : NobodyAsked n ⊎ Asked n
     asks_or_not = by_flight (flight_with s.flights n) refl
       where
-        by_flight : (m : Option Flight) → flight_with s.flights n ≡ m → ((after_deliver s n).fabric.agents ≡ s.agents) ⊎ Asked n
+        by_flight : (m : Option Flight) → flight_with s.flights n ≡ m → NobodyAsked n ⊎ Asked n
         by_flight None e = inl (none_brought e)
         by_flight (Some flight) e =
             let course_on = found_on s.flights n flight on e in

@@ -1,7 +1,6 @@
 pub mod Joined
 pub mod KeptLids
 pub mod Harmless
-pub mod HeldLids
 pub mod Deliveries
 pub mod Scenes
 pub mod Acting
@@ -11,3 +10,6 @@ pub mod Runs
 pub mod Known
 pub mod SameParts
 pub mod Example
+pub mod Segments
+pub mod Written
+pub mod Rest

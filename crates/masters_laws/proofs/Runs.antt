@@ -37,7 +37,7 @@ what_is_given_out_can_be_sent w events starts first all which o there =
 
 -- runs one after the other -----------------------------------------------------------------------------------------
 
-all_more : {X : Type 0} (P : X → Type 0) (xs : List X) (x : X) → All P xs → P x → All P (xs ++ x ∷ [])
+pub all_more : {X : Type 0} (P : X → Type 0) (xs : List X) (x : X) → All P xs → P x → All P (xs ++ x ∷ [])
 all_more P [] x all is = All-cons P x [] is (All-nil P)
 all_more P (y ∷ xs) x all is = All-cons P y (xs ++ x ∷ []) (All-head P y xs all) (all_more P xs x (All-tail P y xs all) is)
 
@@ -88,7 +88,7 @@ newly scene m (one.Poll lid) its e knows = absurd (cc (sym e ∙ knows))
 newly scene m one.HandOver its e knows = absurd (cc (sym e ∙ knows))
 
 module _ (t0 : Masters) (starts : StartTogether t0) (plan : PlanValue) where
-  record Runs (t : Masters) (which : ℕ) (m0 : Seated) : Type 0 where
+  pub record Runs (t : Masters) (which : ℕ) (m0 : Seated) : Type 0 where
     pub run : OwnRun t0 m0 t which
     pub seat : run.later.seat ≡ m0.seat
     pub swept : run.later.has_swept ≡ true → Swept run.events (seen_by t0.scene m0)
@@ -172,7 +172,7 @@ module _ (t0 : Masters) (starts : StartTogether t0) (plan : PlanValue) where
           begins_more r.run.events event (seen_by t0.scene m0) r.run.sweeps_first
           (subst (λ x. BeginsSweep x event) (sym r.run.is) (newly t.scene r.run.later event its e knows))
 
-  record AllRun (t : Masters) : Type 0 where
+  pub record AllRun (t : Masters) : Type 0 where
     pub each : (which : ℕ) (m0 : Seated) → IsAt t0 which m0 → Runs t which m0
     pub seats : SeatsStay t0 t
 
@@ -234,7 +234,7 @@ module _ (t0 : Masters) (starts : StartTogether t0) (plan : PlanValue) where
   next t (Around event) all can_be swept = around t event all can_be
   next t (At which event) all can_be swept = acts t which event all can_be swept (slice_get t.managers which) refl
 
-  first_run : AllRun t0
+  pub first_run : AllRun t0
   first_run =
       record {
         each = λ which m0 there. record {
@@ -247,7 +247,7 @@ module _ (t0 : Masters) (starts : StartTogether t0) (plan : PlanValue) where
         seats = record { was = λ which m there. (m, there, refl) };
       }
 
-  all_run : (events : List MastersEvent) (t : Masters) → AllRun t → AllCanBe events t → AllSweepBefore events t
+  pub all_run : (events : List MastersEvent) (t : Masters) → AllRun t → AllCanBe events t → AllSweepBefore events t
       → AllRun (after_masters_events events t)
   all_run [] t all can_be swept = all
   all_run (event ∷ events) t all can_be swept =

@@ -25,12 +25,11 @@ use Rattle.manager_laws.proofs.Scenes.{SetsInfoAlone}
 use Rattle.manager_laws.proofs.Sound.{CanBeSwept}
 use Rattle.manager_laws.proofs.TracedScenes.{WereTraced, manager_traced, other_traced, sent_traced, traced_by, traced_more, traced_there}
 use Rattle.takeover_laws.specs.Claims.{HasLidsOf}
-use Rattle.takeover_laws.proofs.HeldOn.{AgentsKeep, AreListed, HeldOn, KeepsHeld, held_later, same_keep}
+use Rattle.takeover_laws.proofs.HeldOn.{AgentsKeep, AreListed, HasLids, HeldOn, KeepsHeld, held_later, lids_later, same_keep}
 use Rattle.takeover_laws.proofs.Seen.{SeenKeeping, one_seen}
 use Rattle.takeover_laws.proofs.Takeover.{seen_further}
 use Rattle.masters_laws.proofs.Deliveries.{Sends, Tells, agents_keep, none_comes}
 use Rattle.masters_laws.proofs.KeptLids.{KeepsLids}
-use Rattle.masters_laws.proofs.HeldLids.{HasLids, lids_later}
 use Rattle.masters_laws.proofs.Harmless.{AreHarmless, IsHarmless, copied_harmless, delivered_harmless, directed_harmless, injected_harmless, lost_harmless}
 
 module _ (from : Scene) (plan : PlanValue) (IsSeat : NodePort → Type 0) where

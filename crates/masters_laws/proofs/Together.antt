@@ -26,7 +26,7 @@ use Rattle.manager_laws.proofs.TracedScenes.{WereTraced}
 use Rattle.manager_laws.proofs.WritingSweeps.{Ground}
 use Rattle.subnet_view.proofs.Members.{contains_none}
 use Rattle.takeover_laws.specs.Takeover.{plan_by_it}
-use Rattle.takeover_laws.proofs.HeldOn.{AreListed, HeldOn}
+use Rattle.takeover_laws.proofs.HeldOn.{AreListed, HeldOn, held_of_now}
 use Rattle.takeover_laws.proofs.Listed.{are_listed}
 use Rattle.takeover_laws.proofs.Takeover.{none_seen}
 use Rattle.takeover_laws.proofs.Throughout.{in_use}
@@ -36,7 +36,6 @@ use Rattle.masters_laws.specs.InForce.{AllHold, AllInUse, AllSweepWhole, InUseAl
 use Rattle.masters_laws.specs.InForce.{SweepsWhole}
 use Rattle.masters_laws.proofs.Deliveries.{Sends, Tells}
 use Rattle.masters_laws.proofs.Harmless.{AreHarmless}
-use Rattle.masters_laws.proofs.HeldLids.{held_of_now}
 use Rattle.masters_laws.proofs.Scenes.{SendsSo, SentSo, Stands, held_on, stands_on}
 use Rattle.masters_laws.proofs.Side.{Known, Old, SendsOne, Side, around_side, first_of, own_scene, own_side, same_plan, sending_so}
 
@@ -107,7 +106,7 @@ module _ (held : Facts) (planning : Planning) (t0 : Masters) (h : ShareLids held
   abbrev plan : PlanValue
   plan = plan_by_it planning held
 
-  abbrev IsSeat : NodePort → Type 0
+  abbrev pub IsSeat : NodePort → Type 0
   IsSeat seat = (which : ℕ) × (m : Seated) × IsAt t0 which m × (m.seat ≡ seat)
 
   -- what is known of a seat
@@ -131,20 +130,20 @@ module _ (held : Facts) (planning : Planning) (t0 : Masters) (h : ShareLids held
         ground = ground_of (seen_by t0.scene m) starts;
       }
 
-  known : (seat : NodePort) → IsSeat seat → Known t0.scene held planning seat
+  pub known : (seat : NodePort) → IsSeat seat → Known t0.scene held planning seat
   known seat (which, m, there, same) = subst (Known t0.scene held planning) same (known_at which m there)
 
-  can : (seat : NodePort) → IsSeat seat → CanBeSwept (fabric_of t0.scene.fabric) seat
+  pub can : (seat : NodePort) → IsSeat seat → CanBeSwept (fabric_of t0.scene.fabric) seat
   can seat is = (known seat is).ground.can
 
   listed : (seat : NodePort) → IsSeat seat → AreListed t0.scene.fabric (plan_by_it planning held) (IsJoinedTo (fabric_of t0.scene.fabric) seat)
   listed seat is =
       are_listed planning.rule planning.lmc held t0.scene.fabric (IsJoinedTo (fabric_of t0.scene.fabric) seat) (known seat is).agrees
 
-  cables : AreCables t0.scene.fabric
+  pub cables : AreCables t0.scene.fabric
   cables = h.starts.quiet.fabric.cables
 
-  counts : (id : ℕ) → port_count t0.scene.fabric id ≤ 254
+  pub counts : (id : ℕ) → port_count t0.scene.fabric id ≤ 254
   counts = few_ports t0.scene.fabric (along_itself t0.scene.fabric h.starts.quiet.fabric).agents
 
   -- what is joined to a seat holds the plan
@@ -159,7 +158,7 @@ module _ (held : Facts) (planning : Planning) (t0 : Masters) (h : ShareLids held
     pub sides : (which : ℕ) (m : Seated) → IsAt t which m → Side t0.scene held planning t.scene m
     pub seats : SeatsStay t0 t
 
-  is_seat : (t : Masters) → AllStand t → (which : ℕ) (m : Seated) → IsAt t which m → IsSeat m.seat
+  pub is_seat : (t : Masters) → AllStand t → (which : ℕ) (m : Seated) → IsAt t which m → IsSeat m.seat
   is_seat t all which m there = let old = all.seats.was which m there in (which, old.0, old.1, old.2)
 
   on : (w : Scene) (event : Event) → Stands t0.scene (plan_by_it planning held) IsSeat w → CanHappen event
@@ -346,7 +345,7 @@ module _ (held : Facts) (planning : Planning) (t0 : Masters) (h : ShareLids held
     along events (after_masters_event t event) (next t event all can_be.0 whole.0) can_be.1 whole.1 (next_held t event all can_be.0 whole.0 now),
   )
 
-  after_all : (events : List MastersEvent) (t : Masters) → AllStand t → AllCanBe events t → AllSweepWhole events t
+  pub after_all : (events : List MastersEvent) (t : Masters) → AllStand t → AllCanBe events t → AllSweepWhole events t
       → AllStand (after_masters_events events t)
   after_all [] t all can_be whole = all
   after_all (event ∷ events) t all can_be whole =

@@ -7,7 +7,7 @@ use Rattle.fabric_model.specs.Fabric.{Fabric, range_at}
 use Rattle.fabric_model.specs.FabricWalks.{IsJoinedTo}
 use Rattle.fact_store.specs.View.{Facts, cells_of}
 use Rattle.fabric_sim.specs.Simulation.{fabric_of}
-use Rattle.subnet_view.specs.Agreement.{Part, IsEndPortIn, AgreesOn}
+use Rattle.subnet_view.specs.Agreement.{Part, IsEndPortIn, TellsEndPort, AgreesOn}
 use Rattle.lid_assign.specs.Lids.{IsNoRoom, range_of}
 use Rattle.lft_blocks.specs.Plan.{PlanValue}
 use Rattle.lft_blocks.specs.Arrival.{HoldsPlan}
@@ -15,7 +15,9 @@ use Rattle.lft_blocks.specs.Planning.{Planning}
 use Rattle.sm_manager.specs.Manager.{new_manager}
 use Rattle.sm_manager.specs.Plans.{writing_fault}
 use Rattle.manager_laws.specs.Managing as one
-use Rattle.manager_laws.specs.Written.{plan_at}
+use Rattle.sm_manager.specs.Writing.{is_written}
+use Rattle.manager_laws.specs.Written.{BeginsNoWriting, plan_at}
+use Rattle.takeover_laws.specs.Alike.{ClaimsAreTrue}
 use Rattle.takeover_laws.specs.Claims.{HasLidsOf}
 use Rattle.takeover_laws.specs.Takeover.{IsInUse, plan_by_it}
 use Rattle.masters_laws.specs.Masters.{Seated, Masters, MastersEvent, Around, At, IsAt, seen_by, after_masters_event, after_masters_events}
@@ -38,6 +40,29 @@ pub record ShareLids (facts : Facts) (planning : Planning) (t : Masters) : Type 
       → AgreesOn (IsJoinedTo (fabric_of t.scene.fabric) m.seat) (cells_of facts) (fabric_of t.scene.fabric)
   pub lids : (which : ℕ) (m : Seated) → IsAt t which m
       → HoldsLids (IsJoinedTo (fabric_of t.scene.fabric) m.seat) (plan_by_it planning facts) (fabric_of t.scene.fabric)
+
+-- After a cut: earlier facts tell each end port that is joined to a seat, and it has the LID and the LMC of their plan;
+-- they may tell of others, which are gone. The facts describe what is left, and claim the LIDs that it has.
+pub record ShareRest (earlier facts : Facts) (planning : Planning) (t : Masters) : Type 0 where
+  pub starts : StartTogether t
+  pub had_room : ¬ (IsNoRoom planning.lmc (cells_of earlier))
+  pub has_room : ¬ (IsNoRoom planning.lmc (cells_of facts))
+  pub plans : (which : ℕ) (m : Seated) → IsAt t which m → m.manager.planning ≡ planning
+  pub agrees : (which : ℕ) (m : Seated) → IsAt t which m
+      → AgreesOn (IsJoinedTo (fabric_of t.scene.fabric) m.seat) (cells_of facts) (fabric_of t.scene.fabric)
+  pub claims : (which : ℕ) (m : Seated) → IsAt t which m
+      → ClaimsAreTrue (IsJoinedTo (fabric_of t.scene.fabric) m.seat) (cells_of facts) (fabric_of t.scene.fabric)
+  pub tells : (which : ℕ) (m : Seated) → IsAt t which m → (port : NodePort) (node : fabric.Node)
+      → IsEndPortIn (IsJoinedTo (fabric_of t.scene.fabric) m.seat) (fabric_of t.scene.fabric) port node
+      → TellsEndPort (cells_of earlier) node port.port
+  pub lids : (which : ℕ) (m : Seated) → IsAt t which m
+      → HoldsLids (IsJoinedTo (fabric_of t.scene.fabric) m.seat) (plan_by_it planning earlier) (fabric_of t.scene.fabric)
+
+-- then the end ports have the LIDs of the plan of what is left
+abbrev pub RestSharesLids : Type 0
+RestSharesLids =
+    (earlier facts : Facts) (planning : Planning) (t : Masters) → ShareRest earlier facts planning t
+    → ShareLids facts planning t
 
 -- others set nothing but SMInfo, and what a manager writes it knows from one sweep, which has every answer
 abbrev pub SweepsWhole : Masters → MastersEvent → Type 0
@@ -83,6 +108,36 @@ InUseAlong facts planning [] t = AllInUse facts planning t
 InUseAlong facts planning (event ∷ events) t =
     AllInUse facts planning t × InUseAlong facts planning events (after_masters_event t event)
 
+-- the manager of an index begins no writing
+abbrev pub WritesNothing : ℕ → Masters → MastersEvent → Type 0
+WritesNothing which t (Around event) = Unit {0}
+WritesNothing which t (At other event) =
+    which ≡ other → (m : Seated) → IsAt t which m → BeginsNoWriting (seen_by t.scene m) event
+
+abbrev pub WriteNothing : ℕ → List MastersEvent → Masters → Type 0
+WriteNothing which [] t = Unit {0}
+WriteNothing which (event ∷ events) t =
+    WritesNothing which t event × WriteNothing which events (after_masters_event t event)
+
+-- a manager begins a writing, and no other one since; then the plan counts as written
+pub record HasWritten (t : Masters) (before after : List MastersEvent) (which : ℕ) : Type 0 where
+  pub writer : Seated
+  pub there : IsAt (after_masters_events before t) which writer
+  pub begins : writing_fault writer.manager ≡ None
+  pub no_other : WriteNothing which after (after_masters_events (before ++ At which one.Write ∷ []) t)
+  pub later : Seated
+  pub there_later : IsAt (after_masters_events (before ++ At which one.Write ∷ after) t) which later
+  pub written : is_written later.manager ≡ true
+
+-- once one of them has written its plan, whatever the others do meanwhile, all that is joined to the seats holds it
+abbrev pub WrittenByOneIsHeld : Type 0
+WrittenByOneIsHeld =
+    (facts : Facts) (planning : Planning) (t : Masters) (before after : List MastersEvent) (which : ℕ)
+    → ShareLids facts planning t
+    → AllCanBe (before ++ At which one.Write ∷ after) t → AllSweepWhole (before ++ At which one.Write ∷ after) t
+    → HasWritten t before after which
+    → AllHold facts planning (after_masters_events (before ++ At which one.Write ∷ after) t)
+
 -- once it is held, however many masters sweep and write at once, it stays in force
 abbrev pub MastersChangeNothing : Type 0
 MastersChangeNothing =
@@ -120,10 +175,6 @@ pub record SomeMastersWriteAtOnce : Type 0 where
   pub writing : List MastersEvent
   pub can_be : AllCanBe (sweeping ++ At 0 one.Write ∷ At 1 one.Write ∷ writing) masters
   pub whole : AllSweepWhole (sweeping ++ At 0 one.Write ∷ At 1 one.Write ∷ writing) masters
-  -- neither is refused
-  pub first : Seated
-  pub first_there : IsAt (after_masters_events sweeping masters) 0 first
-  pub first_begins : writing_fault first.manager ≡ None
-  pub second : Seated
-  pub second_there : IsAt (after_masters_events (sweeping ++ At 0 one.Write ∷ []) masters) 1 second
-  pub second_begins : writing_fault second.manager ≡ None
+  -- neither is refused, and both have written their plans in the end
+  pub first : HasWritten masters sweeping (At 1 one.Write ∷ writing) 0
+  pub second : HasWritten masters (sweeping ++ At 0 one.Write ∷ []) writing 1

@@ -1,6 +1,6 @@
 //! What is so of several managers on one fabric.
 ghost use Rattle.masters_laws.specs.InForce.{MastersChangeNothing, MastersKeepLids, MastersWriteTheSame};
-ghost use Rattle.masters_laws.specs.InForce.{SomeMastersWriteAtOnce};
+ghost use Rattle.masters_laws.specs.InForce.{RestSharesLids, SomeMastersWriteAtOnce, WrittenByOneIsHeld};
 ghost use Rattle.masters_laws.specs.Known.{HasSweptMeans, KnowsOneSweepMeans};
 ghost use Rattle.masters_laws.specs.Runs.{EachRunsOnItsOwn, WhatIsGivenOutCanBeSent};
 
@@ -22,36 +22,48 @@ pub fn knows_one_sweep_means()
     ensures { KnowsOneSweepMeans }
 {}
 
-/// Whatever several managers do, each of them runs as one manager does to which the others are what happens around it.
-/// So what `manager_laws` and `takeover_laws` say of one manager among others is so of each of them. None begins a
-/// writing before a sweep.
+/// Whatever several managers do, if none begins a writing before a sweep, each of them runs as one manager does to which
+/// the others are what happens around it. So what `manager_laws` and `takeover_laws` say of one manager among others is
+/// so of each of them.
 pub fn each_runs_on_its_own()
     ensures { EachRunsOnItsOwn }
 {}
 
+/// After a cut, end ports that have the LIDs of an earlier plan have those of the plan of what is left, if its facts
+/// claim them. So what the laws below say is so after a cut.
+pub fn rest_shares_lids()
+    ensures { RestSharesLids }
+{}
+
 /// However many masters sweep and write a subnet whose end ports have the LIDs of a plan, no port gets another LID. Each
-/// plans by the rule, the roots and the LMC of the plan, and what it writes it knows from one sweep, which has every
+/// master plans by the rule, the roots and the LMC of that plan, and knows what it writes from one sweep, which has every
 /// answer.
 pub fn masters_keep_lids()
     ensures { MastersKeepLids }
 {}
 
-/// So each of them that knows one sweep with every answer would write this plan, whatever the switches hold, and whatever
-/// the others sweep and write meanwhile.
+/// A master that knows one sweep with every answer would write the plan whose LIDs the end ports have, whatever the
+/// switches hold, and whatever other masters sweep and write meanwhile.
 pub fn masters_write_the_same()
     ensures { MastersWriteTheSame }
 {}
 
-/// Once such a subnet holds the plan, it stays in force, however many masters sweep and write, in any order: at each
-/// moment each end port has its LID, each switch its blocks and no lower top, and every ping from an end port there, for
-/// each LID of the plan, reaches the owner of the LID.
+/// Once one of several masters has written its plan, all that is joined to their seats holds it, whatever the others
+/// sweep and write meanwhile. It has if one of its writings began, none of its own since, and the plan counts as written.
+pub fn written_by_one_is_held()
+    ensures { WrittenByOneIsHeld }
+{}
+
+/// Once all that is joined to their seats holds the plan, it stays in force, however many masters sweep and write, in any
+/// order: at each moment each end port has its LID, each switch its blocks and no lower top, and every ping from an end
+/// port there, for each LID of the plan, reaches the owner of the LID.
 pub fn masters_change_nothing()
     ensures { MastersChangeNothing }
 {}
 
 /// Such masters there are: two managers that were just made, each on an adapter, which are wired to one switch and hold
 /// LIDs of their own choice, as it does, and a table. Their sweeps go on at once, and each is silent to the other; then
-/// both are told to write, and each writing begins.
+/// both are told to write, and their Sets go out in turn, until each has written its plan.
 pub fn some_masters_write_at_once()
     ensures { SomeMastersWriteAtOnce }
 {}

@@ -25,7 +25,7 @@ use Rattle.node_agents.specs.PortInfo.{changed_port}
 use Rattle.reply_facts.specs.declared.key.Key.TheVariants.{Node as NodeKey, PortGuid, Link, Port as PortKey, Claim, Cap}
 use Rattle.reply_facts.specs.declared.value.Value.TheVariants.{Kind, Guid, Peer, Up, Lid, Count}
 use Rattle.reply_facts.specs.Report.{Sightings}
-use Rattle.fact_store.specs.View.{cells_of, no_facts, view}
+use Rattle.fact_store.specs.View.{cells_of, no_facts}
 use Rattle.fact_store.proofs.Entries.{cells_of_view, entries-view}
 use Rattle.subnet_view.specs.Agreement.{AgreesOn}
 use Rattle.subnet_view.specs.Reading.{Cells}

@@ -2,13 +2,12 @@
 use Rattle.std.proofs.Common.{◌≡◌, ◌≢◌, inl, inr, ℕ, zero, suc, ◌<◌, Bool, true, false, List, [], ◌∷◌, replicate}
 use Rattle.std.proofs.Common.{refl, arith}
 use Rattle.std.proofs.lemmas.List.Elements.{All-from_recursion}
-use Rattle.std.specs.Prelude.{All, slice_get, slice_index_or}
+use Rattle.std.specs.Prelude.{slice_get, slice_index_or}
 use Rattle.std.specs.Option.{option_map_or}
 use Rattle.smp_bytes.specs.declared.node_type.NodeType.{NodeType}
 use Rattle.smp_bytes.specs.declared.node_type.NodeType.TheVariants.{ChannelAdapter, Switch}
 use Rattle.smp_bytes.specs.NodeType as types
 use Rattle.smp_bytes.specs.LidRange.{lid_end}
-use Rattle.fabric_model.specs.Fabric as fabric
 use Rattle.attr_codec.specs.declared.port_state.PortState.{PortState}
 use Rattle.attr_codec.specs.declared.port_state.PortState.TheVariants.{Active, Down, Initialize, NoChange}
 use Rattle.node_agents.specs.Agent.{Agent, IsAgent, IsPort, fresh_agent, has_seat, port_at, state_at, with_port}

@@ -125,7 +125,7 @@ module _ (plan : PlanValue) (a : Agent) (packet : List ℕ) (arrival : ℕ) (is 
 -- a part of a fabric -----------------------------------------------------------------------------------------
 
 -- an end port's own port has a LID
-pub lid_there : (kind local : Bool) (port ports : ℕ) → kind ≡ local → MatchBool kind (port ≡ 0) ((1 ≤ port) × (port ≤ ports)) → (not local || port == 0) ≡ true
+lid_there : (kind local : Bool) (port ports : ℕ) → kind ≡ local → MatchBool kind (port ≡ 0) ((1 ≤ port) × (port ≤ ports)) → (not local || port == 0) ≡ true
 lid_there true local port ports e zero_is = ap (λ (t : Bool). not t || port == 0) (sym e) ∙ eq-eqb port 0 zero_is
 lid_there false local port ports e within = ap (λ (t : Bool). not t || port == 0) (sym e)
 
@@ -143,6 +143,35 @@ module _ (start : Simulation) (plan : PlanValue) (part : Part) where
   abbrev pub AgentsKeep : Simulation → Simulation → Type 0
   AgentsKeep s after = (id : ℕ) (a : Agent) → agent_at s id ≡ Some a → (b : Agent) × (agent_at after id ≡ Some b) × KeepsHeld plan a b
 
+  -- each end port of the part that there was at first has the plan's LID
+  abbrev pub HasLids : Simulation → Type 0
+  HasLids s = (port : NodePort) (node : Node) → IsEndPortIn part (fabric_of start) port node
+      → range_of plan.given (record { node = node.guid; port = port.port }) ≡ Some (fabrics.range_at (fabric_of s) port)
+
+  -- it keeps it
+  pub lids_later : (s after : Simulation) → IsAlong start s → AgentsKeep s after → HasLids s → HasLids after
+  lids_later s after along keep has port node end =
+      let (a, there, seen) =
+      agent_seen s port.node node (ap (λ (ns : List Node). slice_get ns port.node) (sym (nodes_along start s along)) ∙ end.node_there) in
+      let (b, now, keeps) = keep port.node a there in
+      let same : node ≡ node_of a = node_of_agent start s along port.node node a end.node_there there in
+      let guid : node.guid ≡ a.node.guid = ap (λ (n : Node). n.guid) same in
+      let (other, other_there, its_number) = end.end_port in
+      let number : fabrics.IsEndPortNumber node port.port =
+      subst (λ (n : Node). fabrics.IsEndPortNumber n port.port) (same_some other node (sym other_there ∙ end.node_there)) its_number in
+      let was : fabrics.range_at (fabric_of s) port ≡ range_at a port.port =
+      ap (λ o. (option_map_or (λ x. base_lid_at x port.port) o 0, option_map_or (λ x. lmc_at x port.port) o 0)) there in
+      let is : fabrics.range_at (fabric_of after) port ≡ range_at b port.port =
+      ap (λ o. (option_map_or (λ x. base_lid_at x port.port) o 0, option_map_or (λ x. lmc_at x port.port) o 0)) now in
+      let can_have : has_lid a port.port ≡ true =
+      lid_there (types.is_switch node.kind) (is_switch a) port.port node.ports (ap (λ (n : Node). types.is_switch n.kind) same) number in
+      let given : range_of plan.given (record { node = a.node.guid; port = port.port }) ≡ Some (range_at a port.port) =
+      ap (λ g. range_of plan.given (record { node = g; port = port.port })) (sym guid) ∙ has port node end ∙ ap (λ r. Some r) was in
+      has port node end ∙ ap (λ r. Some r) (was ∙ sym (keeps.ranges port.port can_have given) ∙ sym is)
+    where
+      same_some : (x y : Node) → ◌≡◌ {A = Option Node} (Some x) (Some y) → x ≡ y
+      same_some x y e = cc
+
   module _ (listed : AreListed) (s after : Simulation) (along : IsAlong start s) (keep : AgentsKeep s after) (held : HeldOn s) where
     pub held_later : HeldOn after
     held_later port node end =
@@ -152,19 +181,8 @@ module _ (start : Simulation) (plan : PlanValue) (part : Part) where
         let same : node ≡ node_of a = node_of_agent start s along port.node node a end.node_there there in
         let guid : node.guid ≡ a.node.guid = ap (λ (n : Node). n.guid) same in
         let h = held port node end in
-        let (other, other_there, its_number) = end.end_port in
-        let number : fabrics.IsEndPortNumber node port.port =
-        subst (λ (n : Node). fabrics.IsEndPortNumber n port.port) (same_some other node (sym other_there ∙ end.node_there)) its_number in
-        let was : fabrics.range_at (fabric_of s) port ≡ range_at a port.port =
-        ap (λ o. (option_map_or (λ x. base_lid_at x port.port) o 0, option_map_or (λ x. lmc_at x port.port) o 0)) there in
-        let is : fabrics.range_at (fabric_of after) port ≡ range_at b port.port =
-        ap (λ o. (option_map_or (λ x. base_lid_at x port.port) o 0, option_map_or (λ x. lmc_at x port.port) o 0)) now in
-        let has : has_lid a port.port ≡ true =
-        lid_there (types.is_switch node.kind) (is_switch a) port.port node.ports (ap (λ (n : Node). types.is_switch n.kind) same) number in
-        let given : range_of plan.given (record { node = a.node.guid; port = port.port }) ≡ Some (range_at a port.port) =
-        ap (λ g. range_of plan.given (record { node = g; port = port.port })) (sym guid) ∙ h.lids ∙ ap (λ r. Some r) was in
         record {
-          lids = h.lids ∙ ap (λ r. Some r) (was ∙ sym (keeps.ranges port.port has given) ∙ sym is);
+          lids = lids_later s after along keep (λ p n is. (held p n is).lids) port node end;
           top = λ switch top is_top.
               let top_was = ap (λ o. option_map_or (λ (x : Agent). x.top) o 0) there in
               let top_now = ap (λ o. option_map_or (λ (x : Agent). x.top) o 0) now in
@@ -176,9 +194,6 @@ module _ (start : Simulation) (plan : PlanValue) (part : Part) where
               (λ j l. h.blocks n block is_block j l ∙ ap (λ o. Some (option_map_or (λ x. entry_at x (64 * n + j)) o 255)) there) i less
               ∙ ap (λ o. Some (option_map_or (λ x. entry_at x (64 * n + i)) o 255)) (sym now);
         }
-      where
-        same_some : (x y : Node) → ◌≡◌ {A = Option Node} (Some x) (Some y) → x ≡ y
-        same_some x y e = cc
 
   -- where no agent changes
   pub same_keep : (s after : Simulation) → after.agents ≡ s.agents → AgentsKeep s after
@@ -220,23 +235,21 @@ module _ (start : Simulation) (plan : PlanValue) (part : Part) where
 
 -- what is joined to a seat, as the fabric goes on -----------------------------------------------------------------
 
--- it is what was joined to it
-pub joined_along : (start s : Simulation) → IsAlong start s → (seat p : NodePort) → IsJoinedTo (fabric_of s) seat p → IsJoinedTo (fabric_of start) seat p
-joined_along start s along seat p joined =
-    let f = fabric_of start in
+-- it is the same of two fabrics with the same nodes and cables
+joined_alike : (s t : Simulation) → (fabric_of s).nodes ≡ (fabric_of t).nodes → s.peers ≡ t.peers → (seat p : NodePort)
+    → IsJoinedTo (fabric_of s) seat p → IsJoinedTo (fabric_of t) seat p
+joined_alike s t nodes peers seat p joined =
+    let f = fabric_of t in
     let same : ◌≡◌ {A = fabrics.Fabric} (holding (fabric_of s) f.base_lid f.lmc f.entry f.top) f =
-    λ j. record {
-      nodes = sym (nodes_along start s along) j;
-      across = across_along j;
-      base_lid = f.base_lid;
-      lmc = f.lmc;
-      entry = f.entry;
-      top = f.top;
-    } in
+    λ j. record { nodes = nodes j; across = across_alike j; base_lid = f.base_lid; lmc = f.lmc; entry = f.entry; top = f.top } in
     subst (λ (x : fabrics.Fabric). IsJoinedTo x seat p) same (joined_there (fabric_of s) f.base_lid f.lmc f.entry f.top seat p joined)
   where
-    across_along : ◌≡◌ {A = NodePort → Option NodePort} (fabric_of s).across (fabric_of start).across
-    across_along = ap (λ peers. (fabric_of (record s { peers = peers })).across) along.peers
+    across_alike : ◌≡◌ {A = NodePort → Option NodePort} (fabric_of s).across (fabric_of t).across
+    across_alike = ap (λ ps. (fabric_of (record s { peers = ps })).across) peers
+
+-- it is what was joined to it
+pub joined_along : (start s : Simulation) → IsAlong start s → (seat p : NodePort) → IsJoinedTo (fabric_of s) seat p → IsJoinedTo (fabric_of start) seat p
+joined_along start s along seat p joined = joined_alike s start (sym (nodes_along start s along)) along.peers seat p joined
 
 -- so it holds the plan as it is now
 pub holds_now : (start s : Simulation) (plan : PlanValue) (seat : NodePort) → IsAlong start s → HeldOn start plan (IsJoinedTo (fabric_of start) seat) s
@@ -252,3 +265,14 @@ holds_now start s plan seat along held port node end =
     at_first =
         subst (λ (ns : List Node). (n : Node) × (slice_get ns port.node ≡ Some n)
         × fabrics.IsEndPortNumber n port.port) (sym (nodes_along start s along)) end.end_port
+
+-- and what holds the plan as it is now is what was there at first
+pub held_of_now : (start s : Simulation) (plan : PlanValue) (seat : NodePort) → IsAlong start s → HoldsPlan (IsJoinedTo (fabric_of s) seat) plan (fabric_of s)
+    → HeldOn start plan (IsJoinedTo (fabric_of start) seat) s
+held_of_now start s plan seat along holds port node end =
+    holds port node (record {
+      node_there = ap (λ (ns : List Node). slice_get ns port.node) (sym (nodes_along start s along)) ∙ end.node_there;
+      end_port = subst (λ (ns : List Node). (n : Node) × (slice_get ns port.node ≡ Some n) × fabrics.IsEndPortNumber n port.port)
+          (nodes_along start s along) end.end_port;
+      in_part = joined_alike start s (nodes_along start s along) (sym along.peers) seat port end.in_part;
+    })

@@ -39,6 +39,7 @@ use Rattle.sm_manager.specs.Manager.{newest_held}
 use Rattle.manager_laws.specs.Written.{at_writing}
 use Rattle.manager_laws.proofs.Arrive.{pings_arrive_once_written}
 use Rattle.manager_laws.proofs.Held as held
+use Rattle.takeover_laws.specs.Alike.{ClaimsAreTrue}
 use Rattle.takeover_laws.specs.Rest.{FloorsForget, IsRestOf, LidsOutlast, RaisedManagersKnowNothing, RestIsServed}
 use Rattle.takeover_laws.specs.Takeover.{planning_at}
 use Rattle.takeover_laws.proofs.Takeover.{found_agrees, found_claims}
@@ -185,6 +186,46 @@ module _ (lmc : ℕ) (x y : Facts) (f : Fabric) (part : Part) (room_for_x : ¬ (
           ap (λ k. values.node_of (cells_of x) k) (sym has.named.guid_is) ∙ told.kind ∙ ap (λ (k : NodeType × ℕ). Some (k.0, node.ports)) kind_is in
           is_taken (cap_of (cells_of x)) (switches (cells_of x)) g cap (((switches_law x).0 g).1 (node.ports, kind_was, ap is_some cap_was)) cap_was
 
+-- where each end port there has the LID that the first view's plan gives it, and the second view claims it
+module _ (lmc : ℕ) (x y : Facts) (f : Fabric) (part : Part) (room_for_x : ¬ (IsNoRoom lmc (cells_of x))) (agrees : AgreesOn part (cells_of y) f)
+    (tells : (port : NodePort) (node : Node) → IsEndPortIn part f port node → TellsEndPort (cells_of x) node port.port)
+    (holds : (port : NodePort) (node : Node) → IsEndPortIn part f port node
+    → range_of (lids lmc (cells_of x)) (record { node = node.guid; port = port.port }) ≡ Some (fabrics.range_at f port))
+    (claims : ClaimsAreTrue part (cells_of y) f) where
+  lid_in : (given : Given) (e : EndPort) (lid : ℕ) (range : ℕ × ℕ) → lid_of given e ≡ Some lid → range_of given e ≡ Some range → range.0 ≡ lid
+  lid_in given e lid range is has =
+      ap (λ (r : ℕ × ℕ). r.0) (same_Some _ _ (sym has ∙ ap (λ o. option_map (λ l. (l, lmc_of given e)) o) is))
+
+  pub is_rest : IsRestOf lmc (cells_of x) (cells_of y)
+  is_rest =
+      record {
+        had = had lmc x y f part room_for_x agrees tells;
+        claimed = λ e lid there lid_is.
+            let has = agrees.end_ports_exist e.node e.port (((end_ports_law y).0 e).0 there) in
+            let is = end_in lmc x y f part room_for_x agrees tells e.node e.port has in
+            let held_there = holds has.port has.named.node is in
+            let claim = claims has.port has.named.node is in
+            let named : ◌≡◌ {A = EndPort} (record { node = has.named.node.guid; port = has.port.port }) e =
+            λ i. record { node = has.named.guid_is i; port = has.named.port_is i } in
+            let lid_same : f.base_lid has.port ≡ lid =
+            lid_in (lids lmc (cells_of x)) e lid (fabrics.range_at f has.port) lid_is
+            (ap (λ z. option_map (λ l. (l, lmc_of (lids lmc (cells_of x)) z)) (lid_of (lids lmc (cells_of x)) z)) (sym named) ∙ held_there) in
+            ap (λ (z : EndPort). claim_of (cells_of y) z.node z.port) (sym named) ∙ claim ∙ ap (λ n. Some n) lid_same;
+        in_room = room_stays lmc x y f part room_for_x agrees tells;
+      }
+
+  -- so it has the LID of the second view's plan
+  pub rest_lids : ¬ (IsNoRoom lmc (cells_of y)) → (port : NodePort) (node : Node) → IsEndPortIn part f port node
+      → range_of (lids lmc (cells_of y)) (record { node = node.guid; port = port.port }) ≡ Some (fabrics.range_at f port)
+  rest_lids room_for_y port node is =
+      let told = agrees.tells_end_ports port node is in
+      let e : EndPort = record { node = node.guid; port = port.port } in
+      let end : IsEndPort (cells_of y) node.guid port.port =
+      (node.kind, node.ports, told.kind, number lmc x y f part room_for_x agrees tells port node is, ap is_some told.port_guid) in
+      ap (λ o. option_map (λ l. (l, lmc_of (lids lmc (cells_of y)) e)) o)
+      (lid_outlasts lmc x y room_for_x room_for_y is_rest e (((end_ports_law y).0 e).1 end))
+      ∙ holds port node is
+
 pub rest_is_served : RestIsServed
 rest_is_served given w before between after t =
     let s = t.sweeps in
@@ -197,21 +238,7 @@ rest_is_served given w before between after t =
     let has_room = (held.may w before between after s.run s.sweep s.is_last).has_room in
     record {
       lids_stay = λ e there. lid_outlasts lmc given found t.has_room has_room
-          (record {
-            had = had lmc given found f part t.has_room agrees t.tells;
-            claimed = λ e lid there lid_is.
-                let has = agrees.end_ports_exist e.node e.port (((end_ports_law found).0 e).0 there) in
-                let is = end_in lmc given found f part t.has_room agrees t.tells e.node e.port has in
-                let held_there = t.holds has.port has.named.node is in
-                let claim = claims has.port has.named.node is in
-                let named : ◌≡◌ {A = EndPort} (record { node = has.named.node.guid; port = has.port.port }) e =
-                λ i. record { node = has.named.guid_is i; port = has.named.port_is i } in
-                let lid_same : f.base_lid has.port ≡ lid =
-                lid_in (lids lmc (cells_of given)) e lid (fabrics.range_at f has.port) lid_is
-                (ap (λ x. option_map (λ l. (l, lmc_of (lids lmc (cells_of given)) x)) (lid_of (lids lmc (cells_of given)) x)) (sym named) ∙ held_there) in
-                ap (λ (x : EndPort). claim_of (cells_of found) x.node x.port) (sym named) ∙ claim ∙ ap (λ n. Some n) lid_same;
-            in_room = room_stays lmc given found f part t.has_room agrees t.tells;
-          }) e there;
+          (is_rest lmc given found f part t.has_room agrees t.tells t.holds claims) e there;
       arrives = λ written. pings_arrive_once_written w before between after
           (record {
             run = s.run;
@@ -223,7 +250,3 @@ rest_is_served given w before between after t =
             written = written;
           });
     }
-  where
-    lid_in : (given : Given) (e : EndPort) (lid : ℕ) (range : ℕ × ℕ) → lid_of given e ≡ Some lid → range_of given e ≡ Some range → range.0 ≡ lid
-    lid_in given e lid range is has =
-        ap (λ (r : ℕ × ℕ). r.0) (same_Some _ _ (sym has ∙ ap (λ o. option_map (λ l. (l, lmc_of given e)) o) is))
