@@ -168,6 +168,14 @@ def known(costs, switches, hosts):
     return costs.put(f"tree{switches}by{hosts}", lambda: make.store(*tree_of(switches, hosts).cells()))
 
 
+def strangers(costs, count):
+    """Links from so many nodes to as many others, of which nothing else is told: the first leads to the last."""
+    def made():
+        return make.store_of("".join(f"link {it:016x}/1 {2 * count + 1 - it:016x}/2 @1\n" for it in range(1, count + 1)))
+
+    return costs.put(f"strangers{count}", made)
+
+
 def planned(costs, switches, hosts, lmc=0):
     return costs.put(f"plan{switches}by{hosts}lmc{lmc}", lambda: tree_of(switches, hosts).plan(lmc))
 
@@ -303,6 +311,7 @@ GROWING = (
     Row("audit by adapters, packets lost", lambda c, n: ("audit", holed(c, 40, n), known(c, 40, n)), 6, SQUARED, 1),
     Row("audit by adapters, none delivered", lambda c, n: ("audit", holed(c, 8, n, 9), known(c, 8, n)), 30, SQUARED, 1),
     Row("audit by switches", lambda c, n: ("audit", planned(c, n, 4), known(c, n, 4)), 60, SQUARED),
+    Row("audit of links alone", lambda c, n: ("audit", remarks(c, 1), strangers(c, n)), 2000, LINEAR, 1),
     Row("audit of switches in a row", lambda c, n: ("audit", row_planned(c, n, 4), row(c, n, 4)), 40, SQUARED),
     Row("next by adapters", lambda c, n: ("next", planned(c, 8, n), known(c, 8, n)), 100, LINEAR),
     Row("next by adapters of many switches", lambda c, n: ("next", planned(c, 40, n), known(c, 40, n)), 25, LINEAR),

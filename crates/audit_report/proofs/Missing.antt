@@ -125,7 +125,7 @@ module _ (cells : Cells) (held : HeldPlan) where
           | inr there ↦ absurd (none_there (unusable_nodes cells) g (sym many ∙ eqb-true found.unusable.count 0 t) there)
         ]),
         λ w. eq-eqb found.unusable.count 0 (many ∙ empty (unusable_nodes cells)
-        (λ g there. (let gap = (nodes_law cells).only g there in gap.1 (w g gap.0)))),
+            (λ g there. (let gap = (nodes_law cells).only g there in gap.1 (w g gap.0)))),
       )
 
 -- a plan has a LID for each end port, and tables for each usable switch

@@ -35,6 +35,22 @@ module _ {X : Type 0} (test : X → Bool) where
   kept_both own far cells =
       sym (filter-append test (filter_map own cells) (filter_map far cells) ∙ ap₂ (λ xs ys. xs ++ ys) (kept_of own cells) (kept_of far cells))
 
+-- what is kept passes
+module _ {X : Type 0} (test : X → Bool) (x : X) where
+  passed : (y : X) → cond (test y) (Some y) None ≡ Some x → test x ≡ true
+  passed y e =
+      elim (test y) as (λ t. test y ≡ t → cond t (Some y) None ≡ Some x → test x ≡ true) [
+        | true ↦ λ p k. (let same : y ≡ x = cc in ap test (sym same) ∙ p)
+        | false ↦ λ p k. absurd (cc)
+      ] refl e
+
+  passes : (o : Option X) → option_and_then (λ y. cond (test y) (Some y) None) o ≡ Some x → test x ≡ true
+  passes None e = absurd (cc)
+  passes (Some y) e = passed y e
+
+  pub kept_passes : (name : Key × Cell Value → Option X) (cells : Cells) → Contains (filter_map (kept test name) cells) x → test x ≡ true
+  kept_passes name cells there = let i = taken_from (kept test name) cells x there in passes (name i.0) i.2
+
 module _ (cells : Cells) where
   -- what is named is listed, and nothing else
   pub node_listed : (g : ℕ) → IsNamedNode cells g → Contains (named_nodes cells) g

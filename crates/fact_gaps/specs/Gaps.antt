@@ -1,6 +1,6 @@
 -- What facts do not tell to its end: nodes of which it is not known what they are, and ports of which it is not known
 -- where they lead.
-use Rattle.std.specs.Prelude.{◌≡◌, ◌⊎◌, ◌≤◌, ◌<◌, ℕ, Bool, false, ◌==◌, ◌||◌, not, List, filter, map, Contains, Option, Some, IsSome, is_some, MatchBool, if◌then◌else◌}
+use Rattle.std.specs.Prelude.{◌≡◌, ◌⊎◌, ◌≤◌, ◌<◌, ℕ, Bool, true, false, ◌==◌, ◌||◌, not, List, filter, map, Contains, Option, Some, IsSome, is_some, MatchBool, if◌then◌else◌}
 use Rattle.std.specs.Option.{option_map_or}
 use Rattle.std.specs.List.{AllPairs}
 use Rattle.std.specs.declared.cmp.Ordering.TheVariants.{Less}
@@ -44,6 +44,13 @@ port_at e = record { node = e.0; port = e.1 }
 abbrev pub unjoined_ports : Cells → List EndPort
 unjoined_ports cells =
     map port_at (each_once port_cmp (filter (λ e. not (is_known_port cells e)) (named_ports cells)))
+
+-- of these nodes, or ports, it is known
+abbrev pub AreKnownNodes : Cells → List ℕ → Type 0
+AreKnownNodes cells guids = (g : ℕ) → Contains guids g → is_known_node cells g ≡ true
+
+abbrev pub AreKnownPorts : Cells → List (ℕ × ℕ) → Type 0
+AreKnownPorts cells ports = (e : ℕ × ℕ) → Contains ports e → is_known_port cells e ≡ true
 
 -- the laws of these words: -----------------------------------------------------------
 

@@ -4,8 +4,8 @@ ghost use Rattle.std.specs.List.{filter_map};
 ghost use Rattle.reply_facts.specs.Known.{kind_in, up_of, value_in};
 ghost use Rattle.fact_store.specs.View.{cells_of};
 ghost use Rattle.subnet_view.specs.Reading.{is_switch_in};
-ghost use Rattle.fact_gaps.specs.Gaps.{is_known_port, is_said_down, port_at, unjoined_ports};
-ghost use Rattle.fact_gaps.specs.Named.{far_port, kept, own_port};
+ghost use Rattle.fact_gaps.specs.Gaps.{AreKnownPorts, is_known_port, is_said_down, port_at, unjoined_ports};
+ghost use Rattle.fact_gaps.specs.Named.{far_port, kept, link_key, own_port};
 
 use crate::in_order::order_ports;
 use crate::nodes::far_port;
@@ -16,7 +16,8 @@ use subnet_view::{EndPort, Wires, is_end_port};
 
 /// The ports that facts name, as what they are about, as a switch's management port or as the far end of a link, and
 /// which are neither known to be down nor have a wire, or with number 0 are not the end port of a switch; by node and
-/// port. Walks the cells twice, and takes three searches for each port that a cell names.
+/// port. Walks the cells three times, and takes two searches for each link and one for each port that a cell names, or
+/// three where it has no wire.
 pub fn unjoined_ports(alloc: Global, store: &Store) -> Result<Vec<EndPort>, Refused>
     ensures { IfOk result (λ ports. ports.items ≡ unjoined_ports (cells_of store.now)) }
 {
@@ -28,11 +29,36 @@ pub fn unjoined_ports(alloc: Global, store: &Store) -> Result<Vec<EndPort>, Refu
 fn unjoined_by(alloc: Global, wires: &Wires) -> Result<Vec<EndPort>, AllocError>
     ensures { IfOk result (λ ports. ports.items ≡ unjoined_ports (cells_of wires.now)) }
 {
+    let known = known_ports(alloc, wires)?;
     let mut ports = Vec::new(alloc);
-    add_own_ports(&mut ports, wires)?;
-    add_far_ports(&mut ports, wires)?;
+    add_own_ports(&mut ports, wires, &known)?;
+    add_far_ports(&mut ports, wires, &known)?;
     order_ports(&mut ports);
     end_ports_at(alloc, &ports)
+}
+
+/// Ports with links of which it is known where they lead, by node and port.
+fn known_ports(alloc: Global, wires: &Wires) -> Result<Vec<(Guid, PortNum)>, AllocError>
+    ensures { IfOk result (λ known. known.items
+        ≡ filter_map (kept (is_known_port (cells_of wires.now)) link_key) (cells_of wires.now)) }
+{
+    let mut known = Vec::new(alloc);
+    for sighting in wires.store().cells() {
+        if let Some(port) = known_port(wires, &sighting) {
+            known.push(port)?;
+        }
+    }
+    Ok(known)
+}
+
+/// The port of a link's cell, where it is known where it leads.
+fn known_port(wires: &Wires, sighting: &Sighting) -> Option<(Guid, PortNum)>
+    ensures { result ≡ kept (is_known_port (cells_of wires.now)) link_key sighting.now }
+{
+    match sighting.key() {
+        Key::Link(node, port) if is_known_port(wires, node, port) => Some((node, port)),
+        _ => None,
+    }
 }
 
 /// Ports by the names of their parts.
@@ -52,26 +78,36 @@ fn end_port_at(port: &(Guid, PortNum)) -> EndPort
     }
 }
 
-/// Adds those that cells are about, and management ports of switches.
-fn add_own_ports(ports: &mut Vec<(Guid, PortNum)>, wires: &Wires) -> Result<(), AllocError>
+/// Adds those that cells are about, and management ports of switches. Some ports are given that are known.
+fn add_own_ports(
+    ports: &mut Vec<(Guid, PortNum)>,
+    wires: &Wires,
+    known: &[(Guid, PortNum)],
+) -> Result<(), AllocError>
+    requires { AreKnownPorts (cells_of wires.now) known.now }
     ensures { OnOk result (ports.new.items ≡ ports.old.items
         ++ filter_map (kept (λ e. not (is_known_port (cells_of wires.now) e)) own_port) (cells_of wires.now)) }
 {
     for sighting in wires.store().cells() {
-        if let Some(port) = unjoined_own_port(wires, &sighting) {
+        if let Some(port) = unjoined_own_port(wires, known, &sighting) {
             ports.push(port)?;
         }
     }
     Ok(())
 }
 
-/// Adds those to which links lead.
-fn add_far_ports(ports: &mut Vec<(Guid, PortNum)>, wires: &Wires) -> Result<(), AllocError>
+/// Adds those to which links lead. Some ports are given that are known.
+fn add_far_ports(
+    ports: &mut Vec<(Guid, PortNum)>,
+    wires: &Wires,
+    known: &[(Guid, PortNum)],
+) -> Result<(), AllocError>
+    requires { AreKnownPorts (cells_of wires.now) known.now }
     ensures { OnOk result (ports.new.items ≡ ports.old.items
         ++ filter_map (kept (λ e. not (is_known_port (cells_of wires.now) e)) far_port) (cells_of wires.now)) }
 {
     for sighting in wires.store().cells() {
-        if let Some(port) = unjoined_far_port(wires, &sighting) {
+        if let Some(port) = unjoined_far_port(wires, known, &sighting) {
             ports.push(port)?;
         }
     }
@@ -79,30 +115,55 @@ fn add_far_ports(ports: &mut Vec<(Guid, PortNum)>, wires: &Wires) -> Result<(), 
 }
 
 /// The port that a cell is about, or a switch's management port, where it is not known where it leads.
-fn unjoined_own_port(wires: &Wires, sighting: &Sighting) -> Option<(Guid, PortNum)>
+fn unjoined_own_port(
+    wires: &Wires,
+    known: &[(Guid, PortNum)],
+    sighting: &Sighting,
+) -> Option<(Guid, PortNum)>
+    requires { AreKnownPorts (cells_of wires.now) known.now }
     ensures { result ≡ kept (λ e. not (is_known_port (cells_of wires.now) e)) own_port sighting.now }
 {
     let (node, port) = own_port(sighting)?;
-    if_unjoined(wires, node, port)
+    if_unjoined(wires, known, node, port)
 }
 
 /// The port to which a cell tells that a link leads, where it is not known where that port leads.
-fn unjoined_far_port(wires: &Wires, sighting: &Sighting) -> Option<(Guid, PortNum)>
+fn unjoined_far_port(
+    wires: &Wires,
+    known: &[(Guid, PortNum)],
+    sighting: &Sighting,
+) -> Option<(Guid, PortNum)>
+    requires { AreKnownPorts (cells_of wires.now) known.now }
     ensures { result ≡ kept (λ e. not (is_known_port (cells_of wires.now) e)) far_port sighting.now }
 {
     let (node, port) = far_port(sighting)?;
-    if_unjoined(wires, node, port)
+    if_unjoined(wires, known, node, port)
 }
 
 /// The port, where it is not known where it leads.
-fn if_unjoined(wires: &Wires, node: Guid, port: PortNum) -> Option<(Guid, PortNum)>
+fn if_unjoined(
+    wires: &Wires,
+    known: &[(Guid, PortNum)],
+    node: Guid,
+    port: PortNum,
+) -> Option<(Guid, PortNum)>
+    requires { AreKnownPorts (cells_of wires.now) known.now }
     ensures { result ≡ (if not (is_known_port (cells_of wires.now) (node, port)) then Some (node, port) else None) }
 {
-    if is_known_port(wires, node, port) {
+    if is_known_by(wires, known, node, port) {
         None
     } else {
         Some((node, port))
     }
+}
+
+/// Whether it is known where a port leads, where some ports are given of which it is known. Takes a search among these,
+/// and three more where it is none of them.
+fn is_known_by(wires: &Wires, known: &[(Guid, PortNum)], node: Guid, port: PortNum) -> bool
+    requires { AreKnownPorts (cells_of wires.now) known.now }
+    ensures { result ≡ is_known_port (cells_of wires.now) (node, port) }
+{
+    known.binary_search(&(node, port)).is_ok() || is_known_port(wires, node, port)
 }
 
 /// The port that a cell is about; of a cell that tells that a node is a switch, its management port.

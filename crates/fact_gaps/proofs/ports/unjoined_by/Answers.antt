@@ -1,13 +1,13 @@
 -- What cells are about, and to what links lead.
-use Rattle.std.proofs.Common.{ℕ, Bool, List, ◌++◌, ◌∙◌, ap, map}
-use Rattle.std.specs.Prelude.{not}
+use Rattle.std.proofs.Common.{ℕ, Bool, List, ◌++◌, ◌∙◌, ap, subst, map}
+use Rattle.std.specs.Prelude.{Contains, not}
 use Rattle.std.specs.List.{filter_map}
 use Rattle.std.proofs.lemmas.Result.{IfOk-weaker}
 use Rattle.fact_store.specs.View.{cells_of}
 use Rattle.fact_gaps.specs.InOrder.{each_once, port_cmp}
 use Rattle.fact_gaps.specs.Gaps.{is_known_port, port_at}
-use Rattle.fact_gaps.specs.Named.{far_port, kept, own_port}
-use Rattle.fact_gaps.proofs.Named.{kept_both}
+use Rattle.fact_gaps.specs.Named.{link_key, far_port, kept, own_port}
+use Rattle.fact_gaps.proofs.Named.{kept_both, kept_passes}
 use Rattle.fact_gaps.proofs.ports.unjoined_by.Goals as goal
 
 pub returns : goal.returns
@@ -16,5 +16,15 @@ returns c =
     let test : ℕ × ℕ → Bool = λ e. not (is_known_port cells e) in
     let own = c.in_ok-add_own_ports.ensures ∙ ap (λ (xs : List (ℕ × ℕ)). xs ++ filter_map (kept test own_port) cells) c.new-ports.ensures.items in
     let both = c.in_ok-add_far_ports.ensures ∙ ap (λ (xs : List (ℕ × ℕ)). xs ++ filter_map (kept test far_port) cells) own ∙ kept_both test own_port far_port cells in
-    IfOk-weaker c.end_ports_at.result _ _ (λ named is. is ∙ ap (map port_at) (c.deref.ensures.value ∙ c.order_ports.ensures ∙ ap (each_once port_cmp) both))
+    IfOk-weaker c.end_ports_at.result _ _ (λ named is. is ∙ ap (map port_at) (c.deref-3.ensures.value ∙ c.order_ports.ensures ∙ ap (each_once port_cmp) both))
     c.end_ports_at.ensures
+
+pub add_own_ports-requires : goal.add_own_ports-requires
+add_own_ports-requires c = λ x there.
+    kept_passes (is_known_port (cells_of c.args.wires.now)) x link_key (cells_of c.args.wires.now)
+    (subst (λ (xs : List (ℕ × ℕ)). Contains xs x) (c.deref.ensures.value ∙ c.in_ok-known.ensures) there)
+
+pub add_far_ports-requires : goal.add_far_ports-requires
+add_far_ports-requires c = λ x there.
+    kept_passes (is_known_port (cells_of c.args.wires.now)) x link_key (cells_of c.args.wires.now)
+    (subst (λ (xs : List (ℕ × ℕ)). Contains xs x) (c.deref-2.ensures.value ∙ c.in_ok-known.ensures) there)
