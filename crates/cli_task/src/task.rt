@@ -9,8 +9,8 @@ use arrayvec::ArrayVec;
 use attr_codec::Lmc;
 use clap::ArgMatches;
 use cli_arguments::argument_names::{
-    AUDIT, FACTS, FILE, FLOOR, JOIN, LMC, NEXT, ORDER, PLAN, ROOTS, ROUTING, RUN, SCHEDULE,
-    SPREAD, TABLES, TOPOLOGY, UPDOWN,
+    AUDIT, FACTS, FILE, FLOOR, JOIN, LMC, NEXT, ORDER, PLAN, ROOTS, ROUTING, RUN, SCHEDULE, SPREAD,
+    TABLES, TOPOLOGY, UPDOWN,
 };
 use next_run::StepAsked;
 use sm_cli::{Invocation, Output, RuleAsked};

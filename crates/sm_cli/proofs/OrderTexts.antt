@@ -118,7 +118,7 @@ once_mapped : (f : ℕ → ℕ) (xs : List ℕ) → ((x y : ℕ) → Contains xs
 once_mapped f [] one_to_one once = tt
 once_mapped f (x ∷ xs) one_to_one once = (
   λ h. (let y = contains_map f xs (f x) h in
-  once.0 (subst (λ (z : ℕ). Contains xs z) (one_to_one y.0 x (contains_later x y.0 xs y.1) (contains_here x xs) y.2) y.1)),
+      once.0 (subst (λ (z : ℕ). Contains xs z) (one_to_one y.0 x (contains_later x y.0 xs y.1) (contains_here x xs) y.2) y.1)),
   once_mapped f xs (λ a b h k. one_to_one a b (contains_later x a xs h) (contains_later x b xs k)) once.1,
 )
 
