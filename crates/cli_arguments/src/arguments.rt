@@ -6,15 +6,16 @@ ghost use Rattle.clap.specs.Values.{kind_of};
 ghost use Rattle.clap.specs.Walk.{rule_of};
 ghost use Rattle.cli_arguments.specs.CommandLine.{AddsRules, AreRoutings, IsApp, IsOf, IsReadAs};
 ghost use Rattle.cli_arguments.specs.CommandLine.{audit_shape, facts_shape, join_shape, next_shape, order_shape};
-ghost use Rattle.cli_arguments.specs.CommandLine.{command_line, of_files, of_order, of_planning, plan_shape, program_app, run_shape};
+ghost use Rattle.cli_arguments.specs.CommandLine.{command_line, of_files, of_order, of_planning, plan_shape};
+ghost use Rattle.cli_arguments.specs.CommandLine.{program_app, run_shape};
 ghost use Rattle.cli_arguments.specs.CommandLine.{files_rule, floor_rule, lmc_rule, option_rule, routing_rule};
 ghost use Rattle.cli_arguments.specs.CommandLine.{text_rule};
 ghost use Rattle.cli_arguments.specs.WellFormed.{IsWellFormed};
 ghost use Rattle.cli_arguments.specs.Words.{has_conflict, has_conflict_behind, lacks_rule};
 
 use crate::argument_names::{
-    AUDIT, FACTS, FILE, FLOOR, JOIN, LMC, NEXT, ORDER, PLAN, ROOTS, ROUTING, RUN, SCHEDULE,
-    SPREAD, TABLES, TOPOLOGY, UPDOWN,
+    AUDIT, FACTS, FILE, FLOOR, JOIN, LMC, NEXT, ORDER, PLAN, ROOTS, ROUTING, RUN, SCHEDULE, SPREAD,
+    TABLES, TOPOLOGY, UPDOWN,
 };
 use clap::error::ErrorKind;
 use clap::{Arg, ArgAction, ArgMatches, Command, Error, value_parser};

@@ -25,16 +25,16 @@ lmc_there (Some word) h = number_within 0 7 word h
 
 -- a word for the text that the rule takes
 abbrev HasText : Option (List ℕ) → Option (List ℕ) → RuleAsked → Type 0
-HasText roots order rule = (word : List ℕ → Option (List ℕ)) → word (codes "roots") ≡ roots → word (codes "order") ≡ order
+HasText roots named rule = (word : List ℕ → Option (List ℕ)) → word (codes "roots") ≡ roots → word (codes "order") ≡ named
     → is_some (texts_of_rule word rule) ≡ true
 
 -- the rule, and the text that it takes
 abbrev Asked : Option (List ℕ) → Option (List ℕ) → Option (List ℕ) → Type 0
-Asked routing roots order =
-    (rule : RuleAsked) × (rule_asked routing (is_some roots) (is_some order) ≡ Some rule) × HasText roots order rule
+Asked routing roots named =
+    (rule : RuleAsked) × (rule_asked routing (is_some roots) (is_some named) ≡ Some rule) × HasText roots named rule
 
-updown_there : (w : List ℕ) (roots order : Option (List ℕ)) → w ≡ codes "updown" → has_conflict_of (Some w) (is_some roots) (is_some order) ≡ false
-    → Asked (Some w) roots order
+updown_there : (w : List ℕ) (roots named : Option (List ℕ)) → w ≡ codes "updown" → has_conflict_of (Some w) (is_some roots) (is_some named) ≡ false
+    → Asked (Some w) roots named
 updown_there w None None is f = (UpDown, ap (λ v. rule_asked (Some v) false false) is, (λ word j k. refl))
 updown_there w None (Some o) is f =
     let bad : has_conflict_of (Some (codes "updown")) false true ≡ false = subst (λ (v : List ℕ). has_conflict_of (Some v) false true ≡ false) is f in
@@ -44,29 +44,29 @@ updown_there w (Some r) None is f =
     absurd (cc)
 updown_there w (Some r) (Some o) is f = absurd (cc)
 
-spread_there : (w : List ℕ) (roots order : Option (List ℕ)) → w ≡ codes "spread" → has_conflict_of (Some w) (is_some roots) (is_some order) ≡ false
-    → Asked (Some w) roots order
+spread_there : (w : List ℕ) (roots named : Option (List ℕ)) → w ≡ codes "spread" → has_conflict_of (Some w) (is_some roots) (is_some named) ≡ false
+    → Asked (Some w) roots named
 spread_there w None None is f = (Spread, ap (λ v. rule_asked (Some v) false false) is, (λ word j k. refl))
 spread_there w None (Some o) is f =
-    (SpreadInOrder, ap (λ v. rule_asked (Some v) false true) is, (λ word j k. ap (λ x. is_some (option_map (λ order. order ∷ []) x)) k))
+    (SpreadInOrder, ap (λ v. rule_asked (Some v) false true) is, (λ word j k. ap (λ x. is_some (option_map (λ named. named ∷ []) x)) k))
 spread_there w (Some r) None is f =
     (SpreadFromRoots, ap (λ v. rule_asked (Some v) true false) is, (λ word j k. ap (λ x. is_some (option_map (λ roots. roots ∷ []) x)) j))
 spread_there w (Some r) (Some o) is f = absurd (cc)
 
-rule_there : (routing roots order : Option (List ℕ)) → IsRouting routing → has_conflict_of routing (is_some roots) (is_some order) ≡ false
-    → Asked routing roots order
+rule_there : (routing roots named : Option (List ℕ)) → IsRouting routing → has_conflict_of routing (is_some roots) (is_some named) ≡ false
+    → Asked routing roots named
 rule_there None None None h e = (UpDown, refl, (λ word j k. refl))
 rule_there None None (Some o) h e = absurd (cc)
 rule_there None (Some r) None h e = absurd (cc)
 rule_there None (Some r) (Some o) h e = absurd (cc)
-rule_there (Some w) roots order (inl is) e = updown_there w roots order is e
-rule_there (Some w) roots order (inr is) e = spread_there w roots order is e
+rule_there (Some w) roots named (inl is) e = updown_there w roots named is e
+rule_there (Some w) roots named (inr is) e = spread_there w roots named is e
 
 -- what an order goes by, and the text that it takes
-order_there : (roots order : Option (List ℕ)) → (is_some roots && is_some order) ≡ false
-    → (rule : RuleAsked) × (spread_asked (is_some roots) (is_some order) ≡ Some rule) × HasText roots order rule
+order_there : (roots named : Option (List ℕ)) → (is_some roots && is_some named) ≡ false
+    → (rule : RuleAsked) × (spread_asked (is_some roots) (is_some named) ≡ Some rule) × HasText roots named rule
 order_there None None e = (Spread, refl, (λ word j k. refl))
-order_there None (Some o) e = (SpreadInOrder, refl, (λ word j k. ap (λ x. is_some (option_map (λ order. order ∷ []) x)) k))
+order_there None (Some o) e = (SpreadInOrder, refl, (λ word j k. ap (λ x. is_some (option_map (λ named. named ∷ []) x)) k))
 order_there (Some r) None e = (SpreadFromRoots, refl, (λ word j k. ap (λ x. is_some (option_map (λ roots. roots ∷ []) x)) j))
 order_there (Some r) (Some o) e = absurd (cc)
 

@@ -12,11 +12,7 @@ use subnet_view::{SwitchGraph, Wires};
 
 /// The usable switches in the order by which the rule that spreads goes. Takes a walk over the cells, two searches for
 /// each port of a switch, a search in breadth from each leaf switch and each root, and a step for each pair of switches.
-pub fn switch_order(
-    alloc: Global,
-    store: &Store,
-    order: &SwitchOrder,
-) -> Result<Vec<Guid>, Refused>
+pub fn switch_order(alloc: Global, store: &Store, order: &SwitchOrder) -> Result<Vec<Guid>, Refused>
     ensures { IfOk result (λ found.
         found.items ≡ order_of (order_value_of order.now) (cells_of store.now)) }
 {

@@ -1,4 +1,4 @@
--- The text of an order is read as the switches of the order.
+-- An order that was printed and is given back is the same.
 use Rattle.std.proofs.Common.{◌≡◌, ◌≢◌, ◌<◌, ◌≤◌, ◌+◌, ◌^◌, ◌==◌, ℕ, zero, suc, List, [], ◌∷◌, ◌++◌, Bool, true, false, leb, Some, Ok, Result, inl, inr, refl, sym, ap, ◌∙◌, subst, arith, length, map, append_assoc, append-nil}
 use Rattle.std.proofs.lemmas.Bool.{eqb-true, ne_eqb}
 use Rattle.std.proofs.lemmas.List.Concat.{flat_map-cons}
@@ -31,12 +31,15 @@ use Rattle.spread_routes.specs.Spread.{keys_by, switches_in_order}
 use Rattle.spread_routes.specs.SwitchOrders.{OrderValue, switches_by_keys}
 use Rattle.spread_routes.proofs.Indices.{as_many, index_of_switch}
 use Rattle.spread_routes.proofs.Names.{grows}
+use Rattle.lft_blocks.specs.PlanText.{plan_text}
 use Rattle.lft_blocks.specs.Rules.{order_of}
+use Rattle.lft_blocks.proofs.RulesRoute.{orders_hold}
 use Rattle.plan_file.proofs.PlanRanges.{switch_small}
 use Rattle.roots_file.specs.Line.{root_of, root_on}
 use Rattle.roots_file.specs.Reading.{is_among, roots_of, with_lines}
 use Rattle.roots_file.specs.RootsTextFault.{RootsLineFault}
-use Rattle.sm_cli.specs.OrderText.{OrderTextsAreRead, order_line, order_text}
+use Rattle.sm_cli.specs.OrderText.{order_line, order_text}
+use Rattle.sm_cli.specs.RunLaws.{PrintedOrdersStand}
 
 -- a GUID that is not 0, and its line -----------------------------------------------------------
 
@@ -118,7 +121,7 @@ once_mapped : (f : ℕ → ℕ) (xs : List ℕ) → ((x y : ℕ) → Contains xs
 once_mapped f [] one_to_one once = tt
 once_mapped f (x ∷ xs) one_to_one once = (
   λ h. (let y = contains_map f xs (f x) h in
-  once.0 (subst (λ (z : ℕ). Contains xs z) (one_to_one y.0 x (contains_later x y.0 xs y.1) (contains_here x xs) y.2) y.1)),
+      once.0 (subst (λ (z : ℕ). Contains xs z) (one_to_one y.0 x (contains_later x y.0 xs y.1) (contains_here x xs) y.2) y.1)),
   once_mapped f xs (λ a b h k. one_to_one a b (contains_later x a xs h) (contains_later x b xs k)) once.1,
 )
 
@@ -141,12 +144,21 @@ module _ (graph : List SwitchEdges) (keys : List VertexKey) (good : IsGraph grap
       let x = contains_map (at_position (guids_of graph)) (order_by_keys graph keys) g h in
       subst (λ (y : ℕ). Contains (guids_of graph) y) x.2 (contains_at (guids_of graph) x.0 (below x.0 x.1))
 
-pub order_texts_are_read : OrderTextsAreRead
+order_is_read : (order : OrderValue) (facts : Facts) → AreInRange facts → ¬ (Contains (switches (cells_of facts)) 0)
+    → roots_of (order_text (order_of order (cells_of facts))) ≡ Ok (order_of order (cells_of facts))
 unfolding switches_in_order
-order_texts_are_read order facts range none =
+order_is_read order facts range none =
     let cells = cells_of facts in
     let graph = graph_of cells in
     let keys = keys_by graph (leaf_switches_of cells) order in
     text_is_read (switches_by_keys graph keys) (stand_once graph keys (graph_law facts))
     (λ g h. let there : Contains (switches cells) g = subst (λ (gs : List ℕ). Contains gs g) (graph_guids cells) (are_switches graph keys (graph_law facts) g h) in
     (switch_small facts range g there, λ zero_is. none (subst (λ (y : ℕ). Contains (switches cells) y) zero_is there)))
+
+pub printed_orders_stand : PrintedOrdersStand
+printed_orders_stand order asked again facts range none = record {
+  named = order_of order (cells_of facts);
+  is_read = order_is_read order facts range none;
+  same_order = ap order_text (orders_hold order 0 facts).order_stands;
+  same_plan = λ lmc. ap plan_text (orders_hold order lmc facts).plan_stands;
+}

@@ -5,13 +5,18 @@ use Rattle.fact_join.specs.declared.cell.Cell.{Cell}
 use Rattle.reply_facts.specs.declared.key.Key.{Key}
 use Rattle.reply_facts.specs.declared.value.Value.{Value}
 use Rattle.fact_store.specs.Seen.{HaveSameMembers}
-use Rattle.fact_store.specs.View.{Facts, cells_of}
+use Rattle.fact_store.specs.View.{Facts, cells_of, AreInRange}
+use Rattle.subnet_view.specs.Reading.{switches}
+use Rattle.roots_file.specs.Reading.{roots_of}
 use Rattle.record_file.specs.Laws.{IsReportFile, report_file}
 use Rattle.record_file.specs.RecordFile.{kept, outcome}
 use Rattle.record_file.specs.StoreFile.{cells_file}
 use Rattle.record_file.specs.StoreLaws.{IsStoreFile}
-use Rattle.lft_blocks.specs.Rules.{RuleValue}
+use Rattle.spread_routes.specs.SwitchOrders.{OrderValue, as_named}
+use Rattle.lft_blocks.specs.Rules.{RuleValue, spread_in}
 use Rattle.sm_cli.specs.declared.asked.Invocation.{Invocation}
+use Rattle.sm_cli.specs.declared.asked.Output.TheVariants.{Order, Plan}
+use Rattle.sm_cli.specs.declared.asked.RuleAsked.{RuleAsked}
 use Rattle.sm_cli.specs.InputFiles.{facts_of, floor_among}
 use Rattle.sm_cli.specs.Run.{answer_to}
 
@@ -68,3 +73,17 @@ SplitStoreStands =
     (first second : List (Key × Cell Value)) (others : List (List ℕ)) → IsStoreFile told whole facts
     → cells_of facts ≡ first ++ second → front ≡ cells_file told first → back ≡ cells_file told second
     → StandFor request rule whole front back others
+
+-- an order that was printed is read as switches in whose order it is printed again, and by which each plan is the same
+pub record OrderStands (order : OrderValue) (asked again : RuleAsked) (facts : Facts) : Type 0 where
+  pub named : List ℕ
+  pub is_read : roots_of (answer_to (Order asked) (spread_in order) facts) ≡ Ok named
+  pub same_order : answer_to (Order again) (spread_in (as_named named)) facts
+      ≡ answer_to (Order asked) (spread_in order) facts
+  pub same_plan : (lmc : ℕ) → answer_to (Plan lmc again) (spread_in (as_named named)) facts
+      ≡ answer_to (Plan lmc asked) (spread_in order) facts
+
+-- so is each, unless a switch has the GUID 0, which no text names
+abbrev pub PrintedOrdersStand : Type 0
+PrintedOrdersStand = (order : OrderValue) (asked again : RuleAsked) (facts : Facts) → AreInRange facts
+    → ¬ (Contains (switches (cells_of facts)) 0) → OrderStands order asked again facts

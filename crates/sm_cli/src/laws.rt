@@ -1,7 +1,6 @@
 //! What the answer of a run depends on.
-ghost use Rattle.sm_cli.specs.OrderText.{OrderTextsAreRead};
 ghost use Rattle.sm_cli.specs.RunLaws.{FilesDecideAnswer, JoinedFileStands, SightingsDecideAnswer};
-ghost use Rattle.sm_cli.specs.RunLaws.{SplitFileStands, SplitStoreStands};
+ghost use Rattle.sm_cli.specs.RunLaws.{PrintedOrdersStand, SplitFileStands, SplitStoreStands};
 
 /// Files that keep the same sightings, in whatever order and however often, and have the same greatest floor give equal
 /// answers.
@@ -30,7 +29,8 @@ pub fn split_store_stands()
     ensures { SplitStoreStands }
 {}
 
-/// The text of an order, given back, names the switches as they stand in it.
-pub fn order_texts_are_read()
-    ensures { OrderTextsAreRead }
+/// An order that was printed, given back, is printed again, and gives the plan, byte for byte, that is printed without
+/// it.
+pub fn printed_orders_stand()
+    ensures { PrintedOrdersStand }
 {}

@@ -1,7 +1,6 @@
 -- Each switch has a key and a level.
-use Rattle.std.proofs.Common.{◌≡◌, ℕ, List, ◌∙◌, length, map}
+use Rattle.std.proofs.Common.{◌≡◌, ℕ, List, ◌∙◌, length}
 use Rattle.port_graph.proofs.Counts.{length_map}
-use Rattle.port_graph.specs.declared.edge.Edge.{Edge}
 use Rattle.spread_labels.specs.DistanceClasses.{distance_classes_of}
 use Rattle.spread_labels.specs.Firsts.{key_of}
 use Rattle.spread_labels.specs.Levels.{level_of, levels_of}

@@ -1,5 +1,5 @@
 -- The keys by a list that names switches, as the code finds them: from the last to the first.
-use Rattle.std.proofs.Common.{◌≡◌, ◌<◌, ◌+◌, ◌==◌, ℕ, zero, suc, List, [], ◌∷◌, inl, inr, refl, sym, ap, ◌∙◌, subst, arith, true, false, cond, length, map, get_or, drop, replicate}
+use Rattle.std.proofs.Common.{◌≡◌, ◌<◌, ◌+◌, ℕ, suc, List, [], ◌∷◌, inl, inr, refl, sym, ap, ◌∙◌, subst, arith, cond, length, map, get_or, drop, replicate}
 use Rattle.std.proofs.lemmas.Bool.{cases_eq, eq-eqb, ne_eqb}
 use Rattle.std.proofs.lemmas.List.{ext_get_or, drop_more, get_or-map, get_or-set_same, get_or-set_other, length-set}
 use Rattle.std.proofs.Math.Seq.{drop-length}

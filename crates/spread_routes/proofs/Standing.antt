@@ -40,7 +40,7 @@ module _ (edges : List (List Edge)) (before after : ℕ → ℕ → Bool) where
             | inl same ↦ (elim (cases_eq z y) [
               | inl is ↦ subst (λ (v : ℕ). Contains (z ∷ zs) v) is (contains_here z zs)
               | inr apart ↦ (let f = (first z (contains_later x z (z ∷ zs) (contains_here z zs)) apart).later in
-              let t : after z y ≡ true = ap (after z) (sym same) ∙ q in absurd (cc))
+                  let t : after z y ≡ true = ap (after z) (sym same) ∙ q in absurd (cc))
             ])
           ]
 
@@ -53,7 +53,7 @@ module _ (edges : List (List Edge)) (before after : ℕ → ℕ → Bool) where
               | inl same ↦ (elim (cases_eq x y) [
                 | inl is ↦ subst (λ (v : ℕ). Contains (x ∷ zs) v) is (contains_here x zs)
                 | inr apart ↦ (let f = (first x (contains_here x (z ∷ zs)) apart).earlier in
-                let t : after y x ≡ false = ap (λ v. after v x) (sym same) ∙ q in absurd (cc))
+                    let t : after y x ≡ false = ap (λ v. after v x) (sym same) ∙ q in absurd (cc))
               ])
             ])
           ]

@@ -9,9 +9,7 @@ use crate::lid_digit::{LidDigit, higher_targets, lid_digits};
 use crate::switch_keys::{SwitchKeys, switch_keys};
 use port_graph::Adjacency;
 use smp_bytes::Guid;
-use spread_labels::{
-    CandidateSets, TARGETS, VertexKey, by_positions, grown_order, positions,
-};
+use spread_labels::{CandidateSets, TARGETS, VertexKey, by_positions, grown_order, positions};
 use std::alloc::{AllocError, Global};
 use std::marker::Model;
 use subnet_view::SwitchGraph;

@@ -40,11 +40,7 @@ pub fn switches_in_order(
 }
 
 /// The switches at these indices.
-fn switches_at(
-    alloc: Global,
-    guids: &[Guid],
-    indices: &[usize],
-) -> Result<Vec<Guid>, AllocError>
+fn switches_at(alloc: Global, guids: &[Guid], indices: &[usize]) -> Result<Vec<Guid>, AllocError>
     requires { All (λ i. i < length guids.now) indices.now }
     ensures { IfOk result (λ found. found.items ≡ map (at_position guids.now) indices.now) }
 {

@@ -1,9 +1,6 @@
-use Rattle.std.proofs.Common.{◌≡◌, ◌<◌, ◌+◌, ◌-◌, ◌∙◌, ℕ, ap, arith, length, sym, get_or, replicate, slice_set}
+use Rattle.std.proofs.Common.{◌≡◌, ◌<◌, ◌+◌, ◌-◌, ◌∙◌, ap, arith, length, sym, get_or, replicate, slice_set}
 use Rattle.std.proofs.lemmas.List.{get_or_default}
-use Rattle.std.specs.Prelude.{None, Some}
 use Rattle.spread_labels.specs.declared.vertex_key.VertexKey.{VertexKey}
-use Rattle.subnet_view.specs.Graph.{guids_of}
-use Rattle.subnet_view.specs.SwitchGraph.{IsIndexIn}
 use Rattle.spread_routes.proofs.NamedKeys.{keys_behind, none_named, passed_over, placed}
 use Rattle.spread_routes.proofs.switch_keys.keys_as_named.Goals as goal
 

@@ -3,7 +3,6 @@ use Rattle.std.specs.Prelude.{IfOk}
 use Rattle.spread_labels.specs.LabelLaws.{IsSymmetric}
 use Rattle.spread_labels.specs.Keys.{before_by}
 use Rattle.spread_labels.specs.Orders.{at_position, order}
-use Rattle.subnet_view.specs.Graph.{guids_of}
 use Rattle.spread_routes.specs.Rule.{by_index, order_by_keys}
 use Rattle.spread_routes.specs.Spread.{keys_by, switches_in_order}
 use Rattle.spread_routes.specs.SwitchOrders.{order_value_of}
