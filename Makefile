@@ -1,17 +1,22 @@
-# make install PREFIX=/usr/local: the program, which is proved and built first, the tools for live subnets, their man pages,
-# and what they read and write (FORMATS) and how they go together (OPERATORS).
+# make install PREFIX=/usr/local: the program, which is proved and built first, or with UNPROVED=1 compiled without its proofs; the
+# tools for live subnets, their man pages, and what they read and write (FORMATS) and how they go together (OPERATORS).
+# make prove: proves and builds the program.
 # Needs the Rattle kit, a C compiler, libibumad (Debian: libibumad-dev) and Python 3.
 PREFIX ?= /usr/local
 DESTDIR ?=
-PROGRAM := crates/ibsm/out/ibsm
+UNPROVED ?=
+PROGRAM := crates/ibsm/out/$(if $(UNPROVED),unproved/)ibsm
 # Tools in Python, with the modules that they import; a link in bin leads to each, as ibsm-NAME where it has no page.
 TOOLS := compare draw names opensm-files round topology what-if
 MODULES := differences.py dumps.py ibsm_texts.py program.py record_files.py routes.py rows.py
 PAGES := ibsm.1 draw.1 opensm-files.1
 
 all:
-	./ibsm --version
+	./ibsm $(if $(UNPROVED),--unproved,--prove) --version
 	$(MAKE) -C tools/record
+
+prove:
+	./ibsm --prove --version
 
 install: all
 	install -D -m 755 $(PROGRAM) $(DESTDIR)$(PREFIX)/bin/ibsm
@@ -23,4 +28,4 @@ install: all
 	for file in $(MODULES); do install -m 644 tools/$$file $(DESTDIR)$(PREFIX)/lib/ibsm/$$file || exit 1; done
 	$(MAKE) -C tools/record install PREFIX=$(PREFIX) DESTDIR=$(DESTDIR)
 
-.PHONY: all install
+.PHONY: all install prove

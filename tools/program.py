@@ -7,8 +7,9 @@ import subprocess
 from ibsm_texts import Refused
 
 HERE = pathlib.Path(__file__).resolve().parent
-# Where it is built, and where it is installed: these tools are in lib/ibsm, and it is in bin.
-BESIDE = HERE.parent / "crates/ibsm/out/ibsm", HERE.parent.parent / "bin/ibsm"
+# Where it is built, where it is compiled without its proofs, and where it is installed: these tools are in lib/ibsm, and it is in bin.
+BUILT = HERE.parent / "crates/ibsm/out"
+BESIDE = BUILT / "ibsm", BUILT / "unproved/ibsm", HERE.parent.parent / "bin/ibsm"
 
 
 def the_program(named=None):
