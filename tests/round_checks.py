@@ -84,9 +84,9 @@ def rounds(room):
         for name, text in texts.items():
             (room.path / "fab" / name).write_text(text)
 
-    def ends(words, status, step, verdict):
+    def ends(words, status, step, verdict, settle=0):
         """A round ends so, and says so in status.json too."""
-        printed = room.run(f"round rd --ibsm ./ibsm --record ./record --log fab/log {words}", status)
+        printed = room.run(f"round rd --ibsm ./ibsm --record ./record --log fab/log --settle {settle} {words}", status)
         told = json.loads(room.text("rd/status.json"))
         steps = [
             f"step {number}: {step['entries']} entries, {step['blocks']} blocks; {step['told']}; status {step['status']}\n"
@@ -209,7 +209,8 @@ def by_steps(room, fab, ends, process):
     """Rounds whose plan is two steps away."""
     facts, plan, held = (room.text(name) for name in ("t.facts", "t.plan", "round.plan"))
     fab(held=held, obeys="", stepped="", log="ready\n", **{"step.1": room.text("hole.plan")})
-    told = ends(f"--opensm {process} --lmc 0", 0, "audit", "the subnet holds the plan")
+    told = ends(f"--opensm {process} --lmc 0", 0, "audit", "the subnet holds the plan", settle=0.3)
+    room.check(0.3 <= told["seconds"]["settle"] < 0.6, f"packets have 0.3 seconds between two steps: {told['seconds']}")
     none = {"told": "credit loop none", "status": 0}
     room.check(
         told["steps"] == [{"entries": 2, "blocks": 2} | none, {"entries": 1, "blocks": 1} | none],
@@ -244,7 +245,7 @@ def by_steps(room, fab, ends, process):
     room.check(room.text("fab/held") == held, "nor is a step to a plan that may not be written")
     # What is held stays as it is, and a table's size is another at each look.
     fab(plan=plan, written=held, flaps=facts.replace("cap 0000000000000010 1024", "cap 0000000000000010 1025"))
-    told = ends(f"--opensm {process}", 1, "read-back", "after 6 steps another one is left")
+    told = ends(f"--opensm {process}", 1, "read-back", "after 14 steps another one is left")
     fab(facts=facts, written=plan)
     for name in ("flaps", "step.1"):
         (room.path / "fab" / name).unlink()
