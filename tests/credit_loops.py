@@ -1,6 +1,21 @@
 """Credit loops, by a search over channels and those that packets take next."""
+import collections
+
 from built_program import check
 from ibsm_texts import end_in
+
+
+def after(ways):
+    """For each channel, a switch and a port of it, those that packets take next, for whichever LID up to the greatest top."""
+    ends, found = ways.ends(), collections.defaultdict(set)
+    last = max(*ways.owners, *ways.plan.tops.values())
+    unowned = {column for _, column in ways.columns(lid for lid in range(1, last + 1) if lid not in ways.owners)}
+    for home, column in [*ways.groups, *((None, column) for column in unowned)]:
+        for at, port in enumerate(column):
+            far = ends.get((at, port)) if at != home else None
+            if far is not None and far != home and (far, column[far]) in ends:
+                found[at, port].add((far, column[far]))
+    return found
 
 
 def count_round(after, first):

@@ -31,7 +31,6 @@ def greatest_lid(room):
     room.prints("opensm-files write wide.facts far.plan far", 0, said)
     room.check("\n0xbfff 002 # portguid 0x0000000000000201\n" in room.text("far/plan.lfts"), "the entry of the greatest LID")
     room.refused("opensm-files write wide.facts over.plan far", "LID 49152 is no unicast LID")
-    room.prints("opensm-files audit wide.facts far.plan", 0, "every packet arrives")
     lines = room.text("far/plan.lfts").splitlines(True)
     room.check(lines[0].startswith("Unicast lids [0-49151] of switch "), "the range of a table")
     room.put(far_dump="".join(lines), over_dump="".join(lines).replace("[0-49151]", "[0-49152]"))

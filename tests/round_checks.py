@@ -11,6 +11,7 @@ import sys
 import time
 
 import paths
+import tool_checks
 
 # Stand in for a subnet: what it says and holds is in the folder fab. A recording is there the text of its facts.
 FAKE_RECORD = """#!/bin/sh
@@ -196,6 +197,10 @@ def rounds(room):
     ends(f"--opensm {os.getpid()}", 3, "opensm", "not opensm")
     ends("--opensm 99999999", 3, "opensm", "there is no process 99999999")
     watched(room)
+    room.put(slow=FAKE_RECORD.replace("cp fab/facts", "sleep 3; cp fab/facts"))
+    (room.path / "slow").chmod(0o755)
+    said = tool_checks.on_a_terminal(room, "round", "rd", "--ibsm", "./ibsm", "--record", "./slow", "--look")
+    room.check(re.fullmatch(r"(\r\x1b\[Kround: record, \d+ s)+\r\x1b\[K", said), f"which step is waited for: {said!r}")
     with open(room.path / "rd/lock", "w") as lock:
         fcntl.flock(lock, fcntl.LOCK_EX)
         room.refused("round rd --ibsm ./ibsm --record ./record", "in use")

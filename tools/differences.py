@@ -1,22 +1,14 @@
 """Where two plans differ, or a plan and what a fabric holds: LIDs, tops and entries; and where two texts of facts do."""
-import collections
-
-from ibsm_texts import ENTRIES, NO_WAY, name_of
-
-
-def entries_of(plan, lids_wanted):
-    return {
-        guid: {lid: plan.entry(guid, lid) for lid in lids_wanted(guid) if plan.entry(guid, lid) != NO_WAY}
-        for guid in plan.tables
-    }
+from ibsm_texts import ENTRIES, NONE, name_of
 
 
 def names_differ(plan, held, called=("plan", "fabric")):
     """The LIDs and tops that differ, where the two are called so."""
     first, second = called
     for lid in sorted(set(plan.owners) | set(held.owners)):
-        one, other = (name_of(text.owners[lid]) if lid in text.owners else "nobody" for text in (plan, held))
+        one, other = (text.owners.get(lid) for text in (plan, held))
         if one != other:
+            one, other = (name_of(end) if end else "nobody" for end in (one, other))
             yield f"LID {lid}: {first} {one}, {second} {other}"
     for lid, end in held.shared:
         yield f"LID {lid}: in the {second} {name_of(end)} has it too"
@@ -25,24 +17,18 @@ def names_differ(plan, held, called=("plan", "fabric")):
             yield f"switch {guid:016x}: {first} top {plan.tops[guid]}, {second} {held.tops[guid]}"
 
 
-def entries_apart(wanted, have):
-    """The entries that differ, of switches that both have: the switch, the LID, and both entries, None where there is none."""
-    for guid in sorted(set(wanted) & set(have)):
-        if wanted[guid] != have[guid]:
-            for lid in sorted(set(wanted[guid]) | set(have[guid])):
-                one, other = wanted[guid].get(lid), have[guid].get(lid)
-                if one != other:
-                    yield guid, lid, one, other
+def apart(one, other):
+    """A byte for each entry of the longer of two rows, which is 0 where they are equal, or one ends and the other has none."""
+    length = max(len(one), len(other))
+    one, other = (int.from_bytes(row.ljust(length, NONE), "big") for row in (one, other))
+    return (one ^ other).to_bytes(length, "big")
 
 
 def blocks_to_write(old, new):
-    """Of each switch of the new plan the blocks that it has otherwise than the old one, as far as its own top."""
-    found = {}
-    for guid, table in new.tables.items():
-        before = old.tables.get(guid, b"")
-        starts = range(0, len(table), ENTRIES)
-        found[guid] = sum(table[i : i + ENTRIES] != before[i : i + ENTRIES] for i in starts)
-    return found
+    """How many blocks of a new table are otherwise than in the old one, as far as its own top."""
+    if old == new:
+        return 0
+    return sum(new[i : i + ENTRIES] != old[i : i + ENTRIES] for i in range(0, len(new), ENTRIES))
 
 
 def nodes_apart(old, new):
@@ -85,17 +71,20 @@ def facts_apart(old, new):
 def plans_apart(old, new):
     """The lines that tell how plans differ, and how many blocks a manager has to write."""
     lines = list(names_differ(old, new, ("old", "new")))
-    tables = [entries_of(plan, lambda guid: range(plan.tops[guid] + 1)) for plan in (old, new)]
-    entries = collections.Counter(guid for guid, *_ in entries_apart(*tables))
-    blocks = blocks_to_write(old, new)
+    entries, switches, blocks = 0, 0, 0
     for guid in sorted(set(old.tables) | set(new.tables)):
         if guid not in new.tables:
             lines.append(f"gone switch {guid:016x}")
-        elif guid not in old.tables:
-            lines.append(f"come switch {guid:016x} blocks {blocks[guid]}")
-        elif entries[guid] or blocks[guid]:
-            lines.append(f"switch {guid:016x} entries {entries[guid]} blocks {blocks[guid]}")
-    return (
-        lines,
-        f"{entries.total()} entries differ on {len(entries)} switches, blocks to write: {sum(blocks.values())}",
-    )
+            continue
+        written = blocks_to_write(old.tables.get(guid, b""), new.tables[guid])
+        blocks += written
+        if guid not in old.tables:
+            lines.append(f"come switch {guid:016x} blocks {written}")
+            continue
+        different = apart(old.row(guid), new.row(guid))
+        count = len(different) - different.count(0)
+        entries += count
+        switches += count > 0
+        if count or written:
+            lines.append(f"switch {guid:016x} entries {count} blocks {written}")
+    return lines, f"{entries} entries differ on {switches} switches, blocks to write: {blocks}"

@@ -5,58 +5,118 @@ of the LID's owner, and a line that counts them. OpenSM reads its own file so fo
 """
 import re
 
-from ibsm_texts import Refused
+from ibsm_texts import NO_WAY, NONE, Refused, each_line
 
 # OpenSM reads lines into 1,024 bytes.
 LONGEST_LINE = 1022
 HEAD = "Unicast lids"
+GUID = re.compile(r" guid 0x([0-9a-f]+)(?:\s|$)")
+RANGE = re.compile(HEAD + r" \[\w+-(0x[0-9a-f]+|\d+)\]")
+ENTRY = re.compile(r"0x([0-9a-f]+)\s+(\d+)(?:\s|$)")
+OWNER = re.compile(r"portguid 0x([0-9a-f]+)")
+COUNT = re.compile(r"\d+ (?:valid )?lids dumped")
+# Rows of entries have room for so many LIDs more each time.
+ROOM = 4096
+LIDS = 65536
 
 
-def is_dump(lines):
-    return any(line.lstrip().startswith(HEAD) for line in lines)
+class LineRefused(Refused):
+    """A line is none of a dump."""
+
+
+class Entries:
+    """The ports by LID of a switch: a byte each, NO_WAY where none is told, and beside them what a byte doesn't hold."""
+
+    def __init__(self):
+        self.row, self.others = bytearray(), {}
+
+    def get(self, lid):
+        """The port, None where none is told."""
+        port = self.row[lid] if lid < len(self.row) else NO_WAY
+        return self.others.get(lid) if port == NO_WAY else port
+
+    def put(self, lid, port):
+        if port >= NO_WAY or lid >= LIDS:
+            self.others[lid] = port
+            return
+        if lid >= len(self.row):
+            self.row += NONE * (lid // ROOM * ROOM + ROOM - len(self.row))
+        self.row[lid] = port
+
+    def lacks(self, lids, top):
+        """Those of some LIDs up to a top of which no port is told."""
+        row = self.row
+        return [
+            lid
+            for lid in lids
+            if (lid >= len(row) or row[lid] == NO_WAY) and lid <= top and lid not in self.others
+        ]
+
+    def greatest(self):
+        """The greatest LID of which a port is told, 0 where there is none."""
+        return max(len(self.row.rstrip(NONE)) - 1, 0, *self.others)
 
 
 class Dump:
     def __init__(self):
-        self.tables = {}  # GUID: port by LID
+        self.tables = {}  # GUID: entries
         self.tops = {}  # GUID: the last LID of its range
         self.named = {}  # LID: port GUID
         self.whole = set()  # GUIDs of switches whose lines are counted at their end
+        self.at = None  # the switch that is read
+        self.is_dump = False
 
-    def read(self, lines):
-        """Takes in the lines of a dump; those of a switch that is there already are added to it."""
-        at = None
-        for number, line in enumerate(lines, 1):
+    def read(self, path):
+        """Takes in a file, and tells whether it is a dump; the lines of a switch that is there already are added to it."""
+        fault, self.at, self.is_dump = [], None, False
+
+        def take(number, line):
             line = line.lstrip()
-            if len(line) > LONGEST_LINE:
-                raise Refused(f"line {number} is longer than OpenSM reads")
-            if line.startswith(HEAD):
-                at = self.head(number, line)
-            elif at is not None and line.startswith("0x"):
-                self.entry(number, line, at)
-            elif at is not None and re.match(r"\d+ (?:valid )?lids dumped", line):
-                self.whole.add(at)
-        return self
+            self.is_dump = self.is_dump or line.startswith(HEAD)
+            if not fault:
+                try:
+                    self.take(number, line)
+                except LineRefused as it:
+                    fault.append(it)
+
+        each_line(path, take, "replace")
+        if self.is_dump and fault:
+            raise fault[0]
+        return self.is_dump
+
+    def take(self, number, line):
+        if len(line) > LONGEST_LINE:
+            raise LineRefused(f"line {number} is longer than OpenSM reads")
+        if line.startswith(HEAD):
+            self.at = self.head(number, line)
+        elif self.at is not None and line.startswith("0x"):
+            self.entry(number, line)
+        elif self.at is not None and COUNT.match(line):
+            self.whole.add(self.at)
 
     def head(self, number, line):
-        guid = re.search(r" guid 0x([0-9a-f]+)(?:\s|$)", line)
+        guid = GUID.search(line)
         if not guid:
-            raise Refused(f"line {number} has no GUID of a switch")
+            raise LineRefused(f"line {number} has no GUID of a switch")
         at = int(guid[1], 16)
-        self.tables.setdefault(at, {})
-        if last := re.match(HEAD + r" \[\w+-(0x[0-9a-f]+|\d+)\]", line):
+        if at not in self.tables:
+            self.tables[at] = Entries()
+        if last := RANGE.match(line):
             self.tops[at] = max(self.tops.get(at, 0), int(last[1], 16 if last[1].startswith("0x") else 10))
         return at
 
-    def entry(self, number, line, at):
-        entry = re.match(r"0x([0-9a-f]+)\s+(\d+)(?:\s|$)", line)
+    def entry(self, number, line):
+        entry = ENTRY.match(line)
         if not entry:
-            raise Refused(f"line {number} has no LID and port")
-        lid, port = int(entry[1], 16), int(entry[2])
-        if self.tables[at].setdefault(lid, port) != port:
-            raise Refused(
-                f"line {number}: switch {at:016x} has another port for LID {lid} further up: are these dumps of two times?"
+            raise LineRefused(f"line {number} has no LID and port")
+        lid, port, table = int(entry[1], 16), int(entry[2]), self.tables[self.at]
+        before = table.get(lid)
+        if before is None:
+            table.put(lid, port)
+        elif before != port:
+            raise LineRefused(
+                f"line {number}: switch {self.at:016x} has another port for LID {lid} further up: are these dumps of two times?"
             )
-        if owner := re.search(r"portguid 0x([0-9a-f]+)", line):
+        if owner := OWNER.search(line):
             if self.named.setdefault(lid, int(owner[1], 16)) != int(owner[1], 16):
-                raise Refused(f"line {number}: LID {lid} has another owner further up: are these dumps of two times?")
+                raise LineRefused(f"line {number}: LID {lid} has another owner further up: are these dumps of two times?")

@@ -2,10 +2,13 @@
 
 An end is a pair of a node's GUID and a port. A text that is not whole or not in its form raises `Refused`.
 """
+import contextlib
 import os
 import pathlib
 import re
 import sys
+
+import progress
 
 GUID = "([0-9a-f]{16})"
 NUMBER = "([0-9]{1,10})"
@@ -22,7 +25,11 @@ FACTS = {
 FORMS = {kind: re.compile(f"{kind} {about} (?:(disputed)|{value}) @{NUMBER}") for kind, (about, value) in FACTS.items()}
 # The first line, where there is a floor over 1: what is older was forgotten.
 FLOOR = re.compile(f"floor {NUMBER}")
+LID_LINE = re.compile(f"lid {NUMBER} {END}(?: lmc ([1-7]))?")
+SWITCH_LINE = re.compile(f"switch {GUID} top {NUMBER}")
+BLOCK_NUMBER = re.compile(NUMBER)
 NO_WAY = 255
+NONE = bytes([NO_WAY])
 ENTRIES = 64
 
 
@@ -36,8 +43,9 @@ def ends(tool, doc, work):
         if {"-h", "--help"} & set(sys.argv[1:]):
             print(as_called(doc.strip()), flush=True)
             return 0
-        status = work(sys.argv[1:])
-        sys.stdout.flush()
+        with progress.told(tool):
+            status = work(sys.argv[1:])
+            sys.stdout.flush()
         return status
     except BrokenPipeError:
         # Who read it has seen enough, and Python would say so once more at its end.
@@ -76,17 +84,35 @@ def end_in(word):
     return (int(form[1], 16), int(form[2])) if form else None
 
 
-def lines_of(path, errors="strict"):
-    """The lines of a text, which has to end with one."""
+def each_line(path, take, errors="strict"):
+    """Hands a text's lines with their numbers to take, one after the other, so that no text is held.
+
+    What take refuses first holds once all is known to be a text whose last line has an end.
+    """
+    refused, line = None, "\n"
     with open(path, encoding="ascii", errors=errors) as file:
         try:
-            text = file.read()
+            with progress.reading(path, file):
+                for number, line in enumerate(file, 1):
+                    try:
+                        if refused is None:
+                            take(number, line[:-1])
+                    except Refused as fault:
+                        refused = fault
         except UnicodeDecodeError:
             fault = f"{path}: not a text: is it a recording or store file, and not what ibsm printed of it?"
             raise Refused(fault) from None
-    if text and not text.endswith("\n"):
+    if not line.endswith("\n"):
         raise Refused(f"{path}: its last line has no end: is it cut?")
-    return text.split("\n")[:-1]
+    if refused is not None:
+        raise refused
+
+
+def lines_of(path, errors="strict"):
+    """The lines of a text, which has to end with one."""
+    lines = []
+    each_line(path, lambda _, line: lines.append(line), errors)
+    return lines
 
 
 def names_in(path):
@@ -112,14 +138,15 @@ def with_names(line, names):
     return NAMED.sub(told, line)
 
 
-def put(path, text):
-    """Writes a file under another name and renames it, so that it is whole or as it was."""
+@contextlib.contextmanager
+def whole(path):
+    """A file to write bytes to, under another name until all is there, so that it is whole or as it was."""
     if os.path.exists(path) and not os.path.isfile(path):
         raise OSError(f"{path}: it is no regular file")
     temporary = f"{path}.{os.getpid()}"
     try:
-        with open(temporary, "x", encoding="utf-8") as file:
-            file.write(text)
+        with open(temporary, "xb") as file:
+            yield file
             file.flush()
             os.fsync(file.fileno())
         os.rename(temporary, path)
@@ -129,24 +156,27 @@ def put(path, text):
         raise
 
 
-def plan_text(ranges, tops, tables):
-    """A text in the form of a plan: first and last LID of each end, and the top and the port by LID of each switch's GUID."""
-    lines = []
+def put(path, text):
+    """Writes a file whole, or leaves it as it was."""
+    with whole(path) as file:
+        file.write(text.encode())
+
+
+def plan_lines(ranges, tops, tables):
+    """The lines of a plan: first and last LID of each end, and of each switch's GUID the top, and the entries from LID 0 on."""
     for end, (first, last) in sorted(ranges.items(), key=lambda item: (item[1], item[0])):
         lmc = (last - first + 1).bit_length() - 1
-        lines.append(f"lid {first} {name_of(end)}" + (f" lmc {lmc}" if lmc else ""))
+        yield f"lid {first} {name_of(end)}" + (f" lmc {lmc}" if lmc else "")
     for guid, table in sorted(tables.items()):
-        lines.append(f"switch {guid:016x} top {tops[guid]}")
+        yield f"switch {guid:016x} top {tops[guid]}"
         for start in range(0, tops[guid] + 1, ENTRIES):
-            entries = bytes(table.get(lid, NO_WAY) for lid in range(start, start + ENTRIES))
-            lines.append(f"block {start // ENTRIES} {entries.hex()}")
-    return "\n".join(lines) + "\n"
+            yield f"block {start // ENTRIES} {table[start : start + ENTRIES].ljust(ENTRIES, NONE).hex()}"
 
 
 class Facts:
-    """The text of `ibsm facts`."""
+    """The text of `ibsm facts`; its lines are kept where they are wanted."""
 
-    def __init__(self, path):
+    def __init__(self, path, keeps_lines=False):
         self.nodes = {}  # GUID: type, ports
         self.port_guids = {}
         self.links = {}  # end: far end
@@ -156,13 +186,17 @@ class Facts:
         self.disputed = []  # kind, GUID, port
         self.generations = set()
         self.floor = 1
-        self.lines = lines_of(path)
-        for number, line in enumerate(self.lines, 1):
-            floor = FLOOR.fullmatch(line) if number == 1 else None
-            if floor:
-                self.floor = int(floor[1])
-            elif not self.take(line):
-                raise Refused(f"{path}: line {number} is no fact: {line[:60]}")
+        self.path, self.lines = path, [] if keeps_lines else None
+        each_line(path, self.take_line)
+
+    def take_line(self, number, line):
+        if self.lines is not None:
+            self.lines.append(line)
+        floor = FLOOR.fullmatch(line) if number == 1 else None
+        if floor:
+            self.floor = int(floor[1])
+        elif not self.take(line):
+            raise Refused(f"{self.path}: line {number} is no fact: {line[:60]}")
 
     def take(self, line):
         kind = line.split(" ", 1)[0]
@@ -220,36 +254,69 @@ class Plan:
         self.shared = []  # LIDs that a second end has, with that end
         self.tops = {}
         self.tables = {}  # GUID: entries from LID 0 on, in whole blocks
-        self.last = None
-        for number, line in enumerate(lines_of(path), 1):
-            if not self.take(line):
-                raise Refused(f"{path}: line {number} is no line of a plan: {line[:60]}")
+        self.last, self.blocks = None, []  # the switch that is read, and its blocks
+        self.path = path
+        each_line(path, self.take_line)
+        self.close()
+        self.greatest = max(self.owners, default=0)
         for guid, table in self.tables.items():
             if len(table) != (self.tops[guid] // ENTRIES + 1) * ENTRIES:
                 blocks = len(table) // ENTRIES
                 raise Refused(f"{path}: switch {guid:016x} has {blocks} blocks for top {self.tops[guid]}: is it cut?")
 
-    def take(self, line):
-        if form := re.fullmatch(f"lid {NUMBER} {END}(?: lmc ([1-7]))?", line):
-            first, end = int(form[1]), (int(form[2], 16), int(form[3]))
-            last = first + 2 ** int(form[4] or 0) - 1
-            self.ranges.setdefault(end, (first, last))
-            for lid in range(first, last + 1):
-                if self.owners.setdefault(lid, end) != end:
-                    self.shared.append((lid, end))
-        elif form := re.fullmatch(f"switch {GUID} top {NUMBER}", line):
-            self.last = int(form[1], 16)
-            if self.last in self.tables:
-                return False
-            self.tables[self.last], self.tops[self.last] = b"", int(form[2])
-        elif form := re.fullmatch(f"block {NUMBER} ([0-9a-f]{{{2 * ENTRIES}}})", line):
-            if self.last is None or int(form[1]) * ENTRIES != len(self.tables[self.last]):
-                return False
-            self.tables[self.last] += bytes.fromhex(form[2])
+    def take_line(self, number, line):
+        if line.startswith("block "):
+            is_taken = self.take_block(line)
         else:
+            is_taken = self.take_lids(line) or self.take_switch(line)
+        if not is_taken:
+            raise Refused(f"{self.path}: line {number} is no line of a plan: {line[:60]}")
+
+    def take_lids(self, line):
+        form = LID_LINE.fullmatch(line)
+        if not form:
             return False
+        first, end = int(form[1]), (int(form[2], 16), int(form[3]))
+        last = first + 2 ** int(form[4] or 0) - 1
+        self.ranges.setdefault(end, (first, last))
+        for lid in range(first, last + 1):
+            if self.owners.setdefault(lid, end) != end:
+                self.shared.append((lid, end))
         return True
+
+    def take_switch(self, line):
+        form = SWITCH_LINE.fullmatch(line)
+        guid = int(form[1], 16) if form else None
+        if guid is None or guid in self.tops:
+            return False
+        self.close()
+        self.last, self.tops[guid] = guid, int(form[2])
+        return True
+
+    def take_block(self, line):
+        """Takes the next block of the switch that is read."""
+        number, _, digits = line[6:].partition(" ")
+        try:
+            entries = bytes.fromhex(digits)
+        except ValueError:
+            return False
+        # Nothing but lower-case digits is spelled as it was read.
+        if self.last is None or len(entries) != ENTRIES or entries.hex() != digits:
+            return False
+        if number != str(len(self.blocks)) and not (BLOCK_NUMBER.fullmatch(number) and int(number) == len(self.blocks)):
+            return False
+        self.blocks.append(entries)
+        return True
+
+    def close(self):
+        """Keeps the table of the switch that was read."""
+        if self.last is not None:
+            self.tables[self.last], self.blocks = b"".join(self.blocks), []
 
     def entry(self, guid, lid):
         """By which port a switch sends packets for a LID; NO_WAY above its top, and where there is no such switch."""
         return self.tables[guid][lid] if lid <= self.tops.get(guid, -1) else NO_WAY
+
+    def row(self, guid):
+        """The entries of a switch from LID 0 up to its top."""
+        return self.tables[guid][: self.tops[guid] + 1]

@@ -1,11 +1,15 @@
-"""Where packets go by the tables of a plan, over the cables of the facts: who they reach, and on whom they wait.
+"""Where packets go by the tables of a plan, over the cables of the facts, and whom they reach.
 
 Switches are numbered by their GUIDs' order. The entries of all switches for one LID are a *column*, one byte each. LIDs
 whose owners sit at one switch mostly have the same column but for that switch, so each column is walked once.
 """
 import collections
+import functools
+import itertools
+import operator
 
-from ibsm_texts import NO_WAY, name_of
+import progress
+from ibsm_texts import ENTRIES, NO_WAY, NONE, name_of
 
 # Of what is wrong, no more than this is said.
 MOST_SAID = 20
@@ -13,7 +17,7 @@ MOST_SAID = 20
 
 class Routes:
     def __init__(self, facts, plan):
-        self.owners, self.guids = plan.owners, sorted(plan.tables)
+        self.plan, self.owners, self.guids = plan, plan.owners, sorted(plan.tables)
         self.place = {guid: i for i, guid in enumerate(self.guids)}
         self.far = [{} for _ in self.guids]  # port: far end
         for (guid, port) in facts.links:
@@ -25,28 +29,40 @@ class Routes:
             for port, end in ports.items():
                 if end[0] not in self.place:
                     self.home[end] = i, port
-        self.groups, self.unowned = self.columns(plan)
 
-    def columns(self, plan):
-        """The columns with their owners' switch, and the LIDs of each; and those of LIDs that nobody owns.
+    def columns(self, lids):
+        """Each of some rising LIDs with its column. No more than a block of each switch is put together at a time."""
+        for number, those in itertools.groupby(lids, lambda lid: lid // ENTRIES):
+            start = number * ENTRIES
+            stripe = b"".join(
+                self.plan.tables[guid][start : min(start + ENTRIES, self.plan.tops[guid] + 1)].ljust(ENTRIES, NONE)
+                for guid in self.guids
+            )
+            for lid in those:
+                yield lid, stripe[lid - start :: ENTRIES]
+
+    def owned(self):
+        """Each LID that somebody owns, rising, with its owner's switch and the column.
 
         At the owner's switch the column has 0 where packets leave it for the owner; the switch is None where they do
         not.
         """
-        length = max(*self.owners, *plan.tops.values(), 0, 0) + 1
-        rows = (plan.tables[g][: plan.tops[g] + 1][:length] for g in self.guids)
-        matrix = b"".join(row.ljust(length, bytes([NO_WAY])) for row in rows)
-        unowned = {matrix[lid::length] for lid in range(1, length) if lid not in self.owners}
-        groups = collections.defaultdict(list)
-        for lid, owner in sorted(self.owners.items()):
-            column = bytearray(matrix[lid::length])
+        for lid, entries in self.columns(sorted(self.owners)):
+            owner, column = self.owners[lid], bytearray(entries)
             at, port = (self.place.get(owner[0]), 0) if owner[1] == 0 else self.home.get(owner, (None, None))
             if at is not None and column[at] == port:
                 column[at] = 0
             else:
                 at = None
-            groups[at, bytes(column)].append(lid)
-        return groups, unowned
+            yield lid, at, bytes(column)
+
+    @functools.cached_property
+    def groups(self):
+        """The LIDs of each switch of owners and column."""
+        found = collections.defaultdict(list)
+        for lid, at, column in self.owned():
+            found[at, column].append(lid)
+        return found
 
     def step(self, at, home, column):
         """Where a packet goes on from a switch: the next switch, or how it ends and what is wrong with that."""
@@ -89,29 +105,61 @@ class Routes:
         return arrives, wrong
 
     def faults(self):
-        """What is wrong with the ways of LIDs, and how many pairs of a switch and a LID have no way."""
-        found, without = [], 0
-        for (home, column), lids in self.groups.items():
+        """What is wrong with the ways of LIDs, and how many pairs of a switch and a LID have no way.
+
+        Where nothing is wrong with a column no switch is looked at alone, and a column is followed once for a row of LIDs
+        whose owners sit at one switch.
+        """
+        nexts, last, odd, without = self.nexts(), {}, collections.defaultdict(list), 0
+        for lid, home, column in progress.counted("follows packets for LIDs", self.owned(), len(self.owners)):
+            if home not in last or last[home][0] != column:
+                last[home] = column, self.lost(nexts, home, column)
+            count = last[home][1]
+            if count is None:
+                odd[home, column].append(lid)
+            else:
+                without += count
+        found = []
+        for (home, column), lids in odd.items():
             arrives, wrong = self.arrivals(home, column)
             without += sum(not ended for ended in arrives.values()) * len(lids)
             alike = f", and {len(lids) - 1} others" if len(lids) > 1 else ""
             found += [f"a packet for LID {lids[0]}{alike}: {fault}" for fault in wrong[:MOST_SAID]]
         return found, without
 
+    def nexts(self):
+        """For each switch and entry the next switch; behind the switches stand that there is no way, and a fault."""
+        count = len(self.guids)
+        found = []
+        for ports in self.far:
+            row = [count + 2] * (NO_WAY + 1)
+            row[NO_WAY] = count + 1
+            for port, end in ports.items():
+                if 0 < port < NO_WAY:
+                    row[port] = self.place.get(end[0], count + 2)
+            found.append(row)
+        return found
+
+    def lost(self, nexts, home, column):
+        """From how many switches packets have no way by a column; None where one goes round or ends with a fault.
+
+        All packets go on at once, each round twice as far as before, until none does so any more.
+        """
+        count = len(self.guids)
+        at = [*map(operator.getitem, nexts, column), count, count + 1, count + 2]
+        if home is not None:
+            at[home] = count
+        steps, before = 1, None
+        while at != before and steps <= 2 * count:
+            before, steps = at, 2 * steps
+            at = list(operator.itemgetter(*at)(at))
+        arrived, without = at.count(count) - 1, at.count(count + 1) - 1
+        return without if arrived + without == count else None
+
     def ends(self):
         """The channels, each a switch and a port of it with a cable to another switch, with that switch."""
         return {(i, port): self.place[end[0]] for i, ports in enumerate(self.far) for port, end in ports.items()
                 if end[0] in self.place}
-
-    def after(self):
-        """For each channel those that packets take next, for whichever LID."""
-        ends, found = self.ends(), collections.defaultdict(set)
-        for home, column in [*self.groups, *((None, column) for column in self.unowned)]:
-            for at, port in enumerate(column):
-                far = ends.get((at, port)) if at != home else None
-                if far is not None and far != home and (far, column[far]) in ends:
-                    found[at, port].add((far, column[far]))
-        return found
 
     def carried(self):
         """For each channel how many routes it carries, of each adapter port's packets to each LID of each other one."""
@@ -140,26 +188,3 @@ class Routes:
             waits[far] -= 1
             if not waits[far]:
                 ready.append(far)
-
-    def spelled(self, ring):
-        return " > ".join(name_of((self.guids[at], port)) for at, port in [*ring, ring[0]])
-
-
-def circle(after):
-    """Channels that wait for each other in a circle, in its order; empty where there is none."""
-    waits = collections.Counter(channel for following in after.values() for channel in following)
-    left = {channel: set(following) for channel, following in after.items()}
-    free = [channel for channel in left if not waits[channel]]
-    while free:
-        for channel in left.pop(free.pop(), ()):
-            waits[channel] -= 1
-            if not waits[channel]:
-                free.append(channel)
-    # Each channel that is left comes after another one that is left: follow them back.
-    before = {channel: one for one, following in left.items() for channel in following}
-    if not left:
-        return []
-    ring = [next(iter(left))]
-    while before[ring[-1]] not in ring:
-        ring.append(before[ring[-1]])
-    return ring[ring.index(before[ring[-1]]) :][::-1]

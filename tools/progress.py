@@ -1,0 +1,93 @@
+"""How far a tool is: said on a terminal, in one line that is written over, once somebody has waited for two seconds."""
+import contextlib
+import os
+import sys
+import threading
+
+# Seconds until something is said, and until it is said anew.
+FIRST, THEN = 2, 0.5
+WIDEST = 100
+
+_lock = threading.Lock()
+_now = [None]  # what is done now: a text, or a function that gives one
+_is_shown = [False]
+
+
+def at(what):
+    """Notes what is done now, and gives what was done before; None where there is nothing to say of it."""
+    with _lock:
+        before, _now[0] = _now[0], what
+        if what is None:
+            _clear()
+    return before
+
+
+@contextlib.contextmanager
+def doing(what):
+    """Notes what is done meanwhile."""
+    before = at(what)
+    try:
+        yield
+    finally:
+        at(before)
+
+
+def reading(path, file):
+    """Notes meanwhile that a file is read, and of a regular one how far."""
+    number = file.fileno()
+    size = os.fstat(number).st_size
+    return doing(lambda: f"reads {path}" + (f", {100 * os.lseek(number, 0, os.SEEK_CUR) // size} %" if size else ""))
+
+
+def counted(what, things, count):
+    """So many things one after the other, with a note of how many are behind."""
+    behind = 0
+    with doing(lambda: f"{what}, {behind} of {count}"):
+        for thing in things:
+            yield thing
+            behind += 1
+
+
+def _clear():
+    if _is_shown[0]:
+        print("\r\033[K", end="", file=sys.stderr, flush=True)
+        _is_shown[0] = False
+
+
+def _tell(tool, ended):
+    seconds = FIRST
+    while not ended.wait(seconds):
+        seconds = THEN
+        with _lock:
+            try:
+                what = _now[0]() if callable(_now[0]) else _now[0]
+                if what and not ended.is_set():
+                    print(f"\r\033[K{tool}: {what}"[:WIDEST], end="", file=sys.stderr, flush=True)
+                    _is_shown[0] = True
+            except OSError:
+                # The file is closed by now, or the terminal is gone.
+                pass
+
+
+@contextlib.contextmanager
+def hidden():
+    """What is printed meanwhile stands in lines of its own."""
+    with _lock:
+        _clear()
+        yield
+
+
+@contextlib.contextmanager
+def told(tool):
+    """Says meanwhile how far the tool is, where standard error is a terminal."""
+    if not sys.stderr.isatty():
+        yield
+        return
+    ended = threading.Event()
+    threading.Thread(target=_tell, args=(tool, ended), daemon=True).start()
+    try:
+        yield
+    finally:
+        ended.set()
+        with _lock:
+            _clear()
