@@ -24,6 +24,7 @@ FORMS = {kind: re.compile(f"{kind} {about} (?:(disputed)|{value}) @{NUMBER}") fo
 FLOOR = re.compile(f"floor {NUMBER}")
 NO_WAY = 255
 ENTRIES = 64
+GREATEST_LID = 0xBFFF
 
 
 class Refused(Exception):
@@ -144,9 +145,9 @@ def plan_text(ranges, tops, tables):
 
 
 class Facts:
-    """The text of `ibsm facts`."""
+    """The text of `ibsm facts`, in a file or in lines."""
 
-    def __init__(self, path):
+    def __init__(self, path, lines=None):
         self.nodes = {}  # GUID: type, ports
         self.port_guids = {}
         self.links = {}  # end: far end
@@ -156,7 +157,7 @@ class Facts:
         self.disputed = []  # kind, GUID, port
         self.generations = set()
         self.floor = 1
-        self.lines = lines_of(path)
+        self.lines = lines_of(path) if lines is None else lines
         for number, line in enumerate(self.lines, 1):
             floor = FLOOR.fullmatch(line) if number == 1 else None
             if floor:
