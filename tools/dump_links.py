@@ -29,10 +29,14 @@ LST_LINE = re.compile(rf"\s*{SIDE}\s*{SIDE}\s*PHY=\S+\s+LOG=(\S+)\s+SPD=\S+\s*")
 STATES = {"NOC": "down", "DWN": "down", "INI": "up", "ARM": "up", "ACT": "up"}
 
 
+def first_of(lines):
+    """Returns the first line that is no comment."""
+    return next((line for line in lines if line.strip() and not line.startswith("#")), "")
+
+
 def is_links(lines):
-    """Whether a text is a dump of nodes and cables, by its first line that is not empty."""
-    first = next((line for line in lines if line.strip()), "")
-    return first.startswith("{") or re.match(r"# *$|# Topology file|vendid=|(?:switch|ca|rt)guid=", first) is not None
+    """Whether a text is a dump of nodes and cables."""
+    return re.match(r"\s*\{|(?:vendid|devid|\w+guid)=0x|Chassis \d|Non-Chassis", first_of(lines)) is not None
 
 
 class Told:
@@ -45,8 +49,9 @@ class Told:
 
     def read(self, path, lines):
         """Takes in a dump, which is all of one form."""
-        first = next(line for line in lines if line.strip())
-        self.path, take = path, self.lst_line if first.startswith("{") else Netdiscovered(self).line
+        self.path, take = path, Netdiscovered(self).line
+        if first_of(lines).lstrip().startswith("{"):
+            take = self.lst_line
         for self.number, line in enumerate(lines, 1):
             if not take(line):
                 raise self.fault(f"is not understood: {line[:60]}")
