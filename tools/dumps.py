@@ -1,11 +1,13 @@
-"""Forwarding tables as others dump them: dump_fts, dump_lfts, ibroute, and OpenSM's file opensm-lfts.dump.
+"""Forwarding tables as others dump them: dump_fts, dump_lfts, ibroute, OpenSM's file opensm-lfts.dump, and the .fdbs of
+OpenSM and ibdiagnet.
 
-Each switch has a head with its range of LIDs and its GUID, a line for each LID with a port, which may name the port GUID
-of the LID's owner, and a line that counts them. OpenSM reads its own file so for its routing engine `file`.
+Each switch has a head with its range of LIDs and its GUID, a line for each LID with a port, which may name the port
+GUID of the LID's owner, and a line that counts them. OpenSM reads its own file so for its routing engine `file`. In
+.fdbs a head has no range, the last LID that has a line is the top, and nothing is counted or named.
 """
 import re
 
-from ibsm_texts import NO_WAY, NONE, Refused, each_line
+from ibsm_texts import ENTRIES, GREATEST_LID, NO_WAY, NONE, Refused, each_line, name_of
 
 # OpenSM reads lines into 1,024 bytes.
 LONGEST_LINE = 1022
@@ -15,6 +17,10 @@ RANGE = re.compile(HEAD + r" \[\w+-(0x[0-9a-f]+|\d+)\]")
 ENTRY = re.compile(r"0x([0-9a-f]+)\s+(\d+)(?:\s|$)")
 OWNER = re.compile(r"portguid 0x([0-9a-f]+)")
 COUNT = re.compile(r"\d+ (?:valid )?lids dumped")
+FDBS_HEAD = re.compile(r"(?:osm_ucast_mgr_)?dump_ucast_routes: Switch 0x([0-9a-fA-F]{1,16})\s*")
+FDBS_LINE = re.compile(r"0x([0-9a-fA-F]{1,4}) : (?:(\d+) *: \d+ *: .*|UNREACHABLE)\s*")
+# What stands between heads and entries: the heads of columns, and the warning of dump_lfts.
+BETWEEN = re.compile(r"|Lid\s+Out\s+Destination\s*|Port\s+Info\s*|LID\s*: Port\s*: Hops\s*: Optimal\s*|\*\*\*.*")
 # Rows of entries have room for so many LIDs more each time.
 ROOM = 4096
 LIDS = 65536
@@ -22,6 +28,14 @@ LIDS = 65536
 
 class LineRefused(Refused):
     """A line is none of a dump."""
+
+
+def is_head(line):
+    return line.startswith(HEAD) or FDBS_HEAD.fullmatch(line) is not None
+
+
+def is_dump(lines):
+    return any(is_head(line.lstrip()) for line in lines)
 
 
 class Entries:
@@ -52,6 +66,11 @@ class Entries:
             if (lid >= len(row) or row[lid] == NO_WAY) and lid <= top and lid not in self.others
         ]
 
+    def led(self):
+        """The LIDs for which packets leave by a port."""
+        yield from (lid for lid, port in enumerate(self.row) if port != NO_WAY)
+        yield from (lid for lid, port in self.others.items() if port != NO_WAY)
+
     def greatest(self):
         """The greatest LID of which a port is told, 0 where there is none."""
         return max(len(self.row.rstrip(NONE)) - 1, 0, *self.others)
@@ -63,16 +82,22 @@ class Dump:
         self.tops = {}  # GUID: the last LID of its range
         self.named = {}  # LID: port GUID
         self.whole = set()  # GUIDs of switches whose lines are counted at their end
-        self.at = None  # the switch that is read
-        self.is_dump = False
+        self.uncounted = set()  # GUIDs of switches of .fdbs, which count none
+        self.sources = {}  # GUID of a switch, or LID that has an owner: the dump that told of it first
+        self.begin("")
+
+    def begin(self, path):
+        self.path, self.at, self.is_fdbs, self.is_dump = path, None, False, False
 
     def read(self, path):
-        """Takes in a file, and tells whether it is a dump; the lines of a switch that is there already are added to it."""
-        fault, self.at, self.is_dump = [], None, False
+        """Takes in a file, and tells whether it is a dump; the lines of a switch that is there already are added to it.
+        What is no line of a dump is passed over, as OpenSM does."""
+        fault = []
+        self.begin(path)
 
         def take(number, line):
             line = line.lstrip()
-            self.is_dump = self.is_dump or line.startswith(HEAD)
+            self.is_dump = self.is_dump or is_head(line)
             if not fault:
                 try:
                     self.take(number, line)
@@ -84,39 +109,136 @@ class Dump:
             raise fault[0]
         return self.is_dump
 
+    def read_strictly(self, path, lines):
+        """Takes in the lines of a file, each of which has to be a dump's."""
+        self.begin(path)
+        for number, line in enumerate(lines, 1):
+            line = line.lstrip()
+            if not self.take(number, line) and not BETWEEN.fullmatch(line):
+                raise LineRefused(f"line {number} is no line of a dump of tables: {line[:60]}")
+
     def take(self, number, line):
+        """Takes in a line, and tells whether it is a dump's."""
         if len(line) > LONGEST_LINE:
             raise LineRefused(f"line {number} is longer than OpenSM reads")
-        if line.startswith(HEAD):
-            self.at = self.head(number, line)
+        if is_head(line):
+            self.head(number, line)
         elif self.at is not None and line.startswith("0x"):
-            self.entry(number, line)
+            (self.fdbs_entry if self.is_fdbs else self.entry)(number, line)
         elif self.at is not None and COUNT.match(line):
             self.whole.add(self.at)
+        else:
+            return False
+        return True
 
     def head(self, number, line):
-        guid = GUID.search(line)
+        fdbs = FDBS_HEAD.fullmatch(line)
+        guid = fdbs or GUID.search(line)
         if not guid:
             raise LineRefused(f"line {number} has no GUID of a switch")
-        at = int(guid[1], 16)
-        if at not in self.tables:
-            self.tables[at] = Entries()
-        if last := RANGE.match(line):
-            self.tops[at] = max(self.tops.get(at, 0), int(last[1], 16 if last[1].startswith("0x") else 10))
-        return at
+        self.at, self.is_fdbs = int(guid[1], 16), fdbs is not None
+        if self.at not in self.tables:
+            self.tables[self.at] = Entries()
+            self.sources["switch", self.at] = self.path
+        if fdbs:
+            self.uncounted.add(self.at)
+        elif last := RANGE.match(line):
+            self.tops[self.at] = max(self.tops.get(self.at, 0), int(last[1], 16 if last[1].startswith("0x") else 10))
+
+    def elsewhere(self, *key):
+        """Where else it is told."""
+        return "further up" if self.sources[key] == self.path else f"in {self.sources[key]}"
+
+    def put(self, number, lid, port):
+        table = self.tables[self.at]
+        before = table.get(lid)
+        if before is None:
+            table.put(lid, port)
+        elif before != port:
+            place = self.elsewhere("switch", self.at)
+            raise LineRefused(
+                f"line {number}: switch {self.at:016x} has another port for LID {lid} {place}: are these dumps of two times?"
+            )
 
     def entry(self, number, line):
         entry = ENTRY.match(line)
         if not entry:
             raise LineRefused(f"line {number} has no LID and port")
-        lid, port, table = int(entry[1], 16), int(entry[2]), self.tables[self.at]
-        before = table.get(lid)
-        if before is None:
-            table.put(lid, port)
-        elif before != port:
-            raise LineRefused(
-                f"line {number}: switch {self.at:016x} has another port for LID {lid} further up: are these dumps of two times?"
-            )
+        lid = int(entry[1], 16)
+        self.put(number, lid, int(entry[2]))
         if owner := OWNER.search(line):
+            self.sources.setdefault(("lid", lid), self.path)
             if self.named.setdefault(lid, int(owner[1], 16)) != int(owner[1], 16):
-                raise LineRefused(f"line {number}: LID {lid} has another owner further up: are these dumps of two times?")
+                place = self.elsewhere("lid", lid)
+                raise LineRefused(f"line {number}: LID {lid} has another owner {place}: are these dumps of two times?")
+
+    def fdbs_entry(self, number, line):
+        entry = FDBS_LINE.fullmatch(line)
+        if not entry:
+            raise LineRefused(f"line {number} has no LID and port")
+        lid = int(entry[1], 16)
+        self.tops[self.at] = max(self.tops.get(self.at, 0), lid)
+        if entry[2]:
+            self.put(number, lid, int(entry[2]))
+
+    def judge(self):
+        """Refuses what no switch can hold."""
+        for guid, table in self.tables.items():
+            if guid not in self.tops or table.greatest() > self.tops[guid] or self.tops[guid] > GREATEST_LID:
+                raise Refused(f"switch {guid:016x} has no range of LIDs in its head, or an entry above it")
+            if max(table.others.values(), default=0) > NO_WAY:
+                raise Refused(f"switch {guid:016x} has an entry over {NO_WAY}")
+
+
+def lids_of(facts, dump, lmcs=None):
+    """The first and the last LID of each end port by facts, dumps and the LMCs that are known, and where these do not
+    go together."""
+    by_guid, ranges, found = {}, {}, []
+    for lid, guid in sorted(dump.named.items()):
+        by_guid.setdefault(guid, []).append(lid)
+    for end, guid in sorted(facts.port_guids.items()):
+        claimed, named = facts.claims.get(end, 0), by_guid.pop(guid, [])
+        first = claimed or (named[0] if named else 0)
+        count = len(named) if named and named[-1] - first + 1 == len(named) else 1
+        if lmcs and end in lmcs:
+            count = 2 ** lmcs[end]
+            goes = not named or first <= named[0] and named[-1] < first + count
+        else:
+            goes = not named or named[0] == first and count == len(named) and not count & (count - 1)
+        if not goes:
+            given = ", ".join(map(str, named[:8]))
+            place = name_of(end)
+            found.append(f"port {place} claims LID {claimed}, and the dumps give it {given}: are they of one time?")
+            count = 1
+        if first:
+            ranges[end] = first, first + count - 1
+    found += [
+        f"LID {lids[0]} is of port GUID {guid:016x}, which the facts do not know" for guid, lids in by_guid.items()
+    ]
+    return ranges, found
+
+
+def lacks(facts, dump, ranges):
+    """What is missing in dumps: the kind, and a line that tells it."""
+    owned = sorted(lid for first, last in ranges.values() for lid in range(first, last + 1))
+    for guid in sorted(set(facts.nodes) | set(dump.tables)):
+        if guid not in dump.tables:
+            if facts.is_switch(guid):
+                yield "dump", f"switch {guid:016x} is in no dump"
+            continue
+        if not facts.is_switch(guid):
+            yield "switch", f"switch {guid:016x} is no switch of the facts"
+        if guid not in dump.whole | dump.uncounted:
+            yield "count", f"switch {guid:016x}: its lines are not counted at their end: is the dump cut?"
+        without = dump.tables[guid].lacks(owned, dump.tops[guid])
+        if guid not in dump.uncounted and dump.tops[guid] in without and dump.tops[guid] % ENTRIES == 0:
+            yield "top", (
+                f"switch {guid:016x}: no entry for its top, LID {without.pop()}: infiniband-diags leave out the entry "
+                f"of a top that is a multiple of {ENTRIES}; `record --tables` reads it"
+            )
+        if without:
+            count, least = len(without), without[0]
+            yield "entry", (
+                f"switch {guid:016x}: no entries for {count} LIDs that ports have, from LID {least} on: "
+                "no way, or left out"
+            )

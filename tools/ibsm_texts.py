@@ -31,6 +31,7 @@ BLOCK_NUMBER = re.compile(NUMBER)
 NO_WAY = 255
 NONE = bytes([NO_WAY])
 ENTRIES = 64
+GREATEST_LID = 0xBFFF
 
 
 class Refused(Exception):
@@ -174,9 +175,9 @@ def plan_lines(ranges, tops, tables):
 
 
 class Facts:
-    """The text of `ibsm facts`; its lines are kept where they are wanted."""
+    """The text of `ibsm facts`, in a file or in lines; a file's lines are kept where they are wanted."""
 
-    def __init__(self, path, keeps_lines=False):
+    def __init__(self, path, keeps_lines=False, lines=None):
         self.nodes = {}  # GUID: type, ports
         self.port_guids = {}
         self.links = {}  # end: far end
@@ -187,7 +188,11 @@ class Facts:
         self.generations = set()
         self.floor = 1
         self.path, self.lines = path, [] if keeps_lines else None
-        each_line(path, self.take_line)
+        if lines is None:
+            each_line(path, self.take_line)
+        else:
+            for number, line in enumerate(lines, 1):
+                self.take_line(number, line)
 
     def take_line(self, number, line):
         if self.lines is not None:
