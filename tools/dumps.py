@@ -25,7 +25,7 @@ class LineRefused(Refused):
 
 
 class Entries:
-    """The ports by LID of a switch: a byte each, NO_WAY where none is told, and beside them what a byte doesn't hold."""
+    """The ports of a switch by LID: a byte each, NO_WAY where none is told, and what a byte doesn't hold by itself."""
 
     def __init__(self):
         self.row, self.others = bytearray(), {}
@@ -64,27 +64,37 @@ class Dump:
         self.named = {}  # LID: port GUID
         self.whole = set()  # GUIDs of switches whose lines are counted at their end
         self.at = None  # the switch that is read
-        self.is_dump = False
+        self.is_dump, self.fault = False, None
+        self.tails = {}  # LID: what stood behind the port in a line that was read
+        self.lids = {f"0x{lid:04x}": lid for lid in range(LIDS)}
+        self.ports = {f" {port:03d}": port for port in range(NO_WAY)}
 
     def read(self, path):
-        """Takes in a file, and tells whether it is a dump; the lines of a switch that is there already are added to it."""
-        fault, self.at, self.is_dump = [], None, False
-
-        def take(number, line):
-            line = line.lstrip()
-            self.is_dump = self.is_dump or line.startswith(HEAD)
-            if not fault:
-                try:
-                    self.take(number, line)
-                except LineRefused as it:
-                    fault.append(it)
-
-        each_line(path, take, "replace")
-        if self.is_dump and fault:
-            raise fault[0]
+        """Takes in a file, and tells whether it is a dump; lines of a switch that is there already are added to it."""
+        self.at, self.is_dump, self.fault = None, False, None
+        each_line(path, self.take, "replace")
+        if self.is_dump and self.fault:
+            raise self.fault
         return self.is_dump
 
     def take(self, number, line):
+        lid = self.lids.get(line[:6])
+        port = self.ports.get(line[6:10])
+        if lid is not None and port is not None and self.at is not None and self.tails.get(lid) == line[10:]:
+            # A line like one that was read, but for the port.
+            row = self.tables[self.at].row
+            if lid < len(row) and row[lid] == NO_WAY and lid not in self.tables[self.at].others:
+                row[lid] = port
+                return
+        line = line.lstrip()
+        self.is_dump = self.is_dump or line.startswith(HEAD)
+        if self.fault is None:
+            try:
+                self.take_other(number, line)
+            except LineRefused as fault:
+                self.fault, self.at = fault, None
+
+    def take_other(self, number, line):
         if len(line) > LONGEST_LINE:
             raise LineRefused(f"line {number} is longer than OpenSM reads")
         if line.startswith(HEAD):
@@ -115,8 +125,13 @@ class Dump:
             table.put(lid, port)
         elif before != port:
             raise LineRefused(
-                f"line {number}: switch {self.at:016x} has another port for LID {lid} further up: are these dumps of two times?"
+                f"line {number}: switch {self.at:016x} has another port for LID {lid} further up: "
+                f"are these dumps of two times?"
             )
         if owner := OWNER.search(line):
             if self.named.setdefault(lid, int(owner[1], 16)) != int(owner[1], 16):
-                raise LineRefused(f"line {number}: LID {lid} has another owner further up: are these dumps of two times?")
+                raise LineRefused(
+                    f"line {number}: LID {lid} has another owner further up: are these dumps of two times?"
+                )
+        if entry.span(1) == (2, 6) and entry.end(2) == 10 and self.lids.get(line[:6]) == lid:
+            self.tails[lid] = line[10:]
