@@ -6,7 +6,7 @@ from ibsm_texts import end_in
 
 
 def after(ways):
-    """For each channel, a switch and a port of it, those that packets take next, for whichever LID up to the greatest top."""
+    """For each channel, a switch and a port of it, those that packets for any LID up to the greatest top take next."""
     ends, found = ways.ends(), collections.defaultdict(set)
     last = max(*ways.owners, *ways.plan.tops.values())
     unowned = {column for _, column in ways.columns(lid for lid in range(1, last + 1) if lid not in ways.owners)}

@@ -18,7 +18,7 @@ def names_differ(plan, held, called=("plan", "fabric")):
 
 
 def apart(one, other):
-    """A byte for each entry of the longer of two rows, which is 0 where they are equal, or one ends and the other has none."""
+    """A byte for each entry of the longer of two rows: 0 where the two are equal, or one ends and the other has none."""
     length = max(len(one), len(other))
     one, other = (int.from_bytes(row.ljust(length, NONE), "big") for row in (one, other))
     return (one ^ other).to_bytes(length, "big")

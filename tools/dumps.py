@@ -39,7 +39,7 @@ def is_dump(lines):
 
 
 class Entries:
-    """The ports by LID of a switch: a byte each, NO_WAY where none is told, and beside them what a byte doesn't hold."""
+    """The ports of a switch by LID: a byte each, NO_WAY where none is told, and what a byte doesn't hold by itself."""
 
     def __init__(self):
         self.row, self.others = bytearray(), {}
@@ -84,30 +84,46 @@ class Dump:
         self.whole = set()  # GUIDs of switches whose lines are counted at their end
         self.uncounted = set()  # GUIDs of switches of .fdbs, which count none
         self.sources = {}  # GUID of a switch, or LID that has an owner: the dump that told of it first
+        self.tails = {}  # LID: what stood behind the port in a line that was read
+        self.lids = {f"0x{lid:04x}": lid for lid in range(LIDS)}
+        self.ports = {f" {port:03d}": port for port in range(NO_WAY)}
         self.begin("")
 
     def begin(self, path):
-        self.path, self.at, self.is_fdbs, self.is_dump = path, None, False, False
+        self.path, self.at, self.is_fdbs, self.is_dump, self.fault = path, None, False, False, None
 
     def read(self, path):
         """Takes in a file, and tells whether it is a dump; the lines of a switch that is there already are added to it.
         What is no line of a dump is passed over, as OpenSM does."""
-        fault = []
         self.begin(path)
-
-        def take(number, line):
-            line = line.lstrip()
-            self.is_dump = self.is_dump or is_head(line)
-            if not fault:
-                try:
-                    self.take(number, line)
-                except LineRefused as it:
-                    fault.append(it)
-
-        each_line(path, take, "replace")
-        if self.is_dump and fault:
-            raise fault[0]
+        each_line(path, self.take_loosely, "replace")
+        if self.is_dump and self.fault:
+            raise self.fault
         return self.is_dump
+
+    def take_loosely(self, number, line):
+        """Takes in a line of a file that may be no dump; the first fault is kept."""
+        if self.is_like_one(line):
+            return
+        line = line.lstrip()
+        self.is_dump = self.is_dump or is_head(line)
+        if self.fault is None:
+            try:
+                self.take(number, line)
+            except LineRefused as fault:
+                self.fault, self.at = fault, None
+
+    def is_like_one(self, line):
+        """Takes in a line if it is like one that was read, but for the port, and tells whether it is."""
+        lid = self.lids.get(line[:6])
+        port = self.ports.get(line[6:10])
+        if lid is None or port is None or self.at is None or self.tails.get(lid) != line[10:]:
+            return False
+        table = self.tables[self.at]
+        is_taken = lid < len(table.row) and table.row[lid] == NO_WAY and lid not in table.others
+        if is_taken:
+            table.row[lid] = port
+        return is_taken
 
     def read_strictly(self, path, lines):
         """Takes in the lines of a file, each of which has to be a dump's."""
@@ -171,6 +187,8 @@ class Dump:
             if self.named.setdefault(lid, int(owner[1], 16)) != int(owner[1], 16):
                 place = self.elsewhere("lid", lid)
                 raise LineRefused(f"line {number}: LID {lid} has another owner {place}: are these dumps of two times?")
+        if entry.span(1) == (2, 6) and entry.end(2) == 10 and self.lids.get(line[:6]) == lid:
+            self.tails[lid] = line[10:]
 
     def fdbs_entry(self, number, line):
         entry = FDBS_LINE.fullmatch(line)

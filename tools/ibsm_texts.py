@@ -164,7 +164,7 @@ def put(path, text):
 
 
 def plan_lines(ranges, tops, tables):
-    """The lines of a plan: first and last LID of each end, and of each switch's GUID the top, and the entries from LID 0 on."""
+    """The lines of a plan: of each end its first and last LID, of each switch's GUID the top and the entries from LID 0 on."""
     for end, (first, last) in sorted(ranges.items(), key=lambda item: (item[1], item[0])):
         lmc = (last - first + 1).bit_length() - 1
         yield f"lid {first} {name_of(end)}" + (f" lmc {lmc}" if lmc else "")

@@ -1,7 +1,7 @@
 """The file of tables that OpenSM's routing engine `file` reads: made a switch at a time, and read by OpenSM's rules.
 
-It has the form of OpenSM's own dump, without types and names. An entry without a way is left out: OpenSM takes it for a bad
-port, and drops the whole file. Lines of entries are of one length, so that each of their digits stands at one place of all.
+It has the form of OpenSM's own dump, without types and names. An entry without a way is left out: OpenSM takes it for a
+bad port, and drops the whole file. Lines of entries are of one length, so each digit stands at the same place of all.
 """
 import array
 import itertools
@@ -19,6 +19,8 @@ PORT_AT, LID_AT = (7, 8, 9), (2, 3, 4, 5)
 
 
 class Lfts:
+    """The file of a plan."""
+
     def __init__(self, facts, plan):
         self.plan, self.lids = plan, array.array("H", sorted(plan.owners))
         lines = [f"0x{lid:04x} 000 # portguid 0x{facts.port_guids[plan.owners[lid]]:016x}\n" for lid in self.lids]
@@ -60,15 +62,14 @@ class Lfts:
     def is_held_by(self, path):
         """Whether a file has these lines, and no others."""
         with open(path, "rb") as file:
-            return all(file.read(len(section)) == section for section in map(self.section, sorted(self.plan.tables))) and (
-                not file.read(1)
-            )
+            sections = map(self.section, sorted(self.plan.tables))
+            return all(file.read(len(section)) == section for section in sections) and not file.read(1)
 
 
 def read(section):
     """The switch, LIDs and ports that OpenSM reads of lines of one length; None where they are in another form."""
-    head, _, lines = section.partition(b"\n")
-    lines = lines[: lines.rstrip().rfind(b"\n") + 1]
+    first, last = section.find(b"\n"), section.rfind(b"\n", 0, len(section) - 1)
+    head, lines = section[:first], section[first + 1 : last + 1]
     guid = GUID.search(head.decode())
     if not head.startswith(HEAD.encode()) or not guid:
         return None

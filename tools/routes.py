@@ -107,8 +107,8 @@ class Routes:
     def faults(self):
         """What is wrong with the ways of LIDs, and how many pairs of a switch and a LID have no way.
 
-        Where nothing is wrong with a column no switch is looked at alone, and a column is followed once for a row of LIDs
-        whose owners sit at one switch.
+        Where nothing is wrong with a column no switch is looked at alone. A LID whose column is that of the LID before it at
+        the same switch is not followed again.
         """
         nexts, last, odd, without = self.nexts(), {}, collections.defaultdict(list), 0
         for lid, home, column in progress.counted("follows packets for LIDs", self.owned(), len(self.owners)):
@@ -128,7 +128,7 @@ class Routes:
         return found, without
 
     def nexts(self):
-        """For each switch and entry the next switch; behind the switches stand that there is no way, and a fault."""
+        """For each switch and entry the next switch; behind the switches stand an arrival, no way, and a fault."""
         count = len(self.guids)
         found = []
         for ports in self.far:
@@ -149,12 +149,12 @@ class Routes:
         at = [*map(operator.getitem, nexts, column), count, count + 1, count + 2]
         if home is not None:
             at[home] = count
-        steps, before = 1, None
+        steps, at, before = 1, tuple(at), None
         while at != before and steps <= 2 * count:
             before, steps = at, 2 * steps
-            at = list(operator.itemgetter(*at)(at))
-        arrived, without = at.count(count) - 1, at.count(count + 1) - 1
-        return without if arrived + without == count else None
+            at = operator.itemgetter(*at)(at)
+        without = count + 1 - at.count(count)
+        return without if not without or at.count(count + 1) - 1 == without else None
 
     def ends(self):
         """The channels, each a switch and a port of it with a cable to another switch, with that switch."""
