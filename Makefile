@@ -7,8 +7,8 @@ DESTDIR ?=
 UNPROVED ?=
 PROGRAM := crates/ibsm/out/$(if $(UNPROVED),unproved/)ibsm
 # Tools in Python, with the modules that they import; a link in bin leads to each, as ibsm-NAME where it has no page.
-TOOLS := compare draw from-dumps names opensm-files round topology what-if
-MODULES := differences.py dump_links.py dumps.py ibsm_texts.py lfts.py program.py progress.py record_files.py routes.py rows.py
+TOOLS := compare draw from-dumps json names opensm-files round topology what-if
+MODULES := differences.py dump_links.py dumps.py ibsm_texts.py json_forms.py lfts.py program.py progress.py record_files.py routes.py rows.py
 PAGES := ibsm.1 draw.1 opensm-files.1
 
 all:

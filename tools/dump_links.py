@@ -95,7 +95,7 @@ class Told:
 
     def lst_line(self, line):
         """Takes in a line of a .lst, where all numbers are hex; the state is that of its first end."""
-        if not line.strip():
+        if not line.strip() or line.startswith("#"):
             return True
         form = LST_LINE.fullmatch(line)
         if not form or form[13] not in STATES:

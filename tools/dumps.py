@@ -19,8 +19,8 @@ OWNER = re.compile(r"portguid 0x([0-9a-f]+)")
 COUNT = re.compile(r"\d+ (?:valid )?lids dumped")
 FDBS_HEAD = re.compile(r"(?:osm_ucast_mgr_)?dump_ucast_routes: Switch 0x([0-9a-fA-F]{1,16})\s*")
 FDBS_LINE = re.compile(r"0x([0-9a-fA-F]{1,4}) : (?:(\d+) *: \d+ *: .*|UNREACHABLE)\s*")
-# What stands between heads and entries: the heads of columns, and the warning of dump_lfts.
-BETWEEN = re.compile(r"|Lid\s+Out\s+Destination\s*|Port\s+Info\s*|LID\s*: Port\s*: Hops\s*: Optimal\s*|\*\*\*.*")
+# What else stands there: the heads of columns, the warning of dump_lfts, and comments of ibdiagnet.
+BETWEEN = re.compile(r"|#.*|Lid\s+Out\s+Destination\s*|Port\s+Info\s*|LID\s*: Port\s*: Hops\s*: Optimal\s*|\*\*\*.*")
 # Rows of entries have room for so many LIDs more each time.
 ROOM = 4096
 LIDS = 65536

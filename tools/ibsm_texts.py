@@ -85,13 +85,13 @@ def end_in(word):
     return (int(form[1], 16), int(form[2])) if form else None
 
 
-def each_line(path, take, errors="strict"):
+def each_line(path, take, errors="strict", encoding="ascii"):
     """Hands a text's lines with their numbers to take, one after the other, so that no text is held.
 
     What take refuses first holds once all is known to be a text whose last line has an end.
     """
     refused, line = None, "\n"
-    with open(path, encoding="ascii", errors=errors) as file:
+    with open(path, encoding=encoding, errors=errors) as file:
         try:
             with progress.reading(path, file):
                 for number, line in enumerate(file, 1):
@@ -109,10 +109,10 @@ def each_line(path, take, errors="strict"):
         raise refused
 
 
-def lines_of(path, errors="strict"):
+def lines_of(path, errors="strict", encoding="ascii"):
     """The lines of a text, which has to end with one."""
     lines = []
-    each_line(path, lambda _, line: lines.append(line), errors)
+    each_line(path, lambda _, line: lines.append(line), errors, encoding)
     return lines
 
 

@@ -1,0 +1,322 @@
+"""The texts of ibsm and its tools as values for JSON. docs/FORMATS.md has the schema, "As JSON".
+
+A reader takes the lines of a text one by one, and says of each whether it is one of its form.
+"""
+import re
+
+from ibsm_texts import END, FLOOR, FORMS, GUID, NUMBER
+
+PLACE = "([0-9a-f]{16}/[0-9]{1,3})"
+KINDS = ("lost", "misdelivered", "round", "unowned", "twice", "unknown", "tableless", "unusable", "lidless", "unjoined")
+MISSED = ("above-top", "no-entry", "no-port", "no-link", "foreign", "misdelivered", "round")
+# A name that is put behind a GUID or an end.
+NAMED = re.compile(r'(?<![0-9A-Za-z_"])(([0-9a-f]{16})(?:/[0-9]{1,3})?) "([^"]*)"')
+
+
+def typed(words):
+    """Returns a node's type and number of ports from the words of a line."""
+    kind, ports = words.split(" ")
+    return {"type": kind, "ports": int(ports)}
+
+
+def fault_of_lines(reader, lines):
+    """Reads a text; the number of the first line that is none of its form, or 0."""
+    return next((number for number, line in enumerate(lines, 1) if not reader.take(line)), 0)
+
+
+class Rules:
+    """A reader by a table of patterns, each for a whole line, with the method that takes what they caught."""
+
+    rules = ()
+
+    def take(self, line):
+        for pattern, method in self.rules:
+            if form := re.fullmatch(pattern, line):
+                return getattr(self, method)(*form.groups()) is not False
+        return False
+
+    def lacks(self):
+        """Whether the text ends too early."""
+        return False
+
+
+class FactsRead(Rules):
+    lists = {kind: f"{kind}s" for kind in FORMS}
+
+    def __init__(self):
+        self.floor, self.is_first = 1, True
+        self.found = {name: [] for name in self.lists.values()}
+
+    def take(self, line):
+        floor, self.is_first = FLOOR.fullmatch(line) if self.is_first else None, False
+        if floor:
+            self.floor = int(floor[1])
+            return True
+        kind = line.split(" ", 1)[0]
+        form = kind in FORMS and FORMS[kind].fullmatch(line)
+        if not form:
+            return False
+        place, value = line.split(" ")[1], " ".join(line.split(" ")[2:-1])
+        told = {"guid" if kind in ("node", "cap") else "end": place}
+        told |= {"disputed": True} if value == "disputed" else self.value(kind, value)
+        self.found[self.lists[kind]].append(told | {"generation": int(form.groups()[-1])})
+        return True
+
+    def value(self, kind, value):
+        if kind == "node":
+            return typed(value)
+        name = {"portguid": "portguid", "link": "far", "port": "state", "claim": "lid", "cap": "size"}[kind]
+        return {name: int(value) if kind in ("claim", "cap") else value}
+
+    def value_of_text(self):
+        return {"floor": self.floor} | self.found
+
+
+class TablesRead(Rules):
+    rules = (
+        (rf"lid {NUMBER} {PLACE}(?: lmc ([0-7]))?", "lid"),
+        (rf"switch {GUID} top {NUMBER}", "switch"),
+        (rf"block {NUMBER} ([0-9a-f]{{128}})", "block"),
+    )
+
+    def __init__(self):
+        self.lids, self.switches = [], []
+
+    def lid(self, lid, end, lmc):
+        self.lids.append({"lid": int(lid), "end": end, "lmc": int(lmc or 0)})
+
+    def switch(self, guid, top):
+        self.switches.append({"guid": guid, "top": int(top), "blocks": []})
+
+    def block(self, number, digits):
+        if not self.switches:
+            return False
+        self.switches[-1]["blocks"].append({"block": int(number), "entries": list(bytes.fromhex(digits))})
+
+    def value_of_text(self):
+        return {"lids": self.lids, "switches": self.switches}
+
+
+class AuditRead(Rules):
+    rules = (
+        (rf"()pairs {NUMBER} arrive {NUMBER}", "pairs"),
+        (rf"(between adapters|with a switch) pairs {NUMBER} arrive {NUMBER}", "pairs"),
+        ("missed " + " ".join(f"{cause} {NUMBER}" for cause in MISSED), "missed"),
+        (rf"(lost) {PLACE} {NUMBER} at {GUID} by {NUMBER}: (above top|no entry|no such port|no link)", "lost"),
+        (rf"(lost) {PLACE} {NUMBER} at {GUID}()(?:: (foreign port))", "lost"),
+        (rf"(misdelivered) {PLACE} {NUMBER} at {PLACE}", "lost"),
+        (rf"(round) {PLACE} {NUMBER}", "lost"),
+        (rf"(unowned|twice) {NUMBER} {PLACE}", "held"),
+        (rf"(unknown|tableless|unusable) {GUID}", "named"),
+        (rf"(lidless|unjoined) {PLACE}", "named"),
+        (rf"more ({'|'.join(KINDS)}) {NUMBER}", "more"),
+        (rf"(disputed) {NUMBER}", "count"),
+        (r"(hops|load) (?:none|max (\d+) mean (\d+\.\d+))", "spread"),
+        (rf"credit loop (?:none|on one lane ({PLACE}(?: {PLACE})*))", "loop"),
+    )
+
+    def __init__(self):
+        self.told, self.counts, self.spreads, self.circle = {}, {"disputed": 0}, {}, None
+        self.found, self.others = {kind: [] for kind in KINDS}, {}
+
+    def pairs(self, which, pairs, arrive):
+        self.told[which.replace(" ", "_")] = {"pairs": int(pairs), "arrive": int(arrive)}
+
+    def missed(self, *counts):
+        self.told["missed"] = {cause.replace("-", "_"): int(count) for cause, count in zip(MISSED, counts)}
+
+    def lost(self, kind, start, lid, at=None, entry=None, cause=None):
+        told = {"from": start, "lid": int(lid), "at": at, "entry": int(entry) if entry else None, "cause": cause}
+        self.found[kind].append({name: value for name, value in told.items() if value is not None})
+
+    def held(self, kind, lid, end):
+        self.found[kind].append({"lid": int(lid), "end": end})
+
+    def named(self, kind, place):
+        self.found[kind].append(place)
+
+    def more(self, kind, count):
+        self.others[kind] = int(count)
+
+    def count(self, kind, count):
+        self.counts[kind] = int(count)
+
+    def spread(self, kind, most, mean):
+        self.spreads[kind] = None if most is None else {"max": int(most), "mean": float(mean)}
+
+    def loop(self, ends, *_):
+        self.circle = ends.split(" ") if ends else []
+
+    def lacks(self):
+        parts = {"", "between_adapters", "with_a_switch", "missed"}
+        return self.circle is None or set(self.told) != parts or set(self.spreads) != {"hops", "load"}
+
+    def passes(self):
+        """Whether `ibsm audit` ends with 0. Without end ports there are neither pairs nor ports without a LID."""
+        all_pairs, found = self.told[""], self.found
+        arrive = all_pairs["pairs"] == all_pairs["arrive"] and not self.circle
+        have_tables = not found["tableless"] or not all_pairs["pairs"]
+        return arrive and have_tables and not found["unusable"] and not found["lidless"]
+
+    def value_of_text(self):
+        told = {"passes": self.passes()} | self.told[""]
+        told |= {name: self.told[name] for name in ("between_adapters", "with_a_switch", "missed")}
+        return told | self.found | {"more": self.others} | self.counts | self.spreads | {"credit_loop": self.circle}
+
+
+class NextRead(Rules):
+    rules = (AuditRead.rules[-1], (r"lids (\d+(?: \d+)*)", "waiting"))
+
+    def __init__(self):
+        self.circle, self.lids = None, []
+
+    def loop(self, ends, *_):
+        self.circle = ends.split(" ") if ends else []
+
+    def waiting(self, lids):
+        self.lids = [int(lid) for lid in lids.split(" ")]
+
+    def lacks(self):
+        return self.circle is None or len(self.circle) != len(self.lids)
+
+    def value_of_text(self):
+        return {"credit_loop": self.circle, "lids": self.lids}
+
+
+class CompareRead(Rules):
+    KIND = "(?:node|portguid|link|port|claim|cap)"
+    rules = (
+        (r"(equal)", "ends"),
+        (rf"(gone|come) node {GUID} ([a-z]+ \d+)", "node"),
+        (rf"(other) node {GUID} ([a-z]+ \d+) > ([a-z]+ \d+)", "node"),
+        (rf"(gone|come) cable {PLACE} {PLACE}", "cable"),
+        (rf"(port|portguid|lid) {PLACE} (\w+) > (\w+)", "other"),
+        (rf"(cap) {GUID} (\w+) > (\w+)", "other"),
+        (rf"disputed (node|cap) {GUID}", "disputed"),
+        (rf"disputed ({KIND}) {PLACE}", "disputed"),
+        (rf"LID {NUMBER}: old ({END}|nobody), new ({END}|nobody)", "owner"),
+        (rf"LID {NUMBER}: in the new {PLACE} has it too", "shared"),
+        (rf"switch {GUID}: old top {NUMBER}, new {NUMBER}", "top"),
+        (rf"(gone|come) switch {GUID}(?: blocks {NUMBER})?", "switch"),
+        (rf"switch {GUID} entries {NUMBER} blocks {NUMBER}", "table"),
+        (rf"{NUMBER} entries differ on {NUMBER} switches, blocks to write: {NUMBER}", "written"),
+        (r"((?:(?:gone|come|other) (?:node|cable)|[a-z]+) \d+(?:, [a-z]+ ?[a-z]* \d+)*)", "ends"),
+    )
+
+    def __init__(self):
+        self.changes, self.counts, self.end = [], {}, None
+
+    def take(self, line):
+        return self.end is None and super().take(line)
+
+    def change(self, word, what, **told):
+        self.changes.append({"change": word, "what": what} | told)
+
+    def node(self, word, guid, one, new=None):
+        told = typed(one) if new is None else {"old": typed(one), "new": typed(new)}
+        self.change(word, "node", guid=guid, **told)
+
+    def cable(self, word, end, far):
+        self.change(word, "cable", ends=[end, far])
+
+    def other(self, what, place, old, new):
+        values = [int(it) if what in ("lid", "cap") else it for it in (old, new)]
+        self.change("other", what, **{"guid" if what == "cap" else "end": place}, old=values[0], new=values[1])
+
+    def disputed(self, what, place):
+        self.change("disputed", what, **{"end" if "/" in place else "guid": place})
+
+    def owner(self, lid, old, _, __, new, *___):
+        ends = [None if end == "nobody" else end for end in (old, new)]
+        self.change("other", "owner", lid=int(lid), old=ends[0], new=ends[1])
+
+    def shared(self, lid, end):
+        self.change("shared", "owner", lid=int(lid), end=end)
+
+    def top(self, guid, old, new):
+        self.change("other", "top", guid=guid, old=int(old), new=int(new))
+
+    def switch(self, word, guid, blocks):
+        self.change(word, "switch", guid=guid, **({"blocks": int(blocks)} if blocks else {}))
+
+    def table(self, guid, entries, blocks):
+        self.change("other", "table", guid=guid, entries=int(entries), blocks=int(blocks))
+
+    def written(self, entries, switches, blocks):
+        self.counts = {"entries": int(entries), "switches": int(switches), "blocks": int(blocks)}
+        self.end = "written"
+        return bool(self.changes)
+
+    def ends(self, line):
+        self.end = line
+        return (line == "equal") == (not self.changes)
+
+    def lacks(self):
+        return self.end is None
+
+    def value_of_text(self):
+        return {"equal": self.end == "equal", "changes": self.changes} | self.counts
+
+
+class WhatIfRead(Rules):
+    rules = (
+        (r" *adapters +all +cut off +entries +switches +cable", "head"),
+        (rf" *(\d+) +(\d+) +(\d+) +(\d+) +(\d+)  {PLACE} - {PLACE}", "row"),
+        (
+            r"(\d+) cables; without (\d+) of them no packet is lost; "
+            r"a plan without any cut changes (\d+) entries on (\d+) switches",
+            "end",
+        ),
+    )
+
+    def __init__(self):
+        self.rows, self.last = [], None
+
+    def head(self):
+        return not self.rows and self.last is None
+
+    def row(self, *words):
+        names = ("adapters", "all", "cut_off", "entries", "switches")
+        self.rows.append({"ends": list(words[5:])} | {name: int(word) for name, word in zip(names, words)})
+        return self.last is None
+
+    def end(self, *words):
+        self.last = [int(word) for word in words]
+
+    def lacks(self):
+        return self.last is None
+
+    def value_of_text(self):
+        count, harmless, entries, switches = self.last
+        uncut = {"entries": entries, "switches": switches}
+        return {"cables": self.rows, "count": count, "harmless": harmless, "uncut": uncut}
+
+
+# By the name of a form its reader, and how the first line of such a text begins.
+READERS = {
+    "facts": (FactsRead, r"(floor \d|node |portguid .*@|link |port .*@|claim |cap .*@)"),
+    "tables": (TablesRead, r"(lid \d{1,10} [0-9a-f]{16}/|switch [0-9a-f]{16} top )"),
+    "audit": (AuditRead, r"pairs \d"),
+    "next": (NextRead, r"credit loop "),
+    "what-if": (WhatIfRead, r" *adapters +all "),
+    "compare": (
+        CompareRead,
+        r"(equal$|gone |come |other |disputed |LID |(port|portguid|lid|cap) \S+ .*>|switch [0-9a-f]{16}(:| entries))",
+    ),
+}
+
+
+def form_of(line):
+    """The name of the form of a text by its first line; None where it begins none."""
+    return next((name for name, (_, begins) in READERS.items() if re.match(begins, line)), None)
+
+
+def without_names(lines):
+    """The lines without the names behind GUIDs and ends, and these names by GUID."""
+    names = {}
+
+    def taken(found):
+        names[found[2]] = found[3]
+        return found[1]
+
+    return [NAMED.sub(taken, line) for line in lines], names
