@@ -10,9 +10,9 @@ use audit::Network;
 use audit_channels::ChannelOrder;
 use audit_report::write_cycle;
 use byte_io::{Sink, WriteFault, write_number};
-use step_loops::{loop_lids, step_order};
 use smp_bytes::Lid;
 use std::alloc::{AllocError, Global};
+use step_loops::{loop_lids, step_order};
 
 /// Channels that wait for each other in a step; none where there is no credit loop.
 #[derive(Drop)]
