@@ -1,5 +1,6 @@
-"""What `tests/test-files` tries of from-dumps, and of topologies for ibsim, in its room. tests/dumps/ has what ibnetdiscover, OpenSM and dump_fts
-wrote of two fabrics of ibsim: the triangle, also with LMC 1, and a tree of two lower switches below two higher ones."""
+"""What `tests/test-files` tries of from-dumps, and of topologies for ibsim, in its room. tests/dumps/ has what
+ibnetdiscover, OpenSM and dump_fts wrote of two fabrics of ibsim: the triangle, also with LMC 1, and a tree of two lower
+switches below two higher ones."""
 import shutil
 
 import paths

@@ -11,7 +11,7 @@ pub fn plans_pass()
 
 /// Where tables pass an audit by facts, these tell of each node that one of them names its type and the number of its
 /// ports, and of a switch its table room; and of each port that one names that it is down, or a wire as both ends tell
-/// it, or of port 0 that it is a switch's, and its GUID; or lines `unjoined` name and count it. A fact, disputed or not,
+/// it, or of port 0 that it is a switch's, and its GUID; or lines `unjoined` name or count it. A fact, disputed or not,
 /// names the node and the port that it is about; a known link the node and the port to which it leads; and a node that
 /// is known to be a switch its port 0.
 pub fn passing_audits_know_all()

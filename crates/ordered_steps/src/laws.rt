@@ -49,7 +49,7 @@ pub fn end_in_the_goal()
     ensures law { EndInTheGoal }
 {}
 
-/// No switch takes more than twice as many steps as there are switches.
+/// No switch from which the goal delivers takes more than twice as many steps as there are switches.
 pub fn end_in_twice_as_many()
     ensures law { EndInTwiceAsMany }
 {}
@@ -59,7 +59,8 @@ pub fn heal_by_order()
     ensures law { HealByOrder }
 {}
 
-/// After twice as many steps as there are switches the tables are right by each order by which the goal is.
+/// After twice as many steps as there are switches, and one at least, the tables are right by each order by which the
+/// goal is, if the first tables deliver a packet at its end port only from switches from which the goal does.
 pub fn end_right_by_any()
     ensures law { EndRightByAny }
 {}
@@ -99,7 +100,7 @@ pub fn all_follow_the_rule()
 
 /// In a fabric whose switches go over to the next tables, each at its own time, a packet that the held tables deliver at
 /// the end port of a line is delivered there meanwhile, over at most twice as many wires as there are usable switches,
-/// and one more.
+/// and one more, if the facts describe what is joined to an end port, and that held the tables when the change began.
 pub fn packets_arrive_by_order()
     ensures law { PacketsArriveByOrder }
 {}

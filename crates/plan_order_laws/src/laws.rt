@@ -28,7 +28,8 @@ pub fn steps_towards_plans()
     ensures law { StepsTowardsPlans }
 {}
 
-/// After twice as many steps as there are switches, each switch from which the plan delivers has the plan's entry.
+/// From tables that are right by a plan's positions, for a LID that the same end ports hold in them and in the plan:
+/// after twice as many steps as there are switches, each switch from which the plan delivers has the plan's entry.
 pub fn steps_end_in_plans()
     ensures law { StepsEndInPlans }
 {}

@@ -13,8 +13,8 @@ pub fn plans_deliver_what_tables_can()
     ensures law { PlansDeliverWhatTablesCan }
 {}
 
-/// A step of `next` can make no credit loop, and its tables are right by the order of the plan's switches again, if the
-/// held tables are: by no LID they lead packets down and then up by that order.
+/// A step of `next` by facts with room can make no credit loop in any mixture, and its tables are right by the order of
+/// the plan's switches again, if the held tables are: for no LID they lead packets down and then up by that order.
 pub fn right_tables_make_no_loop()
     ensures law { RightTablesMakeNoLoop }
 {}
