@@ -7,8 +7,8 @@ pub fn unusable_nodes_are_listed()
     ensures { NodesLaw }
 {}
 
-/// Each port that facts name is listed once, by node and port, unless it is known to be down, has a wire, or is port 0 of
-/// a switch and its GUID is known; and no other is.
+/// Each port that facts name is listed once, by node and port, unless it is known to be down, has a wire, or is
+/// port 0 of a switch and its GUID is known; and no other is.
 pub fn unjoined_ports_are_listed()
     ensures { PortsLaw }
 {}

@@ -1,5 +1,4 @@
-//! What facts do not tell to its end: nodes that they name, and of which it is not known what they are; and ports that
-//! they name, and of which it is not known where they lead.
+//! What facts leave open: nodes of unknown type or table size, and ports that lead to nothing known.
 #![tactic(auto)]
 
 mod in_order;

@@ -1,4 +1,4 @@
-//! Nodes of which it is not known what they are.
+//! Nodes whose type or table size is unknown.
 ghost use Rattle.std.specs.Prelude.{◌≡◌, ◌++◌, IfOk, None, OnOk, Some, not, if◌then◌else◌};
 ghost use Rattle.std.specs.List.{filter_map};
 ghost use Rattle.reply_facts.specs.Known.{peer_in, value_in};
@@ -11,9 +11,9 @@ use fact_store::{Key, Sighting, Store, Value};
 use smp_bytes::{Guid, NodeType, PortNum};
 use std::alloc::{AllocError, Global};
 
-/// The nodes that facts name, as what they are about or as the far end of a link, and of which they do not tell the
-/// type and, of a switch, the table room; by rising GUID. Walks the cells three times, and takes two searches for each
-/// node that has a cell, and one among these for each node that a cell names.
+/// Returns the nodes that facts name, by their keys or as far ends of links, and that are unusable: their type is
+/// unknown or, of a switch, their table room; by rising GUID. Walks the cells three times, and takes two searches
+/// for each node that has a cell, and one among these for each node that a cell names.
 pub fn unusable_nodes(alloc: Global, store: &Store) -> Result<Vec<Guid>, AllocError>
     ensures { IfOk result (λ guids. guids.items ≡ unusable_nodes (cells_of store.now)) }
 {
@@ -25,7 +25,7 @@ pub fn unusable_nodes(alloc: Global, store: &Store) -> Result<Vec<Guid>, AllocEr
     Ok(guids)
 }
 
-/// Nodes that are known, by rising GUID.
+/// Returns the known nodes, by rising GUID.
 fn known_nodes(alloc: Global, store: &Store) -> Result<Vec<Guid>, AllocError>
     ensures { IfOk result (λ known. known.items
         ≡ filter_map (kept (is_known_node (cells_of store.now)) node_key) (cells_of store.now)) }
@@ -39,7 +39,7 @@ fn known_nodes(alloc: Global, store: &Store) -> Result<Vec<Guid>, AllocError>
     Ok(known)
 }
 
-/// The node of a node's cell, where it is known what it is.
+/// Returns the node of a node's cell if it is known.
 fn known_node(store: &Store, sighting: &Sighting) -> Option<Guid>
     ensures { result ≡ kept (is_known_node (cells_of store.now)) node_key sighting.now }
 {
@@ -49,7 +49,7 @@ fn known_node(store: &Store, sighting: &Sighting) -> Option<Guid>
     }
 }
 
-/// Adds those that cells are about. Some nodes that are known are given.
+/// Adds the unusable nodes that cells are about to `guids`; the nodes in `known` are known.
 fn add_own_nodes(guids: &mut Vec<Guid>, store: &Store, known: &[Guid]) -> Result<(), AllocError>
     requires { AreKnownNodes (cells_of store.now) known.now }
     ensures { OnOk result (guids.new.items ≡ guids.old.items
@@ -63,7 +63,7 @@ fn add_own_nodes(guids: &mut Vec<Guid>, store: &Store, known: &[Guid]) -> Result
     Ok(())
 }
 
-/// Adds those to which links lead. Some nodes that are known are given.
+/// Adds the unusable nodes to which links lead to `guids`; the nodes in `known` are known.
 fn add_far_nodes(guids: &mut Vec<Guid>, store: &Store, known: &[Guid]) -> Result<(), AllocError>
     requires { AreKnownNodes (cells_of store.now) known.now }
     ensures { OnOk result (guids.new.items ≡ guids.old.items
@@ -77,7 +77,7 @@ fn add_far_nodes(guids: &mut Vec<Guid>, store: &Store, known: &[Guid]) -> Result
     Ok(())
 }
 
-/// The node to which a cell tells that a link leads, where it is not known what it is.
+/// Returns the far node of a link's cell if it is unusable; the nodes in `known` are known.
 fn unusable_far_node(store: &Store, known: &[Guid], sighting: &Sighting) -> Option<Guid>
     requires { AreKnownNodes (cells_of store.now) known.now }
     ensures { result ≡ kept (λ g. not (is_known_node (cells_of store.now) g)) far_node sighting.now }
@@ -86,7 +86,7 @@ fn unusable_far_node(store: &Store, known: &[Guid], sighting: &Sighting) -> Opti
     if_unusable(store, known, node)
 }
 
-/// The node, where it is not known what it is.
+/// Returns `node` if it is unusable; the nodes in `known` are known.
 fn if_unusable(store: &Store, known: &[Guid], node: Guid) -> Option<Guid>
     requires { AreKnownNodes (cells_of store.now) known.now }
     ensures { result ≡ (if not (is_known_node (cells_of store.now) node) then Some node else None) }
@@ -98,8 +98,8 @@ fn if_unusable(store: &Store, known: &[Guid], node: Guid) -> Option<Guid>
     }
 }
 
-/// Whether it is known what a node is, where some nodes are given of which it is known. Takes a search among these, and
-/// two more where it is none of them.
+/// Returns whether `node` is known; the nodes in `known` are. Takes a search among these, and two more if it is not
+/// there.
 fn is_known_by(store: &Store, known: &[Guid], node: Guid) -> bool
     requires { AreKnownNodes (cells_of store.now) known.now }
     ensures { result ≡ is_known_node (cells_of store.now) node }
@@ -107,7 +107,7 @@ fn is_known_by(store: &Store, known: &[Guid], node: Guid) -> bool
     known.binary_search(&node).is_ok() || is_known_node(store, node)
 }
 
-/// Whether the type of a node is known, and of a switch the room of its table. Takes two searches.
+/// Returns whether the type of `node` is known and, of a switch, its table room. Takes two searches.
 fn is_known_node(store: &Store, node: Guid) -> bool
     ensures { result ≡ is_known_node (cells_of store.now) node }
 {
@@ -118,7 +118,7 @@ fn is_known_node(store: &Store, node: Guid) -> bool
     }
 }
 
-/// The port to which a cell tells that a link leads.
+/// Returns the far port that a link's cell tells.
 pub(crate) fn far_port(sighting: &Sighting) -> Option<(Guid, PortNum)>
     ensures { result ≡ far_port sighting.now }
 {
@@ -128,7 +128,7 @@ pub(crate) fn far_port(sighting: &Sighting) -> Option<(Guid, PortNum)>
     }
 }
 
-/// The port that a cell says is at the other end of a link.
+/// Returns the port that is the value of a cell.
 fn peer_said(sighting: &Sighting) -> Option<(Guid, PortNum)>
     ensures { result ≡ peer_in (value_in (Some sighting.now.1)) }
 {

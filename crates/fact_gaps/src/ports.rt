@@ -1,4 +1,4 @@
-//! Ports of which it is not known where they lead.
+//! Ports that lead to nothing known.
 ghost use Rattle.std.specs.Prelude.{◌≡◌, ◌++◌, IfOk, None, OnOk, Some, map, not, if◌then◌else◌};
 ghost use Rattle.std.specs.List.{filter_map};
 ghost use Rattle.reply_facts.specs.Known.{kind_in, up_of, value_in};
@@ -14,10 +14,10 @@ use smp_bytes::{Guid, NodeType, PortNum};
 use std::alloc::{AllocError, Global};
 use subnet_view::{EndPort, Wires, is_end_port};
 
-/// The ports that facts name, as what they are about, as a switch's management port or as the far end of a link, and
-/// which are neither known to be down nor have a wire, or with number 0 are not the end port of a switch; by node and
-/// port. Walks the cells three times, and takes two searches for each link and one for each port that a cell names, or
-/// three where it has no wire.
+/// Returns the ports that facts name, by their keys, as management ports of switches or as far ends of links, and
+/// that are neither known to be down nor have a wire or, with number 0, are not the end port of a switch; by node
+/// and port. Walks the cells three times, and takes two searches for each link and one for each port that a cell
+/// names, or three where it has no wire.
 pub fn unjoined_ports(alloc: Global, store: &Store) -> Result<Vec<EndPort>, Refused>
     ensures { IfOk result (λ ports. ports.items ≡ unjoined_ports (cells_of store.now)) }
 {
@@ -25,7 +25,7 @@ pub fn unjoined_ports(alloc: Global, store: &Store) -> Result<Vec<EndPort>, Refu
     Ok(unjoined_by(alloc, &wires)?)
 }
 
-/// The same by the wires.
+/// Returns these ports of the facts in `wires`.
 fn unjoined_by(alloc: Global, wires: &Wires) -> Result<Vec<EndPort>, AllocError>
     ensures { IfOk result (λ ports. ports.items ≡ unjoined_ports (cells_of wires.now)) }
 {
@@ -37,7 +37,7 @@ fn unjoined_by(alloc: Global, wires: &Wires) -> Result<Vec<EndPort>, AllocError>
     end_ports_at(alloc, &ports)
 }
 
-/// Ports with links of which it is known where they lead, by node and port.
+/// Returns the ports with links that are known to be down or have a wire, by node and port.
 fn known_ports(alloc: Global, wires: &Wires) -> Result<Vec<(Guid, PortNum)>, AllocError>
     ensures { IfOk result (λ known. known.items
         ≡ filter_map (kept (is_known_port (cells_of wires.now)) link_key) (cells_of wires.now)) }
@@ -51,7 +51,7 @@ fn known_ports(alloc: Global, wires: &Wires) -> Result<Vec<(Guid, PortNum)>, All
     Ok(known)
 }
 
-/// The port of a link's cell, where it is known where it leads.
+/// Returns the port of a link's cell if it is known to be down or has a wire.
 fn known_port(wires: &Wires, sighting: &Sighting) -> Option<(Guid, PortNum)>
     ensures { result ≡ kept (is_known_port (cells_of wires.now)) link_key sighting.now }
 {
@@ -61,14 +61,14 @@ fn known_port(wires: &Wires, sighting: &Sighting) -> Option<(Guid, PortNum)>
     }
 }
 
-/// Ports by the names of their parts.
+/// Returns the ports with named fields.
 fn end_ports_at(alloc: Global, ports: &[(Guid, PortNum)]) -> Result<Vec<EndPort>, AllocError>
     ensures { IfOk result (λ named. named.items ≡ map port_at ports.now) }
 {
     ports.iter().map(end_port_at).collect(alloc)
 }
 
-/// A port by the names of its parts.
+/// Returns a port with named fields.
 fn end_port_at(port: &(Guid, PortNum)) -> EndPort
     ensures { result ≡ port_at port.now }
 {
@@ -78,7 +78,8 @@ fn end_port_at(port: &(Guid, PortNum)) -> EndPort
     }
 }
 
-/// Adds those that cells are about, and management ports of switches. Some ports are given that are known.
+/// Adds the unjoined ports that cells are about, and management ports, to `ports`; the ports in `known` are joined
+/// or down.
 fn add_own_ports(
     ports: &mut Vec<(Guid, PortNum)>,
     wires: &Wires,
@@ -96,7 +97,7 @@ fn add_own_ports(
     Ok(())
 }
 
-/// Adds those to which links lead. Some ports are given that are known.
+/// Adds the unjoined ports to which links lead to `ports`; the ports in `known` are joined or down.
 fn add_far_ports(
     ports: &mut Vec<(Guid, PortNum)>,
     wires: &Wires,
@@ -114,7 +115,7 @@ fn add_far_ports(
     Ok(())
 }
 
-/// The port that a cell is about, or a switch's management port, where it is not known where it leads.
+/// Returns the port that a cell is about, or a switch's management port, if it is unjoined.
 fn unjoined_own_port(
     wires: &Wires,
     known: &[(Guid, PortNum)],
@@ -127,7 +128,7 @@ fn unjoined_own_port(
     if_unjoined(wires, known, node, port)
 }
 
-/// The port to which a cell tells that a link leads, where it is not known where that port leads.
+/// Returns the far port of a link's cell if it is unjoined.
 fn unjoined_far_port(
     wires: &Wires,
     known: &[(Guid, PortNum)],
@@ -157,8 +158,8 @@ fn if_unjoined(
     }
 }
 
-/// Whether it is known where a port leads, where some ports are given of which it is known. Takes a search among these,
-/// and three more where it is none of them.
+/// Whether it is known where a port leads, where some ports are given of which it is known. Takes a search among
+/// these, and three more where it is none of them.
 fn is_known_by(wires: &Wires, known: &[(Guid, PortNum)], node: Guid, port: PortNum) -> bool
     requires { AreKnownPorts (cells_of wires.now) known.now }
     ensures { result ≡ is_known_port (cells_of wires.now) (node, port) }
