@@ -43,6 +43,12 @@ next)
 audit) cat fab/audit; grep -q ' arrive 25$' fab/audit ;;
 esac
 """
+FAKE_SEND = """#!/bin/sh
+echo "$*" >>fab/sent
+for word; do tables=$word; done
+if [ -f fab/fails ]; then cat fab/fails >&2; exit "$(cat fab/ends)"; fi
+cp "$tables" fab/held
+"""
 FAKE_OPENSM = """#!/bin/sh
 trap 'if [ -f fab/obeys ]; then cp rd/step.tables fab/held; else cp fab/written fab/held; fi; [ -f fab/deaf ] || echo "SUBNET UP" >>fab/log' HUP
 echo ready >>fab/log
@@ -74,7 +80,7 @@ def fake_opensm(room):
 
 def rounds(room):
     """Rounds of a subnet that scripts stand in for: how each ends, and what was written by then."""
-    for name, script in (("record", FAKE_RECORD), ("ibsm", FAKE_IBSM), ("opensm", FAKE_OPENSM)):
+    for name, script in (("record", FAKE_RECORD), ("ibsm", FAKE_IBSM), ("opensm", FAKE_OPENSM), ("send", FAKE_SEND)):
         (room.path / name).write_text(script)
         (room.path / name).chmod(0o755)
     (room.path / "fab").mkdir()
@@ -87,7 +93,7 @@ def rounds(room):
 
     def ends(words, status, step, verdict, settle=0):
         """A round ends so, and says so in status.json too."""
-        printed = room.run(f"round rd --ibsm ./ibsm --record ./record --log fab/log --settle {settle} {words}", status)
+        printed = room.run(f"round rd --ibsm ./ibsm --record ./record --send ./send --log fab/log --settle {settle} {words}", status)
         told = json.loads(room.text("rd/status.json"))
         steps = [
             f"step {number}: {step['entries']} entries, {step['blocks']} blocks; {step['told']}; status {step['status']}\n"
@@ -196,6 +202,7 @@ def rounds(room):
         ends(f"--opensm {process} --log fab/nothing", 4, "opensm", "fab/nothing")
     ends(f"--opensm {os.getpid()}", 3, "opensm", "not opensm")
     ends("--opensm 99999999", 3, "opensm", "there is no process 99999999")
+    directly(room, fab, ends)
     watched(room)
     room.put(slow=FAKE_RECORD.replace("cp fab/facts", "sleep 3; cp fab/facts"))
     (room.path / "slow").chmod(0o755)
@@ -206,7 +213,8 @@ def rounds(room):
         room.refused("round rd --ibsm ./ibsm --record ./record", "in use")
     room.refused("round rd --ibsm ./nothing --record ./record", "no program ./nothing", 4)
     room.refused("round rd --ibsm ./ibsm --record ./nothing", "no program record", 4)
-    for words in ("", "rd --lmc 8", "rd --opensm x", "rd --routing other"):
+    room.refused("round rd --ibsm ./ibsm --record ./record --direct --send ./nothing", "no program send", 4)
+    for words in ("", "rd --lmc 8", "rd --direct --opensm 1", "rd --opensm x", "rd --routing other"):
         room.run(f"round {words}", 2)
 
 
@@ -253,6 +261,30 @@ def by_steps(room, fab, ends, process):
     told = ends(f"--opensm {process}", 1, "read-back", "after 14 steps another one is left")
     fab(facts=facts, written=plan)
     for name in ("flaps", "step.1"):
+        (room.path / "fab" / name).unlink()
+
+
+def directly(room, fab, ends):
+    """Rounds that send tables themselves, and leave OpenSM its files."""
+    plan, held = room.text("t.plan"), room.text("round.plan")
+    fab(held=held, sent="", log="ready\n", **{"step.1": room.text("hole.plan")})
+    (room.path / "rd/plan.lfts").unlink()
+    told = ends("--direct --ca mlx5_0 --m-key 7", 0, "audit", "the subnet holds the plan", settle=0.1)
+    sent = "--ca mlx5_0 --m-key 7 --holes --quiet rd/step.tables\n"
+    room.check(len(told["steps"]) == 2 and room.text("fab/sent") == 2 * sent, f"each step is sent: {room.text('fab/sent')}")
+    room.check("settle" in told["seconds"] and "opensm" not in told["seconds"], "with a wait between, and no HUP")
+    room.check("0x0005 002" in room.text("rd/plan.lfts") and room.text("fab/held") == plan, "OpenSM's file is that of the last step")
+    room.check(room.text("fab/log") == "ready\n", "OpenSM is not asked")
+    (room.path / "fab/step.1").unlink()
+    fab(held=held, sent="")
+    told = ends("--direct --at-once --holes --move-lids", 0, "audit", "the subnet holds the plan")
+    room.check(room.text("fab/sent") == "--move-lids --holes --quiet rd/now.plan\n" and not told["steps"], "at once the plan is")
+    ends("--direct", 0, "audit", "the subnet holds the plan")
+    room.check(room.text("fab/sent").count("\n") == 1, "nothing is sent where nothing differs")
+    for status, wanted in (("1", 1), ("3", 3), ("4", 4), ("130", 4)):
+        fab(held=held, fails="send: NOT HELD: 1 of 2 that were set\n", ends=status)
+        ends("--direct", wanted, "send", "NOT HELD: 1 of 2 that were set")
+    for name in ("fails", "ends"):
         (room.path / "fab" / name).unlink()
 
 

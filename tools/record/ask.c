@@ -5,12 +5,13 @@
  * is written, doesn't depend on which was faster.
  */
 #include <errno.h>
+#include <signal.h>
 #include <stdlib.h>
 #include <string.h>
 #include <infiniband/umad.h>
 #include "record.h"
 
-enum { DIRECTED_CLASS = 0x81, GET = 1, GRACE_MS = 2000 };
+enum { DIRECTED_CLASS = 0x81, GET = 1, SET = 2, GRACE_MS = 2000 };
 enum state { WAITS, ANSWERED, GIVEN_UP };
 
 /* A request that is out, or whose reply waits for its turn. */
@@ -28,6 +29,7 @@ static struct slot slots[MOST_OUT];
 static unsigned first, out;
 static uint32_t number = 1;
 static int umad = -1, agent;
+static volatile sig_atomic_t is_stopped;
 
 /* The port's name, where it can carry requests. */
 static const char *usable_port(void)
@@ -106,13 +108,15 @@ static void send_again(struct slot *slot)
 	packet[0] = 1;
 	packet[1] = DIRECTED_CLASS;
 	packet[2] = 1;
-	packet[3] = GET;
+	packet[3] = slot->request.value ? SET : GET;
 	packet[7] = slot->request.path.hops;
 	put(packet + 8, 8, slot->number);	/* the kernel keeps the low half */
 	put(packet + 16, 2, slot->request.attribute);
 	put(packet + 20, 4, slot->request.modifier);
 	put(packet + 24, 8, options.m_key);
 	memset(packet + 32, 0xff, 4);
+	if (slot->request.value)
+		memcpy(packet + ATTRIBUTE, slot->request.value, BLOCK);
 	memcpy(packet + 128 + 1, slot->request.path.port + 1, slot->request.path.hops);
 	slot->state = WAITS;
 	counts.again += slot->tries++ > 0;
@@ -124,7 +128,7 @@ static void send_again(struct slot *slot)
 
 static void no_answer(struct slot *slot)
 {
-	if (slot->tries < options.tries)
+	if (slot->tries < options.tries && !is_stopped)
 		send_again(slot);
 	else
 		slot->state = GIVEN_UP;
@@ -183,9 +187,16 @@ static void receive(void)
 			no_answer(slot_at(i));
 }
 
+void stop_asking(void)
+{
+	is_stopped = 1;
+}
+
 void ask_all(void (*take)(const struct request *request, uint8_t *reply))
 {
 	while (out || head < tail) {
+		if (is_stopped)
+			head = tail;
 		while (out < (unsigned) options.outstanding && head < tail) {
 			struct slot *slot = slot_at(out++);
 

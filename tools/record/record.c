@@ -6,20 +6,15 @@
  */
 #include <errno.h>
 #include <getopt.h>
-#include <inttypes.h>
 #include <signal.h>
-#include <stdarg.h>
 #include <stdlib.h>
 #include <string.h>
 #include <time.h>
 #include <unistd.h>
 #include "record.h"
 
-enum { FEW_LINES = 20, SIGNALLED = 128 };
-#define BETWEEN_LINES 0.1
-
-struct options options = { .timeout_ms = 500, .tries = 4, .outstanding = 4 };
-struct counts counts;
+const char *tool = "record";
+static struct whole_file report;
 
 static const char usage_text[] =
 "usage: record [OPTION]... FILE\n"
@@ -41,126 +36,15 @@ static const char usage_text[] =
 "  -h, --help             this text\n"
 "  -V, --version          the version\n"
 "\n"
+"One of these files may be -, which is standard output.\n"
+"\n"
 "The exit status is 0 where all answered; 1 where FILE is written and something is missing; 2 where the command\n"
 "line is wrong; 4 without a subnet, or where a file cannot be written; 5 without memory.\n";
-
-static int has_terminal(void)
-{
-	return !options.quiet && isatty(STDERR_FILENO);
-}
-
-static void clear_line(void)
-{
-	if (has_terminal())
-		fprintf(stderr, "\r\033[K");
-}
-
-/* By _exit: a simulator's library that stands in for libibumad waits for ever in exit while a port is open. */
-void end(int status, const char *format, ...)
-{
-	va_list values;
-
-	clear_line();
-	fprintf(stderr, "record: ");
-	va_start(values, format);
-	vfprintf(stderr, format, values);
-	va_end(values);
-	fprintf(stderr, "\n");
-	remove_begun_files();
-	_exit(status);
-}
 
 static void on_signal(int number)
 {
 	remove_begun_files();
 	_exit(SIGNALLED + number);
-}
-
-void *more(void *old, size_t count, size_t size)
-{
-	void *memory = realloc(old, count * size);
-
-	if (!memory)
-		end(NO_MEMORY, "out of memory");
-	return memory;
-}
-
-uint64_t get(const uint8_t *bytes, int count)
-{
-	uint64_t value = 0;
-
-	while (count--)
-		value = value << 8 | *bytes++;
-	return value;
-}
-
-void put(uint8_t *bytes, int count, uint64_t value)
-{
-	while (count--) {
-		bytes[count] = value;
-		value >>= 8;
-	}
-}
-
-static const char *name_of(uint16_t attribute)
-{
-	return attribute == NODE_DESCRIPTION ? "NodeDescription" : attribute == NODE_INFO ? "NodeInfo" : attribute == SWITCH_INFO ? "SwitchInfo" :
-	       attribute == PORT_INFO ? "PortInfo" : "LinearForwardingTable";
-}
-
-/* Names a request by its path, in the form that smpquery -D takes. */
-void say_of(const struct request *request, const char *what)
-{
-	unsigned long long guid = request->guid;
-	int i;
-
-	if (counts.silent + counts.left_out > FEW_LINES && !options.verbose)
-		return;
-	clear_line();
-	fprintf(stderr, "record: path 0");
-	for (i = 1; i <= request->path.hops; i++)
-		fprintf(stderr, ",%u", request->path.port[i]);
-	fprintf(stderr, " %s", name_of(request->attribute));
-	if (request->attribute == FORWARDING_TABLE)
-		fprintf(stderr, " block %u", request->modifier);
-	if (request->attribute == PORT_INFO)
-		fprintf(stderr, " of port %u", request->modifier);
-	if (request->context == ABOUT)
-		fprintf(stderr, " of node %016llx", guid);
-	if (request->context == VIA)
-		fprintf(stderr, " behind port %u of node %016llx", request->via_port, guid);
-	fprintf(stderr, ": %s\n", what);
-}
-
-static double now(void)
-{
-	struct timespec time;
-
-	clock_gettime(CLOCK_MONOTONIC, &time);
-	return time.tv_sec + time.tv_nsec * 1e-9;
-}
-
-void progress(size_t nodes, size_t waiting)
-{
-	static double said;
-
-	if (!has_terminal() || now() - said < BETWEEN_LINES)
-		return;
-	said = now();
-	fprintf(stderr, "\r\033[Krecord: %lu replies, %zu nodes, %zu requests wait, %lu without a reply",
-		counts.kept, nodes, waiting, counts.silent);
-}
-
-static uint64_t number_in(const char *text, const char *what, uint64_t least, uint64_t most)
-{
-	unsigned long long value;
-	char *rest;
-
-	errno = 0;
-	value = strtoull(text, &rest, 0);
-	if (errno || rest == text || *rest || strchr(text, '-') || value < least || value > most)
-		end(USAGE, "%s takes a number from %" PRIu64 " to %" PRIu64 ", not %s", what, least, most, text);
-	return value;
 }
 
 static const struct option words[] = {
@@ -171,19 +55,13 @@ static const struct option words[] = {
 
 static void take_option(int letter)
 {
+	if (take_shared_option(letter, optarg))
+		return;
 	switch (letter) {
-	case 'C': options.adapter = optarg; break;
-	case 'P': options.port = number_in(optarg, "--port", 1, 254); break;
 	case 'g': options.generation = number_in(optarg, "--generation", 1, UINT32_MAX); break;
-	case 'n': options.outstanding = number_in(optarg, "--outstanding", 1, MOST_OUT); break;
-	case 't': options.timeout_ms = number_in(optarg, "--timeout", 1, 600000); break;
-	case 'r': options.tries = 1 + number_in(optarg, "--retries", 0, 100); break;
-	case 'k': options.m_key = number_in(optarg, "--m-key", 0, UINT64_MAX); break;
 	case 'T': options.tables = optarg; break;
 	case 'N': options.names = optarg; break;
 	case 'a': options.after = optarg; break;
-	case 'q': options.quiet = 1; break;
-	case 'v': options.verbose = 1; break;
 	case 'h': fputs(usage_text, stdout); exit(WHOLE);
 	case 'V': puts("record " VERSION); exit(WHOLE);
 	default: fputs(usage_text, stderr); exit(USAGE);
@@ -224,8 +102,8 @@ static void number_sweep(void)
 		end(USAGE, "%s has generation %u, and none comes after it", options.after, newest);
 	options.generation = newest + 1;
 	if (newest >= clock)
-		fprintf(stderr, "record: the clock of this machine is behind %s, which has generation %u, by %u s: "
-			"what is recorded here by the clock counts as older\n", options.after, newest, newest - clock);
+		say("the clock of this machine is behind %s, which has generation %u, by %u s: "
+		    "what is recorded here by the clock counts as older", options.after, newest, newest - clock);
 }
 
 static void summary(double seconds)
@@ -237,12 +115,17 @@ static void summary(double seconds)
 	fprintf(stderr, "\n");
 }
 
-static int record(struct whole_file *report, struct whole_file *tables, struct whole_file *names)
+static void keep_reply(const struct request *request, const uint8_t *reply)
+{
+	keep(&report, request, reply);
+}
+
+static int record(struct whole_file *tables, struct whole_file *names)
 {
 	double begun = now();
 	int has_tables = 0;
 
-	sweep(report);
+	sweep(keep_reply);
 	if (!counts.kept)
 		end(NO_FABRIC, "nothing answered, not even this machine's own port; no file is written");
 	if (options.tables)
@@ -254,7 +137,7 @@ static int record(struct whole_file *report, struct whole_file *tables, struct w
 	if (options.names)
 		print_names(names->file);
 	clear_line();
-	commit_file(report);
+	commit_file(&report);
 	if (has_tables)
 		commit_file(tables);
 	if (options.names)
@@ -264,17 +147,17 @@ static int record(struct whole_file *report, struct whole_file *tables, struct w
 	if (!options.quiet)
 		summary(now() - begun);
 	if (options.tables && !has_tables)
-		fprintf(stderr, "record: %s is not written, since replies that it needs are missing\n", options.tables);
+		say("%s is not written, since replies that it needs are missing", options.tables);
 	if (!counts.silent && !counts.left_out && !counts.too_far)
 		return WHOLE;
-	fprintf(stderr, "record: NOT WHOLE: %lu requests without a reply, %lu replies left out, %lu ports over %d hops away\n",
-		counts.silent, counts.left_out, counts.too_far, MOST_HOPS);
+	say("NOT WHOLE: %lu requests without a reply, %lu replies left out, %lu ports over %d hops away",
+	    counts.silent, counts.left_out, counts.too_far, MOST_HOPS);
 	return NOT_WHOLE;
 }
 
 int main(int count, char **texts)
 {
-	static struct whole_file report, tables, names;
+	static struct whole_file tables, names;
 
 	parse(count, texts);
 	number_sweep();
@@ -291,5 +174,5 @@ int main(int count, char **texts)
 		begin_file(&names, options.names);
 	if (fwrite("IBSMREP1", 8, 1, report.file) != 1)
 		end(NO_FABRIC, "cannot write %s: %s", options.file, strerror(errno));
-	return record(&report, &tables, &names);
+	return record(&tables, &names);
 }

@@ -1,4 +1,4 @@
-/* What the parts of record share. Numbers in packets stand most significant byte first. */
+/* What the parts of record and send share. Numbers in packets stand most significant byte first. */
 #ifndef RECORD_H
 #define RECORD_H
 
@@ -10,7 +10,7 @@ enum { NODE_DESCRIPTION = 0x10, NODE_INFO = 0x11, SWITCH_INFO = 0x12, PORT_INFO 
 enum context { START, VIA, ABOUT };
 enum node_type { ADAPTER = 1, SWITCH = 2, ROUTER = 3 };
 enum { MOST_HOPS = 63, MOST_OUT = 64, PACKET = 256, ATTRIBUTE = 64, BLOCK = 64 };
-enum status { WHOLE = 0, NOT_WHOLE = 1, USAGE = 2, NO_FABRIC = 4, NO_MEMORY = 5 };
+enum status { WHOLE = 0, NOT_WHOLE = 1, USAGE = 2, REFUSED = 3, NO_FABRIC = 4, NO_MEMORY = 5, SIGNALLED = 128 };
 
 /* A directed route; port[1] is the sender's own port. */
 struct path {
@@ -25,6 +25,7 @@ struct request {
 	uint8_t context, via_port;
 	uint64_t guid;		/* the node that is asked about, or before the last hop */
 	uint8_t arrival, type;	/* of the node that is asked about: the port that was reached, and its type */
+	const uint8_t *value;	/* of a Set, 64 bytes that stay where they are until it is answered; NULL of a Get */
 };
 
 struct options {
@@ -35,17 +36,25 @@ struct options {
 };
 
 struct counts {
-	unsigned long sent, again, kept, silent, left_out, too_far, pointers;
+	unsigned long sent, again, replies, kept, silent, left_out, too_far, pointers;
 };
 
 extern struct options options;
 extern struct counts counts;
+extern const char *tool;	/* by which name it speaks */
+extern const char *stage;	/* what it does now, for who waits */
 
-/* record.c: says why, removes what was begun, and ends. */
+/* common.c: says why, removes what was begun, and ends. */
 void end(int status, const char *format, ...) __attribute__((noreturn, format(printf, 2, 3)));
+void say(const char *format, ...) __attribute__((format(printf, 1, 2)));
+void clear_line(void);
 void *more(void *old, size_t count, size_t size);
 void say_of(const struct request *request, const char *what);
 void progress(size_t nodes, size_t waiting);
+double now(void);
+uint64_t number_in(const char *text, const char *what, uint64_t least, uint64_t most);
+/* Takes an option of both; 0 where it is none. */
+int take_shared_option(int letter, const char *text);
 uint64_t get(const uint8_t *bytes, int count);
 void put(uint8_t *bytes, int count, uint64_t value);
 
@@ -56,11 +65,15 @@ struct request *ask(const struct path *path, uint16_t attribute, uint32_t modifi
 size_t asked_and_waiting(void);
 /* Sends all that was asked, and what `take` asks; a reply is 0 where none came. */
 void ask_all(void (*take)(const struct request *request, uint8_t *reply));
+/* Of what waits nothing more is sent; may be called by a signal handler. */
+void stop_asking(void);
 
 /* report.c: files that are whole or absent. */
 struct whole_file {
 	FILE *file;
 	char *name, *temporary;
+	char *text;	/* of standard output, with its size */
+	size_t size;
 };
 void begin_file(struct whole_file *file, char *name);
 void commit_file(struct whole_file *file);
@@ -69,8 +82,25 @@ const char *fault_of(const struct request *request, const uint8_t *reply);
 void keep(struct whole_file *file, const struct request *request, const uint8_t *reply);
 
 /* sweep.c */
-void sweep(struct whole_file *report);
+struct node {
+	uint64_t guid;
+	uint8_t type;
+	struct path path;	/* the first that reached it */
+	uint16_t top;		/* of a switch, and its table in whole blocks up to there */
+	uint8_t *table;
+	uint8_t lacks;		/* a reply about it is missing */
+	uint8_t asked[256];	/* of an adapter: ports whose PortInfo was asked */
+	uint8_t *name;		/* ends with 0; NULL where it was not asked or told */
+	int is_shared;		/* another node has this name too */
+	struct shape *shape;	/* what send knows of it */
+};
+/* Asks all nodes, and hands each reply that is taken to seen. */
+void sweep(void (*seen)(const struct request *request, const uint8_t *reply));
 size_t known_nodes(void);
+struct node *node_at(size_t place);
+struct node *find(uint64_t guid);
+/* Whether there is a reply that ibsm takes; says why not. */
+int is_good(const struct request *request, uint8_t *reply);
 /* Reads the forwarding tables; 0 where a reply about a node that is known is missing. */
 int read_tables(void);
 void print_tables(FILE *file);

@@ -30,12 +30,25 @@ static char **place_of(const char *temporary)
 	return &begun[i];
 }
 
+/* What goes to standard output is kept until it is whole, since who reads it could not tell that it is cut. */
+static void begin_output(struct whole_file *file)
+{
+	file->name = "standard output";
+	file->file = open_memstream(&file->text, &file->size);
+	if (!file->file)
+		end(NO_MEMORY, "out of memory");
+}
+
 void begin_file(struct whole_file *file, char *name)
 {
 	size_t size = strlen(name) + 32;
 	struct stat found;
 	sigset_t all, before;
 
+	if (!strcmp(name, "-")) {
+		begin_output(file);
+		return;
+	}
 	if (!stat(name, &found) && !S_ISREG(found.st_mode))	/* renaming would replace a device */
 		end(NO_FABRIC, "cannot write %s: it is no regular file", name);
 	file->name = name;
@@ -53,6 +66,13 @@ void begin_file(struct whole_file *file, char *name)
 
 void commit_file(struct whole_file *file)
 {
+	if (!file->temporary) {
+		if (fclose(file->file))
+			end(NO_MEMORY, "out of memory");
+		if (fwrite(file->text, 1, file->size, stdout) != file->size || fflush(stdout))
+			end(NO_FABRIC, "cannot write %s: %s", file->name, strerror(errno));
+		return;
+	}
 	if (ferror(file->file) || fflush(file->file) || fsync(fileno(file->file)) || fclose(file->file) ||
 	    rename(file->temporary, file->name))
 		end(NO_FABRIC, "cannot write %s: %s", file->name, strerror(errno));

@@ -5,17 +5,6 @@
 
 enum { DOWN = 1, ACTIVE = 4 };
 
-struct node {
-	uint64_t guid;
-	uint8_t type;
-	struct path path;	/* the first that reached it */
-	uint16_t top;		/* of a switch, and its table in whole blocks up to there */
-	uint8_t *table;
-	uint8_t asked[256];	/* of an adapter: ports whose PortInfo was asked */
-	uint8_t *name;		/* ends with 0; NULL where it was not asked or told */
-	int is_shared;		/* another node has this name too */
-};
-
 struct lid {
 	uint16_t lid;
 	uint64_t guid;
@@ -27,7 +16,7 @@ static size_t node_count, node_room;
 static uint32_t *index_of, index_room;	/* open addressing: place in nodes + 1 */
 static struct lid *lids;
 static size_t lid_count, lid_room;
-static struct whole_file *report;
+static void (*seen)(const struct request *request, const uint8_t *reply);
 static int missing;	/* replies about nodes that are known */
 
 size_t known_nodes(void)
@@ -44,7 +33,12 @@ static uint32_t *place_of(uint64_t guid)
 	return &index_of[i];
 }
 
-static struct node *find(uint64_t guid)
+struct node *node_at(size_t place)
+{
+	return &nodes[place];
+}
+
+struct node *find(uint64_t guid)
 {
 	uint32_t at = index_room ? *place_of(guid) : 0;
 
@@ -140,15 +134,23 @@ static void on_port_info(const struct request *request, const uint8_t *info)
 	asked->via_port = port;
 }
 
-/* Whether there is a reply that ibsm takes; says why not. */
-static int is_good(const struct request *request, uint8_t *reply)
+static void note_gap(const struct request *request)
+{
+	struct node *node = request->context == ABOUT ? find(request->guid) : NULL;
+
+	missing += request->attribute != NODE_INFO;
+	if (node && request->attribute != NODE_DESCRIPTION)
+		node->lacks = 1;
+}
+
+int is_good(const struct request *request, uint8_t *reply)
 {
 	const char *fault;
 	char text[80];
 
 	if (!reply) {
 		counts.silent++;
-		missing += request->attribute != NODE_INFO;
+		note_gap(request);
 		say_of(request, "no answer");
 		return 0;
 	}
@@ -161,6 +163,7 @@ static int is_good(const struct request *request, uint8_t *reply)
 		counts.pointers++;
 	}
 	fault = fault_of(request, reply);
+	counts.replies++;
 	if (!fault)
 		return 1;
 	if (strcmp(fault, "Status"))
@@ -168,7 +171,7 @@ static int is_good(const struct request *request, uint8_t *reply)
 	else
 		snprintf(text, sizeof text, "left out: Status 0x%04x", (unsigned) get(reply + 4, 2) & 0x7fff);
 	counts.left_out++;
-	missing += request->attribute != NODE_INFO;
+	note_gap(request);
 	say_of(request, text);
 	return 0;
 }
@@ -177,20 +180,20 @@ static void take(const struct request *request, uint8_t *reply)
 {
 	if (!is_good(request, reply))
 		return;
-	keep(report, request, reply);
 	if (request->attribute == NODE_INFO)
 		on_node_info(request, reply + ATTRIBUTE);
 	else if (request->attribute == PORT_INFO)
 		on_port_info(request, reply + ATTRIBUTE);
 	else
 		find(request->guid)->top = get(reply + ATTRIBUTE + 6, 2);
+	seen(request, reply);
 }
 
-void sweep(struct whole_file *file)
+void sweep(void (*by)(const struct request *request, const uint8_t *reply))
 {
 	struct path here = { 0 };
 
-	report = file;
+	seen = by;
 	ask(&here, NODE_INFO, 0, 0)->context = START;
 	ask_all(take);
 }

@@ -1,0 +1,143 @@
+"""What `tests/test` tries of `send` and of rounds that go by it, over ibsim, on its bench."""
+import json
+import re
+import signal
+import subprocess
+import sys
+import time
+
+import paths
+import record_files
+
+# Of PortInfo, bytes that a Set of LIDs changes: the LID, the manager's LID, and the LMC with what stands beside it.
+CHANGED = {16, 17, 18, 19, 34}
+PORT_INFO = record_files.PORT_INFO
+
+
+def send(bench, *words, **how):
+    return bench.run(bench.room / "out/send", *words, simulated=True, **how)
+
+
+def one_round(bench, *words):
+    """A round in the folder that OpenSM reads, and what status.json has of it."""
+    programs = ["--ibsm", bench.program, "--record", bench.room / "out/record", "--send", bench.room / "out/send"]
+    status = bench.run(sys.executable, paths.TOOLS / "round", "d", *programs, *words, simulated=True)
+    return status, json.loads((bench.path / "d/status.json").read_text())
+
+
+def port_infos(path):
+    """Of a recording, each PortInfo by its node and port."""
+    data, found = path.read_bytes(), {}
+    for at in range(8, len(data), 272):
+        record = data[at : at + 272]
+        if int.from_bytes(record[32:34], "big") == PORT_INFO:
+            found[record[8:16], record[36:40]] = record[80:144]
+    return found
+
+
+def from_nothing(bench):
+    """Into a subnet without LIDs and tables `send` writes a plan, and changes nothing of ports but their LIDs."""
+    bench.record("-q", "-g", 1, "-T", "none", "none.reports")
+    bench.texts("none")
+    before = port_infos(bench.path / "none.reports")
+    bench.check(send(bench, "--dry-run", "none.plan") == 0 and "to write: " in bench.printed, f"send --dry-run: {bench.printed.splitlines()[-1]}")
+    bench.record("-q", "-g", 1, "-T", "dry", "dry.reports")
+    bench.check(bench.same("none", "dry") or not (bench.path / "none").read_text().strip(), "it writes nothing")
+    bench.check(send(bench, "none.plan") == 0, f"send: {bench.said.strip()}")
+    bench.record("-q", "-g", 1, "-T", "sent", "sent.reports")
+    bench.check(bench.same("none.plan", "sent"), "the fabric holds the plan, byte for byte")
+    bench.check(bench.run(bench.program, "audit", "sent", "sent.reports") == 0, "and the audit passes it")
+    after = port_infos(bench.path / "sent.reports")
+    others = {i for key in before for i in range(64) if before[key][i] != after[key][i]} - CHANGED
+    bench.check(before.keys() == after.keys() and not others, f"PortInfo is otherwise as it was: {others}")
+    bench.check(send(bench, "none.plan") == 0 and " 0 LIDs, 0 blocks, 0 tops " in bench.said, "again there is nothing to write")
+
+
+def refusals(bench):
+    """What `send` does not write."""
+    plan = (bench.path / "none.plan").read_text()
+    texts = {
+        "cut": (plan[: plan.rindex("block")], "is it cut?"),
+        "short": (plan[:-1], "its last line has no end"),
+        "empty": ("", "the tables have no LIDs"),
+        "low": (re.sub(r"top \d+", "top 2", plan, count=1), "is it cut?"),
+        "none": (plan.replace("switch 0000000000000010", "switch 0000000000000011"), "is none of this subnet"),
+        "moved": (plan.replace("lid 4 ", "lid 6 ").replace("lid 5 ", "lid 4 "), "or is out of order"),
+        "dark": (plan.replace("block 0 ff0001", "block 0 ff0004", 1), "which has no cable that is up"),
+        "hole": (plan.replace("block 0 ff0001", "block 0 ff00ff", 1), "1 pairs of a switch and a LID have no way"),
+        "own": (plan.replace("block 0 ff0001", "block 0 ff0000", 1), "which does not own it"),
+        "round": (plan.replace("ff0001020102", "ff0001020101").replace("ff0100020302", "ff0100020301"), "goes round"),
+    }
+    for name, (text, why) in texts.items():
+        (bench.path / f"bad.{name}").write_text(text)
+        status = send(bench, f"bad.{name}")
+        bench.check(status == 3 and why in bench.said and text != plan, f"send refuses {name}: {bench.said.splitlines()[0]}")
+        bench.check(all(line.startswith("send: ") for line in bench.said.splitlines()), "it says so line by line")
+    bench.record("-q", "-g", 1, "-T", "kept", "kept.reports")
+    bench.check(bench.same("none.plan", "kept"), "none of these writes")
+    bench.check(send(bench, "bad.hole", "--holes") == 0 and send(bench, "none.plan") == 0, "with --holes it is written")
+    bench.check(send(bench, "nowhere") == 4 and send(bench) == 2 and send(bench, "-n", 65, "none.plan") == 2, "no file, wrong usage")
+    bench.check(bench.run(bench.room / "out/send", "none.plan") == 4, "no adapter: status 4")
+    with open(bench.path / "none.plan") as text:
+        bench.check(send(bench, "-", stdin=text) == 0, "TABLES from standard input")
+    moved = plan.replace("lid 4 0000000000000100", "lid 4 000000000000000X").replace("lid 5 0000000000000200", "lid 5 0000000000000100")
+    (bench.path / "swapped").write_text(moved.replace("000000000000000X", "0000000000000200"))
+    bench.check(send(bench, "swapped", "--holes") == 3 and "(--move-lids)" in bench.said, "a LID that moves is refused")
+
+
+def interrupted(bench):
+    """From the plan to minhop's tables: ended half-way, `send` leaves each block old or new, and goes on from there."""
+    (bench.path / "other.tables").write_text((bench.path / "min.held").read_text())
+    bench.record("-q", "-g", 1, "-T", "cut0", "cut0.reports")
+    before = (bench.path / "cut0").read_text().splitlines()
+    words = [str(word) for word in (bench.room / "out/send", "-q", "-n", "1", "other.tables")]
+    will = (bench.path / "other.tables").read_text().splitlines()
+    began = time.monotonic()
+    send(bench, "-q", "-n", 1, "--dry-run", "other.tables")
+    reading = time.monotonic() - began
+    for more in range(40):
+        with open(bench.path / "said", "w") as said:
+            process = subprocess.Popen(words, cwd=bench.path, env=bench.environment(), stderr=said)
+            time.sleep(reading + (more - 10) / 100)
+            process.send_signal(signal.SIGINT)
+            status = process.wait(60)
+        bench.record("-q", "-g", 1, "-T", "cut1", "cut1.reports")
+        now = (bench.path / "cut1").read_text().splitlines()
+        if now not in (before, will):
+            break
+        send(bench, "-q", "cut0")
+    bench.check(status == 130 and now not in (before, will), f"send is ended half-way: status {status}")
+    said = (bench.path / "said").read_text()
+    bench.check(re.fullmatch(r"send: stopped: \d+ of \d+ Sets are answered, each of a whole block, LID or top\n", said), f"it says so: {said.strip()}")
+    bench.check(len(now) == len(will) and all(line in pair for line, pair in zip(now, zip(before, will))), "each block is the old one or the new one")
+    bench.check(send(bench, "-q", "other.tables") == 0, "and it goes on from there")
+    bench.record("-q", "-g", 1, "-T", "cut2", "cut2.reports")
+    bench.check(bench.same("other.tables", "cut2"), "to the tables that were wanted")
+
+
+def to_a_plan(bench):
+    """From OpenSM's minhop to a plan by Sets, while OpenSM runs; and what both at once do."""
+    with bench.opensm("minhop") as opensm:
+        bench.record("-q", "-g", 1, "-T", "min.held", "min.reports")
+        bench.texts("min")
+        status, told = one_round(bench, "--direct", "--look")
+        bench.check(status == 0 and told["counts"]["entries"] > 0, f"from minhop: {told['verdict']}")
+        status, told = one_round(bench, "--direct", "--loops", "--settle", 0)
+        bench.check(status == 0 and told["step"] == "audit", f"round --direct: {told['verdict']}, {told['steps']}")
+        bench.check(bench.same("d/after.held", "d/after.plan") and bench.same("d/after.held", "min.plan"), "the fabric holds the plan")
+        before = bench.sweeps()
+        status, told = one_round(bench, "--direct")
+        bench.check(status == 0 and told["steps"] == [] and bench.sweeps() == before, "again there is nothing to do, and OpenSM was not asked")
+        # OpenSM writes what is otherwise than it wrote itself, and so nothing now.
+        bench.check(bench.sweep_again(opensm), "OpenSM sweeps again")
+        bench.record("-q", "-g", 1, "-T", "sweep.held", "sweep.reports")
+        bench.check(bench.same("sweep.held", "min.plan"), "and leaves the tables")
+    with bench.opensm("file,no_fallback", "-U", "d/plan.lfts") as opensm:
+        bench.record("-q", "-g", 1, "-T", "again.held", "again.reports")
+        bench.check(bench.same("again.held", "min.plan"), "OpenSM, started anew on the files of the round, keeps the tables")
+        send(bench, "-q", "min.held")
+        bench.check(bench.sweep_again(opensm), "other tables are sent, and OpenSM sweeps")
+        status, told = one_round(bench, "--opensm", opensm.pid, "--log", "osm.log", "--at-once")
+        bench.check(status == 1 and told["step"] == "holds", f"by OpenSM a round does not mend it: {told['verdict'][:60]}")
+        status, told = one_round(bench, "--direct", "--loops", "--settle", 0)
+        bench.check(status == 0, f"by Sets one does: {told['verdict']}")
