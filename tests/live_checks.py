@@ -1,10 +1,7 @@
 """What `tests/test` tries of `send` and of rounds that go by it, over ibsim, on its bench."""
 import json
 import re
-import signal
-import subprocess
 import sys
-import time
 
 import paths
 import record_files
@@ -87,32 +84,23 @@ def refusals(bench):
 
 def interrupted(bench):
     """From the plan to minhop's tables: ended half-way, `send` leaves each block old or new, and goes on from there."""
-    (bench.path / "other.tables").write_text((bench.path / "min.held").read_text())
-    bench.record("-q", "-g", 1, "-T", "cut0", "cut0.reports")
-    before = (bench.path / "cut0").read_text().splitlines()
-    words = [str(word) for word in (bench.room / "out/send", "-q", "-n", "1", "other.tables")]
-    will = (bench.path / "other.tables").read_text().splitlines()
-    began = time.monotonic()
-    send(bench, "-q", "-n", 1, "--dry-run", "other.tables")
-    reading = time.monotonic() - began
-    for more in range(40):
-        with open(bench.path / "said", "w") as said:
-            process = subprocess.Popen(words, cwd=bench.path, env=bench.environment(), stderr=said)
-            time.sleep(reading + (more - 10) / 100)
-            process.send_signal(signal.SIGINT)
-            status = process.wait(60)
-        bench.record("-q", "-g", 1, "-T", "cut1", "cut1.reports")
-        now = (bench.path / "cut1").read_text().splitlines()
-        if now not in (before, will):
-            break
-        send(bench, "-q", "cut0")
-    bench.check(status == 130 and now not in (before, will), f"send is ended half-way: status {status}")
-    said = (bench.path / "said").read_text()
-    bench.check(re.fullmatch(r"send: stopped: \d+ of \d+ Sets are answered, each of a whole block, LID or top\n", said), f"it says so: {said.strip()}")
-    bench.check(len(now) == len(will) and all(line in pair for line, pair in zip(now, zip(before, will))), "each block is the old one or the new one")
-    bench.check(send(bench, "-q", "other.tables") == 0, "and it goes on from there")
-    bench.record("-q", "-g", 1, "-T", "cut2", "cut2.reports")
-    bench.check(bench.same("other.tables", "cut2"), "to the tables that were wanted")
+    plan, minhop = ((bench.path / name).read_text().splitlines() for name in ("min.plan", "min.held"))
+    told = {
+        "stop": (130, "send: stopped: 5 of", "each of a whole block, LID or top"),
+        "other": (1, "the answer is otherwise than what was set", "NOT WRITTEN: "),
+        "refuse": (1, "Set of LinearForwardingTable block ", "left out: Status 0x001c"),
+    }
+    for bend, (wanted, *words) in told.items():
+        send(bench, "-q", "min.plan")
+        status = send(bench, "-n", 1, "min.held", bend=bend)
+        bench.check(status == wanted and all(word in bench.said for word in words), f"send, {bend}: status {status}, {bench.said.strip()}")
+        bench.record("-q", "-g", 1, "-T", "half", "half.reports")
+        half = (bench.path / "half").read_text().splitlines()
+        is_either = len(half) == len(plan) and all(line in pair for line, pair in zip(half, zip(plan, minhop)))
+        bench.check(half not in (plan, minhop) and is_either, "each block is the old one or the new one, and it is neither of both")
+    bench.check(send(bench, "-q", "min.held") == 0, "it goes on from there")
+    bench.record("-q", "-g", 1, "-T", "half", "half.reports")
+    bench.check(bench.same("min.held", "half"), "to the tables that were wanted")
 
 
 def to_a_plan(bench):

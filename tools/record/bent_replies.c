@@ -1,17 +1,45 @@
 /*
- * For tests: loaded before libumad, it bends replies that record receives, as the variable BEND says.
+ * For tests: loaded before libumad, it bends replies that record or send receives, as the variable BEND says.
  *   pointer   answers over no hops come back with hop pointer 1
  *   status    PortInfo of port 2 is refused with status 0x001C
  *   type      a node two hops away says that it is of type 9
  *   names     nodes one hop away and farther have one name, with a quote and a control character
  *   unnamed   nodes one hop away do not tell their names
+ *   stop      the fifth Set comes with an interrupt
+ *   other     the answer to the fifth Set tells another first entry
+ *   refuse    the fifth Set is refused with status 0x001C
  */
 #define _GNU_SOURCE
 #include <dlfcn.h>
+#include <signal.h>
 #include <stdint.h>
 #include <stdlib.h>
 #include <string.h>
 #include <infiniband/umad.h>
+
+enum { SET = 2, FIFTH = 5 };
+
+static int sets;
+static uint64_t fifth;	/* its number */
+
+int umad_send(int port, int agent, void *buffer, int length, int timeout_ms, int tries)
+{
+	int (*real)(int, int, void *, int, int, int) = (int (*)(int, int, void *, int, int, int)) dlsym(RTLD_NEXT, "umad_send");
+	uint8_t *packet = umad_get_mad(buffer);
+	const char *bend = getenv("BEND");
+
+	if (packet[3] == SET && ++sets == FIFTH) {
+		memcpy(&fifth, packet + 8, sizeof fifth);
+		if (bend && !strcmp(bend, "stop"))
+			raise(SIGINT);
+	}
+	return real(port, agent, buffer, length, timeout_ms, tries);
+}
+
+static int is_fifth(const uint8_t *packet)
+{
+	return sets >= FIFTH && !memcmp(packet + 12, (uint8_t *) &fifth + 4, 4);
+}
 
 int umad_recv(int port, void *buffer, int *length, int timeout_ms)
 {
@@ -32,5 +60,9 @@ int umad_recv(int port, void *buffer, int *length, int timeout_ms)
 		strcpy((char *) packet + 64, "a\"b\n\xfc");
 	if (!strcmp(bend, "unnamed") && packet[17] == 0x10 && packet[7] == 1)
 		packet[5] = 0x0c;
+	if (!strcmp(bend, "other") && is_fifth(packet))
+		packet[64] ^= 1;
+	if (!strcmp(bend, "refuse") && is_fifth(packet))
+		packet[5] = 0x1c;
 	return agent;
 }
