@@ -5,6 +5,7 @@ import sys
 
 import paths
 import record_files
+import sample_fabrics
 
 # Of PortInfo, bytes that a Set of LIDs changes: the LID, the manager's LID, and the LMC with what stands beside it.
 CHANGED = {16, 17, 18, 19, 34}
@@ -110,7 +111,7 @@ def to_a_plan(bench):
         bench.texts("min")
         status, told = one_round(bench, "--direct", "--look")
         bench.check(status == 0 and told["counts"]["entries"] > 0, f"from minhop: {told['verdict']}")
-        status, told = one_round(bench, "--direct", "--loops", "--settle", 0)
+        status, told = one_round(bench, "--direct", "--loops", "--busier", "--settle", 0)
         bench.check(status == 0 and told["step"] == "audit", f"round --direct: {told['verdict']}, {told['steps']}")
         bench.check(bench.same("d/after.held", "d/after.plan") and bench.same("d/after.held", "min.plan"), "the fabric holds the plan")
         before = bench.sweeps()
@@ -125,7 +126,49 @@ def to_a_plan(bench):
         bench.check(bench.same("again.held", "min.plan"), "OpenSM, started anew on the files of the round, keeps the tables")
         send(bench, "-q", "min.held")
         bench.check(bench.sweep_again(opensm), "other tables are sent, and OpenSM sweeps")
-        status, told = one_round(bench, "--opensm", opensm.pid, "--log", "osm.log", "--at-once")
+        status, told = one_round(bench, "--opensm", opensm.pid, "--log", "osm.log", "--at-once", "--busier")
         bench.check(status == 1 and told["step"] == "holds", f"by OpenSM a round does not mend it: {told['verdict'][:60]}")
-        status, told = one_round(bench, "--direct", "--loops", "--settle", 0)
+        status, told = one_round(bench, "--direct", "--loops", "--busier", "--settle", 0)
         bench.check(status == 0, f"by Sets one does: {told['verdict']}")
+
+
+def silent_cable(bench):
+    """A cable that loses packets, some or all, and an adapter that is silent: with --silent a round goes on without."""
+    send(bench, "-q", "min.plan")
+    words = ["--direct", "--loops", "--busier", "--settle", 0]
+    status, told = one_round(bench, *words)
+    bench.check(status == 0, f"before: {told['verdict']}")
+    (name, port), (far, back) = next((end, peer) for end, peer in bench.fabric.peers.items() if bench.fabric.is_switch(end[0]) and bench.fabric.is_switch(peer[0]))
+    ends = {f"{bench.fabric.guid(node):016x}/{p}" for node, p in ((name, port), (far, back))}
+    for percent in (30, 100):
+        bench.tell(f'Error "{name}"[{port}] {percent}')
+        status, told = one_round(bench, *words)
+        bench.check(percent < 100 or status == 1 and told["step"] == "record", f"{percent} % are lost: {told['verdict'][:60]}")
+        status, told = one_round(bench, *words, "--silent")
+        silent = set(told["silent"]["ports"]) if told["silent"] else set()
+        bench.check(status == 0 and silent == (ends if percent == 100 else set()), f"--silent: {told['line']}")
+    bench.run(bench.program, "audit", "d/after.held", "d/after.reports")
+    bench.check(bench.printed.startswith("pairs ") and len(set(bench.printed.split()[1:4:2])) == 1, "and every packet arrives")
+    bench.tell(f'Error "{name}"[{port}] 0')
+    status, told = one_round(bench, *words)
+    bench.check(status == 0 and "come cable" in told["line"], f"it answers again: {told['line']}")
+    end = [end for end in bench.fabric.ends() if end[1] and end[0] != "H1"][-1]
+    named = f"{bench.fabric.guid(end[0]):016x}/{end[1]}"
+    near = bench.fabric.peers[end]
+    lid = re.search(rf"^lid (\d+) {named}$", (bench.path / "d/after.held").read_text(), re.M)[1]
+    entries = (bench.path / "d/after.held").read_text()
+    bench.tell(f'Error "{near[0]}"[{near[1]}] 100')
+    status, told = one_round(bench, *words, "--silent")
+    kept = told["silent"]["kept"] if told["silent"] else None
+    bench.check(status == 0 and kept == [{"end": named, "lid": int(lid)}], f"an adapter is silent: {told['line']}")
+    bench.check((bench.path / "d/after.held").read_text() == entries, "its LID and entries stay")
+    bench.tell(f'Error "{near[0]}"[{near[1]}] 0')
+
+
+# Fabrics on which it is tried, and what.
+ROUTED = to_a_plan, interrupted, silent_cable
+SENT = (
+    ("triangle", sample_fabrics.triangle, (from_nothing, refusals)),
+    ("a torus of 16 switches", lambda: sample_fabrics.torus(4, 4), ROUTED),
+    ("a dragonfly of 20 switches", lambda: sample_fabrics.dragonfly(5, 4, 1), ROUTED),
+)

@@ -1,6 +1,7 @@
 """What `tests/test-files` tries of whole rounds, over scripts that stand in for a subnet, in its room."""
 
 import contextlib
+import datetime
 import fcntl
 import json
 import os
@@ -11,6 +12,7 @@ import sys
 import time
 
 import paths
+import record_files
 import tool_checks
 
 # Stand in for a subnet: what it says and holds is in the folder fab. A recording is there the text of its facts.
@@ -20,14 +22,14 @@ echo "$*" >>fab/asked
 cp fab/facts "$file"
 if [ -f fab/flaps ]; then mv fab/facts fab/kept; mv fab/flaps fab/facts; mv fab/kept fab/flaps; fi
 status=$(cat fab/status)
-[ "$status" = 0 ] && cp fab/held "$tables"
+case "$status $*" in 0*|*--partial*) cp fab/held "$tables" ;; esac
 [ "$status" = 0 ] || echo "record: NOT WHOLE: 1 requests without a reply" >&2
 exit "$status"
 """
 FAKE_IBSM = """#!/bin/sh
 for word; do last=$word; done
 case $1 in
-facts) cat "$last" ;;
+facts) case $last in *.store) cat fab/stored ;; *) cat "$last" ;; esac ;;
 plan) echo "$*" >>fab/planned; cat fab/plan ;;
 next)
     echo "$*" >>fab/stepped
@@ -40,7 +42,11 @@ next)
     cat "${between:-fab/next}"
     cat fab/loop >&2
     grep -q none fab/loop ;;
-audit) cat fab/audit; grep -q ' arrive 25$' fab/audit ;;
+audit)
+    text=fab/audit
+    case $2 in */now.held) [ -f fab/audit.held ] && text=fab/audit.held ;; esac
+    cat "$text"
+    grep -q ' arrive 25$' "$text" ;;
 esac
 """
 FAKE_SEND = """#!/bin/sh
@@ -57,10 +63,10 @@ while :; do sleep 0.02; done
 
 
 @contextlib.contextmanager
-def fake_opensm(room):
+def fake_opensm(room, *words):
     """A process that is called opensm and writes what it is told at HUP; it is ended by its id."""
     process = subprocess.Popen(
-        [room.path / "opensm"],
+        [room.path / "opensm", *words],
         cwd=room.path,
         stdin=subprocess.DEVNULL,
         # A shell can't trap what it was started to ignore, as HUP is under nohup.
@@ -102,9 +108,10 @@ def rounds(room):
         wanted = {"status": status, "step": step, "verdict": told["verdict"]}
         room.check(all(told[word] == value for word, value in wanted.items()), f"round {words}: {told}")
         room.check(
-            verdict in told["verdict"] and printed == f"{''.join(steps)}{told['step']}: {told['verdict']}\n",
+            verdict in told["verdict"] and printed == f"{''.join(steps)}{told['step']}: {told['line']}\n",
             f"round {words}: says `{verdict}`, not `{told['verdict']}`",
         )
+        room.check(told["line"].startswith(told["verdict"]), f"round {words}: its line begins with its verdict")
         room.check(
             list(told["seconds"])[-1] == step and told["began"] <= told["ended"],
             f"round {words}: the steps until {step}",
@@ -200,10 +207,16 @@ def rounds(room):
         ends(f"--opensm {process} --wait 0.3", 1, "opensm", "fab/log does not say SUBNET UP within 0.3 seconds")
         fab(held=room.text("round.plan"))
         ends(f"--opensm {process} --log fab/nothing", 4, "opensm", "fab/nothing")
-    ends(f"--opensm {os.getpid()}", 3, "opensm", "not opensm")
-    ends("--opensm 99999999", 3, "opensm", "there is no process 99999999")
+    ends(f"--opensm {os.getpid()}", 3, "manager", "not opensm")
+    ends("--opensm 99999999", 3, "manager", "there is no process 99999999: has OpenSM ended?")
     directly(room, fab, ends)
+    told_beside(room, fab, ends)
+    silence(room, fab, ends)
+    other_files(room, fab, ends)
+    by_a_file(room, fab, ends)
     watched(room)
+    healed(room, fab)
+    watched_by_log(room, fab)
     room.put(slow=FAKE_RECORD.replace("cp fab/facts", "sleep 3; cp fab/facts"))
     (room.path / "slow").chmod(0o755)
     said = tool_checks.on_a_terminal(room, "round", "rd", "--ibsm", "./ibsm", "--record", "./slow", "--look")
@@ -286,6 +299,143 @@ def directly(room, fab, ends):
         ends("--direct", wanted, "send", "NOT HELD: 1 of 2 that were set")
     for name in ("fails", "ends"):
         (room.path / "fab" / name).unlink()
+
+
+def told_beside(room, fab, ends):
+    """What changed, how many pairs were lost, and how busy channels are."""
+    facts, plan, held = (room.text(name) for name in ("t.facts", "t.plan", "round.plan"))
+    more = facts.replace("link 0000000000000020/1 ", "link 0000000000000010/3 0000000000000010/4 @1\nlink 0000000000000010/4 0000000000000010/3 @1\nlink 0000000000000020/1 ")
+    more = more.replace("port 0000000000000010/3 down", "port 0000000000000010/3 up").replace("port 0000000000000010/4 down", "port 0000000000000010/4 up")
+    audits = {"audit": "pairs 25 arrive 25\nload max 10 mean 2.00\n", "audit.held": "pairs 25 arrive 20\nload max 3 mean 1.25\n"}
+    fab(facts=facts, held=plan, sent="")
+    before = ends("--direct", 0, "audit", "the subnet holds the plan")
+    room.check(before["lost"] is None and before["changes"] == [] and before["whole"], f"nothing changed: {before}")
+    fab(facts=more, held=held, **audits)
+    told = ends("--direct", 0, "audit", "the subnet holds the plan")
+    come = "come cable 0000000000000010/3 0000000000000010/4"
+    room.check(told["changes"] == [come] and f"; changed: {come}; " in told["line"], f"what changed: {told['line']}")
+    lost = told["lost"]
+    room.check((lost["pairs"], lost["since"], lost["is_back"]) == (5, before["whole"], True), f"pairs were lost: {lost}")
+    room.check(f"; 5 pairs were lost, for {lost['seconds']:.1f} s at most; " in told["line"], f"for how long: {told['line']}")
+    room.check(told["line"].endswith("; busiest channel 3 > 10, mean 1.25 > 2.00"), f"how busy channels are: {told['line']}")
+    room.check(told["load"] == {"plan": {"max": 10, "mean": 2.0}, "held": {"max": 3, "mean": 1.25}}, f"load: {told['load']}")
+    fab(held=held, loop="credit loop on one lane 0000000000000010/1\nlids 5\n")
+    told = ends("--direct", 1, "next", "step 1 is not written")
+    room.check(not told["lost"]["is_back"] and "; 5 pairs are lost, for " in told["line"], f"and are not back: {told['line']}")
+    (room.path / "rd/status.json").unlink()
+    told = ends("--direct", 1, "next", "step 1 is not written")
+    room.check(told["lost"]["seconds"] is None and "; 5 pairs are lost, it is not known for how long; " in told["line"], told["line"])
+    for most, words, status in ((6, "", 0), (7, "", 1), (7, "--busier", 0), (7, "--look", 0)):
+        audits = {"audit": f"pairs 25 arrive 25\nload max {most} mean 2.00\n", "audit.held": "pairs 25 arrive 25\nload max 5 mean 2.00\n"}
+        fab(held=held, facts=facts, loop="credit loop none\n", **audits)
+        verdict = "carries 7 routes, and what is held 5 (--busier)" if status else "the subnet holds the plan"
+        told = ends(f"--direct {words}", status, "compare" if status or "look" in words else "audit", "looked only" if "look" in words else verdict)
+    (room.path / "fab/audit.held").unlink()
+    fab(audit="pairs 25 arrive 25\n")
+
+
+def silence(room, fab, ends):
+    """What is silent is left out, and an adapter that was known stays."""
+    facts, plan = room.text("t.facts"), room.text("t.plan")
+    claimed = facts.replace("claim 0000000000000200/1 0", "claim 0000000000000200/1 5")
+    quiet = "".join(line for line in claimed.splitlines(True) if "0000000000000200" not in line)
+    fab(facts=claimed, held=plan)
+    ends("--direct", 0, "audit", "the subnet holds the plan")
+    held = plan.replace("lid 5 0000000000000200/1\n", "")
+    fab(facts=quiet, stored=claimed, held=held, status="1", sent="", asked="", **{"step.1": plan})
+    told = ends("--direct", 1, "record", "the record has gaps")
+    room.check("(--silent goes on without)" in told["verdict"], "it says which option goes on")
+    told = ends("--direct --silent", 0, "audit", "the subnet holds the plan")
+    room.check((room.path / "rd/now.store").read_bytes() == record_files.store_of(claimed), "planned is what was known before")
+    room.check(told["silent"] == {"ports": [], "kept": [{"end": "0000000000000200/1", "lid": 5}], "left_out": []}, f"{told['silent']}")
+    room.check(told["line"].endswith("; silent ports that keep their LIDs: 1, as 0000000000000200/1 with 5"), told["line"])
+    room.check(room.text("rd/now.held") == plan and "--retries 20" in room.text("fab/asked"), "its LID is held, and it was asked again")
+    # The cable between two switches is silent: nothing is kept.
+    cut = facts.replace("link 0000000000000020/2 0000000000000030/2 @1\n", "").replace("link 0000000000000030/2 0000000000000020/2 @1\n", "")
+    fab(facts=cut, held=plan)
+    told = ends("--silent --look", 0, "compare", "looked only")
+    room.check(told["silent"]["ports"] == ["0000000000000020/2", "0000000000000030/2"] and not told["silent"]["kept"], f"{told['silent']}")
+    room.check(not (room.path / "rd/now.store").exists(), "and what was recorded is planned")
+    # A switch without the size of its table is left out, and the adapter that it alone is wired to.
+    left = "".join(line for line in facts.splitlines(True) if "0000000000000030" not in line and "0000000000000200" not in line)
+    fab(facts=facts.replace("cap 0000000000000030 1024 @1\n", ""), stored=left, held=plan)
+    told = ends("--silent --look", 0, "compare", "looked only")
+    room.check((room.path / "rd/now.store").read_bytes() == record_files.store_of(left), "a switch without its size is left out")
+    room.check(told["silent"]["left_out"] == ["0000000000000030", "0000000000000200"], f"with what it joins: {told['silent']}")
+    # A port must not get the LID that a silent one has.
+    fab(facts=claimed.replace("claim 0000000000000200/1 5", "claim 0000000000000200/1 0").replace("claim 0000000000000030/0 0", "claim 0000000000000030/0 5"), held=plan, status="0")
+    ends("--look --move-lids", 0, "compare", "looked only")
+    fab(facts=facts.replace("cap 0000000000000030 1024 @1\n", ""), stored=left, plan=plan.replace("lid 3 0000000000000030/0\n", ""), status="1")
+    fab(plan=room.text("fab/plan").replace("lid 5 0000000000000200/1", "lid 5 0000000000000100/1").replace("lid 4 0000000000000100/1\n", ""))
+    ends("--silent --look", 1, "lids", "0000000000000100/1 would get LID 5 of 0000000000000030/0, which may be silent alone")
+    fab(facts=facts, plan=plan, held=plan, status="0")
+    (room.path / "fab/step.1").unlink()
+
+
+def other_files(room, fab, ends):
+    """An OpenSM that reads other files is told before anything is asked."""
+    fab(held=room.text("t.plan"), log="", facts=room.text("t.facts"))
+    for words, is_other in ((("-U", "other.lfts"), 1), (("--lfts_file=x/plan.lfts",), 1), (("-U", "rd/plan.lfts"), 0), (("-Urd/../rd/plan.lfts",), 0)):
+        with fake_opensm(room, *words) as process:
+            if is_other:
+                told = ends(f"--opensm {process}", 3, "manager", f"OpenSM {process} routes by ")
+                room.check("not by rd/plan.lfts (-U in its command line)" in told["verdict"], told["verdict"])
+            else:
+                ends(f"--opensm {process}", 0, "audit", "the subnet holds the plan")
+        fab(log="")
+
+
+def by_a_file(room, fab, ends):
+    """Options in a file, which those of the command line count before."""
+    room.put(round_conf="# where\ndir rd\nrouting spread  # a rule\nlmc=0\nlook\n\n", bad_conf="dir rd\nsing\n")
+    fab(planned="")
+    words = "--ibsm ./ibsm --record ./record"
+    room.prints(f"round --config round.conf {words}", 0, "compare: looked only")
+    room.prints(f"round --config round.conf {words} --routing updown", 0, "compare: looked only")
+    wanted = [f"plan --routing {rule} --lmc 0 rd/now.reports" for rule in ("spread", "updown")]
+    room.check(room.text("fab/planned").splitlines() == wanted, f"options of a file: {room.text('fab/planned')}")
+    room.run(f"round --config bad.conf {words}", 2)
+    room.run(f"round {words}", 2)
+    room.refused(f"round --config nothing {words}", "nothing", 4)
+
+
+def started(room, *words):
+    """Rounds that go on, with their lines to read."""
+    words = [sys.executable, paths.TOOLS / "round", "rd", "--ibsm", "./ibsm", "--record", "./record", "--send", "./send", *words]
+    return subprocess.Popen(words, cwd=room.path, stdout=subprocess.PIPE, text=True, stdin=subprocess.DEVNULL)
+
+
+def healed(room, fab):
+    """With --watch a step with a credit loop is written while packets are lost, and no other one is."""
+    held, loop = room.text("round.plan"), "credit loop on one lane 0000000000000010/1\nlids 5\n"
+    for arrive, step, end in (
+        (20, "; status 1; written all the same, since 5 pairs are lost", "status 0 audit: the subnet holds the plan; "),
+        (25, "; status 1", "status 1 next: step 1 is not written, since packets can wait in a loop meanwhile"),
+    ):
+        fab(held=held, loop=loop, **{"audit.held": f"pairs 25 arrive {arrive}\n"})
+        process = started(room, "--direct", "--watch", "0.1", "--settle", "0")
+        lines = [process.stdout.readline().rstrip("\n") for _ in range(2)]
+        process.terminate()
+        process.communicate()
+        room.check(lines[0].endswith(step) and end in lines[1], f"{arrive} of 25 arrive: {lines}")
+    (room.path / "fab/audit.held").unlink()
+    fab(loop="credit loop none\n")
+
+
+def watched_by_log(room, fab):
+    """Where OpenSM's log is named, a round goes once it tells of a sweep."""
+    fab(log="SUBNET UP\n")
+    process = started(room, "--look", "--watch", "0.05", "--log", "fab/log")
+    first = process.stdout.readline()
+    time.sleep(1)
+    with open(room.path / "fab/log", "a") as log:
+        told = time.time()
+        log.write("SUBNET UP\n")
+    second = process.stdout.readline()
+    process.terminate()
+    process.communicate()
+    at = datetime.datetime.fromisoformat(second.split(" ")[0]).timestamp()
+    room.check(" status 0 compare: " in first and " status 0 compare: " in second and at >= told, f"by the log: {first}{second}")
 
 
 def watched(room):

@@ -241,6 +241,23 @@ def torus(rows, columns):
     return fabric
 
 
+def dragonfly(groups, size, hosts):
+    """Groups of switches that are all wired to each other, a cable between any two groups, and adapters at each switch."""
+    fabric = Fabric()
+    for i in range(1, groups * size + 1):
+        fabric.add(SWITCH, f"G{(i - 1) // size + 1}S{(i - 1) % size + 1}", 16 * i)
+    switches = list(fabric.nodes)
+    fabric.hosts([switch for switch in switches for _ in range(hosts)])
+    for group in range(groups):
+        own = switches[group * size : (group + 1) * size]
+        for i, one in enumerate(own):
+            for other in own[i + 1 :]:
+                fabric.join(one, other)
+        for other in range(group + 1, groups):
+            fabric.join(own[(other - group - 1) % size], switches[other * size + (group - other) % size])
+    return fabric
+
+
 def two_levels(low, high, hosts):
     """Each switch of the lower level wired to each of the higher, and so many adapters at each of the lower."""
     fabric = Fabric()

@@ -7,9 +7,9 @@ import subprocess
 from ibsm_texts import Refused
 
 HERE = pathlib.Path(__file__).resolve().parent
-# Where it is built, where it is compiled without its proofs, and where it is installed: these tools are in lib/ibsm, and it is in bin.
+# Where it is built, where it is compiled without its proofs, and where it is installed: beside these tools.
 BUILT = HERE.parent / "crates/ibsm/out"
-BESIDE = BUILT / "ibsm", BUILT / "unproved/ibsm", HERE.parent.parent / "bin/ibsm"
+BESIDE = BUILT / "ibsm", BUILT / "unproved/ibsm", HERE / "ibsm"
 
 
 def the_program(named=None):
@@ -29,3 +29,12 @@ def printed_by(program, *words, statuses=(0,)):
             f"{' '.join(['ibsm', *map(str, words)])}: {(run.stderr.strip() or f'status {run.returncode}').splitlines()[-1]}"
         )
     return run.stdout
+
+
+def made_in_c(name, named=None):
+    """The program `record` or `send`: the one that is named, or was made or installed beside these tools, or is on the path."""
+    beside = [HERE / "record/out" / name, HERE.parent.parent / f"bin/ibsm-{name}"]
+    found = shutil.which(named or next((path for path in beside if os.access(path, os.X_OK)), f"ibsm-{name}"))
+    if not found:
+        raise OSError(f"there is no program {name}: make -C tools/record makes it, or name one by --{name}")
+    return found

@@ -74,6 +74,8 @@ static void judge_range(const struct range *range)
 	const struct port *port = port_of(node, range->port);
 	unsigned old, count = range->last - range->first + 1;
 
+	if (choices.silent && (!port || !port->has_info))
+		return;
 	if (!is_end_port(node, range->port) || !port->has_info) {
 		reason("LID %u: there is no end port %016llx/%u: are these tables of this subnet?", range->first, LONG(range->guid), range->port);
 		return;
@@ -155,6 +157,8 @@ static int32_t home_of(const struct range *range, uint8_t *port)
 	struct port *there;
 
 	*port = 0;
+	if (!node)
+		return NO_CABLE;
 	if (node->type == SWITCH)
 		return place_of_hop(node);
 	there = across(node, range->port, &far);
@@ -215,6 +219,14 @@ static unsigned long follow(const struct range *range, uint32_t lid, uint8_t *fa
 	return lost;
 }
 
+/* What is silent has LIDs, and entries, that cannot be judged. */
+static int is_judged(const struct range *range)
+{
+	const struct port *port = port_of(find(range->guid), range->port);
+
+	return port && port->has_info;
+}
+
 static unsigned long judge_ways(const struct wanted *wanted)
 {
 	uint8_t *fate = more(NULL, known_nodes() + 1, 1);
@@ -224,7 +236,7 @@ static unsigned long judge_ways(const struct wanted *wanted)
 
 	lay_out(wanted);
 	for (i = 0; i < wanted->range_count; i++)
-		for (lid = wanted->ranges[i].first; lid <= wanted->ranges[i].last; lid++)
+		for (lid = wanted->ranges[i].first; is_judged(&wanted->ranges[i]) && lid <= wanted->ranges[i].last; lid++)
 			lost += follow(&wanted->ranges[i], lid, fate, passed);
 	free(fate);
 	free(passed);

@@ -30,6 +30,7 @@ static const char usage_text[] =
 "  -r, --retries N        how often a request is sent again, 0 to 100 (3)\n"
 "  -k, --m-key KEY        management key of the subnet (0)\n"
 "  -T, --tables FILE      also read the forwarding tables, and write them with the LIDs in the form of a plan\n"
+"  -p, --partial          write the tables also where replies are missing, without the switches and ports that lack them\n"
 "  -N, --names FILE       also ask for names, and write them as a node name map of infiniband-diags\n"
 "  -q, --quiet            neither progress nor a summary\n"
 "  -v, --verbose          name every request without a reply, not only the first 20\n"
@@ -50,6 +51,7 @@ static void on_signal(int number)
 static const struct option words[] = {
 	{ "ca", 1, 0, 'C' }, { "port", 1, 0, 'P' }, { "generation", 1, 0, 'g' }, { "outstanding", 1, 0, 'n' },
 	{ "timeout", 1, 0, 't' }, { "retries", 1, 0, 'r' }, { "m-key", 1, 0, 'k' }, { "tables", 1, 0, 'T' }, { "names", 1, 0, 'N' }, { "after", 1, 0, 'a' },
+	{ "partial", 0, 0, 'p' },
 	{ "quiet", 0, 0, 'q' }, { "verbose", 0, 0, 'v' }, { "help", 0, 0, 'h' }, { "version", 0, 0, 'V' }, { 0 }
 };
 
@@ -61,9 +63,10 @@ static void take_option(int letter)
 	case 'g': options.generation = number_in(optarg, "--generation", 1, UINT32_MAX); break;
 	case 'T': options.tables = optarg; break;
 	case 'N': options.names = optarg; break;
+	case 'p': options.partial = 1; break;
 	case 'a': options.after = optarg; break;
 	case 'h': fputs(usage_text, stdout); exit(WHOLE);
-	case 'V': puts("record " VERSION); exit(WHOLE);
+	case 'V': puts("ibsm-record " VERSION); exit(WHOLE);
 	default: fputs(usage_text, stderr); exit(USAGE);
 	}
 }
@@ -77,7 +80,7 @@ static void parse(int count, char **texts)
 {
 	int letter;
 
-	while ((letter = getopt_long(count, texts, "C:P:g:n:t:r:k:T:N:a:qvhV", words, NULL)) != -1)
+	while ((letter = getopt_long(count, texts, "C:P:g:n:t:r:k:T:N:a:pqvhV", words, NULL)) != -1)
 		take_option(letter);
 	if (optind + 1 != count)
 		take_option('?');
@@ -129,7 +132,7 @@ static int record(struct whole_file *tables, struct whole_file *names)
 	if (!counts.kept)
 		end(NO_FABRIC, "nothing answered, not even this machine's own port; no file is written");
 	if (options.tables)
-		has_tables = read_tables();
+		has_tables = read_tables() || options.partial;
 	if (options.names)
 		read_names();	/* last, since what has no name is no gap in the tables */
 	if (has_tables)

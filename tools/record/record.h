@@ -30,7 +30,7 @@ struct request {
 
 struct options {
 	char *adapter, *file, *tables, *names, *after;
-	int port, timeout_ms, tries, outstanding, quiet, verbose;
+	int port, timeout_ms, tries, outstanding, quiet, verbose, partial;
 	uint32_t generation;
 	uint64_t m_key;
 };
@@ -88,7 +88,7 @@ struct node {
 	struct path path;	/* the first that reached it */
 	uint16_t top;		/* of a switch, and its table in whole blocks up to there */
 	uint8_t *table;
-	uint8_t lacks;		/* a reply about it is missing */
+	uint8_t lacks;		/* a reply about it is missing: 1 about a port, 2 about its table */
 	uint8_t asked[256];	/* of an adapter: ports whose PortInfo was asked */
 	uint8_t *name;		/* ends with 0; NULL where it was not asked or told */
 	int is_shared;		/* another node has this name too */

@@ -80,7 +80,7 @@ static void take_option(int letter)
 	case 'H': choices.holes = 1; break;
 	case 's': choices.silent = 1; break;
 	case 'h': fputs(usage_text, stdout); exit(WHOLE);
-	case 'V': puts("send " VERSION); exit(WHOLE);
+	case 'V': puts("ibsm-send " VERSION); exit(WHOLE);
 	default: fputs(usage_text, stderr); exit(USAGE);
 	}
 }
@@ -168,8 +168,11 @@ static void order_lids(const struct wanted *wanted)
 		const struct range *range = &wanted->ranges[i];
 		struct node *node = find(range->guid);
 		struct port *port = port_of(node, range->port);
-		unsigned count = 1u << (port->info[34] & 7);
+		unsigned count;
 
+		if (!port || !port->has_info)
+			continue;
+		count = 1u << (port->info[34] & 7);
 		if (get(port->info + 16, 2) == range->first && count == range->last - range->first + 1u)
 			continue;
 		order = add(node, &port->path, PORT_INFO, range->port);
@@ -191,7 +194,7 @@ static void order_blocks(const struct wanted *wanted)
 		const struct table *table = &wanted->tables[i];
 		struct node *node = find(table->guid);
 
-		for (block = 0; !node->lacks && block < table->blocks; block++) {
+		for (block = 0; !(node->lacks & 2) && block < table->blocks; block++) {
 			const uint8_t *will = table->entries + BLOCK * block;
 			const uint8_t *was = block <= node->top / BLOCK ? node->table + BLOCK * block : NULL;
 			struct order *order;
@@ -216,7 +219,7 @@ static void order_tops(const struct wanted *wanted)
 		const struct table *table = &wanted->tables[i];
 		struct node *node = find(table->guid);
 
-		if (node->lacks || node->top == table->top)
+		if (node->lacks & 2 || node->top == table->top)
 			continue;
 		order = add(node, &node->path, SWITCH_INFO, 0);
 		order->was = node->top;

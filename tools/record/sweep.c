@@ -140,7 +140,7 @@ static void note_gap(const struct request *request)
 
 	missing += request->attribute != NODE_INFO;
 	if (node && request->attribute != NODE_DESCRIPTION)
-		node->lacks = 1;
+		node->lacks |= request->attribute == PORT_INFO ? 1 : 2;
 }
 
 int is_good(const struct request *request, uint8_t *reply)
@@ -296,7 +296,7 @@ void print_names(FILE *file)
 			print_name(file, nodes[i].guid, nodes[i].name, nodes[i].is_shared);
 }
 
-/* In the form of a plan. Sorts the nodes, so that none is found by its GUID afterwards. */
+/* In the form of a plan, without switches whose table is not known whole. Sorts the nodes, so that none is found by its GUID afterwards. */
 void print_tables(FILE *file)
 {
 	size_t i;
@@ -311,6 +311,6 @@ void print_tables(FILE *file)
 			fprintf(file, "\n");
 		}
 	for (i = 0; i < node_count; i++)
-		if (nodes[i].type == SWITCH)
+		if (nodes[i].type == SWITCH && !(nodes[i].lacks & 2))
 			print_switch(file, &nodes[i]);
 }

@@ -1,0 +1,114 @@
+"""Facts of a recording in which something was silent, with what was known before of adapters that are still plugged in."""
+from ibsm_texts import Facts, name_of, put
+from record_files import KINDS
+
+
+def key_of(line):
+    """What a fact is about, in the order of a text."""
+    kind, about = line.split(" ", 2)[:2]
+    guid, _, port = about.partition("/")
+    return KINDS[kind], int(guid, 16), int(port or 0)
+
+
+class Completed:
+    """What is to be planned.
+
+    A switch whose table or whose table's size is not known is left out, with what is joined by it alone. An adapter that
+    does not answer, in a port that is up and where it was before, is kept as it was.
+    """
+
+    def __init__(self, facts, before, tables):
+        """Takes facts, older ones or None, both with their lines, and the switches whose tables are known."""
+        self.facts, self.before = facts, before
+        self.lines = {key_of(line): line for line in facts.lines if not line.startswith("floor ")}
+        lacking = [guid for guid in facts.nodes if facts.is_switch(guid) and not (guid in facts.caps and guid in tables)]
+        self.left_out = sorted(lacking)
+        self.leave_out(set(lacking))
+        self.kept = {}
+        if before:
+            self.keep()
+        links = {key[1:] for key in self.lines if key[0] == KINDS["link"]}
+        ups = [key[1:] for key, line in self.lines.items() if key[0] == KINDS["port"] and " up " in line]
+        self.ports = sorted(end for end in ups if end[1] and end not in links)
+
+    def leave_out(self, lacking):
+        """Takes off nodes, and the nodes all of whose wires led to them."""
+        beside = {}
+        for end, far in self.facts.links.items():
+            beside.setdefault(end[0], set()).add(far[0])
+        while True:
+            alone = {guid for guid, near in beside.items() if guid not in lacking and near and near <= lacking}
+            if not alone:
+                break
+            lacking |= alone
+            self.left_out += sorted(alone)
+        about = {f"{guid:016x}" for guid in lacking}
+        self.lines = {
+            key: line
+            for key, line in self.lines.items()
+            if f"{key[1]:016x}" not in about and not (key[0] == KINDS["link"] and line.split(" ")[2].split("/")[0] in about)
+        }
+
+    def keep(self):
+        """Adds what was known of adapters that are silent, or that did not tell the state of their port."""
+        old = {key_of(line): line for line in self.before.lines if not line.startswith("floor ")}
+        for end, far in sorted(self.before.links.items()):
+            if self.before.wire(end) != far or self.before.type_of(far[0]) != "ca" or far[0] in self.left_out:
+                continue
+            now, is_up = self.facts.links.get(end), self.facts.up.get(end)
+            if not is_up or now not in (None, far) or self.facts.links.get(far, end) != end or far in self.facts.up:
+                continue
+            about = [("node", far[0], 0), *((kind, *far) for kind in ("portguid", "link", "port", "claim")), ("link", *end)]
+            for kind, *place in about:
+                key = (KINDS[kind], *place)
+                if key in old:
+                    self.lines.setdefault(key, old[key])
+            self.kept[far] = self.before.claims.get(far, 0)
+
+    def is_other(self):
+        return bool(self.kept or self.left_out)
+
+    def text(self):
+        floor = [f"floor {self.facts.floor}"] if self.facts.floor > 1 else []
+        return "".join(f"{line}\n" for line in [*floor, *(self.lines[key] for key in sorted(self.lines))])
+
+    def told(self):
+        """What is silent, for status.json."""
+        return {
+            "ports": list(map(name_of, self.ports)),
+            "kept": [{"end": name_of(end), "lid": lid} for end, lid in sorted(self.kept.items())],
+            "left_out": [f"{guid:016x}" for guid in self.left_out],
+        }
+
+
+def line_of(told):
+    """The same in a line."""
+    parts = []
+    if ports := told["ports"]:
+        parts.append(f"ports to what is silent: {len(ports)}, as {ports[0]}")
+    if kept := told["kept"]:
+        parts.append(f"silent ports that keep their LIDs: {len(kept)}, as {kept[0]['end']} with {kept[0]['lid']}")
+    if nodes := told["left_out"]:
+        parts.append(f"nodes left out: {len(nodes)}, as {nodes[0]}")
+    return "; ".join(parts)
+
+
+def add_lids(path, kept, lmc):
+    """Writes into held tables the LIDs of ports that are kept, which they can't tell now."""
+    with open(path) as file:
+        lines = file.read().splitlines(True)
+    lids = [line for line in lines if line.startswith("lid ")]
+    tail = f" lmc {lmc}\n" if lmc else "\n"
+    lids += [f"lid {lid} {name_of(end)}{tail}" for end, lid in kept.items() if lid]
+
+    def place(line):
+        _, lid, end, *_ = line.split()
+        guid, port = end.split("/")
+        return int(lid), int(guid, 16), int(port)
+
+    put(path, "".join(sorted(lids, key=place) + [line for line in lines if not line.startswith("lid ")]))
+
+
+def completed(facts_path, before_path, tables):
+    before = Facts(before_path, keeps_lines=True) if before_path else None
+    return Completed(Facts(facts_path, keeps_lines=True), before, tables)
