@@ -9,6 +9,7 @@ import re
 import sys
 
 import progress
+import version
 
 GUID = "([0-9a-f]{16})"
 NUMBER = "([0-9]{1,10})"
@@ -43,6 +44,9 @@ def ends(tool, doc, work):
     try:
         if {"-h", "--help"} & set(sys.argv[1:]):
             print(as_called(doc.strip()), flush=True)
+            return 0
+        if {"-V", "--version"} & set(sys.argv[1:]):
+            print(version.told(tool), end="", flush=True)
             return 0
         with progress.told(tool):
             status = work(sys.argv[1:])

@@ -1,0 +1,69 @@
+"""What shells complete behind `ibsm` and its tools, written from their help."""
+import re
+
+# The commands of the program, and their options.
+FLOOR, PLANS, ORDERS = "--floor", "--lmc --routing --roots --order", "--roots --order"
+COMMANDS = {
+    "facts": FLOOR,
+    "join": FLOOR,
+    "plan": f"{FLOOR} {PLANS}",
+    "order": f"{FLOOR} {ORDERS}",
+    "audit": FLOOR,
+    "next": f"{FLOOR} {PLANS}",
+    "run": PLANS,
+    "help": "",
+}
+RULES = "updown spread"
+
+
+def options_in(text):
+    """The options that a help names, in its order."""
+    return " ".join(dict.fromkeys(re.findall(r"(?<![\w-])--[a-z][a-z-]*", text + " --help --version")))
+
+
+def cases(tools, indent):
+    """Lines of a shell's `case`: what may stand behind each name, and behind each command of the program."""
+    lines = [f"{indent}ibsm-{name}) words='{options}' ;;" for name, options in sorted(tools.items())]
+    lines += [f"{indent}'ibsm {name}') words='{options} --help' ;;" for name, options in COMMANDS.items()]
+    return "\n".join([*lines, f"{indent}ibsm*) words='{' '.join(COMMANDS)} --help --version' ;;"])
+
+
+def for_bash(tools):
+    """The text for bash, where `tools` has the options of each tool by its name without ibsm-."""
+    return f"""# Completion of ibsm and its tools for bash: options, commands, and else files.
+_ibsm() {{
+    local words name=${{COMP_WORDS[0]##*/}} now=${{COMP_WORDS[COMP_CWORD]}} before=${{COMP_WORDS[COMP_CWORD-1]}}
+    COMPREPLY=()
+    if [ "$name" = ibsm ] && [ "$COMP_CWORD" -gt 1 ]; then name="ibsm ${{COMP_WORDS[1]}}"; fi
+    case $name in
+{cases(tools, "    ")}
+    esac
+    if [ "$before" = --routing ]; then
+        COMPREPLY=($(compgen -W '{RULES}' -- "$now"))
+    elif [ "$COMP_CWORD" -eq 1 ] && [ "$name" = ibsm ] || [ "${{now#-}}" != "$now" ]; then
+        COMPREPLY=($(compgen -W "$words" -- "$now"))
+    fi
+}}
+complete -o default -F _ibsm ibsm {' '.join(f'ibsm-{name}' for name in sorted(tools))}
+"""
+
+
+def for_zsh(tools):
+    """The same for zsh."""
+    return f"""#compdef ibsm {' '.join(f'ibsm-{name}' for name in sorted(tools))}
+# Completion of ibsm and its tools for zsh: options, commands, and else files.
+local words name=$service now=$PREFIX
+local -a given
+given=("${{(@)${{(z)BUFFER}}}}")
+if [[ $name == ibsm && $CURRENT -gt 2 ]]; then name="ibsm ${{given[2]}}"; fi
+case $name in
+{cases(tools, "")}
+esac
+if [[ ${{given[CURRENT-1]}} == --routing ]]; then
+    compadd -- {RULES}
+elif [[ $CURRENT -eq 2 && $name == ibsm || $now == -* ]]; then
+    compadd -- ${{=words}}
+else
+    _files
+fi
+"""

@@ -1,0 +1,48 @@
+"""Manual pages from the help that tools have."""
+import re
+
+from version import VERSION
+
+
+def escaped(line):
+    """A line as it stands in a page."""
+    line = line.replace("\\", "\\e").replace("-", "\\-")
+    return f"\\&{line}" if line[:1] in (".", "'") else line
+
+
+def sections(help_text):
+    """The parts of a help: its first sentence, how it is used, paragraphs, and what statuses it ends with."""
+    first, _, rest = help_text.strip().partition("\n\n")
+    usage, _, rest = rest.partition("\n\n")
+    paragraphs = rest.split("\n\n")
+    ends = [part for part in paragraphs if part.startswith("The exit status is ")]
+    return first, usage.removeprefix("usage: "), [part for part in paragraphs if part not in ends], ends
+
+
+def page_of(name, help_text, others):
+    """The page of an installed tool, called `name`; `others` are the tools that help names as tools/X."""
+    text = help_text
+    for other in others:
+        text = re.sub(rf"tools/{re.escape(other)}\b(?!\.)", f"ibsm-{other}", text)
+    first, usage, paragraphs, ends = sections(text)
+    sentence = first.replace("\n", " ").rstrip(".")
+    lines = [
+        f'.TH {name.upper().replace("-", chr(92) + "-")} 1 "" "ibsm {VERSION}" "ibsm"',
+        ".SH NAME",
+        f"{escaped(name)} \\- {escaped(sentence[0].lower() + sentence[1:])}",
+        ".SH SYNOPSIS",
+        ".nf",
+        *(escaped(re.sub(" {2,}", "    ", line)) for line in usage.splitlines()),
+        ".fi",
+        ".SH DESCRIPTION",
+    ]
+    for place, part in enumerate(paragraphs):
+        is_list = any(line.startswith(" ") or re.match(r"\w+ {2,}", line) for line in part.splitlines())
+        lines += [".PP"] if place else []
+        lines += [".nf"] if is_list else []
+        lines += map(escaped, part.splitlines())
+        lines += [".fi"] if is_list else []
+    for part in ends:
+        lines += [".SH EXIT STATUS", *map(escaped, part.splitlines())]
+    lines += [".SH SEE ALSO", ".BR ibsm (1)"]
+    return "\n".join(lines) + "\n"

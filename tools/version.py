@@ -1,0 +1,11 @@
+"""The version of the tools, and what an installed copy was built from."""
+import pathlib
+
+VERSION = "0.1.0"
+# Where they are installed, a file beside them tells the commit, and whether the program is proved.
+BUILT = pathlib.Path(__file__).resolve().parent / "built"
+
+
+def told(tool):
+    built = BUILT.read_text() if BUILT.exists() else ""
+    return f"ibsm-{tool} {VERSION}\n{built}"
