@@ -3,6 +3,7 @@
 An end is a pair of a node's GUID and a port. A text that is not whole or not in its form raises `Refused`.
 """
 import contextlib
+import io
 import os
 import pathlib
 import re
@@ -41,11 +42,13 @@ class Refused(Exception):
 
 def ends(tool, doc, work):
     """Runs a tool and gives its exit status: work takes the words behind its name. What ends it short is said in one line."""
+    # What stands behind -- is another program's.
+    own = set(sys.argv[1 : sys.argv.index("--")] if "--" in sys.argv else sys.argv[1:])
     try:
-        if {"-h", "--help"} & set(sys.argv[1:]):
+        if {"-h", "--help"} & own:
             print(as_called(doc.strip()), flush=True)
             return 0
-        if {"-V", "--version"} & set(sys.argv[1:]):
+        if {"-V", "--version"} & own:
             print(version.told(tool), end="", flush=True)
             return 0
         with progress.told(tool):
@@ -59,11 +62,18 @@ def ends(tool, doc, work):
     except Refused as fault:
         said, status = fault, 3
     except OSError as fault:
-        said, status = fault, 4
+        said, status = told(fault), 4
     except MemoryError:
         said, status = "out of memory", 5
     print(f"{tool}: {said}", file=sys.stderr)
     return status
+
+
+def told(fault):
+    """A fault of the operating system with the file's name once; without one it is standard output's."""
+    if fault.strerror is None:
+        return str(fault)
+    return f"{fault.filename or 'standard output'}: {fault.strerror}"
 
 
 def as_called(doc):
@@ -89,13 +99,25 @@ def end_in(word):
     return (int(form[1], 16), int(form[2])) if form else None
 
 
+_input = []
+
+
+def opened(path, **how):
+    """A text to read; `-` is standard input, which is read once, however often it is opened."""
+    if path != "-":
+        return open(path, **how)
+    if not _input:
+        _input.append(sys.stdin.buffer.read())
+    return io.TextIOWrapper(io.BytesIO(_input[0]), **how)
+
+
 def each_line(path, take, errors="strict", encoding="ascii"):
     """Hands a text's lines with their numbers to take, one after the other, so that no text is held.
 
     What take refuses first holds once all is known to be a text whose last line has an end.
     """
     refused, line = None, "\n"
-    with open(path, encoding=encoding, errors=errors) as file:
+    with opened(path, encoding=encoding, errors=errors) as file:
         try:
             with progress.reading(path, file):
                 for number, line in enumerate(file, 1):
@@ -123,7 +145,7 @@ def lines_of(path, errors="strict", encoding="ascii"):
 def names_in(path):
     """The names of a node name map, by GUID."""
     found = {}
-    with open(path, encoding="utf-8", errors="replace") as file:
+    with opened(path, encoding="utf-8", errors="replace") as file:
         for line in file:
             if form := re.match(r'\s*0x([0-9a-fA-F]{1,16})\s+"([^"]*)"', line):
                 found[int(form[1], 16)] = form[2]
@@ -155,9 +177,11 @@ def whole(path):
             file.flush()
             os.fsync(file.fileno())
         os.rename(temporary, path)
-    except BaseException:
+    except BaseException as fault:
         if os.path.exists(temporary):
             os.unlink(temporary)
+        if isinstance(fault, OSError) and fault.strerror:
+            raise OSError(fault.errno, fault.strerror, path) from None
         raise
 
 

@@ -34,7 +34,11 @@ def doing(what):
 
 def reading(path, file):
     """Notes meanwhile that a file is read, and of a regular one how far."""
-    number = file.fileno()
+    try:
+        number = file.fileno()
+    except OSError:
+        # It is in memory already.
+        return doing(f"reads {path}")
     size = os.fstat(number).st_size
     return doing(lambda: f"reads {path}" + (f", {100 * os.lseek(number, 0, os.SEEK_CUR) // size} %" if size else ""))
 

@@ -61,7 +61,7 @@ void begin_file(struct whole_file *file, char *name)
 		*place_of(NULL) = file->temporary;
 	sigprocmask(SIG_SETMASK, &before, NULL);
 	if (!file->file)
-		end(NO_FABRIC, "cannot write %s: %s", file->temporary, strerror(errno));
+		end(NO_FABRIC, "cannot write %s: %s", name, strerror(errno));
 }
 
 void commit_file(struct whole_file *file)
