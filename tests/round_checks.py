@@ -325,8 +325,11 @@ def told_beside(room, fab, ends):
     (room.path / "rd/status.json").unlink()
     told = ends("--direct", 1, "next", "step 1 is not written")
     room.check(told["lost"]["seconds"] is None and "; 5 pairs are lost, it is not known for how long; " in told["line"], told["line"])
-    for most, words, status in ((6, "", 0), (7, "", 1), (7, "--busier", 0), (7, "--look", 0)):
-        audits = {"audit": f"pairs 25 arrive 25\nload max {most} mean 2.00\n", "audit.held": "pairs 25 arrive 25\nload max 5 mean 2.00\n"}
+    for most, pairs, words, status in ((6, 2, "", 0), (7, 2, "", 1), (7, 2, "--busier", 0), (7, 2, "--look", 0), (12, 4, "", 0)):
+        audits = {"audit": pairs, "audit.held": 2}
+        for name, count in audits.items():
+            load = f"load max {most if name == 'audit' else 5} mean 2.00\n"
+            audits[name] = f"pairs 25 arrive 25\nbetween adapters pairs {count} arrive {count}\n{load}"
         fab(held=held, facts=facts, loop="credit loop none\n", **audits)
         verdict = "carries 7 routes, and what is held 5 (--busier)" if status else "the subnet holds the plan"
         told = ends(f"--direct {words}", status, "compare" if status or "look" in words else "audit", "looked only" if "look" in words else verdict)

@@ -42,13 +42,18 @@ class Audit:
     def __init__(self, text):
         pairs = re.search(r"^pairs (\d+) arrive (\d+)$", text, re.M)
         load = re.search(r"^load max (\d+) mean (\d+\.\d+)$", text, re.M)
+        beside = re.search(r"^between adapters pairs (\d+) ", text, re.M)
         self.pairs, self.arrive = map(int, pairs.groups()) if pairs else (0, 0)
+        self.of_adapters = int(beside[1]) if beside else 0
         self.lost = self.pairs - self.arrive
         self.busiest, self.mean = (int(load[1]), load[2]) if load else (None, None)
 
     def is_busier_than(self, other):
-        """Whether the busiest channel carries more than a fifth more than that of other tables."""
-        return None not in (self.busiest, other.busiest) and 5 * self.busiest > 6 * other.busiest
+        """Whether the busiest channel carries more than a fifth more than that of other tables, for as many pairs of adapters."""
+        if None in (self.busiest, other.busiest):
+            return False
+        here, there = self.of_adapters or 1, other.of_adapters or 1
+        return 5 * self.busiest * there > 6 * other.busiest * here
 
 
 def name_of_process(process):
