@@ -174,6 +174,14 @@ CUTS_VALUE = {
     ],
     **{"count": 5, "harmless": 1, "uncut": {"entries": 7, "switches": 6}, "names": {TWO: "leaf"}},
 }
+BOTH = CUTS.replace("cable\n", "cables\n").replace(f"{THREE}/2", f"{THREE}/2, {ONE}/1 - {TWO}/3").replace("5 cables", "5 pairs of cables")
+BOTH_VALUE = CUTS_VALUE | {"cables": [CUTS_VALUE["cables"][0] | {"ends": [f"{TWO}/2", f"{THREE}/2", f"{ONE}/1", f"{TWO}/3"]}]}
+AWAY = CUTS.replace("cable\n", "switch\n").replace(f'{TWO}/2 "leaf" - {THREE}/2', f'{TWO} "leaf"').replace("5 cables", "5 switches")
+AWAY_VALUE = {
+    "form": "what-if",
+    "switches": [{"guid": TWO} | {word: value for word, value in CUTS_VALUE["cables"][0].items() if word != "ends"}],
+    **{word: CUTS_VALUE[word] for word in ("count", "harmless", "uncut", "names")},
+}
 LOOP = f"credit loop on one lane {ONE}/1 {TWO}/2\nlids 3 300\n"
 TEXTS = (
     ("facts", FACTS, FACTS_VALUE),
@@ -187,6 +195,8 @@ TEXTS = (
     ("compare", CHANGED, CHANGED_VALUE),
     ("compare", REWRITTEN, REWRITTEN_VALUE),
     ("what-if", CUTS, CUTS_VALUE),
+    ("what-if", BOTH, BOTH_VALUE),
+    ("what-if", AWAY, AWAY_VALUE),
 )
 GAUGES = """ibsm_audit_passes 0
 ibsm_audit_pairs{between="all"} 25
@@ -324,6 +334,8 @@ def of_the_tools(room):
         ("compare t.plan other.lids", 1, "compare"),
         ("compare fewer.tables t.plan", 1, "compare"),
         ("what-if t.facts t.plan --ibsm ./what --names all.names", 0, "what-if"),
+        ("what-if t.facts t.plan --ibsm ./what --two", 0, "what-if"),
+        ("what-if t.facts t.plan --ibsm ./what --switches --names all.names", 0, "what-if"),
     ):
         room.put(what="#!/bin/sh\nexec cat t.plan\n")
         (room.path / "what").chmod(0o755)

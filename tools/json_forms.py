@@ -260,25 +260,35 @@ class CompareRead(Rules):
 
 class WhatIfRead(Rules):
     rules = (
-        (r" *adapters +all +cut off +entries +switches +cable", "head"),
+        (r" *adapters +all +cut off +entries +switches +(cables?|switch)", "head"),
         (rf" *(\d+) +(\d+) +(\d+) +(\d+) +(\d+)  {PLACE} - {PLACE}", "row"),
+        (rf" *(\d+) +(\d+) +(\d+) +(\d+) +(\d+)  {PLACE} - {PLACE}, {PLACE} - {PLACE}", "row"),
+        (rf" *(\d+) +(\d+) +(\d+) +(\d+) +(\d+)  {GUID}", "switch"),
         (
-            r"(\d+) cables; without (\d+) of them no packet is lost; "
+            r"(\d+) (?:cables|pairs of cables|switches); without (\d+) of them no packet is lost; "
             r"a plan without any cut changes (\d+) entries on (\d+) switches",
             "end",
         ),
     )
 
     def __init__(self):
-        self.rows, self.last = [], None
+        self.rows, self.last, self.kind = [], None, "cables"
 
-    def head(self):
-        return not self.rows and self.last is None
+    def head(self, kind):
+        is_first = not self.rows and self.last is None
+        self.kind = "switches" if kind == "switch" else "cables"
+        return is_first
+
+    def take_row(self, told, words):
+        names = ("adapters", "all", "cut_off", "entries", "switches")
+        self.rows.append(told | {name: int(word) for name, word in zip(names, words)})
+        return self.last is None
 
     def row(self, *words):
-        names = ("adapters", "all", "cut_off", "entries", "switches")
-        self.rows.append({"ends": list(words[5:])} | {name: int(word) for name, word in zip(names, words)})
-        return self.last is None
+        return self.kind == "cables" and self.take_row({"ends": list(words[5:])}, words)
+
+    def switch(self, *words):
+        return self.kind == "switches" and self.take_row({"guid": words[5]}, words)
 
     def end(self, *words):
         self.last = [int(word) for word in words]
@@ -289,7 +299,7 @@ class WhatIfRead(Rules):
     def value_of_text(self):
         count, harmless, entries, switches = self.last
         uncut = {"entries": entries, "switches": switches}
-        return {"cables": self.rows, "count": count, "harmless": harmless, "uncut": uncut}
+        return {self.kind: self.rows, "count": count, "harmless": harmless, "uncut": uncut}
 
 
 # By the name of a form its reader, and how the first line of such a text begins.

@@ -1,0 +1,99 @@
+"""Switches in groups, such as those of a dragonfly or the rows of a torus, and where each stands in a picture of them."""
+import collections
+import math
+import re
+
+# In inches: how far switches of a group stand apart, and groups from each other.
+BESIDE, APART = 1.5, 1.0
+
+
+def by_names(guids, names):
+    """The group of each: its name up to the last number but one, or up to its only number, where that leaves something."""
+    found = {}
+    for guid in guids:
+        name = names.get(guid, "")
+        form = re.fullmatch(r"(.*\d)\D+\d+\D*", name) or re.fullmatch(r"(.*?)\d+\D*", name)
+        found[guid] = (form[1] if form else name).rstrip(" -_./:") or "?"
+    return found
+
+
+def in_order(guids, group_of, names):
+    """The groups, by name, each with its members by theirs, in which numbers count as such, or by GUID."""
+    def place(name):
+        return [(0, int(part), "") if part.isdigit() else (1, 0, part) for part in re.split(r"(\d+)", name)]
+
+    found = collections.defaultdict(list)
+    for guid in guids:
+        found[group_of[guid]].append(guid)
+    return {name: sorted(found[name], key=lambda guid: (place(names.get(guid, "")), guid)) for name in sorted(found, key=place)}
+
+
+def is_grid(groups, wires):
+    """Whether cables between groups of one size mostly lead to the same place in the other group, as in a torus."""
+    if len({len(members) for members in groups.values()}) != 1 or len(groups) < 2:
+        return False
+    place = {guid: (name, i) for name, members in groups.items() for i, guid in enumerate(members)}
+    between = [(place[a][1], place[b][1]) for a, b in wires if place[a][0] != place[b][0]]
+    return bool(between) and 2 * sum(one == other for one, other in between) > len(between)
+
+
+def placed(groups, wires):
+    """Where each switch stands, the boxes of groups (middle, width, height), and in which direction adapters stand.
+
+    Groups are rows of a grid, or circles on a circle.
+    """
+    if is_grid(groups, wires):
+        return grid(groups)
+    sides = {name: 2 * radius_of(len(members)) + BESIDE + APART for name, members in groups.items()}
+    # Frames that stand askew to each other touch at their corners.
+    big = circle(len(groups), math.sqrt(2) * max(sides.values()) + APART / 2)
+    places, boxes, outwards = {}, {}, {}
+    for i, (name, members) in enumerate(groups.items()):
+        x, y = spot(i, len(groups), big)
+        small = radius_of(len(members))
+        for j, guid in enumerate(members):
+            # The first of a group looks to the middle.
+            spin = math.atan2(-y, -x) if len(groups) > 1 else math.pi / 2
+            dx, dy = spot(j, len(members), small, spin)
+            places[guid], outwards[guid] = (x + dx, y + dy), math.atan2(dy, dx) if small else math.pi / 2
+        boxes[name] = x, y, sides[name], sides[name]
+    return places, boxes, outwards
+
+
+def grid(groups):
+    """A row for each group. Rows and columns close to rings mostly, so each is bent: what would run behind others does not."""
+    places, boxes, outwards = {}, {}, {}
+    for i, (name, members) in enumerate(groups.items()):
+        y = -(BESIDE + APART) * i
+        for j, guid in enumerate(members):
+            places[guid] = BESIDE * 1.3 * j + 0.5 * bend(i, len(groups)), y + 0.5 * bend(j, len(members))
+            outwards[guid] = math.pi / 5
+        width = BESIDE * 1.3 * (len(members) - 1)
+        boxes[name] = width / 2 + 0.5 * bend(i, len(groups)) + 0.2, y + 0.25, width + BESIDE + 0.6, 0.5 + BESIDE
+    return places, boxes, outwards
+
+
+def bend(i, count):
+    """From 0 at both ends of a row to 1 in its middle."""
+    x = i / (count - 1) if count > 1 else 0
+    return 4 * x * (1 - x)
+
+
+def radius_of(count):
+    return circle(count, BESIDE)
+
+
+def circle(count, apart):
+    """The radius of a circle on which so many stand so far apart."""
+    return 0 if count < 2 else apart / 2 / math.sin(math.pi / max(count, 2))
+
+
+def spot(i, count, radius, spin=math.pi / 2):
+    angle = spin - 2 * math.pi * i / max(count, 1)
+    return radius * math.cos(angle), radius * math.sin(angle)
+
+
+def beside(place, direction, turn):
+    """Where an adapter stands: outwards from its switch, by turns to both sides of that."""
+    angle = direction + 0.45 * ((turn + 1) // 2) * (-1) ** turn
+    return place[0] + 0.8 * math.cos(angle), place[1] + 0.6 * math.sin(angle)
