@@ -1,0 +1,208 @@
+"""The page of `tools/report` as HTML: one file, with its style and its script in it."""
+import html
+import json
+import pathlib
+import re
+
+HERE = pathlib.Path(__file__).resolve().parent
+# What the lines of an audit mean, by their first words.
+FINDINGS = {
+    "lost": "packets that are lost on their way",
+    "misdelivered": "packets that come to another port",
+    "round": "packets that go round for ever",
+    "unowned": "LIDs of ports that the facts do not know",
+    "twice": "LIDs that two ports hold",
+    "unknown": "tables of what is no switch of the facts",
+    "tableless": "switches without tables",
+    "unusable": "nodes that the facts do not know enough of",
+    "lidless": "ports without a LID",
+    "unjoined": "ports that are up and lead to nothing known",
+    "credit": "channels on which packets can wait for each other in a circle, if all take one virtual lane",
+}
+
+
+def escaped(text):
+    return html.escape(str(text))
+
+
+def table(head, rows, numbers=()):
+    """A table, whose columns with these places hold numbers."""
+
+    def cell(tag, i, value):
+        return f"<{tag}{' class=number' if i in numbers else ''}>{value if isinstance(value, Raw) else escaped(value)}</{tag}>"
+
+    lines = ["<div class=wide><table><thead><tr>", *(cell("th", i, it) for i, it in enumerate(head)), "</tr></thead><tbody>"]
+    for row in rows:
+        lines.append("<tr>" + "".join(cell("td", i, it) for i, it in enumerate(row)) + "</tr>")
+    return "".join(lines) + "</tbody></table></div>"
+
+
+class Raw(str):
+    """Text that is HTML already."""
+
+
+def section(title, *parts):
+    return f"<section><h2>{escaped(title)}</h2>{''.join(parts)}</section>"
+
+
+def paragraph(text):
+    return f"<p>{text if isinstance(text, Raw) else escaped(text)}</p>"
+
+
+def verdict(parts):
+    word = "The tables pass the audit." if parts["passes"] else "The tables do not pass the audit."
+    return f'<p class="verdict {"good" if parts["passes"] else "bad"}">{word}</p>'
+
+
+def audit(parts):
+    """The lines of the audit: its counts, and findings by kind."""
+    counts, found = [], {}
+    for line in parts["audit"]:
+        kind = line.split(" ", 1)[0]
+        if kind in FINDINGS and line != "credit loop none":
+            found.setdefault(kind, []).append(line)
+        elif kind == "more":
+            _, of, count = line.split(" ")
+            found.setdefault(of, []).append(f"and {count} more")
+        else:
+            counts.append(line)
+    blocks = []
+    for kind, lines in found.items():
+        items = "".join(f"<li><code>{escaped(line)}</code></li>" for line in lines)
+        blocks.append(f"<h3>{escaped(FINDINGS[kind])}</h3><ul class=findings>{items}</ul>")
+    if not blocks:
+        blocks.append(paragraph("Nothing is found."))
+    return section("Audit", f"<pre>{escaped(chr(10).join(counts))}</pre>", *blocks)
+
+
+def changes(parts):
+    if parts["changes"] is None:
+        return ""
+    told = "".join(f"<li><code>{escaped(line)}</code></li>" for line in parts["changes"])
+    body = f"<ul class=findings>{told}</ul>" if told else paragraph("Nothing changed.")
+    return section(f"Changes since {parts['was']}", body)
+
+
+def what_if(parts):
+    if parts["cuts"] is None:
+        return section("What if a cable goes", paragraph("Facts are disputed, or nothing has a LID: no cable is cut in thought."))
+    rows, count, harmless = parts["cuts"]
+    head = ("cable", "pairs of adapters lost", "all pairs lost", "cut off", "entries", "on switches")
+    told = f"{count} cables between switches; without {harmless} of them no packet is lost. Entries are those that a new plan changes."
+    return section("What if a cable goes", paragraph(told), table(head, rows, range(1, 6)))
+
+
+def channel_name(picture, channel):
+    i, port = channel
+    far, back = picture.ends[channel], picture.routes.far[i][port][1]
+    return f"{picture.name(i)} port {port} \u2192 {picture.name(far)} port {back}"
+
+
+def share(picture, channel):
+    """How busy a channel is, from 0 to 1."""
+    most = max(picture.loads.values(), default=0)
+    return picture.loads[channel] / most if most else 0
+
+
+def color(part):
+    """From blue, which is quiet, over yellow to red."""
+    return f"hsl({215 - 215 * part:.0f} 75% {52 - 4 * part:.0f}%)"
+
+
+def svg(picture):
+    """The picture: frames, channels, switches."""
+    if not picture.places:
+        return paragraph("There is no switch.")
+    boxes = [(x, y, picture.width(i)) for i, (x, y) in picture.places.items()]
+    left = min([x - width / 2 for x, _, width in boxes] + [x - width / 2 for x, _, width, _ in picture.frames.values()]) - 12
+    right = max([x + width / 2 for x, _, width in boxes] + [x + width / 2 for x, _, width, _ in picture.frames.values()]) + 12
+    top = min([y - 24 for _, y, _ in boxes] + [y - height / 2 for _, y, _, height in picture.frames.values()]) - 12
+    low = max([y + 24 for _, y, _ in boxes] + [y + height / 2 for _, y, _, height in picture.frames.values()]) + 12
+    # So wide that names can be read; what does not fit is scrolled.
+    size = f'viewBox="{left:.0f} {top:.0f} {right - left:.0f} {low - top:.0f}" style="min-width:{max(600, 0.6 * (right - left)):.0f}px"'
+    lines = [f'<svg id=net {size} role=img aria-label="switches and channels">']
+    for name, (x, y, width, height) in picture.frames.items():
+        lines.append(f'<rect class=frame x="{x - width / 2:.0f}" y="{y - height / 2:.0f}" width="{width:.0f}" height="{height:.0f}" rx=10 />')
+        lines.append(f'<text class=group x="{x:.0f}" y="{y - height / 2 + 14:.0f}">{escaped(name)}</text>')
+    for channel, (x, y, u, v) in sorted(picture.lines(), key=lambda it: picture.loads[it[0]]):
+        part, load = share(picture, channel), picture.loads[channel]
+        style = f'stroke="{color(part)}" stroke-width="{1.2 + 2.4 * part:.1f}"' if load else "class=unused"
+        lines.append(f'<g data-c="{channel[0]}/{channel[1]}"><line class=hit x1="{x:.1f}" y1="{y:.1f}" x2="{u:.1f}" y2="{v:.1f}" />')
+        lines.append(f'<line {style} x1="{x:.1f}" y1="{y:.1f}" x2="{u:.1f}" y2="{v:.1f}" />')
+        lines.append(f"<title>{escaped(channel_name(picture, channel))}: {load} pairs</title></g>")
+    for i, (x, y) in picture.places.items():
+        count, width = picture.at_home[i], picture.width(i)
+        lines.append(f'<rect class=node x="{x - width / 2:.1f}" y="{y - 17:.1f}" width="{width:.1f}" height=34 rx=4 />')
+        lines.append(f'<text x="{x:.1f}" y="{y - 2 if count else y + 4:.1f}">{escaped(picture.name(i))}</text>')
+        if count:
+            lines.append(f'<text class=count x="{x:.1f}" y="{y + 11:.1f}">{count} adapter{"" if count == 1 else "s"}</text>')
+    return "".join(lines) + "</svg>"
+
+
+def picture_section(parts):
+    picture = parts["picture"]
+    data = picture.data()
+    told = (
+        "Each line is a channel: a cable between switches, taken one way. Its colour tells how many pairs of adapters send over it."
+    )
+    if picture.is_part:
+        told += f" Of {len(picture.routes.guids)} switches those around the busiest channel are shown."
+    most = max(picture.loads.values(), default=0)
+    legend = f"<p class=legend><span>0</span><i></i><span>{most} pairs</span></p>"
+    asks = "Choose a channel, in the picture or in the table." if data else "The tables are too large to be followed on this page."
+    head = ("channel", "pairs")
+    rows = [
+        (Raw(f'<button data-c="{i}/{port}">{escaped(channel_name(picture, (i, port)))}</button>'), picture.loads[i, port])
+        for i, port in picture.busiest
+    ]
+    unused = sum(not load for load in picture.loads.values())
+    return section(
+        "Where packets go",
+        paragraph(told),
+        legend,
+        f"<div class=wide>{svg(picture)}</div>",
+        f'<p id=told aria-live=polite data-agrees="">{asks}</p>',
+        "<h3>The busiest channels</h3>",
+        table(head, rows, (1,)),
+        paragraph(f"{unused} of {len(picture.loads)} channels carry nothing."),
+        f"<script type=application/json id=data>{as_script(data)}</script>" if data else "",
+    )
+
+
+def as_script(value):
+    """JSON that no end of a script stands in."""
+    return json.dumps(value, separators=(",", ":")).replace("<", "\\u003c")
+
+
+PROVED = {
+    True: "The program that printed the audit says that it is proved: then what the audit says of these facts and tables is so "
+    "(docs/PROVED.md has the theorems), of unicast, on one virtual lane, with agents that do what docs/FORMATS.md says.",
+    False: "The program that printed the audit was compiled without its proofs: nothing on this page is proved.",
+    None: "The program that printed the audit does not tell whether it is proved. If it is, what the audit says of these facts and "
+    "tables is so, of unicast, on one virtual lane, with agents that do what docs/FORMATS.md says.",
+}
+
+
+def proved(parts):
+    agrees = "The busiest channel and the mean are the same by both counts" if parts["agrees"] else "THE COUNTS DIFFER: the busiest channel or the mean is another one by this page than by the audit"
+    rows = (
+        "That the subnet answered truly, and is still as it was recorded. An audit speaks of the recording.",
+        f"The picture, what channels carry, and what a cut loses: counted by tools that are tested, not proved. {agrees}.",
+        "Names, changes, and how this page reads the audit.",
+        "What else sends packets round or loses them: multicast, adaptive routing, several virtual lanes, full buffers, faults of hardware.",
+    )
+    body = "<h3>Not proved</h3><ul>" + "".join(f"<li>{escaped(row)}</li>" for row in rows) + "</ul>"
+    return section("What is proved of this", paragraph(PROVED[parts["proved"]]), body)
+
+
+def page(parts):
+    style, script = ((HERE / f"report.{kind}").read_text() for kind in ("css", "js"))
+    script = re.sub(r"(?m)^\s*//.*\n", "", script)
+    rows = [(word, value) for word, value in parts["subnet"].items()]
+    disputed = table(("disputed",), [(it,) for it in parts["disputed"][:20]]) if parts["disputed"] else ""
+    return (
+        f"<!doctype html><html lang=en><head><meta charset=utf-8><meta name=viewport content='width=device-width, initial-scale=1'>"
+        f"<title>{escaped(parts['title'])}</title><style>{style}</style></head><body><main><h1>{escaped(parts['title'])}</h1>"
+        f"{verdict(parts)}{section('The subnet', table(('', ''), rows, (1,)), disputed)}{audit(parts)}{picture_section(parts)}"
+        f"{what_if(parts)}{changes(parts)}{proved(parts)}</main><script>{script}</script></body></html>\n"
+    )
