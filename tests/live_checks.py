@@ -51,6 +51,15 @@ def from_nothing(bench):
     bench.check(send(bench, "none.plan") == 0 and " 0 LIDs, 0 blocks, 0 tops " in bench.said, "again there is nothing to write")
 
 
+def widths(bench):
+    """What ibsim's ports say of their links."""
+    status = bench.run(sys.executable, paths.TOOLS / "links", "sent.reports")
+    count = len(bench.fabric.peers) // 2
+    bench.check(status in (0, 1) and bench.printed.count("\nlink ") == count - 1 and f"{count} links: " in bench.printed, f"links: {bench.printed.splitlines()[-1]}")
+    status = bench.run(sys.executable, paths.TOOLS / "compare", "none.reports", "sent.reports")
+    bench.check(status == 0 and bench.printed == "equal\n", "compare: the same links")
+
+
 def refusals(bench):
     """What `send` does not write."""
     plan = (bench.path / "none.plan").read_text()
@@ -168,7 +177,7 @@ def silent_cable(bench):
 # Fabrics on which it is tried, and what.
 ROUTED = to_a_plan, interrupted, silent_cable
 SENT = (
-    ("triangle", sample_fabrics.triangle, (from_nothing, refusals)),
+    ("triangle", sample_fabrics.triangle, (from_nothing, widths, refusals)),
     ("a torus of 16 switches", lambda: sample_fabrics.torus(4, 4), ROUTED),
     ("a dragonfly of 20 switches", lambda: sample_fabrics.dragonfly(5, 4, 1), ROUTED),
 )

@@ -111,6 +111,14 @@ def opened(path, **how):
     return io.TextIOWrapper(io.BytesIO(_input[0]), **how)
 
 
+def opened_bytes(path, most=-1):
+    """The bytes of a file, or of standard input; no more than so many."""
+    if path == "-":
+        return sys.stdin.buffer.read(most)
+    with open(path, "rb") as file:
+        return file.read(most)
+
+
 def each_line(path, take, errors="strict", encoding="ascii"):
     """Hands a text's lines with their numbers to take, one after the other, so that no text is held.
 

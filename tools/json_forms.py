@@ -7,6 +7,7 @@ import re
 from ibsm_texts import END, FLOOR, FORMS, GUID, NUMBER
 
 PLACE = "([0-9a-f]{16}/[0-9]{1,3})"
+RATE = r"\d+x [A-Z]+ [0-9.]+ Gb/s"
 KINDS = ("lost", "misdelivered", "round", "unowned", "twice", "unknown", "tableless", "unusable", "lidless", "unjoined")
 MISSED = ("above-top", "no-entry", "no-port", "no-link", "foreign", "misdelivered", "round")
 # A name that is put behind a GUID or an end.
@@ -190,6 +191,7 @@ class CompareRead(Rules):
         (rf"(gone|come) node {GUID} ([a-z]+ \d+)", "node"),
         (rf"(other) node {GUID} ([a-z]+ \d+) > ([a-z]+ \d+)", "node"),
         (rf"(gone|come) cable {PLACE} {PLACE}", "cable"),
+        (rf"(slow|fast) cable {PLACE} {PLACE} ({RATE}) > ({RATE})", "rate"),
         (rf"(port|portguid|lid) {PLACE} (\w+) > (\w+)", "other"),
         (rf"(cap) {GUID} (\w+) > (\w+)", "other"),
         (rf"disputed (node|cap) {GUID}", "disputed"),
@@ -200,7 +202,7 @@ class CompareRead(Rules):
         (rf"(gone|come) switch {GUID}(?: blocks {NUMBER})?", "switch"),
         (rf"switch {GUID} entries {NUMBER} blocks {NUMBER}", "table"),
         (rf"{NUMBER} entries differ on {NUMBER} switches, blocks to write: {NUMBER}", "written"),
-        (r"((?:(?:gone|come|other) (?:node|cable)|[a-z]+) \d+(?:, [a-z]+ ?[a-z]* \d+)*)", "ends"),
+        (r"((?:(?:gone|come|other|slow|fast) (?:node|cable)|[a-z]+) \d+(?:, [a-z]+ ?[a-z]* \d+)*)", "ends"),
     )
 
     def __init__(self):
@@ -218,6 +220,9 @@ class CompareRead(Rules):
 
     def cable(self, word, end, far):
         self.change(word, "cable", ends=[end, far])
+
+    def rate(self, word, end, far, old, new):
+        self.change(word, "cable", ends=[end, far], old=old, new=new)
 
     def other(self, what, place, old, new):
         values = [int(it) if what in ("lid", "cap") else it for it in (old, new)]
@@ -311,7 +316,7 @@ READERS = {
     "what-if": (WhatIfRead, r" *adapters +all "),
     "compare": (
         CompareRead,
-        r"(equal$|gone |come |other |disputed |LID |(port|portguid|lid|cap) \S+ .*>|switch [0-9a-f]{16}(:| entries))",
+        r"(equal$|gone |come |other |slow cable |fast cable |disputed |LID |(port|portguid|lid|cap) \S+ .*>|switch [0-9a-f]{16}(:| entries))",
     ),
 }
 
