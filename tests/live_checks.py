@@ -1,6 +1,9 @@
 """What `tests/test` tries of `send` and of rounds that go by it, over ibsim, on its bench."""
+import contextlib
 import json
+import os
 import re
+import subprocess
 import sys
 
 import paths
@@ -92,6 +95,60 @@ def refusals(bench):
     bench.check(send(bench, "swapped", "--holes") == 3 and "(--move-lids)" in bench.said, "a LID that moves is refused")
 
 
+def seen_on_a_terminal(bench):
+    """Who waits at a terminal for longer than two seconds sees how far `record` is, in a line that is gone at the end."""
+    for bend, is_seen in (("slow", True), (None, False)):
+        ours, its = os.openpty()
+        preload = f"{bench.room}/out/bent_replies.so:{bench.library}"
+        environment = bench.environment() | ({"BEND": bend, "LD_PRELOAD": preload} if bend else {})
+        process = subprocess.Popen(
+            [bench.room / "out/record", "-n", "1", "seen.reports"], cwd=bench.path, env=environment, stderr=its, stdin=subprocess.DEVNULL
+        )
+        os.close(its)
+        said = b""
+        with contextlib.suppress(OSError):
+            while piece := os.read(ours, 4096):
+                said += piece
+        os.close(ours)
+        told = said.decode()
+        lines = re.findall(r"\r\x1b\[Krecord: asks, \d+ replies, \d+ nodes, \d+ requests wait, 0 without a reply", told)
+        is_right = bool(lines) == is_seen and ("\r\x1b[Krecord: seen.reports: generation" in told) == is_seen
+        bench.check(process.wait() == 0 and is_right, f"on a terminal, {bend or 'at once'}: {len(lines)} lines")
+
+
+def healed(bench):
+    """With --watch a cable that goes is healed without anybody, and so is one that comes back."""
+    send(bench, "-q", "min.plan")
+    programs = ["--ibsm", bench.program, "--record", bench.room / "out/record", "--send", bench.room / "out/send"]
+    words = [sys.executable, paths.TOOLS / "round", "d", *programs, "--direct", "--busier", "--settle", "0.1", "--watch", "0.2"]
+    process = subprocess.Popen(
+        [str(word) for word in words], cwd=bench.path, env=bench.environment(), stdout=subprocess.PIPE, text=True, stdin=subprocess.DEVNULL
+    )
+    try:
+        bench.check(" status 0 audit: the subnet holds the plan" in next_round(process), "rounds go on")
+        name, port = next(end for end, far in bench.fabric.peers.items() if bench.fabric.is_switch(end[0]) and bench.fabric.is_switch(far[0]))
+        # A cable that comes back heals nothing: where a step towards it has a credit loop, somebody is asked.
+        ends = {"Unlink": (" status 0 audit: ",), "ReLink": (" status 0 audit: ", " status 1 next: step 1 is not written")}
+        for command, word in (("Unlink", "gone cable"), ("ReLink", "come cable")):
+            bench.tell(f'{command} "{name}"[{port}]')
+            lines = [next_round(process)]
+            while len(lines) < 5 and word not in lines[-1]:
+                lines.append(next_round(process))
+            is_right = word in lines[-1] and any(end in lines[-1] for end in ends[command])
+            is_told = command == "ReLink" or "pairs were lost, for " in lines[-1]
+            bench.check(is_right and is_told, f"{command}: " + lines[-1].strip().partition(" ")[2])
+    finally:
+        process.terminate()
+        process.communicate()
+
+
+def next_round(process):
+    """The line of the next round, without those of its steps."""
+    while " step " in (line := process.stdout.readline()):
+        pass
+    return line
+
+
 def interrupted(bench):
     """From the plan to minhop's tables: ended half-way, `send` leaves each block old or new, and goes on from there."""
     plan, minhop = ((bench.path / name).read_text().splitlines() for name in ("min.plan", "min.held"))
@@ -175,9 +232,9 @@ def silent_cable(bench):
 
 
 # Fabrics on which it is tried, and what.
-ROUTED = to_a_plan, interrupted, silent_cable
+ROUTED = to_a_plan, interrupted, silent_cable, healed
 SENT = (
-    ("triangle", sample_fabrics.triangle, (from_nothing, widths, refusals)),
+    ("triangle", sample_fabrics.triangle, (from_nothing, widths, refusals, seen_on_a_terminal)),
     ("a torus of 16 switches", lambda: sample_fabrics.torus(4, 4), ROUTED),
     ("a dragonfly of 20 switches", lambda: sample_fabrics.dragonfly(5, 4, 1), ROUTED),
 )

@@ -98,7 +98,7 @@ class Pairs:
 
 
 class Masks:
-    """How many pairs of adapters, and of all end ports, packets serve over which of some cables: by sets of numbers, as bits."""
+    """How many pairs of adapters, and of all end ports, packets serve over which of some cables, whose numbers are bits."""
 
     def __init__(self, pairs, bits):
         """Takes the bits of each cable that counts."""
@@ -132,7 +132,8 @@ class Masks:
         for end in senders:
             beside[pairs.seat(end)][self.bits_of(end) if end[1] else 0] += 1
         channels = {place: self.bits_of((routes.guids[place[0]], place[1])) for place in routes.ends()}
-        groups = progress.counted("follows packets over cables, groups of LIDs", routes.groups.items(), len(routes.groups))
+        what = "follows packets over cables, groups of LIDs"
+        groups = progress.counted(what, routes.groups.items(), len(routes.groups))
         for (home, column), lids in groups:
             owners = collections.Counter(routes.owners[lid] for lid in lids if is_all or routes.owners[lid][1])
             if home is None or not owners:

@@ -25,7 +25,10 @@ root=${2-}$prefix
 list=$root/lib/ibsm/installed
 
 if [ "$is_taken_off" ]; then
-    [ -f "$list" ] || { echo "install.sh: $list is not there: nothing of ibsm is installed in $root" >&2; exit 1; }
+    [ -f "$list" ] || {
+        echo "install.sh: $list is not there: nothing of ibsm is installed in $root" >&2
+        exit 1
+    }
     while read -r name; do rm -f -- "$root/$name"; done <"$list"
     # What Python kept of modules.
     rm -rf -- "$list" "$root/lib/ibsm/__pycache__"
@@ -34,7 +37,10 @@ if [ "$is_taken_off" ]; then
     exit 0
 fi
 
-(cd "$here" && sha256sum --check --quiet SHA256SUMS) || { echo 'install.sh: files are otherwise than their checksums' >&2; exit 1; }
+(cd "$here" && sha256sum --check --quiet SHA256SUMS) || {
+    echo 'install.sh: files are otherwise than their checksums' >&2
+    exit 1
+}
 mkdir -p -- "$root/lib/ibsm"
 (cd "$here/tree" && find . ! -type d | LC_ALL=C sort | sed 's|^\./||') >"$list.new"
 while read -r name; do

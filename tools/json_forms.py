@@ -316,7 +316,8 @@ READERS = {
     "what-if": (WhatIfRead, r" *adapters +all "),
     "compare": (
         CompareRead,
-        r"(equal$|gone |come |other |slow cable |fast cable |disputed |LID |(port|portguid|lid|cap) \S+ .*>|switch [0-9a-f]{16}(:| entries))",
+        r"(equal$|gone |come |other |slow cable |fast cable |disputed |LID |(port|portguid|lid|cap) \S+ .*>"
+        r"|switch [0-9a-f]{16}(:| entries))",
     ),
 }
 

@@ -5,7 +5,7 @@ from ibsm_texts import Refused, name_of, opened_bytes
 from record_files import NO_REPORTS, NODE_INFO, PORT_INFO
 
 RECORD, HEAD, ATTRIBUTE, VIA = 272, 16, 64, 1
-# By the bits of PortInfo: lanes, and the name and the rate of a lane in Gb/s; those of LinkSpeedExtActive count before the others.
+# By the bits of PortInfo: lanes, and the name and the rate of a lane in Gb/s. Those of LinkSpeedExtActive count first.
 WIDTHS = {1: 1, 16: 2, 2: 4, 4: 8, 8: 12}
 SPEEDS = {1: ("SDR", 2.5), 2: ("DDR", 5), 4: ("QDR", 10)}
 FAST = {1: ("FDR", 14), 2: ("EDR", 25), 4: ("HDR", 50), 8: ("NDR", 100)}
@@ -57,7 +57,8 @@ class Recording:
             self.take(data[at : at + RECORD])
 
     def take(self, record):
-        age, context, port, guid = int.from_bytes(record[:4], "big"), record[4], record[5], int.from_bytes(record[8:16], "big")
+        age, context, port = int.from_bytes(record[:4], "big"), record[4], record[5]
+        guid = int.from_bytes(record[8:16], "big")
         packet = record[HEAD:]
         attribute, modifier = int.from_bytes(packet[16:18], "big"), int.from_bytes(packet[20:24], "big")
         value = packet[ATTRIBUTE : ATTRIBUTE + 64]

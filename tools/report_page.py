@@ -29,9 +29,11 @@ def table(head, rows, numbers=()):
     """A table, whose columns with these places hold numbers."""
 
     def cell(tag, i, value):
-        return f"<{tag}{' class=number' if i in numbers else ''}>{value if isinstance(value, Raw) else escaped(value)}</{tag}>"
+        text = value if isinstance(value, Raw) else escaped(value)
+        return f"<{tag}{' class=number' if i in numbers else ''}>{text}</{tag}>"
 
-    lines = ["<div class=wide><table><thead><tr>", *(cell("th", i, it) for i, it in enumerate(head)), "</tr></thead><tbody>"]
+    heads = (cell("th", i, it) for i, it in enumerate(head))
+    lines = ["<div class=wide><table><thead><tr>", *heads, "</tr></thead><tbody>"]
     for row in rows:
         lines.append("<tr>" + "".join(cell("td", i, it) for i, it in enumerate(row)) + "</tr>")
     return "".join(lines) + "</tbody></table></div>"
@@ -88,8 +90,9 @@ def what_if(parts):
         return section("What if a cable goes", paragraph("Facts are disputed, or nothing has a LID: no cable is cut in thought."))
     rows, count, harmless = parts["cuts"]
     head = ("cable", "pairs of adapters lost", "all pairs lost", "cut off", "entries", "on switches")
-    told = f"{count} cables between switches; without {harmless} of them no packet is lost. Entries are those that a new plan changes."
-    return section("What if a cable goes", paragraph(told), table(head, rows, range(1, 6)))
+    told = f"{count} cables between switches; without {harmless} of them no packet is lost."
+    entries = "Entries are those that a new plan changes."
+    return section("What if a cable goes", paragraph(f"{told} {entries}"), table(head, rows, range(1, 6)))
 
 
 def channel_name(picture, channel):
@@ -109,30 +112,34 @@ def color(part):
     return f"hsl({215 - 215 * part:.0f} 75% {52 - 4 * part:.0f}%)"
 
 
+def box(kind, x, y, width, height):
+    """A rectangle around a middle."""
+    place = f'x="{x - width / 2:.1f}" y="{y - height / 2:.1f}"'
+    return f'<rect class={kind} {place} width="{width:.1f}" height="{height:.1f}" rx=6 />'
+
+
 def svg(picture):
     """The picture: frames, channels, switches."""
     if not picture.places:
         return paragraph("There is no switch.")
-    boxes = [(x, y, picture.width(i)) for i, (x, y) in picture.places.items()]
-    left = min([x - width / 2 for x, _, width in boxes] + [x - width / 2 for x, _, width, _ in picture.frames.values()]) - 12
-    right = max([x + width / 2 for x, _, width in boxes] + [x + width / 2 for x, _, width, _ in picture.frames.values()]) + 12
-    top = min([y - 24 for _, y, _ in boxes] + [y - height / 2 for _, y, _, height in picture.frames.values()]) - 12
-    low = max([y + 24 for _, y, _ in boxes] + [y + height / 2 for _, y, _, height in picture.frames.values()]) + 12
+    boxes = [(x, y, picture.width(i), 48) for i, (x, y) in picture.places.items()] + list(picture.frames.values())
+    left, right = min(x - width / 2 for x, _, width, _ in boxes) - 12, max(x + width / 2 for x, _, width, _ in boxes) + 12
+    top, low = min(y - high / 2 for _, y, _, high in boxes) - 12, max(y + high / 2 for _, y, _, high in boxes) + 12
     # So wide that names can be read; what does not fit is scrolled.
-    size = f'viewBox="{left:.0f} {top:.0f} {right - left:.0f} {low - top:.0f}" style="min-width:{max(600, 0.6 * (right - left)):.0f}px"'
-    lines = [f'<svg id=net {size} role=img aria-label="switches and channels">']
+    style = f'style="min-width:{max(600, 0.6 * (right - left)):.0f}px"'
+    lines = [f'<svg id=net viewBox="{left:.0f} {top:.0f} {right - left:.0f} {low - top:.0f}" {style} role=img>']
     for name, (x, y, width, height) in picture.frames.items():
-        lines.append(f'<rect class=frame x="{x - width / 2:.0f}" y="{y - height / 2:.0f}" width="{width:.0f}" height="{height:.0f}" rx=10 />')
+        lines.append(box("frame", x, y, width, height))
         lines.append(f'<text class=group x="{x:.0f}" y="{y - height / 2 + 14:.0f}">{escaped(name)}</text>')
     for channel, (x, y, u, v) in sorted(picture.lines(), key=lambda it: picture.loads[it[0]]):
         part, load = share(picture, channel), picture.loads[channel]
         style = f'stroke="{color(part)}" stroke-width="{1.2 + 2.4 * part:.1f}"' if load else "class=unused"
-        lines.append(f'<g data-c="{channel[0]}/{channel[1]}"><line class=hit x1="{x:.1f}" y1="{y:.1f}" x2="{u:.1f}" y2="{v:.1f}" />')
-        lines.append(f'<line {style} x1="{x:.1f}" y1="{y:.1f}" x2="{u:.1f}" y2="{v:.1f}" />')
+        ends = f'x1="{x:.1f}" y1="{y:.1f}" x2="{u:.1f}" y2="{v:.1f}"'
+        lines.append(f'<g data-c="{channel[0]}/{channel[1]}"><line class=hit {ends} /><line {style} {ends} />')
         lines.append(f"<title>{escaped(channel_name(picture, channel))}: {load} pairs</title></g>")
     for i, (x, y) in picture.places.items():
         count, width = picture.at_home[i], picture.width(i)
-        lines.append(f'<rect class=node x="{x - width / 2:.1f}" y="{y - 17:.1f}" width="{width:.1f}" height=34 rx=4 />')
+        lines.append(box("node", x, y, width, 34))
         lines.append(f'<text x="{x:.1f}" y="{y - 2 if count else y + 4:.1f}">{escaped(picture.name(i))}</text>')
         if count:
             lines.append(f'<text class=count x="{x:.1f}" y="{y + 11:.1f}">{count} adapter{"" if count == 1 else "s"}</text>')
@@ -142,9 +149,8 @@ def svg(picture):
 def picture_section(parts):
     picture = parts["picture"]
     data = picture.data()
-    told = (
-        "Each line is a channel: a cable between switches, taken one way. Its colour tells how many pairs of adapters send over it."
-    )
+    told = "Each line is a channel: a cable between switches, taken one way. "
+    told += "Its colour tells how many pairs of adapters send over it."
     if picture.is_part:
         told += f" Of {len(picture.routes.guids)} switches those around the busiest channel are shown."
     most = max(picture.loads.values(), default=0)
@@ -184,12 +190,14 @@ PROVED = {
 
 
 def proved(parts):
-    agrees = "The busiest channel and the mean are the same by both counts" if parts["agrees"] else "THE COUNTS DIFFER: the busiest channel or the mean is another one by this page than by the audit"
+    agrees = "THE COUNTS DIFFER: the busiest channel or the mean is another one by this page than by the audit"
+    if parts["agrees"]:
+        agrees = "The busiest channel and the mean are the same by both counts"
     rows = (
         "That the subnet answered truly, and is still as it was recorded. An audit speaks of the recording.",
         f"The picture, what channels carry, and what a cut loses: counted by tools that are tested, not proved. {agrees}.",
         "Names, changes, and how this page reads the audit.",
-        "What else sends packets round or loses them: multicast, adaptive routing, several virtual lanes, full buffers, faults of hardware.",
+        "What else loses packets: multicast, adaptive routing, several virtual lanes, full buffers, faults of hardware.",
     )
     body = "<h3>Not proved</h3><ul>" + "".join(f"<li>{escaped(row)}</li>" for row in rows) + "</ul>"
     return section("What is proved of this", paragraph(PROVED[parts["proved"]]), body)
@@ -198,11 +206,12 @@ def proved(parts):
 def page(parts):
     style, script = ((HERE / f"report.{kind}").read_text() for kind in ("css", "js"))
     script = re.sub(r"(?m)^\s*//.*\n", "", script)
-    rows = [(word, value) for word, value in parts["subnet"].items()]
+    title, rows = escaped(parts["title"]), list(parts["subnet"].items())
     disputed = table(("disputed",), [(it,) for it in parts["disputed"][:20]]) if parts["disputed"] else ""
     return (
-        f"<!doctype html><html lang=en><head><meta charset=utf-8><meta name=viewport content='width=device-width, initial-scale=1'>"
-        f"<title>{escaped(parts['title'])}</title><style>{style}</style></head><body><main><h1>{escaped(parts['title'])}</h1>"
-        f"{verdict(parts)}{section('The subnet', table(('', ''), rows, (1,)), disputed)}{audit(parts)}{picture_section(parts)}"
+        "<!doctype html><html lang=en><head><meta charset=utf-8>"
+        "<meta name=viewport content='width=device-width, initial-scale=1'>"
+        f"<title>{title}</title><style>{style}</style></head><body><main><h1>{title}</h1>{verdict(parts)}"
+        f"{section('The subnet', table(('', ''), rows, (1,)), disputed)}{audit(parts)}{picture_section(parts)}"
         f"{what_if(parts)}{changes(parts)}{proved(parts)}</main><script>{script}</script></body></html>\n"
     )

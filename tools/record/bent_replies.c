@@ -5,6 +5,7 @@
  *   type      a node two hops away says that it is of type 9
  *   names     nodes one hop away and farther have one name, with a quote and a control character
  *   unnamed   nodes one hop away do not tell their names
+ *   slow      each reply takes 100 milliseconds
  *   stop      the fifth Set comes with an interrupt
  *   other     the answer to the fifth Set tells another first entry
  *   refuse    the fifth Set is refused with status 0x001C
@@ -15,6 +16,7 @@
 #include <stdint.h>
 #include <stdlib.h>
 #include <string.h>
+#include <unistd.h>
 #include <infiniband/umad.h>
 
 enum { SET = 2, FIFTH = 5 };
@@ -50,6 +52,8 @@ int umad_recv(int port, void *buffer, int *length, int timeout_ms)
 
 	if (agent < 0 || !bend)
 		return agent;
+	if (!strcmp(bend, "slow"))
+		usleep(100000);
 	if (!strcmp(bend, "pointer") && packet[7] == 0)
 		packet[6] = 1;
 	if (!strcmp(bend, "status") && packet[17] == 0x15 && packet[23] == 2)
