@@ -63,6 +63,22 @@ def widths(bench):
     bench.check(status == 0 and bench.printed == "equal\n", "compare: the same links")
 
 
+def first_round(bench):
+    """A subnet without LIDs and tables, brought to a plan by rounds, of which the second has nothing to do."""
+    for _ in range(2):
+        status, told = one_round(bench, "--direct", "--settle", 0)
+        bench.check(status == 0 and told["step"] == "audit", f"from nothing: {told['line']}, {told['steps']}")
+    bench.check(bench.same("d/after.plan", "d/after.held") and told["steps"] == [], "the fabric holds the plan")
+    status, told = one_round(bench, "--direct", "--at-once", "--lmc", 1, "--move-lids")
+    bench.check(status == 0 and bench.same("d/after.plan", "d/after.held"), f"with two LIDs for each port: {told['line']}")
+    name, port = next(end for end, far in bench.fabric.peers.items() if bench.fabric.is_switch(end[0]) and bench.fabric.is_switch(far[0]))
+    bench.tell(f'Error "{name}"[{port}] 20')
+    bench.record("-q", "-g", 1, "-r", 20, "first.reports")
+    bench.texts("first")
+    bench.check(send(bench, "-r", 20, "--move-lids", "first.plan") == 0, f"where a fifth is lost: {bench.said.strip()}")
+    bench.tell(f'Error "{name}"[{port}] 0')
+
+
 def refusals(bench):
     """What `send` does not write."""
     plan = (bench.path / "none.plan").read_text()
@@ -235,6 +251,7 @@ def silent_cable(bench):
 ROUTED = to_a_plan, interrupted, silent_cable, healed
 SENT = (
     ("triangle", sample_fabrics.triangle, (from_nothing, widths, refusals, seen_on_a_terminal)),
+    ("a ring of 6 switches", lambda: sample_fabrics.ring(6), (first_round,)),
     ("a torus of 16 switches", lambda: sample_fabrics.torus(4, 4), ROUTED),
     ("a dragonfly of 20 switches", lambda: sample_fabrics.dragonfly(5, 4, 1), ROUTED),
 )

@@ -333,6 +333,8 @@ def told_beside(room, fab, ends):
         fab(held=held, facts=facts, loop="credit loop none\n", **audits)
         verdict = "carries 7 routes, and what is held 5 (--busier)" if status else "the subnet holds the plan"
         told = ends(f"--direct {words}", status, "compare" if status or "look" in words else "audit", "looked only" if "look" in words else verdict)
+    fab(held=held, **{"audit.held": "pairs 25 arrive 25\nbetween adapters pairs 0 arrive 0\nload max 0 mean 0.00\n"})
+    ends("--direct", 0, "audit", "the subnet holds the plan")
     (room.path / "fab/audit.held").unlink()
     fab(audit="pairs 25 arrive 25\n")
 

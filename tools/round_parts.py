@@ -50,7 +50,7 @@ class Audit:
 
     def is_busier_than(self, other):
         """Whether the busiest channel carries more than a fifth more than that of other tables, for as many pairs of adapters."""
-        if None in (self.busiest, other.busiest):
+        if None in (self.busiest, other.busiest) or not other.busiest:
             return False
         here, there = self.of_adapters or 1, other.of_adapters or 1
         return 5 * self.busiest * there > 6 * other.busiest * here

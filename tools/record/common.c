@@ -16,6 +16,7 @@ enum { FEW_LINES = 20, WIDEST = 100 };
 struct options options = { .timeout_ms = 500, .tries = 4, .outstanding = 4 };
 struct counts counts;
 const char *stage = "asks";
+const char *called;
 static int is_shown;
 
 static int has_terminal(void)
@@ -148,6 +149,14 @@ uint64_t number_in(const char *text, const char *what, uint64_t least, uint64_t 
 	if (errno || rest == text || *rest || strchr(text, '-') || value < least || value > most)
 		end(USAGE, "%s takes a number from %" PRIu64 " to %" PRIu64 ", not %s", what, least, most, text);
 	return value;
+}
+
+/* With the name by which it was called, which an installed copy has otherwise. */
+void print_usage(FILE *file, const char *text)
+{
+	const char *name = strrchr(called, '/');
+
+	fprintf(file, "usage: %s%s", name ? name + 1 : called, text);
 }
 
 int take_shared_option(int letter, const char *text)

@@ -17,7 +17,7 @@ const char *tool = "record";
 static struct whole_file report;
 
 static const char usage_text[] =
-"usage: record [OPTION]... FILE\n"
+" [OPTION]... FILE\n"
 "Asks the nodes of the InfiniBand subnet behind a port, and writes what they answer to FILE, a recording for ibsm.\n"
 "Nothing in the subnet is changed.\n"
 "\n"
@@ -65,9 +65,9 @@ static void take_option(int letter)
 	case 'N': options.names = optarg; break;
 	case 'p': options.partial = 1; break;
 	case 'a': options.after = optarg; break;
-	case 'h': fputs(usage_text, stdout); exit(WHOLE);
+	case 'h': print_usage(stdout, usage_text); exit(WHOLE);
 	case 'V': puts("ibsm-record " VERSION); exit(WHOLE);
-	default: fputs(usage_text, stderr); exit(USAGE);
+	default: print_usage(stderr, usage_text); exit(USAGE);
 	}
 }
 
@@ -80,6 +80,7 @@ static void parse(int count, char **texts)
 {
 	int letter;
 
+	called = texts[0];
 	while ((letter = getopt_long(count, texts, "C:P:g:n:t:r:k:T:N:a:pqvhV", words, NULL)) != -1)
 		take_option(letter);
 	if (optind + 1 != count)

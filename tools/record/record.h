@@ -42,6 +42,7 @@ struct counts {
 extern struct options options;
 extern struct counts counts;
 extern const char *tool;	/* by which name it speaks */
+extern const char *called;	/* the first word of its command line */
 extern const char *stage;	/* what it does now, for who waits */
 
 /* common.c: says why, removes what was begun, and ends. */
@@ -53,6 +54,7 @@ void say_of(const struct request *request, const char *what);
 void progress(size_t nodes, size_t waiting);
 double now(void);
 uint64_t number_in(const char *text, const char *what, uint64_t least, uint64_t most);
+void print_usage(FILE *file, const char *text);
 /* Takes an option of both; 0 where it is none. */
 int take_shared_option(int letter, const char *text);
 uint64_t get(const uint8_t *bytes, int count);

@@ -15,7 +15,7 @@ const char *tool = "send";
 struct choices choices;
 
 static const char usage_text[] =
-"usage: send [OPTION]... TABLES\n"
+" [OPTION]... TABLES\n"
 "Writes into the InfiniBand subnet behind a port what it holds otherwise than TABLES, a text in the form of `ibsm plan`:\n"
 "LIDs, blocks of forwarding tables, tops. What it wrote is compared with each answer, and read back.\n"
 "\n"
@@ -79,9 +79,9 @@ static void take_option(int letter)
 	case 'm': choices.move_lids = 1; break;
 	case 'H': choices.holes = 1; break;
 	case 's': choices.silent = 1; break;
-	case 'h': fputs(usage_text, stdout); exit(WHOLE);
+	case 'h': print_usage(stdout, usage_text); exit(WHOLE);
 	case 'V': puts("ibsm-send " VERSION); exit(WHOLE);
-	default: fputs(usage_text, stderr); exit(USAGE);
+	default: print_usage(stderr, usage_text); exit(USAGE);
 	}
 }
 
@@ -89,6 +89,7 @@ static char *parse(int count, char **texts)
 {
 	int letter;
 
+	called = texts[0];
 	while ((letter = getopt_long(count, texts, "dmHsC:P:n:t:r:k:qvhV", words, NULL)) != -1)
 		take_option(letter);
 	if (optind + 1 != count)
