@@ -1,4 +1,6 @@
 """What shells complete behind `ibsm` and its tools, written from their help."""
+from __future__ import annotations
+
 import re
 
 # The commands of the program, and their options.
@@ -16,19 +18,19 @@ COMMANDS = {
 RULES = "updown spread"
 
 
-def options_in(text):
+def options_in(text: str) -> str:
     """The options that a help names, in its order."""
     return " ".join(dict.fromkeys(re.findall(r"(?<![\w-])--[a-z][a-z-]*", text + " --help --version")))
 
 
-def cases(tools, indent):
+def cases(tools: dict[str, str], indent: str) -> str:
     """Lines of a shell's `case`: what may stand behind each name, and behind each command of the program."""
     lines = [f"{indent}ibsm-{name}) words='{options}' ;;" for name, options in sorted(tools.items())]
     lines += [f"{indent}'ibsm {name}') words='{options} --help' ;;" for name, options in COMMANDS.items()]
     return "\n".join([*lines, f"{indent}ibsm*) words='{' '.join(COMMANDS)} --help --version' ;;"])
 
 
-def for_bash(tools):
+def for_bash(tools: dict[str, str]) -> str:
     """The text for bash, where `tools` has the options of each tool by its name without ibsm-."""
     return f"""# Completion of ibsm and its tools for bash: options, commands, and else files.
 _ibsm() {{
@@ -48,7 +50,7 @@ complete -o default -F _ibsm ibsm {' '.join(f'ibsm-{name}' for name in sorted(to
 """
 
 
-def for_zsh(tools):
+def for_zsh(tools: dict[str, str]) -> str:
     """The same for zsh."""
     return f"""#compdef ibsm {' '.join(f'ibsm-{name}' for name in sorted(tools))}
 # Completion of ibsm and its tools for zsh: options, commands, and else files.

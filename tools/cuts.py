@@ -1,11 +1,15 @@
 """Cables and switches taken away in thought: which packets are lost by the tables that are held, and what facts are then."""
+from __future__ import annotations
+
 import collections
 import itertools
+from collections.abc import Collection, Iterator, Sequence
 
 import progress
-from ibsm_texts import name_of
+from ibsm_texts import End, Facts, Plan, name_of
 from routes import Routes
 
+Cable = tuple[End, End]
 # Of two cables at once, each two of so many are cut.
 MOST_IN_TWO = 24
 
@@ -13,7 +17,7 @@ MOST_IN_TWO = 24
 class Pairs:
     """Which pairs of a port and a LID packets serve now, by the cable that they take."""
 
-    def __init__(self, facts, held):
+    def __init__(self, facts: Facts, held: Plan) -> None:
         self.routes = Routes(facts, held)
         self.held, self.facts = held, facts
         self.count = collections.Counter(held.owners.values())  # LIDs of each end
@@ -21,11 +25,11 @@ class Pairs:
         for is_all in (0, 1):
             self.take(is_all)
 
-    def seat(self, end):
+    def seat(self, end: End) -> int | None:
         """The switch that an end port is at, or is."""
         return self.routes.place.get(end[0]) if end[1] == 0 else self.routes.home.get(end, (None,))[0]
 
-    def take(self, is_all):
+    def take(self, is_all: int) -> None:
         routes, senders = self.routes, [end for end in self.count if is_all or end[1]]
         at = {end: self.seat(end) for end in senders}
         sources = collections.Counter(seat for seat in at.values() if seat is not None)
@@ -52,11 +56,11 @@ class Pairs:
             if end[1]:
                 self.lost[self.cable(end)][is_all] += count
 
-    def cable(self, end):
+    def cable(self, end: End) -> Cable:
         far = self.facts.wire(end)
         return (min(end, far), max(end, far)) if far else (end, end)
 
-    def cut_off(self, cables):
+    def cut_off(self, cables: Sequence[Cable]) -> int:
         """Pairs that nothing joins any more without some cables, and does with them."""
         cut, found = {end for cable in cables for end in cable}, 0
         # The end ports that the cut leaves on each side, by what was joined before.
@@ -78,7 +82,7 @@ class Pairs:
                     found += len(one) * sum(other)
         return found
 
-    def side(self, start, cut):
+    def side(self, start: End, cut: Collection[End]) -> set[End]:
         """The end ports that one is still joined to without the cables in some ports: adapters carry nothing from port to port."""
         found, waiting = set(), [start]
         while waiting:
@@ -89,7 +93,7 @@ class Pairs:
                 waiting += [far for near, far in self.wires_of(here) if near not in cut]
         return found
 
-    def wires_of(self, end):
+    def wires_of(self, end: End) -> Iterator[Cable]:
         """The cables of a switch, or of an adapter's port."""
         for near in [(end[0], port) for port in range(1, self.facts.nodes[end[0]][1] + 1)] if end[1] == 0 else [end]:
             far = self.facts.wire(near)
@@ -100,7 +104,7 @@ class Pairs:
 class Masks:
     """How many pairs of adapters, and of all end ports, packets serve over which of some cables, whose numbers are bits."""
 
-    def __init__(self, pairs, bits):
+    def __init__(self, pairs: Pairs, bits: dict[Cable, int]) -> None:
         """Takes the bits of each cable that counts."""
         self.pairs, self.bits = pairs, bits
         self.alone = collections.defaultdict(lambda: [0, 0])  # a number: pairs over it
@@ -109,22 +113,22 @@ class Masks:
             for mask, count in self.masks(is_all).items():
                 self.note(mask, count, is_all)
 
-    def bits_of(self, end):
+    def bits_of(self, end: End) -> int:
         return self.bits.get(self.pairs.cable(end), 0)
 
-    def note(self, mask, count, is_all):
+    def note(self, mask: int, count: int, is_all: int) -> None:
         numbers = [i for i in range(mask.bit_length()) if mask >> i & 1]
         for place, i in enumerate(numbers):
             self.alone[i][is_all] += count
             for j in numbers[place + 1 :]:
                 self.both[i, j][is_all] += count
 
-    def lost(self, *numbers):
+    def lost(self, *numbers: int) -> list[int]:
         """What is lost without one cable, or without two."""
         told = [sum(self.alone[i][k] for i in numbers) for k in (0, 1)]
         return [told[k] - (self.both[numbers][k] if len(numbers) == 2 else 0) for k in (0, 1)]
 
-    def masks(self, is_all):
+    def masks(self, is_all: int) -> collections.Counter:
         """How many pairs there are with each set."""
         pairs, routes, found = self.pairs, self.pairs.routes, collections.Counter()
         senders = [end for end in pairs.count if (is_all or end[1]) and pairs.seat(end) is not None]
@@ -151,7 +155,7 @@ class Masks:
                     found[on_way[pairs.seat(owner)] | own] -= count
         return found
 
-    def on_way(self, home, column, channels):
+    def on_way(self, home: int, column: bytes, channels: dict[tuple[int, int], int]) -> dict[int, int]:
         """For each switch from which packets arrive, the bits of the cables between switches that they take."""
         routes = self.pairs.routes
         arrives, _ = routes.arrivals(home, column)
@@ -166,7 +170,7 @@ class Masks:
         return found
 
 
-def facts_without(facts, held, cut=(), switches=()):
+def facts_without(facts: Facts, held: Plan, cut: Collection[End] = (), switches: Sequence[int] = ()) -> str:
     """The text of the facts without the cables in some ports, and without some switches, with the LIDs that are held."""
     lines = []
     for line in facts.lines:
@@ -186,7 +190,7 @@ def facts_without(facts, held, cut=(), switches=()):
     return "\n".join(lines) + "\n"
 
 
-def changed(old, new):
+def changed(old: Plan, new: Plan) -> tuple[int, int]:
     """How many entries for LIDs of the old tables are otherwise in the new ones, and on how many switches."""
     counts = [
         sum(old.entry(guid, lid) != new.entry(guid, lid) for lid in old.owners)
@@ -199,24 +203,24 @@ def changed(old, new):
 class Cut:
     """What is taken away at once, and what is lost without it."""
 
-    def __init__(self, cables, lost, switches=()):
+    def __init__(self, cables: Sequence[Cable], lost: list[int], switches: Sequence[int] = ()) -> None:
         self.cables, self.lost, self.switches = cables, lost, switches
         self.ends = {end for cable in cables for end in cable}
 
-    def text(self):
+    def text(self) -> str:
         cables = ", ".join(f"{name_of(near)} - {name_of(far)}" for near, far in self.cables)
         return " ".join(f"{guid:016x}" for guid in self.switches) or cables
 
 
-def is_between_switches(facts, cable):
+def is_between_switches(facts: Facts, cable: Cable) -> bool:
     return all(facts.is_switch(end[0]) for end in cable)
 
 
-def cuts_of_cables(facts, pairs, cables):
+def cuts_of_cables(facts: Facts, pairs: Pairs, cables: Sequence[Cable]) -> list[Cut]:
     return [Cut([cable], pairs.lost[cable]) for cable in cables]
 
 
-def cuts_of_switches(facts, pairs, cables):
+def cuts_of_switches(facts: Facts, pairs: Pairs, cables: Sequence[Cable]) -> list[Cut]:
     """Each switch, with its cables."""
     guids = sorted(guid for guid in facts.nodes if facts.is_switch(guid))
     number = {guid: i for i, guid in enumerate(guids)}
@@ -229,7 +233,7 @@ def cuts_of_switches(facts, pairs, cables):
     return [Cut(beside[guid], masks.lost(number[guid]), (guid,)) for guid in guids]
 
 
-def cuts_of_two(facts, pairs, cables):
+def cuts_of_two(facts: Facts, pairs: Pairs, cables: Sequence[Cable]) -> list[Cut]:
     """Each two of the worst cables, and the two of each switch that has two to other switches."""
     cables = [cable for cable in cables if is_between_switches(facts, cable)]
     worst = sorted(cables, key=lambda cable: ([-count for count in pairs.lost[cable]], cable))[:MOST_IN_TWO]

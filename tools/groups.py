@@ -1,13 +1,22 @@
 """Switches in groups, such as those of a dragonfly or the rows of a torus, and where each stands in a picture of them."""
+from __future__ import annotations
+
 import collections
 import math
 import re
+from collections.abc import Iterable, Sequence
 
+from ibsm_texts import Names
+
+# The members of each group, the switches at both ends of a cable, and where something stands.
+Groups, Wire, Spot = dict[str, list[int]], tuple[int, int], tuple[float, float]
+# Where switches stand, the frames of groups, and in which direction adapters stand.
+Layout = tuple[dict[int, Spot], dict[str, tuple[float, float, float, float]], dict[int, float]]
 # In inches: how far switches of a group stand apart, and groups from each other.
 BESIDE, APART = 1.5, 1.0
 
 
-def by_names(guids, names):
+def by_names(guids: Iterable[int], names: Names) -> dict[int, str]:
     """The group of each: its name up to the last number but one, or up to its only number, where that leaves something."""
     found = {}
     for guid in guids:
@@ -17,9 +26,9 @@ def by_names(guids, names):
     return found
 
 
-def in_order(guids, group_of, names):
+def in_order(guids: Iterable[int], group_of: dict[int, str], names: Names) -> Groups:
     """The groups, by name, each with its members by theirs, in which numbers count as such, or by GUID."""
-    def place(name):
+    def place(name: str) -> list[tuple]:
         return [(0, int(part), "") if part.isdigit() else (1, 0, part) for part in re.split(r"(\d+)", name)]
 
     found = collections.defaultdict(list)
@@ -28,7 +37,7 @@ def in_order(guids, group_of, names):
     return {name: sorted(found[name], key=lambda guid: (place(names.get(guid, "")), guid)) for name in sorted(found, key=place)}
 
 
-def is_grid(groups, wires):
+def is_grid(groups: Groups, wires: Sequence[Wire]) -> bool:
     """Whether cables between groups of one size mostly lead to the same place in the other group, as in a torus."""
     if len({len(members) for members in groups.values()}) != 1 or len(groups) < 2:
         return False
@@ -37,7 +46,7 @@ def is_grid(groups, wires):
     return bool(between) and 2 * sum(one == other for one, other in between) > len(between)
 
 
-def placed(groups, wires):
+def placed(groups: Groups, wires: Sequence[Wire]) -> Layout:
     """Where each switch stands, the boxes of groups (middle, width, height), and in which direction adapters stand.
 
     Groups are rows of a grid, or circles on a circle.
@@ -60,7 +69,7 @@ def placed(groups, wires):
     return places, boxes, outwards
 
 
-def grid(groups):
+def grid(groups: Groups) -> Layout:
     """A row for each group. Rows and columns close to rings mostly, so each is bent: what would run behind others does not."""
     places, boxes, outwards = {}, {}, {}
     for i, (name, members) in enumerate(groups.items()):
@@ -73,27 +82,27 @@ def grid(groups):
     return places, boxes, outwards
 
 
-def bend(i, count):
+def bend(i: int, count: int) -> float:
     """From 0 at both ends of a row to 1 in its middle."""
     x = i / (count - 1) if count > 1 else 0
     return 4 * x * (1 - x)
 
 
-def radius_of(count):
+def radius_of(count: int) -> float:
     return circle(count, BESIDE)
 
 
-def circle(count, apart):
+def circle(count: int, apart: float) -> float:
     """The radius of a circle on which so many stand so far apart."""
     return 0 if count < 2 else apart / 2 / math.sin(math.pi / max(count, 2))
 
 
-def spot(i, count, radius, spin=math.pi / 2):
+def spot(i: int, count: int, radius: float, spin: float = math.pi / 2) -> Spot:
     angle = spin - 2 * math.pi * i / max(count, 1)
     return radius * math.cos(angle), radius * math.sin(angle)
 
 
-def beside(place, direction, turn):
+def beside(place: Spot, direction: float, turn: int) -> Spot:
     """Where an adapter stands: outwards from its switch, by turns to both sides of that."""
     angle = direction + 0.45 * ((turn + 1) // 2) * (-1) ** turn
     return place[0] + 0.8 * math.cos(angle), place[1] + 0.6 * math.sin(angle)

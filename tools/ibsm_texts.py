@@ -34,6 +34,8 @@ NO_WAY = 255
 NONE = bytes([NO_WAY])
 ENTRIES = 64
 GREATEST_LID = 0xBFFF
+# A port of a node by GUID and number, and the names of nodes by GUID, for who says what type something has.
+End, Names = tuple[int, int], dict[int, str]
 
 
 class Refused(Exception):

@@ -1,12 +1,15 @@
 """How the switches of facts are laid out in a picture: in rows, or in groups; and what names them."""
+from __future__ import annotations
+
 import re
+from collections.abc import Iterable
 
 import groups
-from ibsm_texts import Refused, lines_of
+from ibsm_texts import Facts, Names, Refused, lines_of
 from rows import ranks
 
 
-def wires_of(facts):
+def wires_of(facts: Facts) -> dict[int, list[int]]:
     """For each switch the switches at the other ends of its wires."""
     wires = {guid: [] for guid in facts.nodes if facts.is_switch(guid)}
     for end in sorted(facts.links):
@@ -16,7 +19,7 @@ def wires_of(facts):
     return wires
 
 
-def rows_of(facts, wires, roots):
+def rows_of(facts: Facts, wires: dict[int, list[int]], roots: Iterable[int]) -> dict[int, int]:
     """The row of each switch, from the top of its component down."""
     bearing = {
         far[0]
@@ -31,7 +34,7 @@ def rows_of(facts, wires, roots):
     return ranks(wires, bearing, roots)
 
 
-def groups_in(path, facts, names):
+def groups_in(path: str, facts: Facts, names: Names) -> dict[int, str]:
     """The group of each switch: by names, or by the lines of a file."""
     if path == "names":
         return groups.by_names([guid for guid in facts.nodes if facts.is_switch(guid)], names)
@@ -46,7 +49,7 @@ def groups_in(path, facts, names):
     return found
 
 
-def switch_named(facts, names, word):
+def switch_named(facts: Facts, names: Names, word: str) -> int:
     """The only switch that a GUID or a name names."""
     form = re.fullmatch("(?:0x)?([0-9a-fA-F]{1,16})", word)
     called = [guid for guid, name in names.items() if name == word and facts.is_switch(guid)]
@@ -57,7 +60,7 @@ def switch_named(facts, names, word):
     return called[0] if called else int(form[1], 16)
 
 
-def roots_in(path):
+def roots_in(path: str) -> list[int]:
     """The switches that a text of roots names: a GUID a line, and comments behind `#`."""
     found = []
     for number, line in enumerate(lines_of(path, "replace"), 1):

@@ -1,16 +1,19 @@
 """Manual pages from the help that tools have."""
+from __future__ import annotations
+
 import re
+from collections.abc import Iterable
 
 from version import VERSION
 
 
-def escaped(line):
+def escaped(line: str) -> str:
     """A line as it stands in a page."""
     line = line.replace("\\", "\\e").replace("-", "\\-")
     return f"\\&{line}" if line[:1] in (".", "'") else line
 
 
-def sections(help_text):
+def sections(help_text: str) -> tuple[str, str, list[str], list[str]]:
     """The parts of a help: its first sentence, how it is used, paragraphs, and what statuses it ends with."""
     first, _, rest = help_text.strip().partition("\n\n")
     usage, _, rest = rest.partition("\n\n")
@@ -19,7 +22,7 @@ def sections(help_text):
     return first, usage.removeprefix("usage: "), [part for part in paragraphs if part not in ends], ends
 
 
-def page_of(name, help_text, others):
+def page_of(name: str, help_text: str, others: Iterable[str]) -> str:
     """The page of an installed tool, called `name`; `others` are the tools that help names as tools/X."""
     text = help_text
     for other in others:

@@ -1,10 +1,14 @@
 """Recordings read for what facts do not tell: the widths and speeds of links. docs/FORMATS.md has their form."""
-import dataclasses
+from __future__ import annotations
 
-from ibsm_texts import Refused, name_of, opened_bytes
+import dataclasses
+from collections.abc import Iterator
+
+from ibsm_texts import End, Refused, name_of, opened_bytes
 from record_files import NO_REPORTS, NODE_INFO, PORT_INFO
 
 RECORD, HEAD, ATTRIBUTE, VIA = 272, 16, 64, 1
+Cable = tuple[End, End]
 # By the bits of PortInfo: lanes, and the name and the rate of a lane in Gb/s. Those of LinkSpeedExtActive count first.
 WIDTHS = {1: 1, 16: 2, 2: 4, 4: 8, 8: 12}
 SPEEDS = {1: ("SDR", 2.5), 2: ("DDR", 5), 4: ("QDR", 10)}
@@ -19,11 +23,11 @@ class Rate:
     lanes: int
     speed: str
 
-    def __str__(self):
+    def __str__(self) -> str:
         return f"{self.lanes}x {self.speed} {self.gigabits:g} Gb/s"
 
 
-def rate(lanes, speed):
+def rate(lanes: int, speed: tuple[str, float]) -> Rate:
     name, gigabits = speed
     return Rate(lanes * gigabits, lanes, name)
 
@@ -31,7 +35,7 @@ def rate(lanes, speed):
 class Port:
     """What a port says of its link."""
 
-    def __init__(self, info):
+    def __init__(self, info: bytes) -> None:
         self.lanes = WIDTHS.get(info[31])
         self.speed = FAST.get(info[62] >> 4) or SPEEDS.get(info[35] >> 4)
         self.widths = {lanes for bit, lanes in WIDTHS.items() if info[30] & bit}
@@ -39,14 +43,14 @@ class Port:
         self.speeds |= {speed for bit, speed in FAST.items() if info[62] & 15 & bit}
         self.is_up = 2 <= info[32] & 15 <= 4
 
-    def rate(self):
+    def rate(self) -> Rate | None:
         return rate(self.lanes, self.speed) if self.lanes and self.speed else None
 
 
 class Recording:
     """The links that a recording tells of, each once, with what both ends say of it; of each the newest generation counts."""
 
-    def __init__(self, path):
+    def __init__(self, path: str) -> None:
         data = opened_bytes(path)
         if not data.startswith(NO_REPORTS):
             raise Refused(f"{path}: no recording: is it a text, or a store file?")
@@ -56,7 +60,7 @@ class Recording:
         for at in range(len(NO_REPORTS), len(data), RECORD):
             self.take(data[at : at + RECORD])
 
-    def take(self, record):
+    def take(self, record: bytes) -> None:
         age, context, port = int.from_bytes(record[:4], "big"), record[4], record[5]
         guid = int.from_bytes(record[8:16], "big")
         packet = record[HEAD:]
@@ -69,11 +73,11 @@ class Recording:
             self.note(self.fars, (guid, port), far, age)
             self.note(self.fars, far, (guid, port), age)
 
-    def note(self, known, key, value, age):
+    def note(self, known: dict, key: End, value: object, age: int) -> None:
         if age >= self.ages.get((id(known), key), 0):
             known[key], self.ages[id(known), key] = value, age
 
-    def links(self):
+    def links(self) -> dict[Cable, list[Port]]:
         """Each link that is up, by its lesser end: its ends, and what ports say of it."""
         found = {}
         for end, far in sorted(self.fars.items()):
@@ -82,17 +86,17 @@ class Recording:
                 found[end, far] = known
         return found
 
-    def rates(self):
+    def rates(self) -> dict[Cable, tuple[Rate | None, Rate | None]]:
         """Each link with its rate, None where no end tells it, and the greatest that both ends can have."""
         return {cable: (rate_of(known), most_of(known)) for cable, known in self.links().items()}
 
 
-def rate_of(known):
+def rate_of(known: list[Port]) -> Rate | None:
     """The least of what both ends tell."""
     return min((rate for port in known if (rate := port.rate())), default=None)
 
 
-def most_of(known):
+def most_of(known: list[Port]) -> Rate | None:
     """The greatest width and speed that both ends have; None where one of them does not tell, or nothing fits."""
     widths = set.intersection(*(port.widths for port in known))
     speeds = set.intersection(*(port.speeds for port in known))
@@ -101,11 +105,11 @@ def most_of(known):
     return rate(max(widths), max(speeds, key=lambda speed: speed[1]))
 
 
-def is_recording(path):
+def is_recording(path: str) -> bool:
     return path != "-" and opened_bytes(path, 8) == NO_REPORTS
 
 
-def rates_apart(old, new):
+def rates_apart(old: Recording, new: Recording) -> Iterator[str]:
     """The lines that tell where links of two recordings differ: those that are gone, have come, or are slower or faster."""
     before, after = old.rates(), new.rates()
     for word, cables in (("gone", before.keys() - after.keys()), ("come", after.keys() - before.keys())):

@@ -1,8 +1,13 @@
 """The page of `tools/report` as HTML: one file, with its style and its script in it."""
+from __future__ import annotations
+
 import html
 import json
 import pathlib
 import re
+from collections.abc import Container, Iterable, Sequence
+
+from report_picture import Picture
 
 HERE = pathlib.Path(__file__).resolve().parent
 # What the lines of an audit mean, by their first words.
@@ -21,14 +26,14 @@ FINDINGS = {
 }
 
 
-def escaped(text):
+def escaped(text: object) -> str:
     return html.escape(str(text))
 
 
-def table(head, rows, numbers=()):
+def table(head: Sequence[str], rows: Iterable[Sequence], numbers: Container[int] = ()) -> str:
     """A table, whose columns with these places hold numbers."""
 
-    def cell(tag, i, value):
+    def cell(tag: str, i: int, value: object) -> str:
         text = value if isinstance(value, Raw) else escaped(value)
         return f"<{tag}{' class=number' if i in numbers else ''}>{text}</{tag}>"
 
@@ -43,20 +48,20 @@ class Raw(str):
     """Text that is HTML already."""
 
 
-def section(title, *parts):
+def section(title: str, *parts: str) -> str:
     return f"<section><h2>{escaped(title)}</h2>{''.join(parts)}</section>"
 
 
-def paragraph(text):
+def paragraph(text: object) -> str:
     return f"<p>{text if isinstance(text, Raw) else escaped(text)}</p>"
 
 
-def verdict(parts):
+def verdict(parts: dict) -> str:
     word = "The tables pass the audit." if parts["passes"] else "The tables do not pass the audit."
     return f'<p class="verdict {"good" if parts["passes"] else "bad"}">{word}</p>'
 
 
-def audit(parts):
+def audit(parts: dict) -> str:
     """The lines of the audit: its counts, and findings by kind."""
     counts, found = [], {}
     for line in parts["audit"]:
@@ -77,7 +82,7 @@ def audit(parts):
     return section("Audit", f"<pre>{escaped(chr(10).join(counts))}</pre>", *blocks)
 
 
-def changes(parts):
+def changes(parts: dict) -> str:
     if parts["changes"] is None:
         return ""
     told = "".join(f"<li><code>{escaped(line)}</code></li>" for line in parts["changes"])
@@ -85,7 +90,7 @@ def changes(parts):
     return section(f"Changes since {parts['was']}", body)
 
 
-def what_if(parts):
+def what_if(parts: dict) -> str:
     if parts["cuts"] is None:
         return section("What if a cable goes", paragraph("Facts are disputed, or nothing has a LID: no cable is cut in thought."))
     rows, count, harmless = parts["cuts"]
@@ -95,30 +100,30 @@ def what_if(parts):
     return section("What if a cable goes", paragraph(f"{told} {entries}"), table(head, rows, range(1, 6)))
 
 
-def channel_name(picture, channel):
+def channel_name(picture: Picture, channel: tuple[int, int]) -> str:
     i, port = channel
     far, back = picture.ends[channel], picture.routes.far[i][port][1]
     return f"{picture.name(i)} port {port} \u2192 {picture.name(far)} port {back}"
 
 
-def share(picture, channel):
+def share(picture: Picture, channel: tuple[int, int]) -> float:
     """How busy a channel is, from 0 to 1."""
     most = max(picture.loads.values(), default=0)
     return picture.loads[channel] / most if most else 0
 
 
-def color(part):
+def color(part: float) -> str:
     """From blue, which is quiet, over yellow to red."""
     return f"hsl({215 - 215 * part:.0f} 75% {52 - 4 * part:.0f}%)"
 
 
-def box(kind, x, y, width, height):
+def box(kind: str, x: float, y: float, width: float, height: float) -> str:
     """A rectangle around a middle."""
     place = f'x="{x - width / 2:.1f}" y="{y - height / 2:.1f}"'
     return f'<rect class={kind} {place} width="{width:.1f}" height="{height:.1f}" rx=6 />'
 
 
-def svg(picture):
+def svg(picture: Picture) -> str:
     """The picture: frames, channels, switches."""
     if not picture.places:
         return paragraph("There is no switch.")
@@ -146,7 +151,7 @@ def svg(picture):
     return "".join(lines) + "</svg>"
 
 
-def picture_section(parts):
+def picture_section(parts: dict) -> str:
     picture = parts["picture"]
     data = picture.data()
     told = "Each line is a channel: a cable between switches, taken one way. "
@@ -175,7 +180,7 @@ def picture_section(parts):
     )
 
 
-def as_script(value):
+def as_script(value: object) -> str:
     """JSON that no end of a script stands in."""
     return json.dumps(value, separators=(",", ":")).replace("<", "\\u003c")
 
@@ -189,7 +194,7 @@ PROVED = {
 }
 
 
-def proved(parts):
+def proved(parts: dict) -> str:
     agrees = "THE COUNTS DIFFER: the busiest channel or the mean is another one by this page than by the audit"
     if parts["agrees"]:
         agrees = "The busiest channel and the mean are the same by both counts"
@@ -203,7 +208,7 @@ def proved(parts):
     return section("What is proved of this", paragraph(PROVED[parts["proved"]]), body)
 
 
-def page(parts):
+def page(parts: dict) -> str:
     style, script = ((HERE / f"report.{kind}").read_text() for kind in ("css", "js"))
     script = re.sub(r"(?m)^\s*//.*\n", "", script)
     title, rows = escaped(parts["title"]), list(parts["subnet"].items())

@@ -1,13 +1,19 @@
 """The picture of a page of `tools/report`: where switches stand, what each channel carries, and tables to follow packets by."""
+from __future__ import annotations
+
 import base64
 import collections
+from collections.abc import Iterable, Iterator
 
 import groups
-from ibsm_texts import NO_WAY
+from ibsm_texts import NO_WAY, End, Facts, Names, Plan
 from layout import rows_of, wires_of
+from round_parts import Audit
+from routes import Routes
 from rows import distances, ordered, places
 from ways import hundredths
 
+Channel = tuple[int, int]
 # Above so many switches the surroundings of the busiest channel are shown alone; above so many entries no tables are handed on.
 MOST_SWITCHES, MOST_ENTRIES = 300, 1_200_000
 # In units of the picture: how wide a letter is, how far channels of one cable and of further ones stand apart.
@@ -15,7 +21,7 @@ LETTER, LINE, BESIDE, ROW, INCH = 7, 5, 26, 130, 90
 
 
 class Picture:
-    def __init__(self, facts, held, routes, names, group_of, roots, most):
+    def __init__(self, facts: Facts, held: Plan, routes: Routes, names: Names, group_of: dict[int, str] | None, roots: Iterable[int], most: int) -> None:
         self.facts, self.held, self.routes, self.names = facts, held, routes, names
         self.loads = routes.carried()
         self.ends = routes.ends()
@@ -25,13 +31,13 @@ class Picture:
         self.frames = {}
         self.places = self.in_groups(group_of) if group_of is not None else self.in_rows(roots)
 
-    def agrees(self, audit):
+    def agrees(self, audit: Audit) -> bool:
         """Whether the busiest channel and the mean are those of an audit."""
         loads = self.loads.values()
         told = (max(loads), hundredths(sum(loads), len(loads))) if loads else (None, None)
         return told == (audit.busiest, audit.mean)
 
-    def which(self):
+    def which(self) -> tuple[list[int], bool]:
         """The places of the switches that are shown, and whether these are a part."""
         count = len(self.routes.guids)
         if count <= MOST_SWITCHES:
@@ -44,11 +50,11 @@ class Picture:
         near = [i for i, cables in away if cables <= 1][:MOST_SWITCHES]
         return sorted(near + [i for i, cables in away if cables == 2][: max(0, 60 - len(near))]), True
 
-    def name(self, i):
+    def name(self, i: int) -> str:
         guid = self.routes.guids[i]
         return self.names.get(guid, f"{guid:x}")
 
-    def cables(self):
+    def cables(self) -> list[tuple[Channel, Channel]]:
         """Each cable between switches that are shown: both channels, each once."""
         shown, found = set(self.shown), []
         for (i, port), far in sorted(self.ends.items()):
@@ -57,10 +63,10 @@ class Picture:
                 found.append(((i, port), (far, back)))
         return found
 
-    def width(self, i):
+    def width(self, i: int) -> int:
         return max(64, LETTER * max(len(self.name(i)), 11) + 12)
 
-    def in_rows(self, roots):
+    def in_rows(self, roots: Iterable[int]) -> dict[int, tuple[float, float]]:
         wires = wires_of(self.facts)
         rows = rows_of(self.facts, wires, roots)
         guids = self.routes.guids
@@ -79,12 +85,12 @@ class Picture:
         }
 
     @staticmethod
-    def sag(place, count):
+    def sag(place: int, count: int) -> float:
         """Rows hang a little, so that cables within one do not run behind its switches."""
         x = (place + 0.5) / count
         return 4 * x * (1 - x)
 
-    def in_groups(self, group_of):
+    def in_groups(self, group_of: dict[int, str] | None) -> dict[int, tuple[float, float]]:
         guids = self.routes.guids
         shown = {guids[i]: i for i in self.shown}
         found = groups.in_order(shown, {guid: group_of.get(guid, "?") for guid in shown}, self.names)
@@ -93,7 +99,7 @@ class Picture:
         self.frames = {name: tuple(INCH * it for it in (x, -y, width, height)) for name, (x, y, width, height) in frames.items()}
         return {shown[guid]: (INCH * x, -INCH * y) for guid, (x, y) in where.items()}
 
-    def lines(self):
+    def lines(self) -> Iterator[tuple[Channel, tuple[float, float, float, float]]]:
         """Each channel that is shown, with both ends of its line; those of one cable, and cables of one pair, stand apart."""
         beside = collections.Counter()
         for one, other in self.cables():
@@ -109,7 +115,7 @@ class Picture:
                 ends = (x + off * across, y + off * along, u + off * across, v + off * along)
                 yield channel, ends if side == 1 else (*ends[2:], *ends[:2])
 
-    def data(self):
+    def data(self) -> dict | None:
         """What the page follows packets by: names, cables and entries; None where these are too many."""
         routes, width = self.routes, self.held.greatest + 1
         if len(routes.guids) * width > MOST_ENTRIES:
@@ -134,6 +140,6 @@ class Picture:
             "rows": base64.b64encode(rows).decode(),
         }
 
-    def end_name(self, end):
+    def end_name(self, end: End) -> str:
         called = self.names.get(end[0], f"{end[0]:x}")
         return f"{called}/{end[1]}" if self.facts.nodes[end[0]][1] > 1 else called

@@ -1,4 +1,6 @@
 """What `tools/round` stands on: how it ends, what an audit says of tables, and an OpenSM that runs."""
+from __future__ import annotations
+
 import datetime
 import hashlib
 import os
@@ -11,20 +13,20 @@ import time
 class Ended(Exception):
     """A round goes no further."""
 
-    def __init__(self, status, verdict):
+    def __init__(self, status: int, verdict: str) -> None:
         super().__init__(verdict)
         self.status, self.verdict = status, verdict
 
 
-def now():
+def now() -> str:
     return datetime.datetime.now(datetime.timezone.utc).isoformat(timespec="milliseconds")
 
 
-def seconds_between(one, other):
+def seconds_between(one: str, other: str) -> float:
     return (datetime.datetime.fromisoformat(other) - datetime.datetime.fromisoformat(one)).total_seconds()
 
 
-def digest(path):
+def digest(path: str | pathlib.Path) -> bytes:
     found = hashlib.sha256()
     with open(path, "rb") as file:
         while piece := file.read(1 << 20):
@@ -32,14 +34,14 @@ def digest(path):
     return found.digest()
 
 
-def last_line(text):
+def last_line(text: str) -> str:
     return (text.strip() or "it said nothing").splitlines()[-1]
 
 
 class Audit:
     """The text of an audit: how many pairs there are and arrive, and how busy channels are, if it tells."""
 
-    def __init__(self, text):
+    def __init__(self, text: str) -> None:
         pairs = re.search(r"^pairs (\d+) arrive (\d+)$", text, re.M)
         load = re.search(r"^load max (\d+) mean (\d+\.\d+)$", text, re.M)
         beside = re.search(r"^between adapters pairs (\d+) ", text, re.M)
@@ -48,7 +50,7 @@ class Audit:
         self.lost = self.pairs - self.arrive
         self.busiest, self.mean = (int(load[1]), load[2]) if load else (None, None)
 
-    def is_busier_than(self, other):
+    def is_busier_than(self, other: "Audit") -> bool:
         """Whether the busiest channel carries more than a fifth more than that of other tables, for as many pairs of adapters."""
         if None in (self.busiest, other.busiest) or not other.busiest:
             return False
@@ -56,14 +58,14 @@ class Audit:
         return 5 * self.busiest * there > 6 * other.busiest * here
 
 
-def name_of_process(process):
+def name_of_process(process: int) -> str:
     try:
         return pathlib.Path(f"/proc/{process}/comm").read_text().strip()
     except OSError:
         raise Ended(3, f"there is no process {process}: has OpenSM ended?") from None
 
 
-def file_of_tables(process):
+def file_of_tables(process: int) -> str | None:
     """The file of tables that the command line of an OpenSM names, or None where it names none."""
     words = pathlib.Path(f"/proc/{process}/cmdline").read_bytes().decode(errors="surrogateescape").split("\0")
     for i, word in enumerate(words[:-1]):
@@ -76,7 +78,7 @@ def file_of_tables(process):
     return None
 
 
-def judge_opensm(process, plan):
+def judge_opensm(process: int, plan: str | pathlib.Path) -> None:
     """Ends where a process is no OpenSM, or one that reads other tables than these."""
     if (name := name_of_process(process)) != "opensm":
         raise Ended(3, f"process {process} is {name}, not opensm")
@@ -88,7 +90,7 @@ def judge_opensm(process, plan):
         raise Ended(3, f"OpenSM {process} routes by {named}, not by {plan} (-U in its command line)")
 
 
-def ask_for_sweep(process, log, seconds):
+def ask_for_sweep(process: int, log: str, seconds: float) -> None:
     """Sends HUP to an OpenSM, and waits until its log says that the subnet is up anew."""
     with open(log, "rb") as file:
         file.seek(0, os.SEEK_END)
@@ -109,17 +111,17 @@ def ask_for_sweep(process, log, seconds):
 class Log:
     """OpenSM's log, by which a round goes only once OpenSM has swept anew."""
 
-    def __init__(self, path):
+    def __init__(self, path: str | pathlib.Path) -> None:
         self.path, self.at = path, 0
 
-    def note(self):
+    def note(self) -> None:
         """Of what is said from here on, sweeps are news."""
         try:
             self.at = os.path.getsize(self.path)
         except OSError:
             self.at = 0
 
-    def has_news(self):
+    def has_news(self) -> bool:
         """Whether a sweep was told since; true where the log cannot be read."""
         try:
             if os.path.getsize(self.path) < self.at:
@@ -131,7 +133,7 @@ class Log:
             return True
 
 
-def words_of(path):
+def words_of(path: str | pathlib.Path) -> list[str]:
     """The words of a file of options: a line each, a word as on the command line without its --, and its value."""
     words = []
     with open(path, encoding="utf-8") as file:

@@ -1,9 +1,14 @@
 """Facts of a recording in which something was silent, with what was known before of adapters that are still plugged in."""
-from ibsm_texts import Facts, name_of, put
+from __future__ import annotations
+
+from collections.abc import Container
+from pathlib import Path
+
+from ibsm_texts import End, Facts, name_of, put
 from record_files import KINDS
 
 
-def key_of(line):
+def key_of(line: str) -> tuple[int, int, int]:
     """What a fact is about, in the order of a text."""
     kind, about = line.split(" ", 2)[:2]
     guid, _, port = about.partition("/")
@@ -17,7 +22,7 @@ class Completed:
     does not answer, in a port that is up and where it was before, is kept as it was.
     """
 
-    def __init__(self, facts, before, tables):
+    def __init__(self, facts: Facts, before: Facts | None, tables: Container[int]) -> None:
         """Takes facts, older ones or None, both with their lines, and the switches whose tables are known."""
         self.facts, self.before = facts, before
         self.lines = {key_of(line): line for line in facts.lines if not line.startswith("floor ")}
@@ -31,7 +36,7 @@ class Completed:
         ups = [key[1:] for key, line in self.lines.items() if key[0] == KINDS["port"] and " up " in line]
         self.ports = sorted(end for end in ups if end[1] and end not in links)
 
-    def leave_out(self, lacking):
+    def leave_out(self, lacking: set[int]) -> None:
         """Takes off nodes, and the nodes all of whose wires led to them."""
         beside = {}
         for end, far in self.facts.links.items():
@@ -49,7 +54,7 @@ class Completed:
             if f"{key[1]:016x}" not in about and not (key[0] == KINDS["link"] and line.split(" ")[2].split("/")[0] in about)
         }
 
-    def keep(self):
+    def keep(self) -> None:
         """Adds what was known of adapters that are silent, or that did not tell the state of their port."""
         old = {key_of(line): line for line in self.before.lines if not line.startswith("floor ")}
         for end, far in sorted(self.before.links.items()):
@@ -65,14 +70,14 @@ class Completed:
                     self.lines.setdefault(key, old[key])
             self.kept[far] = self.before.claims.get(far, 0)
 
-    def is_other(self):
+    def is_other(self) -> bool:
         return bool(self.kept or self.left_out)
 
-    def text(self):
+    def text(self) -> str:
         floor = [f"floor {self.facts.floor}"] if self.facts.floor > 1 else []
         return "".join(f"{line}\n" for line in [*floor, *(self.lines[key] for key in sorted(self.lines))])
 
-    def told(self):
+    def told(self) -> dict:
         """What is silent, for status.json."""
         return {
             "ports": list(map(name_of, self.ports)),
@@ -81,7 +86,7 @@ class Completed:
         }
 
 
-def line_of(told):
+def line_of(told: dict) -> str:
     """The same in a line."""
     parts = []
     if ports := told["ports"]:
@@ -93,7 +98,7 @@ def line_of(told):
     return "; ".join(parts)
 
 
-def add_lids(path, kept, lmc):
+def add_lids(path: Path, kept: dict[End, int], lmc: int | None) -> None:
     """Writes into held tables the LIDs of ports that are kept, which they can't tell now."""
     with open(path) as file:
         lines = file.read().splitlines(True)
@@ -101,7 +106,7 @@ def add_lids(path, kept, lmc):
     tail = f" lmc {lmc}\n" if lmc else "\n"
     lids += [f"lid {lid} {name_of(end)}{tail}" for end, lid in kept.items() if lid]
 
-    def place(line):
+    def place(line: str) -> tuple[int, int, int]:
         _, lid, end, *_ = line.split()
         guid, port = end.split("/")
         return int(lid), int(guid, 16), int(port)
@@ -109,6 +114,6 @@ def add_lids(path, kept, lmc):
     put(path, "".join(sorted(lids, key=place) + [line for line in lines if not line.startswith("lid ")]))
 
 
-def completed(facts_path, before_path, tables):
+def completed(facts_path: Path, before_path: Path | None, tables: Container[int]) -> Completed:
     before = Facts(before_path, keeps_lines=True) if before_path else None
     return Completed(Facts(facts_path, keeps_lines=True), before, tables)

@@ -1,4 +1,6 @@
 """The version of the tools, and what an installed copy was built from."""
+from __future__ import annotations
+
 import pathlib
 
 VERSION = "0.1.0"
@@ -6,6 +8,6 @@ VERSION = "0.1.0"
 BUILT = pathlib.Path(__file__).resolve().parent / "built"
 
 
-def told(tool):
+def told(tool: str) -> str:
     built = BUILT.read_text() if BUILT.exists() else ""
     return f"ibsm-{tool} {VERSION}\n{built}"
