@@ -160,7 +160,7 @@ def healed(bench):
 
 def next_round(process):
     """The line of the next round, without those of its steps."""
-    while " step " in (line := process.stdout.readline()):
+    while re.match(r"\S+ step \d+: ", line := process.stdout.readline()):
         pass
     return line
 
