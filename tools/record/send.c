@@ -327,7 +327,7 @@ static void read_subnet(void)
 		end(NO_FABRIC, "nothing answered, not even this machine's own port");
 	read_tables();
 	for (i = 0; i < known_nodes(); i++)
-		lacking += node_at(i)->lacks;
+		lacking += node_at(i)->lacks != 0;
 	if (lacking && choices.silent)
 		say("%zu nodes did not answer all that was asked, and are left as they are", lacking);
 }
