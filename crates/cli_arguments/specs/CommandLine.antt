@@ -52,9 +52,13 @@ of_files = files_rule ∷ floor_rule ∷ []
 abbrev pub of_order : List Rule
 of_order = option_rule (codes "roots") ∷ option_rule (codes "order") ∷ []
 
+-- by which rule, and how
+abbrev pub of_routing : Bor (List (Bor Text)) → List Rule
+of_routing words = routing_rule words ∷ of_order
+
 -- how plans are made
 abbrev pub of_planning : Bor (List (Bor Text)) → List Rule
-of_planning words = lmc_rule ∷ routing_rule words ∷ of_order
+of_planning words = lmc_rule ∷ of_routing words
 
 -- subcommands --------------------------------------------------------------------------------------------
 
@@ -70,8 +74,8 @@ join_shape = subcommand_shape (codes "join") of_files
 abbrev pub plan_shape : Bor (List (Bor Text)) → Shape
 plan_shape words = subcommand_shape (codes "plan") (of_files ++ of_planning words)
 
-abbrev pub order_shape : Shape
-order_shape = subcommand_shape (codes "order") (of_files ++ of_order)
+abbrev pub order_shape : Bor (List (Bor Text)) → Shape
+order_shape words = subcommand_shape (codes "order") (of_files ++ of_routing words)
 
 abbrev pub audit_shape : Shape
 audit_shape = subcommand_shape (codes "audit") (text_rule (codes "TABLES") ∷ of_files)
@@ -93,12 +97,13 @@ abbrev pub command_line : Bor (List (Bor Text)) → App
 command_line words = record {
   top = record program_app.top { is_leaf = false };
   subs =
-      facts_shape ∷ join_shape ∷ plan_shape words ∷ order_shape ∷ audit_shape ∷ next_shape words ∷ run_shape words ∷ [];
+      facts_shape ∷ join_shape ∷ plan_shape words ∷ order_shape words ∷ audit_shape ∷ next_shape words ∷ run_shape words ∷ [];
 }
 
 -- the rules of routing by their words
 abbrev pub AreRoutings : Bor (List (Bor Text)) → Type 0
-AreRoutings words = map (λ word. word.now) words.now ≡ codes "updown" ∷ codes "spread" ∷ []
+AreRoutings words =
+    map (λ word. word.now) words.now ≡ codes "updown" ∷ codes "spread" ∷ codes "balance" ∷ []
 
 -- commands -----------------------------------------------------------------------------------------------
 

@@ -30,11 +30,16 @@ lacks_rule (Some word) named = named && not (bytes_eq word (codes "spread"))
 abbrev pub has_conflict_of : Option (List ℕ) → Bool → Bool → Bool
 has_conflict_of routing rooted ordered = (rooted && ordered) || lacks_rule routing (rooted || ordered)
 
--- in the subcommand with this name; one that prints an order needs no rule
+-- the rule of an order: the one that spreads where no word names one
+abbrev pub order_rule : Option (List ℕ) → Option (List ℕ)
+order_rule None = Some (codes "spread")
+order_rule (Some word) = Some word
+
+-- in the subcommand with this name; one that prints an order needs no word for its rule
 abbrev pub has_conflict : List ℕ → (List ℕ → Option (List ℕ)) → Bool
 has_conflict name word =
-    if bytes_eq name (codes "order") then is_some (word (codes "roots")) && is_some (word (codes "order"))
-    else has_conflict_of (word (codes "routing")) (is_some (word (codes "roots"))) (is_some (word (codes "order")))
+    has_conflict_of (if bytes_eq name (codes "order") then order_rule (word (codes "routing")) else word (codes "routing"))
+    (is_some (word (codes "roots"))) (is_some (word (codes "order")))
 
 -- in the one that was named, if one was
 abbrev pub has_conflict_behind : Option (List ℕ × List Row) → Bool

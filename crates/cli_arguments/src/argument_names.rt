@@ -42,6 +42,9 @@ pub const ORDER: &str = "order";
 /// The rule that spreads, and takes roots or an order.
 pub const SPREAD: &str = "spread";
 
+/// The rule that spreads in the order of the least trial load, which takes none.
+pub const BALANCE: &str = "balance";
+
 /// The rule that goes up and down, which takes none.
 pub const UPDOWN: &str = "updown";
 

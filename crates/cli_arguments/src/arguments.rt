@@ -1,27 +1,28 @@
 //! The command line.
-ghost use Rattle.std.specs.Prelude.{◌≡◌, ◌∷◌, ◌++◌, [], IfOk, codes, false, is_some, map};
+ghost use Rattle.std.specs.Prelude.{◌≡◌, ◌∷◌, ◌++◌, [], IfOk, codes, false, if◌then◌else◌, is_some, map};
+ghost use Rattle.std.specs.Str.{bytes_eq};
 ghost use Rattle.clap.specs.Matches.{first_value, found_of};
 ghost use Rattle.clap.specs.Simple.{App, Shape, subcommand_rows_of, with_subcommand};
 ghost use Rattle.clap.specs.Values.{kind_of};
 ghost use Rattle.clap.specs.Walk.{rule_of};
 ghost use Rattle.cli_arguments.specs.CommandLine.{AddsRules, AreRoutings, IsApp, IsOf, IsReadAs};
 ghost use Rattle.cli_arguments.specs.CommandLine.{audit_shape, facts_shape, join_shape, next_shape, order_shape};
-ghost use Rattle.cli_arguments.specs.CommandLine.{command_line, of_files, of_order, of_planning, plan_shape};
+ghost use Rattle.cli_arguments.specs.CommandLine.{command_line, of_files, of_order, of_planning, of_routing, plan_shape};
 ghost use Rattle.cli_arguments.specs.CommandLine.{program_app, run_shape};
 ghost use Rattle.cli_arguments.specs.CommandLine.{files_rule, floor_rule, lmc_rule, option_rule, routing_rule};
 ghost use Rattle.cli_arguments.specs.CommandLine.{text_rule};
 ghost use Rattle.cli_arguments.specs.WellFormed.{IsWellFormed};
-ghost use Rattle.cli_arguments.specs.Words.{has_conflict, has_conflict_behind, lacks_rule};
+ghost use Rattle.cli_arguments.specs.Words.{has_conflict, has_conflict_behind, lacks_rule, order_rule};
 
 use crate::argument_names::{
-    AUDIT, FACTS, FILE, FLOOR, JOIN, LMC, NEXT, ORDER, PLAN, ROOTS, ROUTING, RUN, SCHEDULE, SPREAD,
-    TABLES, TOPOLOGY, UPDOWN,
+    AUDIT, BALANCE, FACTS, FILE, FLOOR, JOIN, LMC, NEXT, ORDER, PLAN, ROOTS, ROUTING, RUN,
+    SCHEDULE, SPREAD, TABLES, TOPOLOGY, UPDOWN,
 };
 use clap::error::ErrorKind;
 use clap::{Arg, ArgAction, ArgMatches, Command, Error, value_parser};
 use std::alloc::{AllocError, Global};
 
-const RULES: [&str; 2] = [UPDOWN, SPREAD];
+const RULES: [&str; 3] = [UPDOWN, SPREAD, BALANCE];
 
 const VERSION: &str = "0.1.0";
 
@@ -90,7 +91,7 @@ fn command_line<'a>(alloc: Global, routings: &'a [&'a str]) -> Result<Command<'a
     let command = with(Ok(program(alloc)), facts(alloc));
     let command = with(command, join(alloc));
     let command = with(command, plan(alloc, routings));
-    let command = with(command, order(alloc));
+    let command = with(command, order(alloc, routings));
     let command = with(command, audit(alloc));
     let command = with(command, next(alloc, routings));
     with(command, run(alloc, routings))
@@ -149,15 +150,15 @@ fn plan<'a>(alloc: Global, routings: &'a [&'a str]) -> Result<Command<'a>, Alloc
     with_planning(alloc, routings, of_files(alloc, command)?)
 }
 
-fn order<'a>(alloc: Global) -> Result<Command<'a>, AllocError>
-    ensures { IfOk result (IsOf order_shape) }
+fn order<'a>(alloc: Global, routings: &'a [&'a str]) -> Result<Command<'a>, AllocError>
+    ensures { IfOk result (IsOf (order_shape routings.entry)) }
 {
     let command = Command::new(alloc, ORDER)
         .about(
-            "Prints the switches in the order by which plan --routing spread goes, a GUID a line, for --order",
+            "Prints the switches in the order by which a plan goes, by spread if no rule is named, a GUID a line, for --order",
         )
         .after_help(ORDER_END);
-    with_order(alloc, of_files(alloc, command)?)
+    with_routing(alloc, routings, of_files(alloc, command)?)
 }
 
 fn audit<'a>(alloc: Global) -> Result<Command<'a>, AllocError>
@@ -232,7 +233,19 @@ fn with_planning<'a>(
 ) -> Result<Command<'a>, AllocError>
     ensures { IfOk result (AddsRules (of_planning routings.entry) command.entry) }
 {
-    let command = command.arg(lmc(alloc))?.arg(routing(alloc, routings))?;
+    let command = command.arg(lmc(alloc))?;
+    with_routing(alloc, routings, command)
+}
+
+/// With a rule of routing, and its roots or its order.
+fn with_routing<'a>(
+    alloc: Global,
+    routings: &'a [&'a str],
+    command: Command<'a>,
+) -> Result<Command<'a>, AllocError>
+    ensures { IfOk result (AddsRules (of_routing routings.entry) command.entry) }
+{
+    let command = command.arg(routing(alloc, routings))?;
     with_order(alloc, command)
 }
 
@@ -290,7 +303,8 @@ fn routing<'a>(alloc: Global, routings: &'a [&'a str]) -> Arg<'a>
         .value_name("RULE")
         .help(
             "updown leads packets by one root of each component, and is what is taken where none is named; \
-             spread leads them over all wires, so that none is much busier than others",
+             spread leads them over all wires, so that none is much busier than others; balance does so in \
+             the best of several orders of switches, which pays where the fabric is no tree",
         )
         .value_parser(routings)
         .action(ArgAction::Set)
@@ -341,18 +355,18 @@ fn has_conflict_in(name: &str, words: &ArgMatches<'_>) -> bool
 {
     let rooted = is_named(words, ROOTS);
     let ordered = is_named(words, ORDER);
-    match name {
-        ORDER => rooted && ordered,
-        _ => (rooted && ordered) || lacks_rule(words, rooted || ordered),
-    }
+    (rooted && ordered) || lacks_rule(name, words, rooted || ordered)
 }
 
-/// Whether the rule lacks that takes roots or an order, where one of them is named.
-fn lacks_rule(words: &ArgMatches<'_>, named: bool) -> bool
-    ensures { result ≡ lacks_rule (first_value (found_of words.now) (codes "routing")) named }
+/// Whether the rule lacks that takes roots or an order, where one of them is named; behind the subcommand that prints an
+/// order the rule is that one if none is named.
+fn lacks_rule(name: &str, words: &ArgMatches<'_>, named: bool) -> bool
+    ensures { result ≡ lacks_rule (if bytes_eq name.now (codes "order")
+        then order_rule (first_value (found_of words.now) (codes "routing"))
+        else first_value (found_of words.now) (codes "routing")) named }
 {
-    match words.get_str(ROUTING) {
-        Some(SPREAD) => false,
+    match (name, words.get_str(ROUTING)) {
+        (_, Some(SPREAD)) | (ORDER, None) => false,
         _ => named,
     }
 }
@@ -389,7 +403,7 @@ fn subcommand<'a>(alloc: Global, name: Option<&str>) -> Result<Command<'a>, Allo
     match name {
         Some(NEXT) => next(alloc, RULES.as_slice())?.bin_name("ibsm next"),
         Some(RUN) => run(alloc, RULES.as_slice())?.bin_name("ibsm run"),
-        Some(ORDER) => order(alloc)?.bin_name("ibsm order"),
+        Some(ORDER) => order(alloc, RULES.as_slice())?.bin_name("ibsm order"),
         _ => plan(alloc, RULES.as_slice())?.bin_name("ibsm plan"),
     }
 }

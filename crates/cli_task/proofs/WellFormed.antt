@@ -1,13 +1,13 @@
 -- Well-formed words ask for a task, and name its inputs.
-use Rattle.std.proofs.Common.{◌≡◌, ◌&&◌, ℕ, true, false, List, [], ◌∷◌, Option, None, Some, ap, inl, inr, refl, sym, subst, ◌∙◌}
+use Rattle.std.proofs.Common.{◌≡◌, ℕ, true, false, List, [], ◌∷◌, Option, None, Some, ap, inl, inr, refl, sym, subst, ◌∙◌}
 use Rattle.std.specs.Prelude.{codes, is_some, option_and_then, option_map}
 use Rattle.clap.specs.Matches.{subcommand_name_of}
 use Rattle.clap.specs.declared.parser.matches.ArgMatches.{ArgMatches}
 use Rattle.cli_arguments.specs.WellFormed.{HasItsWords, IsGiven, IsNumberWithin, IsRouting, IsWellFormed, NamesFiles, NamesOrder, NamesPlanning, facts, join, plan, order, audit, next, run}
-use Rattle.cli_arguments.specs.Words.{files_named, has_conflict_of, word_named}
+use Rattle.cli_arguments.specs.Words.{files_named, has_conflict_of, order_rule, word_named}
 use Rattle.sm_cli.specs.declared.asked.RuleAsked.{RuleAsked}
-use Rattle.sm_cli.specs.declared.asked.RuleAsked.TheVariants.{UpDown, Spread, SpreadFromRoots, SpreadInOrder}
-use Rattle.cli_task.specs.Asked.{floor_asked, followed_by, lmc_asked, names_in, planning_asked, rule_asked, spread_asked, task_behind, texts_of_rule}
+use Rattle.sm_cli.specs.declared.asked.RuleAsked.TheVariants.{UpDown, Spread, SpreadFromRoots, SpreadInOrder, Balance}
+use Rattle.cli_task.specs.Asked.{floor_asked, followed_by, lmc_asked, names_in, planning_asked, rule_asked, task_behind, texts_of_rule}
 use Rattle.cli_task.proofs.Within.{number_within}
 
 -- a value that is there
@@ -53,6 +53,17 @@ spread_there w (Some r) None is f =
     (SpreadFromRoots, ap (λ v. rule_asked (Some v) true false) is, (λ word j k. ap (λ x. is_some (option_map (λ roots. roots ∷ []) x)) j))
 spread_there w (Some r) (Some o) is f = absurd (cc)
 
+balance_there : (w : List ℕ) (roots named : Option (List ℕ)) → w ≡ codes "balance" → has_conflict_of (Some w) (is_some roots) (is_some named) ≡ false
+    → Asked (Some w) roots named
+balance_there w None None is f = (Balance, ap (λ v. rule_asked (Some v) false false) is, (λ word j k. refl))
+balance_there w None (Some o) is f =
+    let bad : has_conflict_of (Some (codes "balance")) false true ≡ false = subst (λ (v : List ℕ). has_conflict_of (Some v) false true ≡ false) is f in
+    absurd (cc)
+balance_there w (Some r) None is f =
+    let bad : has_conflict_of (Some (codes "balance")) true false ≡ false = subst (λ (v : List ℕ). has_conflict_of (Some v) true false ≡ false) is f in
+    absurd (cc)
+balance_there w (Some r) (Some o) is f = absurd (cc)
+
 rule_there : (routing roots named : Option (List ℕ)) → IsRouting routing → has_conflict_of routing (is_some roots) (is_some named) ≡ false
     → Asked routing roots named
 rule_there None None None h e = (UpDown, refl, (λ word j k. refl))
@@ -60,15 +71,12 @@ rule_there None None (Some o) h e = absurd (cc)
 rule_there None (Some r) None h e = absurd (cc)
 rule_there None (Some r) (Some o) h e = absurd (cc)
 rule_there (Some w) roots named (inl is) e = updown_there w roots named is e
-rule_there (Some w) roots named (inr is) e = spread_there w roots named is e
+rule_there (Some w) roots named (inr (inl is)) e = spread_there w roots named is e
+rule_there (Some w) roots named (inr (inr is)) e = balance_there w roots named is e
 
--- what an order goes by, and the text that it takes
-order_there : (roots named : Option (List ℕ)) → (is_some roots && is_some named) ≡ false
-    → (rule : RuleAsked) × (spread_asked (is_some roots) (is_some named) ≡ Some rule) × HasText roots named rule
-order_there None None e = (Spread, refl, (λ word j k. refl))
-order_there None (Some o) e = (SpreadInOrder, refl, (λ word j k. ap (λ x. is_some (option_map (λ named. named ∷ []) x)) k))
-order_there (Some r) None e = (SpreadFromRoots, refl, (λ word j k. ap (λ x. is_some (option_map (λ roots. roots ∷ []) x)) j))
-order_there (Some r) (Some o) e = absurd (cc)
+order_routing : (o : Option (List ℕ)) → IsRouting o → IsRouting (order_rule o)
+order_routing None h = inr (inl refl)
+order_routing (Some w) h = h
 
 module _ (word : List ℕ → Option (List ℕ)) (files : Option (List (List ℕ))) where
   -- how plans are made
@@ -123,9 +131,10 @@ module _ (word : List ℕ → Option (List ℕ)) (files : Option (List (List ℕ
       rw (by.1, floor.1) (both_there (texts_of_rule word by.0.1) (followed_by (Some []) files) by.2 (both_there (Some []) files refl h.named))
 
   order_asks : NamesFiles word files → NamesOrder word → Asks (codes "order")
-  order_asks h apart =
+  order_asks h p =
       let floor = known (floor_asked (word (codes "floor"))) (floor_there (word (codes "floor")) h.floor) in
-      let rule = order_there (word (codes "roots")) (word (codes "order")) apart in
+      let rule = rule_there (order_rule (word (codes "routing"))) (word (codes "roots")) (word (codes "order"))
+      (order_routing (word (codes "routing")) p.routing) p.apart in
       rw (rule.1, floor.1) (both_there (texts_of_rule word rule.0) (followed_by (Some []) files) (rule.2 word refl refl) (both_there (Some []) files refl h.named))
 
   audit_asks : IsGiven (word (codes "TABLES")) → NamesFiles word files → Asks (codes "audit")

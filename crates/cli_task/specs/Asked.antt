@@ -5,13 +5,13 @@ use Rattle.std.specs.Str.{bytes_eq}
 use Rattle.std.specs.Str.Parse.{starts_with_minus, without_leading_plus}
 use Rattle.clap.specs.Matches.{subcommand_name_of}
 use Rattle.clap.specs.declared.parser.matches.ArgMatches.{ArgMatches}
-use Rattle.cli_arguments.specs.Words.{files_named, word_named}
+use Rattle.cli_arguments.specs.Words.{files_named, order_rule, word_named}
 use Rattle.text_words.specs.Number.{number_of}
 use Rattle.sm_cli.specs.Asked.{rule_for}
 use Rattle.sm_cli.specs.declared.asked.Output.{Output}
 use Rattle.sm_cli.specs.declared.asked.Output.TheVariants.{Facts, Join, Plan, Order}
 use Rattle.sm_cli.specs.declared.asked.RuleAsked.{RuleAsked}
-use Rattle.sm_cli.specs.declared.asked.RuleAsked.TheVariants.{UpDown, Spread, SpreadFromRoots, SpreadInOrder}
+use Rattle.sm_cli.specs.declared.asked.RuleAsked.TheVariants.{UpDown, Spread, SpreadFromRoots, SpreadInOrder, Balance}
 use Rattle.next_run.specs.declared.run_step.StepAsked.{StepAsked}
 use Rattle.cli_task.specs.declared.task.Task.{Task}
 use Rattle.cli_task.specs.declared.task.Task.TheVariants.{Answer, Audit, Next, Run}
@@ -56,7 +56,8 @@ abbrev pub rule_asked : Option (List ℕ) → Bool → Bool → Option RuleAsked
 rule_asked None rooted ordered = if rooted || ordered then None else Some UpDown
 rule_asked (Some word) rooted ordered =
     if bytes_eq word (codes "spread") then spread_asked rooted ordered
-    else (if bytes_eq word (codes "updown") && not (rooted || ordered) then Some UpDown else None)
+    else (if bytes_eq word (codes "updown") && not (rooted || ordered) then Some UpDown
+    else (if bytes_eq word (codes "balance") && not (rooted || ordered) then Some Balance else None))
 
 -- tasks -----------------------------------------------------------------------------------------
 
@@ -68,7 +69,8 @@ planning_asked word = option_and_then (λ lmc. option_map (λ rule. (lmc, rule))
 
 -- what an order goes by
 abbrev pub order_asked : (List ℕ → Option (List ℕ)) → Option RuleAsked
-order_asked word = spread_asked (is_some (word (codes "roots"))) (is_some (word (codes "order")))
+order_asked word =
+    rule_asked (order_rule (word (codes "routing"))) (is_some (word (codes "roots"))) (is_some (word (codes "order")))
 
 -- the step
 abbrev pub step_asked : (List ℕ → Option (List ℕ)) → Option StepAsked
@@ -104,6 +106,7 @@ texts_of_rule word UpDown = Some []
 texts_of_rule word Spread = Some []
 texts_of_rule word SpreadFromRoots = option_map (λ roots. roots ∷ []) (word (codes "roots"))
 texts_of_rule word SpreadInOrder = option_map (λ order. order ∷ []) (word (codes "order"))
+texts_of_rule word Balance = Some []
 
 -- by which rule a task plans; where it does not, by one that takes no text
 abbrev pub rule_of_task : Task → RuleAsked

@@ -10,8 +10,8 @@ use arrayvec::ArrayVec;
 use attr_codec::Lmc;
 use clap::ArgMatches;
 use cli_arguments::argument_names::{
-    AUDIT, FACTS, FILE, FLOOR, JOIN, LMC, NEXT, ORDER, PLAN, ROOTS, ROUTING, RUN, SCHEDULE, SPREAD,
-    TABLES, TOPOLOGY, UPDOWN,
+    AUDIT, BALANCE, FACTS, FILE, FLOOR, JOIN, LMC, NEXT, ORDER, PLAN, ROOTS, ROUTING, RUN,
+    SCHEDULE, SPREAD, TABLES, TOPOLOGY, UPDOWN,
 };
 use next_run::StepAsked;
 use sm_cli::{Invocation, Output, RuleAsked};
@@ -117,14 +117,17 @@ fn planning_of(words: &ArgMatches<'_>) -> Option<(Lmc, RuleAsked)>
     Some((lmc, rule))
 }
 
-/// What the order goes by that the words behind a subcommand ask for.
+/// What the order goes by that the words behind a subcommand ask for, the rule that spreads where they ask for none.
 fn order_of(words: &ArgMatches<'_>) -> Option<RuleAsked>
     ensures { result ≡ order_asked (first_value (found_of words.now)) }
 {
-    spread_by(
-        words.get_str(ROOTS).is_some(),
-        words.get_str(ORDER).is_some(),
-    )
+    match words.get_str(ROUTING) {
+        Some(_) => rule_of(words),
+        None => spread_by(
+            words.get_str(ROOTS).is_some(),
+            words.get_str(ORDER).is_some(),
+        ),
+    }
 }
 
 /// Returns the floor that the words behind a subcommand ask for, 1 if they ask for none.
@@ -169,6 +172,7 @@ fn rule_of(words: &ArgMatches<'_>) -> Option<RuleAsked>
     let ordered = words.get_str(ORDER).is_some();
     match words.get_str(ROUTING) {
         None | Some(UPDOWN) if !rooted && !ordered => Some(RuleAsked::UpDown),
+        Some(BALANCE) if !rooted && !ordered => Some(RuleAsked::Balance),
         Some(SPREAD) => spread_by(rooted, ordered),
         _ => None,
     }
@@ -236,7 +240,7 @@ fn texts_of_rule<'a>(words: &ArgMatches<'a>, rule: RuleAsked) -> Option<ArrayVec
 {
     let mut texts = ArrayVec::new();
     match rule {
-        RuleAsked::UpDown | RuleAsked::Spread => {}
+        RuleAsked::UpDown | RuleAsked::Spread | RuleAsked::Balance => {}
         RuleAsked::SpreadFromRoots => texts.push(words.get_str(ROOTS)?),
         RuleAsked::SpreadInOrder => texts.push(words.get_str(ORDER)?),
     }
