@@ -1,0 +1,11 @@
+//! The order of the switches that forwarding tables tell by themselves, whoever wrote them.
+#![tactic(auto)]
+
+mod last;
+pub mod laws;
+mod positions;
+mod told;
+mod turns;
+
+pub use positions::told_positions;
+pub use told::told_order;
