@@ -313,6 +313,8 @@ GROWING = (
     Row("audit by switches", lambda c, n: ("audit", planned(c, n, 4), known(c, n, 4)), 60, SQUARED),
     Row("audit of links alone", lambda c, n: ("audit", remarks(c, 1), strangers(c, n)), 2000, LINEAR, 1),
     Row("audit of switches in a row", lambda c, n: ("audit", row_planned(c, n, 4), row(c, n, 4)), 40, SQUARED),
+    Row("order-of by adapters", lambda c, n: ("order-of", planned(c, 8, n), known(c, 8, n)), 100, LINEAR),
+    Row("order-of by switches", lambda c, n: ("order-of", planned(c, n, 4), known(c, n, 4)), 60, SQUARED),
     Row("next by adapters", lambda c, n: ("next", planned(c, 8, n), known(c, 8, n)), 100, LINEAR),
     Row("next by adapters of many switches", lambda c, n: ("next", planned(c, 40, n), known(c, 40, n)), 25, LINEAR),
     Row("next by adapters, claimed LIDs", lambda c, n: ("next", printed(c, "plan", claimed(c, n)), claimed(c, n)), 100, LINEAR),

@@ -21,7 +21,7 @@ use Rattle.clap.specs.declared.parser.matches.ArgMatches.TheViews.{out-ArgMatche
 use Rattle.clap.specs.declared.parser.matches.SubCommand.{SubCommand}
 use Rattle.std.specs.Box.{box_value}
 use Rattle.cli_arguments.specs.CommandLine.{IsReadAs, AreRoutings, command_line}
-use Rattle.cli_arguments.specs.WellFormed.{HasItsWords, IsGiven, IsNumberWithin, IsRouting, IsWellFormed, NamesFiles, NamesOrder, NamesPlanning, facts, join, plan, order, audit, next, run}
+use Rattle.cli_arguments.specs.WellFormed.{HasItsWords, IsGiven, IsNumberWithin, IsRouting, IsWellFormed, NamesFiles, NamesOrder, NamesPlanning, facts, join, plan, order, audit, order_of, next, run}
 use Rattle.cli_arguments.specs.Words.{has_conflict, has_conflict_behind, has_conflict_of, order_rule, values_in, word_behind}
 use Rattle.cli_arguments.proofs.Entered.{EachHas, IsPassed, enters, required_given, found_has, given_word, is_help, word_passes}
 use Rattle.cli_arguments.proofs.Walked.{ArePlainIn, AreTaken, level_taken, wants_some}
@@ -132,12 +132,15 @@ all_plain routings = (
         (
           ((refl, refl), ((refl, refl), ((refl, refl), ((refl, refl), tt)))),
           (
-            ((refl, refl), ((refl, refl), ((refl, refl), ((refl, refl), ((refl, refl), ((refl, refl), ((refl, refl), ((refl, refl), tt)))))))),
+            ((refl, refl), ((refl, refl), ((refl, refl), ((refl, refl), tt)))),
             (
-              ((refl, refl), ((refl, refl), ((refl, refl), ((refl, refl), ((refl, refl), ((refl, refl), ((refl, refl), tt))))))),
+              ((refl, refl), ((refl, refl), ((refl, refl), ((refl, refl), ((refl, refl), ((refl, refl), ((refl, refl), ((refl, refl), tt)))))))),
               (
-                ((refl, refl), tt),
-                tt,
+                ((refl, refl), ((refl, refl), ((refl, refl), ((refl, refl), ((refl, refl), ((refl, refl), ((refl, refl), tt))))))),
+                (
+                  ((refl, refl), tt),
+                  tt,
+                ),
               ),
             ),
           ),
@@ -163,14 +166,18 @@ all_fit routings known = (
           λ other differs is rows t e apart. audit refl (text_given routings known _ (codes "audit") rows t (codes "TABLES") _ refl refl (given_first _ _ e).0)
               (names_files routings known _ (codes "audit") rows t _ refl refl (given_first _ _ (given_first _ _ e).1).0),
           (
-            λ other differs is rows t e apart. next refl (text_given routings known _ (codes "next") rows t (codes "TABLES") _ refl refl (given_first _ _ e).0)
-                (names_files routings known _ (codes "next") rows t _ refl refl (given_first _ _ (given_first _ _ e).1).0)
-                (names_planning routings known _ (codes "next") rows t _ _ refl refl refl refl refl apart),
+            λ other differs is rows t e apart. order_of refl (text_given routings known _ (codes "order-of") rows t (codes "TABLES") _ refl refl (given_first _ _ e).0)
+                (names_files routings known _ (codes "order-of") rows t _ refl refl (given_first _ _ (given_first _ _ e).1).0),
             (
-              λ other differs is rows t e apart. run refl (text_given routings known _ (codes "run") rows t (codes "TOPOLOGY") _ refl refl (given_first _ _ e).0)
-                  (text_given routings known _ (codes "run") rows t (codes "SCHEDULE") _ refl refl (given_first _ _ (given_first _ _ e).1).0)
-                  (names_planning routings known _ (codes "run") rows t _ _ refl refl refl refl refl apart),
-              (λ other differs is rows t e apart. absurd (is_named_help other differs is), tt),
+              λ other differs is rows t e apart. next refl (text_given routings known _ (codes "next") rows t (codes "TABLES") _ refl refl (given_first _ _ e).0)
+                  (names_files routings known _ (codes "next") rows t _ refl refl (given_first _ _ (given_first _ _ e).1).0)
+                  (names_planning routings known _ (codes "next") rows t _ _ refl refl refl refl refl apart),
+              (
+                λ other differs is rows t e apart. run refl (text_given routings known _ (codes "run") rows t (codes "TOPOLOGY") _ refl refl (given_first _ _ e).0)
+                    (text_given routings known _ (codes "run") rows t (codes "SCHEDULE") _ refl refl (given_first _ _ (given_first _ _ e).1).0)
+                    (names_planning routings known _ (codes "run") rows t _ _ refl refl refl refl refl apart),
+                (λ other differs is rows t e apart. absurd (is_named_help other differs is), tt),
+              ),
             ),
           ),
         ),

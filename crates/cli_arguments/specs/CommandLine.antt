@@ -80,6 +80,9 @@ order_shape words = subcommand_shape (codes "order") (of_files ++ of_routing wor
 abbrev pub audit_shape : Shape
 audit_shape = subcommand_shape (codes "audit") (text_rule (codes "TABLES") ∷ of_files)
 
+abbrev pub order_of_shape : Shape
+order_of_shape = subcommand_shape (codes "order-of") (text_rule (codes "TABLES") ∷ of_files)
+
 abbrev pub next_shape : Bor (List (Bor Text)) → Shape
 next_shape words = subcommand_shape (codes "next") (text_rule (codes "TABLES") ∷ of_files ++ of_planning words)
 
@@ -97,7 +100,8 @@ abbrev pub command_line : Bor (List (Bor Text)) → App
 command_line words = record {
   top = record program_app.top { is_leaf = false };
   subs =
-      facts_shape ∷ join_shape ∷ plan_shape words ∷ order_shape words ∷ audit_shape ∷ next_shape words ∷ run_shape words ∷ [];
+      facts_shape ∷ join_shape ∷ plan_shape words ∷ order_shape words ∷ audit_shape ∷ order_of_shape ∷ next_shape words
+      ∷ run_shape words ∷ [];
 }
 
 -- the rules of routing by their words

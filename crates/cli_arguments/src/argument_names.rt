@@ -12,6 +12,9 @@ pub const PLAN: &str = "plan";
 /// The subcommand that audits tables.
 pub const AUDIT: &str = "audit";
 
+/// The subcommand that prints the order of switches that tables tell.
+pub const ORDER_OF: &str = "order-of";
+
 /// The subcommand that prints the tables to write next.
 pub const NEXT: &str = "next";
 

@@ -6,7 +6,8 @@ ghost use Rattle.clap.specs.Simple.{App, Shape, subcommand_rows_of, with_subcomm
 ghost use Rattle.clap.specs.Values.{kind_of};
 ghost use Rattle.clap.specs.Walk.{rule_of};
 ghost use Rattle.cli_arguments.specs.CommandLine.{AddsRules, AreRoutings, IsApp, IsOf, IsReadAs};
-ghost use Rattle.cli_arguments.specs.CommandLine.{audit_shape, facts_shape, join_shape, next_shape, order_shape};
+ghost use Rattle.cli_arguments.specs.CommandLine.{audit_shape, facts_shape, join_shape, next_shape, order_of_shape};
+ghost use Rattle.cli_arguments.specs.CommandLine.{order_shape};
 ghost use Rattle.cli_arguments.specs.CommandLine.{command_line, of_files, of_order, of_planning, of_routing, plan_shape};
 ghost use Rattle.cli_arguments.specs.CommandLine.{program_app, run_shape};
 ghost use Rattle.cli_arguments.specs.CommandLine.{files_rule, floor_rule, lmc_rule, option_rule, routing_rule};
@@ -15,8 +16,8 @@ ghost use Rattle.cli_arguments.specs.WellFormed.{IsWellFormed};
 ghost use Rattle.cli_arguments.specs.Words.{has_conflict, has_conflict_behind, lacks_rule, order_rule};
 
 use crate::argument_names::{
-    AUDIT, BALANCE, FACTS, FILE, FLOOR, JOIN, LMC, NEXT, ORDER, PLAN, ROOTS, ROUTING, RUN,
-    SCHEDULE, SPREAD, TABLES, TOPOLOGY, UPDOWN,
+    AUDIT, BALANCE, FACTS, FILE, FLOOR, JOIN, LMC, NEXT, ORDER, ORDER_OF, PLAN, ROOTS, ROUTING,
+    RUN, SCHEDULE, SPREAD, TABLES, TOPOLOGY, UPDOWN,
 };
 use clap::error::ErrorKind;
 use clap::{Arg, ArgAction, ArgMatches, Command, Error, value_parser};
@@ -49,6 +50,12 @@ const AUDIT_END: &str =
      2  the command line is wrong\n  3  a file is refused\n  \
      4  a file cannot be opened or read, or the output takes no more\n  \
      5  out of memory\n\nExample:\n  ibsm audit held.tables fabric.reports";
+
+const ORDER_OF_END: &str = "Exit status:\n  0  done\n  \
+     1  done, and there is no such order, so nothing is printed\n  \
+     2  the command line is wrong\n  3  a file is refused\n  \
+     4  a file cannot be opened or read, or the output takes no more\n  \
+     5  out of memory\n\nExample:\n  ibsm order-of held.tables fabric.reports > fabric.order";
 
 const NEXT_END: &str =
     "Exit status:\n  0  done, and no mixture of both tables can make a credit loop\n  \
@@ -93,6 +100,7 @@ fn command_line<'a>(alloc: Global, routings: &'a [&'a str]) -> Result<Command<'a
     let command = with(command, plan(alloc, routings));
     let command = with(command, order(alloc, routings));
     let command = with(command, audit(alloc));
+    let command = with(command, order_of(alloc));
     let command = with(command, next(alloc, routings));
     with(command, run(alloc, routings))
 }
@@ -170,6 +178,18 @@ fn audit<'a>(alloc: Global) -> Result<Command<'a>, AllocError>
              files",
         )
         .after_help(AUDIT_END);
+    of_tables(alloc, command)
+}
+
+fn order_of<'a>(alloc: Global) -> Result<Command<'a>, AllocError>
+    ensures { IfOk result (IsOf order_of_shape) }
+{
+    let command = Command::new(alloc, ORDER_OF)
+        .about(
+            "Prints the switches in an order by which the tables that switches hold lead packets up and then \
+             down, a GUID a line, for --order",
+        )
+        .after_help(ORDER_OF_END);
     of_tables(alloc, command)
 }
 

@@ -14,7 +14,7 @@ use Rattle.sm_cli.specs.declared.asked.RuleAsked.{RuleAsked}
 use Rattle.sm_cli.specs.declared.asked.RuleAsked.TheVariants.{UpDown, Spread, SpreadFromRoots, SpreadInOrder, Balance}
 use Rattle.next_run.specs.declared.run_step.StepAsked.{StepAsked}
 use Rattle.cli_task.specs.declared.task.Task.{Task}
-use Rattle.cli_task.specs.declared.task.Task.TheVariants.{Answer, Audit, Next, Run}
+use Rattle.cli_task.specs.declared.task.Task.TheVariants.{Answer, Audit, OrderOf, Next, Run}
 
 -- options ---------------------------------------------------------------------------------------
 
@@ -89,10 +89,11 @@ output_asked word command =
 abbrev pub task_behind : (List ℕ → Option (List ℕ)) → List ℕ → Option Task
 task_behind word command =
     if bytes_eq command (codes "audit") then option_map Audit (floor_asked (word (codes "floor")))
+    else (if bytes_eq command (codes "order-of") then option_map OrderOf (floor_asked (word (codes "floor")))
     else (if bytes_eq command (codes "next") then option_map Next (step_asked word)
     else (if bytes_eq command (codes "run") then option_map (λ by. Run by.0 by.1) (planning_asked word)
     else option_and_then (λ output. option_map (λ floor. Answer (record { output = output; floor = floor }))
-    (floor_asked (word (codes "floor")))) (output_asked word command)))
+    (floor_asked (word (codes "floor")))) (output_asked word command))))
 
 -- the task that the words ask for
 abbrev pub task_asked : ArgMatches → Option Task
@@ -112,6 +113,7 @@ texts_of_rule word Balance = Some []
 abbrev pub rule_of_task : Task → RuleAsked
 rule_of_task (Answer request) = rule_for request.output
 rule_of_task (Audit floor) = UpDown
+rule_of_task (OrderOf floor) = UpDown
 rule_of_task (Next asked) = asked.rule
 rule_of_task (Run lmc rule) = rule
 
@@ -119,6 +121,7 @@ rule_of_task (Run lmc rule) = rule
 abbrev pub texts_asked : (List ℕ → Option (List ℕ)) → Task → Option (List (List ℕ))
 texts_asked word (Answer request) = Some []
 texts_asked word (Audit floor) = option_map (λ tables. tables ∷ []) (word (codes "TABLES"))
+texts_asked word (OrderOf floor) = option_map (λ tables. tables ∷ []) (word (codes "TABLES"))
 texts_asked word (Next asked) = option_map (λ tables. tables ∷ []) (word (codes "TABLES"))
 texts_asked word (Run lmc rule) =
     option_and_then (λ topology. option_map (λ schedule. topology ∷ schedule ∷ []) (word (codes "SCHEDULE")))
@@ -128,6 +131,7 @@ texts_asked word (Run lmc rule) =
 abbrev pub takes_files : Task → Bool
 takes_files (Answer request) = true
 takes_files (Audit floor) = true
+takes_files (OrderOf floor) = true
 takes_files (Next asked) = true
 takes_files (Run lmc rule) = false
 

@@ -10,8 +10,8 @@ use arrayvec::ArrayVec;
 use attr_codec::Lmc;
 use clap::ArgMatches;
 use cli_arguments::argument_names::{
-    AUDIT, BALANCE, FACTS, FILE, FLOOR, JOIN, LMC, NEXT, ORDER, PLAN, ROOTS, ROUTING, RUN,
-    SCHEDULE, SPREAD, TABLES, TOPOLOGY, UPDOWN,
+    AUDIT, BALANCE, FACTS, FILE, FLOOR, JOIN, LMC, NEXT, ORDER, ORDER_OF, PLAN, ROOTS, ROUTING,
+    RUN, SCHEDULE, SPREAD, TABLES, TOPOLOGY, UPDOWN,
 };
 use next_run::StepAsked;
 use sm_cli::{Invocation, Output, RuleAsked};
@@ -25,6 +25,9 @@ pub enum Task {
     Answer(Invocation),
     /// To audit tables in the subnet of files, where nothing older than the generation counts.
     Audit(Generation),
+    /// To write the order of switches that tables tell in the subnet of files, where nothing older than the generation
+    /// counts.
+    OrderOf(Generation),
     /// To write the tables to write next.
     Next(StepAsked),
     /// To run a schedule in the fabric of a topology, with managers that plan 2^LMC LIDs for each adapter port, by a
@@ -39,7 +42,7 @@ impl Task {
     {
         match self {
             Task::Answer(request) => request.output.rule(),
-            Task::Audit(_) => RuleAsked::UpDown,
+            Task::Audit(_) | Task::OrderOf(_) => RuleAsked::UpDown,
             Task::Next(asked) => asked.rule,
             Task::Run(_, rule) => *rule,
         }
@@ -50,7 +53,7 @@ impl Task {
         ensures { result ≡ takes_files self.now }
     {
         match self {
-            Task::Answer(_) | Task::Audit(_) | Task::Next(_) => true,
+            Task::Answer(_) | Task::Audit(_) | Task::OrderOf(_) | Task::Next(_) => true,
             Task::Run(..) => false,
         }
     }
@@ -70,6 +73,7 @@ fn task_behind(command: &str, words: &ArgMatches<'_>) -> Option<Task>
 {
     match command {
         AUDIT => Some(Task::Audit(floor_of(words)?)),
+        ORDER_OF => Some(Task::OrderOf(floor_of(words)?)),
         NEXT => Some(Task::Next(step_of(words)?)),
         RUN => {
             let (lmc, rule) = planning_of(words)?;
@@ -255,7 +259,7 @@ fn texts_of<'a>(words: &ArgMatches<'a>, task: &Task) -> Option<ArrayVec<&'a str,
     let mut texts = ArrayVec::new();
     match task {
         Task::Answer(_) => {}
-        Task::Audit(_) | Task::Next(_) => texts.push(words.get_str(TABLES)?),
+        Task::Audit(_) | Task::OrderOf(_) | Task::Next(_) => texts.push(words.get_str(TABLES)?),
         Task::Run(..) => {
             texts.push(words.get_str(TOPOLOGY)?);
             texts.push(words.get_str(SCHEDULE)?);

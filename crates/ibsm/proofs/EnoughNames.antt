@@ -9,7 +9,7 @@ use Rattle.sm_cli.specs.Asked.{rule_for}
 use Rattle.cli_arguments.specs.Words.{files_named, word_named}
 use Rattle.cli_task.specs.Asked.{followed_by, names_asked, names_in, texts_asked, texts_of_rule}
 use Rattle.cli_task.specs.declared.task.Task.{Task}
-use Rattle.cli_task.specs.declared.task.Task.TheVariants.{Answer, Audit, Next, Run}
+use Rattle.cli_task.specs.declared.task.Task.TheVariants.{Answer, Audit, OrderOf, Next, Run}
 use Rattle.cli_task.proofs.RuleTexts.{one_word, texts_counted}
 use Rattle.ibsm.specs.Ending.{HasEnoughNames}
 
@@ -37,6 +37,12 @@ names_suffice word files (Answer request) names e =
 names_suffice word files (Audit floor) names e =
     let all = both_named (Some []) (followed_by (texts_asked word (Audit floor)) files) names e in
     let rest = both_named (texts_asked word (Audit floor)) files all.1 all.3 in
+    let one = one_word (word (codes "TABLES")) rest.0 rest.2 in
+    let count = all.4 in
+    let others = rest.4 in omega arith
+names_suffice word files (OrderOf floor) names e =
+    let all = both_named (Some []) (followed_by (texts_asked word (OrderOf floor)) files) names e in
+    let rest = both_named (texts_asked word (OrderOf floor)) files all.1 all.3 in
     let one = one_word (word (codes "TABLES")) rest.0 rest.2 in
     let count = all.4 in
     let others = rest.4 in omega arith

@@ -13,11 +13,12 @@ use Rattle.sm_cli.specs.declared.fault.Fault.{Fault}
 use Rattle.sm_cli.specs.declared.fault.Fault.TheVariants.{Open, File, Text, NoRoom, Write, Memory}
 use Rattle.audit_report.specs.RunAudit.{HasAudited, IsAuditFault}
 use Rattle.next_run.specs.RunNext.{HasStepped, IsStepFault}
+use Rattle.order_run.specs.OrderRun.{HasTold, IsOrderFault}
 use Rattle.schedule_run.specs.Run.{HasRun, IsRunFault}
 use Rattle.cli_task.specs.Asked.{names_asked, task_asked}
 use Rattle.ibsm.specs.declared.opener.OpenFault.{OpenFault}
 use Rattle.cli_task.specs.declared.task.Task.{Task}
-use Rattle.cli_task.specs.declared.task.Task.TheVariants.{Answer, Audit, Next, Run}
+use Rattle.cli_task.specs.declared.task.Task.TheVariants.{Answer, Audit, OrderOf, Next, Run}
 use Rattle.ibsm.specs.Opening.{AreOpened, IsOpenFault}
 
 -- what is done ----------------------------------------------------------------------------------
@@ -26,6 +27,7 @@ use Rattle.ibsm.specs.Opening.{AreOpened, IsOpenFault}
 abbrev pub HasEnoughNames : Task → ℕ → Type 0
 HasEnoughNames (Answer request) count = texts_for (rule_for request.output) ≤ count
 HasEnoughNames (Audit floor) count = 1 ≤ count
+HasEnoughNames (OrderOf floor) count = 1 ≤ count
 HasEnoughNames (Next asked) count = texts_for asked.rule + 1 ≤ count
 HasEnoughNames (Run lmc rule) count = count ≡ texts_for rule + 2
 
@@ -37,6 +39,8 @@ Does state (Answer request) olds news prints says passed =
     (passed ≡ true) × HasAnswered state request olds news prints
 Does state (Audit floor) olds news prints says passed =
     HasAudited state floor olds news prints passed
+Does state (OrderOf floor) olds news prints says passed =
+    HasTold state floor olds news prints passed
 Does state (Next asked) olds news prints says passed =
     HasStepped state asked olds news prints says passed
 Does state (Run lmc rule) olds news prints says passed =
@@ -87,6 +91,8 @@ IsFaultOver state (Answer request) olds news prints output_failed fault =
     IsFaultOf state request olds news output_failed fault
 IsFaultOver state (Audit floor) olds news prints output_failed fault =
     IsAuditFault state floor olds news output_failed fault
+IsFaultOver state (OrderOf floor) olds news prints output_failed fault =
+    IsOrderFault state floor olds news output_failed fault
 IsFaultOver state (Next asked) olds news prints output_failed fault =
     IsStepFault state asked olds news output_failed fault
 IsFaultOver state (Run lmc rule) olds news prints output_failed fault =

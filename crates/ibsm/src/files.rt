@@ -14,6 +14,7 @@ use audit_report::run_audit;
 use byte_io::{Sink, Source, ToWrite};
 use cli_task::Task;
 use next_run::run_next;
+use order_run::run_order_of;
 use schedule_run::run_schedule;
 use sm_cli::{ExitStatus, Fault, run_files, write_fault};
 use std::alloc::Global;
@@ -120,6 +121,7 @@ fn do_task<S: Source, W: Sink, E: Sink>(
             Err(fault) => Err(fault),
         },
         Task::Audit(floor) => run_audit(alloc, inputs, floor, output),
+        Task::OrderOf(floor) => run_order_of(alloc, inputs, floor, output),
         Task::Next(asked) => run_next(alloc, inputs, asked, output, errors),
         Task::Run(lmc, rule) => match run_schedule(alloc, inputs, lmc, rule, output) {
             Ok(()) => Ok(true),

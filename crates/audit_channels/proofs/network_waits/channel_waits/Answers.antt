@@ -7,7 +7,7 @@ use Rattle.subnet_view.specs.Reading.{switches}
 use Rattle.audit_channels.specs.Columns.{IsWithColumn}
 use Rattle.audit_channels.specs.Waiting.{IsAdded}
 use Rattle.audit_channels.proofs.Waiting.{some_is, none_so_far, none_added, is_added, more, all}
-use Rattle.audit_channels.proofs.network_waits.waits.Goals as goal
+use Rattle.audit_channels.proofs.network_waits.channel_waits.Goals as goal
 
 pub loop-below-init : goal.loop-below-init
 loop-below-init c =

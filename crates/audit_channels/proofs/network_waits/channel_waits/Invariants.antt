@@ -2,7 +2,7 @@
 use Rattle.fact_store.specs.View.{cells_of}
 use Rattle.audit_channels.specs.Waiting.{IsAdded}
 use Rattle.audit_channels.proofs.Waiting.{SoFar}
-use Rattle.audit_channels.proofs.network_waits.waits.Given as goal
+use Rattle.audit_channels.proofs.network_waits.channel_waits.Given as goal
 
 abbrev pub invariant-loop-below : goal.invariant-loop-below
 invariant-loop-below l = record {
