@@ -6,7 +6,7 @@ use Rattle.std.proofs.lemmas.Bool.{and_from, and_parts}
 use Rattle.subnet_view.specs.Reading.{Cells}
 use Rattle.subnet_view.proofs.Members.{list_any_at, list_any_true}
 use Rattle.plan_file.specs.Held.{HeldPlan}
-use Rattle.told_order.specs.declared.turns.Turn.{Turn}
+use Rattle.told_order.specs.declared.turns.SwitchTurn.{SwitchTurn}
 use Rattle.told_order.specs.Turns.{AreTurns, IsTurn}
 use Rattle.told_order.specs.Last.{IsLastBy, NoneFromBy, may_be_last, turns_in}
 use Rattle.told_order.specs.ToldOrder.{IsLast, MayBeLast, NoneFrom, is_left}
@@ -23,8 +23,8 @@ to_not : (t : Bool) → t ≡ false → not t ≡ true
 to_not true h = absurd (cc)
 to_not false h = refl
 
-module _ (cells : Cells) (tables : HeldPlan) (turns : List (List Turn)) (are : AreTurns cells tables turns) (left : List Bool) where
-  abbrev test : Turn → Bool
+module _ (cells : Cells) (tables : HeldPlan) (turns : List (List SwitchTurn)) (are : AreTurns cells tables turns) (left : List Bool) where
+  abbrev test : SwitchTurn → Bool
   test turn = is_left left turn.from && is_left left turn.to
 
   -- what may be the last by the lists may be
@@ -66,5 +66,5 @@ module _ (cells : Cells) (tables : HeldPlan) (turns : List (List Turn)) (are : A
       }
 
 -- it is left
-pub left_by : (turns : List (List Turn)) (left : List Bool) (preferred : List ℕ) (x : ℕ) → IsLastBy turns preferred left x → is_left left x ≡ true
+pub left_by : (turns : List (List SwitchTurn)) (left : List Bool) (preferred : List ℕ) (x : ℕ) → IsLastBy turns preferred left x → is_left left x ≡ true
 left_by turns left preferred x last = (and_parts (is_left left x) (not (turns_in left (slice_index_or turns x []))) last.may_be).0

@@ -20,7 +20,7 @@ use Rattle.audit_channels.specs.Orders.{Follows}
 use Rattle.audit_channels.specs.Waiting.{AreWaits, WaitsFor}
 use Rattle.next_tables.proofs.Hops.{channel_leads, column_at, edge_is}
 use Rattle.next_tables.specs.ByOrder.{Leads, switch_at}
-use Rattle.told_order.specs.declared.turns.Turn.{Turn}
+use Rattle.told_order.specs.declared.turns.SwitchTurn.{SwitchTurn}
 use Rattle.told_order.specs.Turns.{AreTurns, IsNoted, IsOver, IsTurn, IsWithTurn, IsWithTurns, lists_of}
 
 -- a channel over which a wire leads to a switch is one of a usable switch
@@ -36,26 +36,26 @@ channel_within cells next k h =
 switch_same : (j k : ℕ) → Switch j ≡ Switch k → j ≡ k
 switch_same j k e = cc
 
-module _ (cells : Cells) (channel next : ℕ) (old new : List (List Turn)) where
+module _ (cells : Cells) (channel next : ℕ) (old new : List (List SwitchTurn)) where
   -- where a channel leads to no switch there is no turn
   pub no_turn : new ≡ old → ((k : ℕ) → far_by cells next ≡ Switch k → ⊥) → IsWithTurn cells channel next old new
   no_turn same none = record {
     as_many = ap length same;
     each = λ i j k. (
-      λ h. inl (subst (λ (ts : List (List Turn)). IsNoted ts i j k) same h),
+      λ h. inl (subst (λ (ts : List (List SwitchTurn)). IsNoted ts i j k) same h),
       λ h. elim h [
-        | inl was ↦ subst (λ (ts : List (List Turn)). IsNoted ts i j k) (sym same) was
+        | inl was ↦ subst (λ (ts : List (List SwitchTurn)). IsNoted ts i j k) (sym same) was
         | inr over ↦ absurd (none k over.to)
       ],
     );
   }
 
   -- the turn is put behind those of its switch
-  pub with_turn : (to : ℕ) (row : List Turn) → far_by cells next ≡ Switch to → next / 256 < length old → row ≡ slice_index_or old (next / 256) []
+  pub with_turn : (to : ℕ) (row : List SwitchTurn) → far_by cells next ≡ Switch to → next / 256 < length old → row ≡ slice_index_or old (next / 256) []
       → new ≡ slice_set old (next / 256) (row ++ record { from = channel / 256; to = to } ∷ []) → IsWithTurn cells channel next old new
   with_turn to row far less row_is e =
       let at : ℕ = next / 256 in
-      let turn : Turn = record { from = channel / 256; to = to } in
+      let turn : SwitchTurn = record { from = channel / 256; to = to } in
       let here : slice_index_or new at [] ≡ row ++ turn ∷ [] =
       ap (λ ts. slice_index_or ts at []) e ∙ get_or-set_same old at (row ++ turn ∷ []) [] less in
       record {
@@ -63,30 +63,30 @@ module _ (cells : Cells) (channel next : ℕ) (old new : List (List Turn)) where
         each = λ i j k. elim (cases_eq j at) [
           | inl same ↦ (
             λ h. elim (Contains-append_cases row (turn ∷ []) (record { from = i; to = k })
-                (subst (λ (ts : List Turn). Contains ts (record { from = i; to = k })) (ap (λ x. slice_index_or new x []) same ∙ here) h)) [
-                  | inl was ↦ inl (subst (λ (ts : List Turn). Contains ts (record { from = i; to = k })) (row_is ∙ ap (λ x. slice_index_or old x []) (sym same)) was)
+                (subst (λ (ts : List SwitchTurn). Contains ts (record { from = i; to = k })) (ap (λ x. slice_index_or new x []) same ∙ here) h)) [
+                  | inl was ↦ inl (subst (λ (ts : List SwitchTurn). Contains ts (record { from = i; to = k })) (row_is ∙ ap (λ x. slice_index_or old x []) (sym same)) was)
                   | inr is ↦ (elim (contains_cases turn (record { from = i; to = k }) [] is) [
                     | inl eq ↦ inr (record {
-                      from = sym (ap (λ (t : Turn). t.from) eq);
+                      from = sym (ap (λ (t : SwitchTurn). t.from) eq);
                       at = same;
-                      to = far ∙ ap (λ (t : Turn). Switch t.to) eq;
+                      to = far ∙ ap (λ (t : SwitchTurn). Switch t.to) eq;
                     })
                     | inr other ↦ absurd (contains_none (record { from = i; to = k }) other)
                   ])
                 ],
-            λ h. subst (λ (ts : List Turn). Contains ts (record { from = i; to = k })) (sym (ap (λ x. slice_index_or new x []) same ∙ here)) (elim h [
+            λ h. subst (λ (ts : List SwitchTurn). Contains ts (record { from = i; to = k })) (sym (ap (λ x. slice_index_or new x []) same ∙ here)) (elim h [
               | inl was ↦ Contains-append_left row (turn ∷ []) (record { from = i; to = k })
-                  (subst (λ (ts : List Turn). Contains ts (record { from = i; to = k })) (ap (λ x. slice_index_or old x []) same ∙ sym row_is) was)
+                  (subst (λ (ts : List SwitchTurn). Contains ts (record { from = i; to = k })) (ap (λ x. slice_index_or old x []) same ∙ sym row_is) was)
               | inr over ↦ Contains-append_right row (turn ∷ []) (record { from = i; to = k })
-                  (subst (λ (t : Turn). Contains (turn ∷ []) t) (turn_is i k over.from (switch_same to k (sym far ∙ over.to))) (contains_here turn []))
+                  (subst (λ (t : SwitchTurn). Contains (turn ∷ []) t) (turn_is i k over.from (switch_same to k (sym far ∙ over.to))) (contains_here turn []))
             ]),
           )
           | inr differs ↦
               let kept : slice_index_or new j [] ≡ slice_index_or old j [] =
               ap (λ ts. slice_index_or ts j []) e ∙ get_or-set_other old at j (row ++ turn ∷ []) [] differs in (
-                λ h. inl (subst (λ (ts : List Turn). Contains ts (record { from = i; to = k })) kept h),
+                λ h. inl (subst (λ (ts : List SwitchTurn). Contains ts (record { from = i; to = k })) kept h),
                 λ h. elim h [
-                  | inl was ↦ subst (λ (ts : List Turn). Contains ts (record { from = i; to = k })) (sym kept) was
+                  | inl was ↦ subst (λ (ts : List SwitchTurn). Contains ts (record { from = i; to = k })) (sym kept) was
                   | inr over ↦ absurd (differs over.at)
                 ],
               )
@@ -98,24 +98,24 @@ module _ (cells : Cells) (channel next : ℕ) (old new : List (List Turn)) where
       set_length (y ∷ xs) zero x = refl
       set_length (y ∷ xs) (suc i) x = ap suc (set_length xs i x)
 
-      turn_is : (i k : ℕ) → i ≡ channel / 256 → to ≡ k → ◌≡◌ {A = Turn} (record { from = channel / 256; to = to }) (record { from = i; to = k })
+      turn_is : (i k : ℕ) → i ≡ channel / 256 → to ≡ k → ◌≡◌ {A = SwitchTurn} (record { from = channel / 256; to = to }) (record { from = i; to = k })
       turn_is i k a b = λ j. record { from = sym a j; to = b j }
 
 -- the list of a vector
-pub list_at : (ts : List (Vec Turn Global)) (i : ℕ) (v d : Vec Turn Global) → v ≡ get_or ts i d → i < length ts
+pub list_at : (ts : List (Vec SwitchTurn Global)) (i : ℕ) (v d : Vec SwitchTurn Global) → v ≡ get_or ts i d → i < length ts
     → v.items ≡ slice_index_or (lists_of ts) i []
 list_at [] i v d e h = absurd (omega arith)
-list_at (t ∷ ts) zero v d e h = ap (λ (x : Vec Turn Global). x.items) e
+list_at (t ∷ ts) zero v d e h = ap (λ (x : Vec SwitchTurn Global). x.items) e
 list_at (t ∷ ts) (suc i) v d e h = list_at ts i v d e (omega arith)
 
 -- those into the channels of a list, one after the other
-pub none_yet : (cells : Cells) (channel : ℕ) (turns : List (List Turn)) → IsWithTurns cells channel [] turns turns
+pub none_yet : (cells : Cells) (channel : ℕ) (turns : List (List SwitchTurn)) → IsWithTurns cells channel [] turns turns
 none_yet cells channel turns = record {
   as_many = refl;
   each = λ i j k. (λ h. inl h, λ h. elim h [ inl was ↦ was | inr some ↦ absurd (contains_none some.0 some.1) ]);
 }
 
-pub one_more : (cells : Cells) (channel next : ℕ) (before : List ℕ) (old mid new : List (List Turn)) → IsWithTurns cells channel before old mid
+pub one_more : (cells : Cells) (channel next : ℕ) (before : List ℕ) (old mid new : List (List SwitchTurn)) → IsWithTurns cells channel before old mid
     → IsWithTurn cells channel next mid new → IsWithTurns cells channel (before ++ next ∷ []) old new
 one_more cells channel next before old mid new some one = record {
   as_many = one.as_many ∙ some.as_many;
@@ -141,22 +141,22 @@ one_more cells channel next before old mid new some one = record {
 }
 
 -- the turns from the channels below a number into those that follow them
-pub record SoFar (cells : Cells) (waits : List (List ℕ)) (count : ℕ) (turns : List (List Turn)) : Type 0 where
+pub record SoFar (cells : Cells) (waits : List (List ℕ)) (count : ℕ) (turns : List (List SwitchTurn)) : Type 0 where
   pub as_many : length turns ≡ length (switches cells)
   pub each : (i j k : ℕ) → (IsNoted turns i j k → (a : ℕ) × (b : ℕ) × (a < count) × Follows waits a b × IsOver cells a b i j k)
       × ((a b : ℕ) → a < count → Follows waits a b → IsOver cells a b i j k → IsNoted turns i j k)
 
-pub none_so_far : (cells : Cells) (waits : List (List ℕ)) (count : ℕ) (turns : List (List Turn)) → turns ≡ replicate count [] → count ≡ length (switches cells)
+pub none_so_far : (cells : Cells) (waits : List (List ℕ)) (count : ℕ) (turns : List (List SwitchTurn)) → turns ≡ replicate count [] → count ≡ length (switches cells)
     → SoFar cells waits 0 turns
 none_so_far cells waits count turns e n = record {
   as_many = ap length e ∙ long count ∙ n;
   each = λ i j k. (
-    λ h. absurd (contains_none (record { from = i; to = k }) (subst (λ (ts : List Turn). Contains ts (record { from = i; to = k })) (ap (λ ts. slice_index_or ts j []) e ∙ empty count j) h)),
+    λ h. absurd (contains_none (record { from = i; to = k }) (subst (λ (ts : List SwitchTurn). Contains ts (record { from = i; to = k })) (ap (λ ts. slice_index_or ts j []) e ∙ empty count j) h)),
     λ a b less follows over. absurd (omega arith),
   );
 }
   where
-    no_turns : List Turn
+    no_turns : List SwitchTurn
     no_turns = []
 
     long : (n : ℕ) → length (replicate n no_turns) ≡ n
@@ -168,7 +168,7 @@ none_so_far cells waits count turns e n = record {
     empty (suc n) zero = refl
     empty (suc n) (suc j) = empty n j
 
-pub more_so_far : (cells : Cells) (waits : List (List ℕ)) (count : ℕ) (old new : List (List Turn)) → SoFar cells waits count old
+pub more_so_far : (cells : Cells) (waits : List (List ℕ)) (count : ℕ) (old new : List (List SwitchTurn)) → SoFar cells waits count old
     → IsWithTurns cells count (slice_index_or waits count []) old new → SoFar cells waits (count + 1) new
 more_so_far cells waits count old new so one = record {
   as_many = one.as_many ∙ so.as_many;
@@ -236,7 +236,7 @@ module _ (cells : Cells) (tables : HeldPlan) (waits : List (List ℕ)) (are : Ar
         | inr more ↦ absurd (contains_none b (subst (λ (xs : List ℕ). Contains xs b) (get_or_past waits a [] more) h))
       ]
 
-  pub all_turns : (count : ℕ) (turns : List (List Turn)) → SoFar cells waits count turns → count ≡ length waits → AreTurns cells tables turns
+  pub all_turns : (count : ℕ) (turns : List (List SwitchTurn)) → SoFar cells waits count turns → count ≡ length waits → AreTurns cells tables turns
   all_turns count turns so all = record {
     as_many = so.as_many;
     each = λ i j k. (

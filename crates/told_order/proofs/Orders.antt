@@ -281,12 +281,12 @@ module _ (cells : Cells) (tables : HeldPlan) (q : ℕ → ℕ) (right : (lid : �
       absurd (cc)
 
 -- an element stands at an index
-place_of : (xs : List ℕ) (x : ℕ) → Contains xs x → (k : ℕ) × (slice_get xs k ≡ Some x)
-place_of [] x h = absurd (contains_none x h)
-place_of (y ∷ xs) x h =
+index_in_list : (xs : List ℕ) (x : ℕ) → Contains xs x → (k : ℕ) × (slice_get xs k ≡ Some x)
+index_in_list [] x h = absurd (contains_none x h)
+index_in_list (y ∷ xs) x h =
     elim (contains_cases y x xs h) [
       | inl same ↦ (0, ap (λ (z : ℕ). Some z) same)
-      | inr later ↦ let rest = place_of xs x later in (suc rest.0, rest.1)
+      | inr later ↦ let rest = index_in_list xs x later in (suc rest.0, rest.1)
     ]
 
 pub some_order_is_told : SomeOrderIsTold
@@ -299,7 +299,7 @@ some_order_is_told cells tables preferred q all right told =
     elim (last_by end q n) [
       | inl none ↦ let no = none one.0 (within one.0 one.1) in absurd (cc)
       | inr last ↦
-          let there = place_of preferred last.0 (all last.0 last.1) in
+          let there = index_in_list preferred last.0 (all last.0 last.1) in
           told.3 there.0 last.0 (omega arith) there.1 last.2
           (last_may cells tables q right end last.0 (λ i h. last.3 i (within i h) h))
     ]

@@ -4,12 +4,16 @@ ghost use Rattle.told_order.specs.Last.{IsNextBy, may_be_last, turns_in};
 ghost use Rattle.told_order.specs.ToldOrder.{is_left};
 ghost use Rattle.told_order.specs.Turns.{lists_of};
 
-use crate::turns::Turn;
+use crate::turns::SwitchTurn;
 
 /// Returns the switch that may be the last of those that are left, by the turns of each: of several the one that stands
 /// last in a list. Takes a step for each switch of the list, and one for each turn of those that are left until it
 /// finds one.
-pub(crate) fn last_of(turns: &[Vec<Turn>], preferred: &[usize], left: &[bool]) -> Option<usize>
+pub(crate) fn last_of(
+    turns: &[Vec<SwitchTurn>],
+    preferred: &[usize],
+    left: &[bool],
+) -> Option<usize>
     ensures { IsNextBy (lists_of turns.now) preferred.now left.now result }
 {
     for index in (0..preferred.len()).rev() {
@@ -22,7 +26,7 @@ pub(crate) fn last_of(turns: &[Vec<Turn>], preferred: &[usize], left: &[bool]) -
 }
 
 /// Whether a switch is left, and packets from none that is left turn there to one that is.
-fn may_be_last(turns: &[Vec<Turn>], left: &[bool], switch: usize) -> bool
+fn may_be_last(turns: &[Vec<SwitchTurn>], left: &[bool], switch: usize) -> bool
     ensures { result ≡ may_be_last (lists_of turns.now) left.now switch }
 {
     is_left(left, switch)
@@ -33,7 +37,7 @@ fn may_be_last(turns: &[Vec<Turn>], left: &[bool], switch: usize) -> bool
 }
 
 /// Whether a turn leads from a switch that is left to one that is.
-fn turns_in(turns: &[Turn], left: &[bool]) -> bool
+fn turns_in(turns: &[SwitchTurn], left: &[bool]) -> bool
     ensures { result ≡ turns_in left.now turns.now }
 {
     turns

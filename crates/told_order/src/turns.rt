@@ -12,7 +12,7 @@ use std::alloc::{AllocError, Global};
 
 /// A turn at a switch: packets for some LID come from one switch, and leave for another.
 #[derive(Clone, Copy, Debug, PartialEq, Eq)]
-pub(crate) struct Turn {
+pub(crate) struct SwitchTurn {
     /// The index of the switch from which they come.
     pub from: usize,
     /// The index of the switch to which they leave.
@@ -21,7 +21,7 @@ pub(crate) struct Turn {
 
 /// Returns the turns that packets make at each usable switch, by rising GUID, by the tables of a network. Takes what
 /// `channel_waits` does, and a step for each channel and each that follows it.
-pub(crate) fn turns(alloc: Global, network: &Network) -> Result<Vec<Vec<Turn>>, AllocError>
+pub(crate) fn turns(alloc: Global, network: &Network) -> Result<Vec<Vec<SwitchTurn>>, AllocError>
     ensures { IfOk result (λ turns.
         AreTurns (cells_of network.now.facts) network.now.held (lists_of turns.items)) }
 {
@@ -30,7 +30,11 @@ pub(crate) fn turns(alloc: Global, network: &Network) -> Result<Vec<Vec<Turn>>, 
 }
 
 /// Returns the turns from each channel into those that follow it.
-fn turns_over(alloc: Global, network: &Network, waits: &Waits) -> Result<Vec<Vec<Turn>>, AllocError>
+fn turns_over(
+    alloc: Global,
+    network: &Network,
+    waits: &Waits,
+) -> Result<Vec<Vec<SwitchTurn>>, AllocError>
     requires { AreWaits (cells_of network.now.facts) network.now.held waits.now }
     ensures { IfOk result (λ turns.
         AreTurns (cells_of network.now.facts) network.now.held (lists_of turns.items)) }
@@ -43,7 +47,7 @@ fn turns_over(alloc: Global, network: &Network, waits: &Waits) -> Result<Vec<Vec
 }
 
 /// Returns `count` lists without a turn.
-fn no_turns(alloc: Global, count: usize) -> Result<Vec<Vec<Turn>>, AllocError>
+fn no_turns(alloc: Global, count: usize) -> Result<Vec<Vec<SwitchTurn>>, AllocError>
     ensures { IfOk result (λ turns. lists_of turns.items ≡ replicate count []) }
 {
     let mut turns = Vec::with_capacity(alloc, count)?;
@@ -55,7 +59,7 @@ fn no_turns(alloc: Global, count: usize) -> Result<Vec<Vec<Turn>>, AllocError>
 
 /// Adds the turns from a channel into those that follow it.
 fn add_turns(
-    turns: &mut [Vec<Turn>],
+    turns: &mut [Vec<SwitchTurn>],
     network: &Network,
     channel: usize,
     following: &[usize],
@@ -72,7 +76,7 @@ fn add_turns(
 
 /// Adds the turn from a channel into one that follows it.
 fn add_turn(
-    turns: &mut [Vec<Turn>],
+    turns: &mut [Vec<SwitchTurn>],
     network: &Network,
     channel: usize,
     next: usize,
@@ -83,7 +87,7 @@ fn add_turn(
 {
     if let Far::Switch(to) = network.far(next) {
         let from = channel / 256;
-        turns[next / 256].push(Turn { from, to })?;
+        turns[next / 256].push(SwitchTurn { from, to })?;
     }
     Ok(())
 }

@@ -3,7 +3,7 @@ use Rattle.std.proofs.Common.{◌≡◌, ◌∙◌, ℕ, List, Bool, true, false
 use Rattle.std.specs.Prelude.{slice_set}
 use Rattle.std.specs.List.{list_any}
 use Rattle.fact_store.specs.View.{cells_of}
-use Rattle.told_order.specs.declared.turns.Turn.{Turn}
+use Rattle.told_order.specs.declared.turns.SwitchTurn.{SwitchTurn}
 use Rattle.told_order.specs.Last.{IsNextBy}
 use Rattle.told_order.specs.ToldOrder.{AreTaken, all_left}
 use Rattle.told_order.specs.Turns.{lists_of}
@@ -34,7 +34,7 @@ loop-next-preserved c =
       taken_are = subst (λ (xs : List ℕ). AreTaken cells held preferred (all_left cells) xs after) (sym c.in_ok-push.ensures.items)
           (taken_more cells held preferred (all_left cells) c.loop-next.taken.items left x c.loop-next.invariant.taken_are last);
       next_is = subst (λ (l : List Bool). IsNextBy turns preferred l c.last_of-next-in-Some.result) c.deref-in-Some-2.ensures.value
-          (subst (λ (ts : List (Vec Turn Global)). IsNextBy (lists_of ts) preferred c.deref-in-Some-2.result.now c.last_of-next-in-Some.result)
+          (subst (λ (ts : List (Vec SwitchTurn Global)). IsNextBy (lists_of ts) preferred c.deref-in-Some-2.result.now c.last_of-next-in-Some.result)
           c.deref-in-Some.ensures.value c.last_of-next-in-Some.ensures);
       long = as_many_left left x ∙ c.loop-next.invariant.long;
     }

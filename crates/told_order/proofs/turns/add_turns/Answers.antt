@@ -3,7 +3,7 @@ use Rattle.std.proofs.Common.{◌≡◌, ◌∙◌, ℕ, List, ◌∷◌, [], �
 use Rattle.std.specs.Prelude.{length, take}
 use Rattle.std.proofs.lemmas.List.{length-map, take_more}
 use Rattle.fact_store.specs.View.{cells_of}
-use Rattle.told_order.specs.declared.turns.Turn.{Turn}
+use Rattle.told_order.specs.declared.turns.SwitchTurn.{SwitchTurn}
 use Rattle.told_order.specs.Turns.{IsWithTurns, lists_of}
 use Rattle.told_order.proofs.Noted.{one_more}
 use Rattle.told_order.proofs.turns.add_turns.Goals as goal
@@ -17,7 +17,7 @@ loop-next-preserved c =
     let old = c.args.turns.now in
     let mid = c.loop-next.turns in
     let new = c.add_turn.new.turns in
-    let items : Vec Turn Global → List Turn = λ (x : Vec Turn Global). x.items in
+    let items : Vec SwitchTurn Global → List SwitchTurn = λ (x : Vec SwitchTurn Global). x.items in
     let next : ℕ = get_or following i 0 in
     let one = c.in_ok-add_turn.ensures in
     record {
