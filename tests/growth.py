@@ -299,6 +299,7 @@ GROWING = (
     Row("plan by adapters, claimed LIDs", lambda c, n: ("plan", claimed(c, n)), 100, LINEAR),
     Row("plan by switches", lambda c, n: ("plan", mesh(c, n)), 150, SQUARED),
     Row("plan by switches, spread", lambda c, n: ("plan", *SPREAD, mesh(c, n)), 150, SQUARED),
+    Row("plan by switches, balance", lambda c, n: ("plan", "--routing", "balance", mesh(c, n)), 60, SQUARED),
     Row("plan by switches, spread from roots", lambda c, n: ("plan", *SPREAD, "--roots", roots(c, n // 10), mesh(c, n)), 150, SQUARED),
     Row("plan by switches, spread in an order", lambda c, n: ("plan", *SPREAD, "--order", order(c, n), mesh(c, n)), 150, SQUARED),
     Row("order of switches", lambda c, n: ("order", mesh(c, n)), 150, SQUARED),
