@@ -9,7 +9,7 @@ use Rattle.sm_cli.specs.Asked.{rule_for}
 use Rattle.cli_arguments.specs.Words.{files_named, word_named}
 use Rattle.cli_task.specs.Asked.{followed_by, names_asked, names_in, texts_asked, texts_of_rule}
 use Rattle.cli_task.specs.declared.task.Task.{Task}
-use Rattle.cli_task.specs.declared.task.Task.TheVariants.{Answer, Audit, Next, Run}
+use Rattle.cli_task.specs.declared.task.Task.TheVariants.{Answer, Audit, Next, Run, Serve}
 use Rattle.cli_task.proofs.RuleTexts.{one_word, texts_counted}
 use Rattle.ibsm.specs.Ending.{HasEnoughNames}
 
@@ -52,6 +52,14 @@ names_suffice word files (Run lmc rule) names e =
     let texts = texts_counted word rule all.0 all.2 in
     let rest = both_named (texts_asked word (Run lmc rule)) (Some []) all.1 all.3 in
     let two = two_words (word (codes "TOPOLOGY")) (word (codes "SCHEDULE")) rest.0 rest.2 in
+    let none = ap length (same_Some _ _ rest.3) in
+    let count = all.4 in
+    let others = rest.4 in omega arith
+names_suffice word files (Serve asked) names e =
+    let all = both_named (texts_of_rule word asked.rule) (followed_by (Some (codes "/dev/stdin" ∷ [])) (Some [])) names e in
+    let texts = texts_counted word asked.rule all.0 all.2 in
+    let rest = both_named (Some (codes "/dev/stdin" ∷ [])) (Some []) all.1 all.3 in
+    let one = ap length (same_Some _ _ rest.2) in
     let none = ap length (same_Some _ _ rest.3) in
     let count = all.4 in
     let others = rest.4 in omega arith
