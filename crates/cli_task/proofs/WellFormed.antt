@@ -162,7 +162,8 @@ module _ (word : List ℕ → Option (List ℕ)) (files : Option (List (List ℕ
       let port = known (port_asked (word (codes "PORT"))) (number_there 1 254 (word (codes "PORT")) s.port_given s.port) in
       let priority = known (priority_asked (word (codes "PRIORITY"))) (number_there 0 15 (word (codes "PRIORITY")) s.priority_given s.priority) in
       rw (by.1, guid.1, port.1, priority.1)
-      (both_there (texts_of_rule word by.0.1) _ by.2 (both_there (Some (codes "/dev/stdin" ∷ [])) (Some []) refl refl))
+      (both_there (texts_of_rule word by.0.1) (followed_by (Some (codes "/dev/stdin" ∷ [])) (Some [])) by.2
+      (both_there (Some (codes "/dev/stdin" ∷ [])) (Some []) refl refl))
 
   words_ask : (name : List ℕ) → HasItsWords word files name → Asks name
   words_ask name (facts is h) = subst Asks (sym is) (facts_ask h)
