@@ -1,4 +1,4 @@
-use Rattle.cli_arguments.specs.CommandLine.{audit_shape, facts_shape, join_shape, next_shape, order_shape, plan_shape, program_app, run_shape}
+use Rattle.cli_arguments.specs.CommandLine.{audit_shape, facts_shape, join_shape, next_shape, order_shape, plan_shape, program_app, run_shape, serve_shape}
 use Rattle.cli_arguments.proofs.arguments.command_line.Goals as goal
 
 pub returns : goal.returns
@@ -10,4 +10,5 @@ returns c =
     let four = c.with-command-4.ensures _ (order_shape words) three c.order.ensures in
     let five = c.with-command-5.ensures _ audit_shape four c.audit.ensures in
     let six = c.with-command-6.ensures _ (next_shape words) five c.next.ensures in
-    c.with.ensures _ (run_shape words) six c.run.ensures
+    let seven = c.with-command-7.ensures _ (run_shape words) six c.run.ensures in
+    c.with.ensures _ (serve_shape words) seven c.serve.ensures
