@@ -4,7 +4,7 @@ from __future__ import annotations
 import re
 
 # The commands of the program, and their options.
-FLOOR, PLANS, ORDERS = "--floor", "--lmc --routing --roots --order", "--roots --order"
+FLOOR, PLANS, ORDERS = "--floor", "--lmc --routing --roots --order", "--routing --roots --order"
 COMMANDS = {
     "facts": FLOOR,
     "join": FLOOR,
@@ -13,9 +13,10 @@ COMMANDS = {
     "audit": FLOOR,
     "next": f"{FLOOR} {PLANS}",
     "run": PLANS,
+    "serve": PLANS,
     "help": "",
 }
-RULES = "updown spread"
+RULES = "updown spread balance"
 
 
 def options_in(text: str) -> str:

@@ -21,8 +21,8 @@ use Rattle.clap.specs.declared.parser.matches.ArgMatches.TheViews.{out-ArgMatche
 use Rattle.clap.specs.declared.parser.matches.SubCommand.{SubCommand}
 use Rattle.std.specs.Box.{box_value}
 use Rattle.cli_arguments.specs.CommandLine.{IsReadAs, AreRoutings, command_line}
-use Rattle.cli_arguments.specs.WellFormed.{HasItsWords, IsGiven, IsNumberWithin, IsRouting, IsWellFormed, NamesFiles, NamesOrder, NamesPlanning, facts, join, plan, order, audit, order_of, next, run}
-use Rattle.cli_arguments.specs.Words.{has_conflict, has_conflict_behind, has_conflict_of, order_rule, values_in, word_behind}
+use Rattle.cli_arguments.specs.WellFormed.{HasItsWords, IsGiven, IsNumberWithin, IsRouting, IsWellFormed, NamesFiles, NamesOrder, NamesPlanning, NamesSeat, facts, join, plan, order, audit, order_of, next, run, serve}
+use Rattle.cli_arguments.specs.Words.{has_conflict, has_conflict_behind, has_conflict_of, is_guid, order_rule, values_in, word_behind}
 use Rattle.cli_arguments.proofs.Entered.{EachHas, IsPassed, enters, required_given, found_has, given_word, is_help, word_passes}
 use Rattle.cli_arguments.proofs.Walked.{ArePlainIn, AreTaken, level_taken, wants_some}
 
@@ -102,7 +102,27 @@ module _ (routings : Bor (List (Bor Text))) (known : AreRoutings routings) (c : 
   text_given : (id : Text) (a : Rule) → arg_by_id c id ≡ Some a → wants_some a ≡ true → is_given id rows ≡ true → IsGiven (word id)
   text_given id a is wants given = given_word c name id a rows is wants taken given
 
+  names_seat : (g p q : Rule) → arg_by_id c (codes "GUID") ≡ Some g → arg_by_id c (codes "PORT") ≡ Some p → p.parser ≡ Some (Signed (pos 1) (pos 254))
+      → arg_by_id c (codes "PRIORITY") ≡ Some q → q.parser ≡ Some (Signed (pos 0) (pos 15)) → wants_some g ≡ true → wants_some p ≡ true
+      → wants_some q ≡ true → is_given (codes "GUID") rows ≡ true → is_given (codes "PORT") rows ≡ true → is_given (codes "PRIORITY") rows ≡ true
+      → not (is_guid (word (codes "GUID"))) ≡ false → NamesSeat word
+  names_seat g p q is_g is_p parser_p is_q parser_q wants_g wants_p wants_q given_g given_p given_q guid = record {
+    guid = is_so (is_guid (word (codes "GUID"))) guid;
+    port_given = text_given (codes "PORT") p is_p wants_p given_p;
+    port = number_read 1 254 p parser_p (word (codes "PORT")) (word_passes c name (codes "PORT") p rows is_p taken);
+    priority_given = text_given (codes "PRIORITY") q is_q wants_q given_q;
+    priority = number_read 0 15 q parser_q (word (codes "PRIORITY")) (word_passes c name (codes "PRIORITY") q rows is_q taken);
+  }
+    where
+      is_so : (b : Bool) → not b ≡ false → b ≡ true
+      is_so true e = refl
+      is_so false e = absurd (cc)
+
 -- subcommands ---------------------------------------------------------------------------------------------
+
+neither : (a b : Bool) → (a || b) ≡ false → (a ≡ false) × (b ≡ false)
+neither false b e = (refl, e)
+neither true b e = absurd (cc)
 
 given_first : (b x : Bool) → (not b || x) ≡ false → (b ≡ true) × (x ≡ false)
 given_first true x e = (refl, e)
@@ -138,8 +158,11 @@ all_plain routings = (
               (
                 ((refl, refl), ((refl, refl), ((refl, refl), ((refl, refl), ((refl, refl), ((refl, refl), ((refl, refl), tt))))))),
                 (
-                  ((refl, refl), tt),
-                  tt,
+                  ((refl, refl), ((refl, refl), ((refl, refl), ((refl, refl), ((refl, refl), ((refl, refl), ((refl, refl), ((refl, refl), tt)))))))),
+                  (
+                    ((refl, refl), tt),
+                    tt,
+                  ),
                 ),
               ),
             ),
@@ -176,7 +199,16 @@ all_fit routings known = (
                 λ other differs is rows t e apart. run refl (text_given routings known _ (codes "run") rows t (codes "TOPOLOGY") _ refl refl (given_first _ _ e).0)
                     (text_given routings known _ (codes "run") rows t (codes "SCHEDULE") _ refl refl (given_first _ _ (given_first _ _ e).1).0)
                     (names_planning routings known _ (codes "run") rows t _ _ refl refl refl refl refl apart),
-                (λ other differs is rows t e apart. absurd (is_named_help other differs is), tt),
+                (
+                  λ other differs is rows t e apart. serve refl (names_seat routings known _ (codes "serve") rows t _ _ _ refl refl refl refl refl refl refl refl
+                      (given_first _ _ e).0 (given_first _ _ (given_first _ _ e).1).0 (given_first _ _ (given_first _ _ (given_first _ _ e).1).1).0
+                      (neither _ _ apart).1)
+                      (names_planning routings known _ (codes "serve") rows t _ _ refl refl refl refl refl (neither _ _ apart).0),
+                  (
+                    λ other differs is rows t e apart. absurd (is_named_help other differs is),
+                    tt,
+                  ),
+                ),
               ),
             ),
           ),

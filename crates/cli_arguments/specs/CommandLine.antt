@@ -48,6 +48,18 @@ routing_rule words = record (option_rule (codes "routing")) { parser = Some (Nam
 abbrev pub of_files : List Rule
 of_files = files_rule ∷ floor_rule ∷ []
 
+-- the number of a port
+abbrev pub port_rule : Rule
+port_rule = record (text_rule (codes "PORT")) { parser = Some (Signed (pos 1) (pos 254)) }
+
+-- the priority of a manager
+abbrev pub priority_rule : Rule
+priority_rule = record (text_rule (codes "PRIORITY")) { parser = Some (Signed (pos 0) (pos 15)) }
+
+-- a manager at a port
+abbrev pub of_seat : List Rule
+of_seat = text_rule (codes "GUID") ∷ port_rule ∷ priority_rule ∷ []
+
 -- how switches are ordered
 abbrev pub of_order : List Rule
 of_order = option_rule (codes "roots") ∷ option_rule (codes "order") ∷ []
@@ -90,6 +102,9 @@ abbrev pub run_shape : Bor (List (Bor Text)) → Shape
 run_shape words =
     subcommand_shape (codes "run") (text_rule (codes "TOPOLOGY") ∷ text_rule (codes "SCHEDULE") ∷ of_planning words)
 
+abbrev pub serve_shape : Bor (List (Bor Text)) → Shape
+serve_shape words = subcommand_shape (codes "serve") (of_seat ++ of_planning words)
+
 -- the program, which does nothing without a subcommand
 abbrev pub program_app : App
 program_app =
@@ -101,7 +116,7 @@ command_line words = record {
   top = record program_app.top { is_leaf = false };
   subs =
       facts_shape ∷ join_shape ∷ plan_shape words ∷ order_shape words ∷ audit_shape ∷ order_of_shape ∷ next_shape words
-      ∷ run_shape words ∷ [];
+      ∷ run_shape words ∷ serve_shape words ∷ [];
 }
 
 -- the rules of routing by their words

@@ -4,7 +4,7 @@ use Rattle.clap.specs.Matches.{subcommand_name_of}
 use Rattle.clap.specs.Values.{IsSignedIn}
 use Rattle.clap.specs.Walk.{Text}
 use Rattle.clap.specs.declared.parser.matches.ArgMatches.{ArgMatches}
-use Rattle.cli_arguments.specs.Words.{files_named, has_conflict_of, order_rule, word_named}
+use Rattle.cli_arguments.specs.Words.{files_named, has_conflict_of, is_guid, order_rule, word_named}
 
 -- the word, if there is one, writes a number within these bounds
 abbrev pub IsNumberWithin : ℕ → ℕ → Option Text → Type 0
@@ -38,6 +38,14 @@ pub record NamesOrder (word : Text → Option Text) : Type 0 where
   pub apart : has_conflict_of (order_rule (word (codes "routing"))) (is_some (word (codes "roots")))
       (is_some (word (codes "order"))) ≡ false
 
+-- a manager's port and its priority are named
+pub record NamesSeat (word : Text → Option Text) : Type 0 where
+  pub guid : is_guid (word (codes "GUID")) ≡ true
+  pub port_given : IsGiven (word (codes "PORT"))
+  pub port : IsNumberWithin 1 254 (word (codes "PORT"))
+  pub priority_given : IsGiven (word (codes "PRIORITY"))
+  pub priority : IsNumberWithin 0 15 (word (codes "PRIORITY"))
+
 -- a subcommand has the words that it takes
 pub data HasItsWords (word : Text → Option Text) (files : Option (List Text)) (name : Text) : Type 0 where
   facts : name ≡ codes "facts" → NamesFiles word files → HasItsWords word files name
@@ -51,6 +59,7 @@ pub data HasItsWords (word : Text → Option Text) (files : Option (List Text)) 
       → HasItsWords word files name
   run : name ≡ codes "run" → IsGiven (word (codes "TOPOLOGY")) → IsGiven (word (codes "SCHEDULE")) → NamesPlanning word
       → HasItsWords word files name
+  serve : name ≡ codes "serve" → NamesSeat word → NamesPlanning word → HasItsWords word files name
 
 -- the words name a subcommand, and have the words that it takes
 pub record IsWellFormed (matches : ArgMatches) : Type 0 where

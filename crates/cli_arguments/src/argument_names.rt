@@ -21,6 +21,18 @@ pub const NEXT: &str = "next";
 /// The subcommand that runs a schedule.
 pub const RUN: &str = "run";
 
+/// The subcommand that serves a manager.
+pub const SERVE: &str = "serve";
+
+/// The GUID of the port that a manager sits at.
+pub const GUID: &str = "GUID";
+
+/// The number of that port.
+pub const PORT: &str = "PORT";
+
+/// The priority of a manager.
+pub const PRIORITY: &str = "PRIORITY";
+
 /// The files of a subcommand.
 pub const FILE: &str = "FILE";
 

@@ -1,5 +1,7 @@
 //! The command line.
 ghost use Rattle.std.specs.Prelude.{◌≡◌, ◌∷◌, ◌++◌, [], IfOk, codes, false, if◌then◌else◌, is_some, map};
+ghost use Rattle.std.specs.Char.{is_ascii_hexdigit};
+ghost use Rattle.std.specs.List.{list_all};
 ghost use Rattle.std.specs.Str.{bytes_eq};
 ghost use Rattle.clap.specs.Matches.{first_value, found_of};
 ghost use Rattle.clap.specs.Simple.{App, Shape, subcommand_rows_of, with_subcommand};
@@ -8,16 +10,17 @@ ghost use Rattle.clap.specs.Walk.{rule_of};
 ghost use Rattle.cli_arguments.specs.CommandLine.{AddsRules, AreRoutings, IsApp, IsOf, IsReadAs};
 ghost use Rattle.cli_arguments.specs.CommandLine.{audit_shape, facts_shape, join_shape, next_shape, order_of_shape};
 ghost use Rattle.cli_arguments.specs.CommandLine.{order_shape};
-ghost use Rattle.cli_arguments.specs.CommandLine.{command_line, of_files, of_order, of_planning, of_routing, plan_shape};
-ghost use Rattle.cli_arguments.specs.CommandLine.{program_app, run_shape};
+ghost use Rattle.cli_arguments.specs.CommandLine.{command_line, of_files, of_order, of_planning, of_routing, of_seat};
+ghost use Rattle.cli_arguments.specs.CommandLine.{plan_shape, port_rule, priority_rule, program_app, run_shape, serve_shape};
 ghost use Rattle.cli_arguments.specs.CommandLine.{files_rule, floor_rule, lmc_rule, option_rule, routing_rule};
 ghost use Rattle.cli_arguments.specs.CommandLine.{text_rule};
 ghost use Rattle.cli_arguments.specs.WellFormed.{IsWellFormed};
-ghost use Rattle.cli_arguments.specs.Words.{has_conflict, has_conflict_behind, lacks_rule, order_rule};
+ghost use Rattle.cli_arguments.specs.Words.{has_conflict, has_conflict_behind, is_guid, is_guid_word, lacks_rule, order_rule};
+ghost use Rattle.cli_arguments.specs.Words.{planning_conflict};
 
 use crate::argument_names::{
-    AUDIT, BALANCE, FACTS, FILE, FLOOR, JOIN, LMC, NEXT, ORDER, ORDER_OF, PLAN, ROOTS, ROUTING,
-    RUN, SCHEDULE, SPREAD, TABLES, TOPOLOGY, UPDOWN,
+    AUDIT, BALANCE, FACTS, FILE, FLOOR, GUID, JOIN, LMC, NEXT, ORDER, ORDER_OF, PLAN, PORT,
+    PRIORITY, ROOTS, ROUTING, RUN, SCHEDULE, SERVE, SPREAD, TABLES, TOPOLOGY, UPDOWN,
 };
 use clap::error::ErrorKind;
 use clap::{Arg, ArgAction, ArgMatches, Command, Error, value_parser};
@@ -68,6 +71,13 @@ const RUN_END: &str = "Exit status:\n  0  done\n  2  the command line is wrong\n
      3  a file is refused\n  4  a file cannot be opened or read, or the output takes no more\n  \
      5  out of memory\n\nExample:\n  ibsm run triangle.topology bring_up.schedule";
 
+const SERVE_END: &str =
+    "It is no subnet administration: it has no path records and no multicast groups, knows no partitions \
+     and no lanes, and its SMInfo does not yet go together with a stock OpenSM.\n\n\
+     Exit status:\n  0  done\n  2  the command line is wrong\n  3  a file is refused\n  \
+     4  a file or standard input cannot be opened or read, or the output takes no more\n  \
+     5  out of memory\n\nExample:\n  ibsm serve 0000000000000101 1 5";
+
 /// What the words of a command line are, the program's name first, or what is wrong with them: a fault by
 /// `command_line`, options that contradict each other, or that memory ran out as they were read. So says an outer `Err`
 /// too.
@@ -102,7 +112,8 @@ fn command_line<'a>(alloc: Global, routings: &'a [&'a str]) -> Result<Command<'a
     let command = with(command, audit(alloc));
     let command = with(command, order_of(alloc));
     let command = with(command, next(alloc, routings));
-    with(command, run(alloc, routings))
+    let command = with(command, run(alloc, routings));
+    with(command, serve(alloc, routings))
 }
 
 /// A command with another subcommand.
@@ -226,6 +237,27 @@ fn run<'a>(alloc: Global, routings: &'a [&'a str]) -> Result<Command<'a>, AllocE
     with_planning(alloc, routings, command)
 }
 
+fn serve<'a>(alloc: Global, routings: &'a [&'a str]) -> Result<Command<'a>, AllocError>
+    ensures { IfOk result (IsOf (serve_shape routings.entry)) }
+{
+    let command = Command::new(alloc, SERVE)
+        .about(
+            "Serves a subnet manager by the lines on standard input, and prints what it sends and tells",
+        )
+        .after_help(SERVE_END);
+    with_planning(alloc, routings, of_seat(alloc, command)?)
+}
+
+/// A subcommand of a manager at a port.
+fn of_seat<'a>(alloc: Global, command: Command<'a>) -> Result<Command<'a>, AllocError>
+    ensures { IfOk result (AddsRules of_seat command.entry) }
+{
+    command
+        .arg(text(alloc, GUID, "The GUID of the port, 1 to 16 hex digits"))?
+        .arg(port(alloc))?
+        .arg(priority(alloc))
+}
+
 /// A subcommand of files, from a floor on.
 fn of_files<'a>(alloc: Global, command: Command<'a>) -> Result<Command<'a>, AllocError>
     ensures { IfOk result (AddsRules of_files command.entry) }
@@ -284,6 +316,30 @@ fn text<'a>(alloc: Global, name: &'a str, help: &'a str) -> Arg<'a>
     Arg::new(alloc, name)
         .help(help)
         .required(true)
+        .action(ArgAction::Set)
+}
+
+/// The number of a port.
+fn port<'a>(alloc: Global) -> Arg<'a>
+    ensures rule { rule_of result ≡ port_rule }
+    ensures own { result.global ≡ false }
+{
+    Arg::new(alloc, PORT)
+        .help("The number of the port, 1 to 254")
+        .required(true)
+        .value_parser(value_parser!(u8).range(1..=254))
+        .action(ArgAction::Set)
+}
+
+/// The priority of a manager.
+fn priority<'a>(alloc: Global) -> Arg<'a>
+    ensures rule { rule_of result ≡ priority_rule }
+    ensures own { result.global ≡ false }
+{
+    Arg::new(alloc, PRIORITY)
+        .help("The priority of the manager, 0 to 15")
+        .required(true)
+        .value_parser(value_parser!(u8).range(0..=15))
         .action(ArgAction::Set)
 }
 
@@ -359,7 +415,7 @@ fn order_file<'a>(alloc: Global) -> Arg<'a>
 }
 
 /// Whether options contradict each other: roots and an order are named, or one of them with another rule of routing than
-/// the one that takes them, or with none.
+/// the one that takes them, or with none; or a word stands for a GUID that is none.
 fn has_conflict(matches: &ArgMatches<'_>) -> bool
     ensures { result ≡ has_conflict_behind (subcommand_rows_of matches.now) }
 {
@@ -373,9 +429,43 @@ fn has_conflict(matches: &ArgMatches<'_>) -> bool
 fn has_conflict_in(name: &str, words: &ArgMatches<'_>) -> bool
     ensures { result ≡ has_conflict name.now (first_value (found_of words.now)) }
 {
+    match name {
+        SERVE => planning_conflict(name, words) || !has_guid(words),
+        _ => planning_conflict(name, words),
+    }
+}
+
+/// Returns whether options of a plan or an order contradict each other.
+fn planning_conflict(name: &str, words: &ArgMatches<'_>) -> bool
+    ensures { result ≡ planning_conflict name.now (first_value (found_of words.now)) }
+{
     let rooted = is_named(words, ROOTS);
     let ordered = is_named(words, ORDER);
     (rooted && ordered) || lacks_rule(name, words, rooted || ordered)
+}
+
+/// Returns whether the word for a GUID is one: 1 to 16 hex digits.
+fn has_guid(words: &ArgMatches<'_>) -> bool
+    ensures { result ≡ is_guid (first_value (found_of words.now) (codes "GUID")) }
+{
+    match words.get_str(GUID) {
+        Some(word) => is_guid_word(word.as_bytes()),
+        None => false,
+    }
+}
+
+/// Returns whether these bytes are 1 to 16 hex digits.
+fn is_guid_word(word: &[u8]) -> bool
+    ensures { result ≡ is_guid_word word.now }
+{
+    !word.is_empty() && word.len() <= 16 && are_hex_digits(word)
+}
+
+/// Returns whether all are hex digits.
+fn are_hex_digits(bytes: &[u8]) -> bool
+    ensures { result ≡ list_all is_ascii_hexdigit bytes.now }
+{
+    bytes.iter().all(|byte| byte.is_ascii_hexdigit())
 }
 
 /// Whether the rule lacks that takes roots or an order, where one of them is named; behind the subcommand that prints an
@@ -411,6 +501,9 @@ fn conflict_text(matches: &ArgMatches<'_>) -> &'static str {
     let Some((_, words)) = matches.subcommand() else {
         return "";
     };
+    if is_named(words, GUID) && !has_guid(words) {
+        return "invalid value for '<GUID>': 1 to 16 hex digits are wanted";
+    }
     match (is_named(words, ROOTS), is_named(words, ORDER)) {
         (true, true) => "the argument '--roots <FILE>' cannot be used with '--order <FILE>'",
         (true, false) => "the argument '--roots <FILE>' cannot be used without '--routing spread'",
@@ -424,6 +517,7 @@ fn subcommand<'a>(alloc: Global, name: Option<&str>) -> Result<Command<'a>, Allo
         Some(NEXT) => next(alloc, RULES.as_slice())?.bin_name("ibsm next"),
         Some(RUN) => run(alloc, RULES.as_slice())?.bin_name("ibsm run"),
         Some(ORDER) => order(alloc, RULES.as_slice())?.bin_name("ibsm order"),
+        Some(SERVE) => serve(alloc, RULES.as_slice())?.bin_name("ibsm serve"),
         _ => plan(alloc, RULES.as_slice())?.bin_name("ibsm plan"),
     }
 }

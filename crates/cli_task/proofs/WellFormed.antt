@@ -3,11 +3,12 @@ use Rattle.std.proofs.Common.{◌≡◌, ℕ, true, false, List, [], ◌∷◌, 
 use Rattle.std.specs.Prelude.{codes, is_some, option_and_then, option_map}
 use Rattle.clap.specs.Matches.{subcommand_name_of}
 use Rattle.clap.specs.declared.parser.matches.ArgMatches.{ArgMatches}
-use Rattle.cli_arguments.specs.WellFormed.{HasItsWords, IsGiven, IsNumberWithin, IsRouting, IsWellFormed, NamesFiles, NamesOrder, NamesPlanning, facts, join, plan, order, audit, order_of, next, run}
-use Rattle.cli_arguments.specs.Words.{files_named, has_conflict_of, order_rule, word_named}
+use Rattle.cli_arguments.specs.WellFormed.{HasItsWords, IsGiven, IsNumberWithin, IsRouting, IsWellFormed, NamesFiles, NamesOrder, NamesPlanning, NamesSeat, facts, join, plan, order, audit, order_of, next, run, serve}
+use Rattle.cli_arguments.specs.Words.{files_named, has_conflict_of, is_guid, order_rule, word_named}
 use Rattle.sm_cli.specs.declared.asked.RuleAsked.{RuleAsked}
 use Rattle.sm_cli.specs.declared.asked.RuleAsked.TheVariants.{UpDown, Spread, SpreadFromRoots, SpreadInOrder, Balance}
-use Rattle.cli_task.specs.Asked.{floor_asked, followed_by, lmc_asked, names_in, planning_asked, rule_asked, task_behind, texts_of_rule}
+use Rattle.cli_task.specs.Asked.{floor_asked, followed_by, guid_asked, lmc_asked, number_in, port_asked, priority_asked, within, names_in, planning_asked, rule_asked, task_behind, texts_of_rule}
+use Rattle.cli_task.proofs.Guids.{guid_is_read}
 use Rattle.cli_task.proofs.Within.{number_within}
 
 -- a value that is there
@@ -77,6 +78,21 @@ rule_there (Some w) roots named (inr (inr is)) e = balance_there w roots named i
 order_routing : (o : Option (List ℕ)) → IsRouting o → IsRouting (order_rule o)
 order_routing None h = inr (inl refl)
 order_routing (Some w) h = h
+
+-- a number that is there, and in its range
+number_there : (least most : ℕ) (o : Option (List ℕ)) → IsGiven o → IsNumberWithin least most o
+    → is_some (option_and_then (within least most) (option_and_then number_in o)) ≡ true
+number_there least most None given h = absurd (cc)
+number_there least most (Some word) given h = number_within least most word h
+
+guid_there : (o : Option (List ℕ)) → is_guid o ≡ true → is_some (guid_asked o) ≡ true
+guid_there None e = absurd (cc)
+guid_there (Some word) e = guid_is_read word e
+
+-- whoever names a GUID names the lines
+lines_there : (o : Option (List ℕ)) → is_guid o ≡ true → is_some (option_map (λ guid. codes "/dev/stdin" ∷ []) o) ≡ true
+lines_there None e = absurd (cc)
+lines_there (Some word) e = refl
 
 module _ (word : List ℕ → Option (List ℕ)) (files : Option (List (List ℕ))) where
   -- how plans are made
@@ -158,6 +174,15 @@ module _ (word : List ℕ → Option (List ℕ)) (files : Option (List (List ℕ
       let by = planning_there p in
       rw by.1 (both_there (texts_of_rule word by.0.1) _ by.2 (both_there _ (Some []) (two_there (word (codes "TOPOLOGY")) (word (codes "SCHEDULE")) t s) refl))
 
+  serve_asks : NamesSeat word → NamesPlanning word → Asks (codes "serve")
+  serve_asks s p =
+      let by = planning_there p in
+      let guid = known (guid_asked (word (codes "GUID"))) (guid_there (word (codes "GUID")) s.guid) in
+      let port = known (port_asked (word (codes "PORT"))) (number_there 1 254 (word (codes "PORT")) s.port_given s.port) in
+      let priority = known (priority_asked (word (codes "PRIORITY"))) (number_there 0 15 (word (codes "PRIORITY")) s.priority_given s.priority) in
+      rw (by.1, guid.1, port.1, priority.1)
+      (both_there (texts_of_rule word by.0.1) _ by.2 (both_there _ (Some []) (lines_there (word (codes "GUID")) s.guid) refl))
+
   words_ask : (name : List ℕ) → HasItsWords word files name → Asks name
   words_ask name (facts is h) = subst Asks (sym is) (facts_ask h)
   words_ask name (join is h) = subst Asks (sym is) (join_ask h)
@@ -167,6 +192,7 @@ module _ (word : List ℕ → Option (List ℕ)) (files : Option (List (List ℕ
   words_ask name (order_of is t h) = subst Asks (sym is) (order_of_asks t h)
   words_ask name (next is t h p) = subst Asks (sym is) (next_asks t h p)
   words_ask name (run is t s p) = subst Asks (sym is) (run_asks t s p)
+  words_ask name (serve is s p) = subst Asks (sym is) (serve_asks s p)
 
 -- so do well-formed words
 pub well_formed_asks : (matches : ArgMatches) → IsWellFormed matches

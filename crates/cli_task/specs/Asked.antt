@@ -13,8 +13,10 @@ use Rattle.sm_cli.specs.declared.asked.Output.TheVariants.{Facts, Join, Plan, Or
 use Rattle.sm_cli.specs.declared.asked.RuleAsked.{RuleAsked}
 use Rattle.sm_cli.specs.declared.asked.RuleAsked.TheVariants.{UpDown, Spread, SpreadFromRoots, SpreadInOrder, Balance}
 use Rattle.next_run.specs.declared.run_step.StepAsked.{StepAsked}
+use Rattle.serve_lines.specs.ServeLine.{hex_number}
+use Rattle.serve_task.specs.declared.serving.Serving.{Serving}
 use Rattle.cli_task.specs.declared.task.Task.{Task}
-use Rattle.cli_task.specs.declared.task.Task.TheVariants.{Answer, Audit, OrderOf, Next, Run}
+use Rattle.cli_task.specs.declared.task.Task.TheVariants.{Answer, Audit, OrderOf, Next, Run, Serve}
 
 -- options ---------------------------------------------------------------------------------------
 
@@ -77,6 +79,29 @@ abbrev pub step_asked : (List ℕ → Option (List ℕ)) → Option StepAsked
 step_asked word = option_and_then (λ by. option_map (λ floor. record { lmc = by.0; rule = by.1; floor = floor })
     (floor_asked (word (codes "floor")))) (planning_asked word)
 
+-- a GUID, by 1 to 16 hex digits
+abbrev pub guid_asked : Option (List ℕ) → Option ℕ
+guid_asked word = option_and_then hex_number word
+
+-- the number of a port
+abbrev pub port_asked : Option (List ℕ) → Option ℕ
+port_asked word = option_and_then (within 1 254) (option_and_then number_in word)
+
+-- a priority
+abbrev pub priority_asked : Option (List ℕ) → Option ℕ
+priority_asked word = option_and_then (within 0 15) (option_and_then number_in word)
+
+-- a manager at a port, which plans so
+abbrev pub serving_by : ℕ × RuleAsked → Option ℕ → Option ℕ → Option ℕ → Option Serving
+serving_by by guid port priority =
+    option_and_then (λ g. option_and_then (λ p. option_map
+    (λ q. record { guid = g; port = p; priority = q; lmc = by.0; rule = by.1 }) priority) port) guid
+
+-- the manager that is served
+abbrev pub serving_asked : (List ℕ → Option (List ℕ)) → Option Serving
+serving_asked word = option_and_then (λ by. serving_by by (guid_asked (word (codes "GUID")))
+    (port_asked (word (codes "PORT"))) (priority_asked (word (codes "PRIORITY")))) (planning_asked word)
+
 -- what a command writes of files
 abbrev pub output_asked : (List ℕ → Option (List ℕ)) → List ℕ → Option Output
 output_asked word command =
@@ -92,6 +117,7 @@ task_behind word command =
     else (if bytes_eq command (codes "order-of") then option_map OrderOf (floor_asked (word (codes "floor")))
     else (if bytes_eq command (codes "next") then option_map Next (step_asked word)
     else (if bytes_eq command (codes "run") then option_map (λ by. Run by.0 by.1) (planning_asked word)
+    else (if bytes_eq command (codes "serve") then option_map Serve (serving_asked word)
     else option_and_then (λ output. option_map (λ floor. Answer (record { output = output; floor = floor }))
     (floor_asked (word (codes "floor")))) (output_asked word command))))
 
@@ -116,6 +142,7 @@ rule_of_task (Audit floor) = UpDown
 rule_of_task (OrderOf floor) = UpDown
 rule_of_task (Next asked) = asked.rule
 rule_of_task (Run lmc rule) = rule
+rule_of_task (Serve asked) = asked.rule
 
 -- the other texts that a task takes
 abbrev pub texts_asked : (List ℕ → Option (List ℕ)) → Task → Option (List (List ℕ))
@@ -126,6 +153,7 @@ texts_asked word (Next asked) = option_map (λ tables. tables ∷ []) (word (cod
 texts_asked word (Run lmc rule) =
     option_and_then (λ topology. option_map (λ schedule. topology ∷ schedule ∷ []) (word (codes "SCHEDULE")))
     (word (codes "TOPOLOGY"))
+texts_asked word (Serve asked) = option_map (λ guid. codes "/dev/stdin" ∷ []) (word (codes "GUID"))
 
 -- whether it takes files
 abbrev pub takes_files : Task → Bool
@@ -134,6 +162,7 @@ takes_files (Audit floor) = true
 takes_files (OrderOf floor) = true
 takes_files (Next asked) = true
 takes_files (Run lmc rule) = false
+takes_files (Serve asked) = false
 
 -- its files, where these are named
 abbrev pub files_asked : Option (List (List ℕ)) → Task → Option (List (List ℕ))
