@@ -87,6 +87,7 @@ where
         (IsTaskFault (R.answers rt.now) R.Opened.state
         task names.now
         (PrintsSome ⟦<ToWrite<O> as Sink>⟧.written ⟦<ToWrite<O> as Sink>⟧.has_failed output.old output.new)
+        (Appends (⟦<ToWrite<O> as Sink>⟧.written output.old) (⟦<ToWrite<O> as Sink>⟧.written output.new))
         (⟦<ToWrite<O> as Sink>⟧.has_failed output.new)) }
     ensures kept { IfErr result (KeepsOutput task (output.new ≡ output.old)) }
     ensures silent { OnOk result (StaysSilent task errors.old errors.new) }
