@@ -17,6 +17,10 @@ static size_t answer_length, answer_room, input_begin, input_end, input_room;
 
 int manager_is_gone(void)
 {
+	siginfo_t told = { 0 };
+
+	if (!is_gone && !waitid(P_PID, process, &told, WEXITED | WNOHANG | WNOWAIT))
+		is_gone = told.si_pid != 0;
 	return is_gone;
 }
 

@@ -224,7 +224,7 @@ static void after_sweep(void)
 	phase = RESTS;
 	read_progress();
 	if (options.verbose)
-		note("swept in %.3f s: %.60s", now() - began, tell("progress"));
+		note("swept in %.3f s, %s", now() - began, status.is_whole ? "all is answered" : "not whole");
 	if (seat.dry_run)
 		end_dry_run();
 	next_sweep = now() + seat.sweep_seconds;
