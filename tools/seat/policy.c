@@ -66,6 +66,7 @@ static size_t lines_with(const char *text, const char *word)
 static void forget_written(void)
 {
 	keep_text(&kept_plan, NULL);
+	status.is_settled = 0;
 	repeats = 0;
 	left_not_active = 0;
 }
@@ -165,6 +166,7 @@ static void write_plan(const char *plan)
 	const char *answer;
 
 	keep_text(&kept_plan, plan);
+	status.is_settled = 0;
 	status.lids = lines_with(plan, "lid ");
 	status.switches = lines_with(plan, "switch ");
 	began = now();
@@ -180,6 +182,26 @@ static void write_plan(const char *plan)
 	phase = WRITES;
 }
 
+/* Where a manager wins over this one, it gets the subnet, which is written. */
+static void hand_over(void)
+{
+	if (strncmp(tell("handover"), "refused ", 8))
+		phase = HANDS_OVER;
+}
+
+/* Nothing is left to write. */
+static void settle(void)
+{
+	if (ports_not_active() > left_not_active)
+		note("%u ports stay in Initialize or Armed", ports_not_active());
+	left_not_active = ports_not_active();
+	repeats = 0;
+	faults = 0;
+	status.is_settled = 1;
+	phase = RESTS;
+	hand_over();
+}
+
 /* A plan that this process wrote last stands, unless ports have come up anew. */
 static void judge_plan(void)
 {
@@ -189,22 +211,12 @@ static void judge_plan(void)
 	if (!strncmp(plan, "refused ", 8)) {
 		note("NOT WRITTEN: there is no plan: %.40s", plan + 8);
 		wait_longer();
-	} else if (!is_same) {
-		repeats = 0;
-		write_plan(plan);
-		return;
-	} else if (ports_not_active() > left_not_active && repeats < MOST_REPEATS) {
-		repeats++;
-		write_plan(plan);
-		return;
+	} else if (is_same && (ports_not_active() <= left_not_active || repeats == MOST_REPEATS)) {
+		settle();
 	} else {
-		if (ports_not_active() > left_not_active)
-			note("%u ports stay in Initialize or Armed", ports_not_active());
-		left_not_active = ports_not_active();
-		repeats = 0;
-		faults = 0;
+		repeats = is_same ? repeats + 1 : 0;
+		write_plan(plan);
 	}
-	phase = RESTS;
 }
 
 static void end_dry_run(void)
@@ -256,8 +268,7 @@ static void after_writing(void)
 	}
 	note("SUBNET UP: %zu LIDs, %zu switches, written in %.3f s", status.lids, status.switches, now() - began);
 	is_wanted = 1;
-	if (strncmp(tell("handover"), "refused ", 8))
-		phase = HANDS_OVER;
+	hand_over();
 }
 
 static void after_handover(void)

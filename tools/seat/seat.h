@@ -74,7 +74,7 @@ struct standing {
 	uint32_t generation;
 	time_t sweep_began, sweep_ended, written_at, state_since;
 	unsigned long unanswered, silent, too_far, sweeps, writings;
-	int is_whole, is_written;
+	int is_whole, is_written, is_settled;
 	size_t lids, switches;
 	const char *managers;
 };

@@ -61,8 +61,8 @@ static void print_status(FILE *file, const struct standing *status)
 	print_sweep(file, status);
 	fprintf(file, " \"writing\": {\"count\": %lu, ", status->writings);
 	print_time(file, "ended", status->written_at);
-	fprintf(file, ", \"written\": %s, \"lids\": %zu, \"switches\": %zu},\n", status->is_written ? "true" : "false",
-		status->lids, status->switches);
+	fprintf(file, ", \"written\": %s, \"settled\": %s, \"lids\": %zu, \"switches\": %zu},\n", status->is_written ? "true" : "false",
+		status->is_settled ? "true" : "false", status->lids, status->switches);
 	print_managers(file, status->managers);
 	print_counts(file);
 	fprintf(file, "}\n");
