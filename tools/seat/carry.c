@@ -29,7 +29,7 @@ struct out {
 	double deadline;
 };
 
-static int umad = -1, directed, routed;
+static int umad = -1, directed, routed, issm = -1;
 static struct packet *queue;
 static size_t head, tail, room;
 static struct out outs[MOST_OUT];
@@ -45,7 +45,8 @@ static void be_manager(void)
 
 	if (umad_get_issm_path(own_port.adapter, own_port.number, path, sizeof path))
 		end(NO_FABRIC, "%s has no file by which it says that a subnet manager is here", own_port.name);
-	if (open(path, O_RDWR | O_NONBLOCK | O_CLOEXEC) < 0)
+	issm = open(path, O_RDWR | O_NONBLOCK | O_CLOEXEC);
+	if (issm < 0)
 		end(NO_FABRIC, "cannot open %s: %s%s", path, strerror(errno),
 		    errno == EAGAIN || errno == EBUSY ? ": another subnet manager is at this port" : "");
 }
@@ -65,6 +66,15 @@ void open_seat(void)
 		be_manager();
 	/* No number of a process before is used again soon. */
 	next_number = (uint32_t) time(NULL) << CLOCK_SHIFT | 1;
+}
+
+void close_seat(void)
+{
+	if (issm >= 0)
+		close(issm);
+	umad_unregister(umad, directed);
+	umad_unregister(umad, routed);
+	umad_close_port(umad);
 }
 
 void let_pass(void)

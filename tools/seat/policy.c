@@ -226,6 +226,7 @@ static void end_dry_run(void)
 	fputs(plan, stdout);
 	if (fflush(stdout))
 		end(NO_FABRIC, "cannot write standard output");
+	close_seat();
 	if (!status.is_whole)
 		end(NOT_WHOLE, "NOT WHOLE: %lu requests without an answer", status.unanswered);
 	_exit(WHOLE);

@@ -179,7 +179,7 @@ int main(int count, char **texts)
 		}
 	}
 	stop_manager();
+	close_seat();
 	note("ended by signal %d", ended_by);
-	/* A simulator's library that stands in for libibumad waits for ever in exit while a port is open. */
-	_exit(WHOLE);
+	return WHOLE;
 }

@@ -36,6 +36,7 @@ const char *tell(const char *format, ...) __attribute__((format(printf, 1, 2)));
 
 /* carry.c: packets. */
 void open_seat(void);
+void close_seat(void);
 /* Waits, and drops what comes, until no request of an earlier process can be answered any more. */
 void let_pass(void);
 /* A packet in hex digits, to a LID, or NO_LID where it goes by the path that it carries. */
