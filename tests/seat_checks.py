@@ -9,6 +9,7 @@ import subprocess
 import time
 
 import live_checks
+import paths
 import sample_fabrics
 
 SECONDS = 60
@@ -143,7 +144,10 @@ def wrong_usage(bench):
     """What does not start."""
     seat = bench.room / "out/seat"
     bench.check(bench.run(seat, "more") == 2 and bench.run(seat, "-p", 16) == 2, "wrong usage: status 2")
-    bench.check(bench.run(seat, "--help") == 0 and bench.run(seat, "--version") == 0, "--help and --version: status 0")
+    bench.check(bench.run(seat, "--version") == 0 and bench.run(seat, "--help") == 0, "--help and --version: status 0")
+    helped = set(re.findall(r"(?<![\w-])--[a-z][a-z-]*", bench.printed))
+    page = set(re.findall(r"--[a-z][a-z-]*", (paths.TOOLS / "seat/seat.1").read_text().replace("\\", "")))
+    bench.check(helped <= page | {"--help"} and len(helped) > 20, f"options that the manual page lacks: {helped - page}")
     bench.check(bench.run(seat) == 4, "no adapter: status 4")
     status = bench.run(seat, "--ibsm", "nowhere", "-S", "nowhere.json", simulated=True)
     bench.check(status == 4 and "there is no program nowhere" in bench.said, f"no program: status 4: {bench.said.strip()}")

@@ -258,6 +258,12 @@ static const char *give(const uint8_t *packet, unsigned lid)
 	return tell("packet %s from %u", hex, is_directed(packet) ? NO_LID : lid);
 }
 
+static int answers(const uint8_t *packet, const uint8_t *request)
+{
+	return packet[1] == request[1] && get(packet + 16, 2) == get(request + 16, 2) &&
+	       get(packet + 20, 4) == get(request + 20, 4);
+}
+
 /* The manager was told a GUID and a port, and the node itself tells them once more. */
 static void check_own_port(const uint8_t *packet)
 {
@@ -278,7 +284,7 @@ static void on_answer(uint8_t *packet, unsigned lid)
 
 	if (place >= 0)
 		out = outs[place];
-	if (place < 0 || packet[1] != out.packet.bytes[1] || memcmp(packet + 16, out.packet.bytes + 16, 8)) {
+	if (place < 0 || !answers(packet, out.packet.bytes)) {
 		carried.late++;
 		return;
 	}
