@@ -62,13 +62,14 @@ class Seat:
 
 
 @contextlib.contextmanager
-def seated(bench, host, *words, program=None, preload="", packets=None):
-    """A seat at an adapter; it is ended by its id."""
+def seated(bench, host, *words, program=None, packets=None, bend=None):
+    """A seat at an adapter; it is ended by its id. Its packets are kept in a file, and bent, where that is asked."""
     bench.seats = getattr(bench, "seats", 0) + 1
     log, status = (bench.path / f"seat{bench.seats}.{kind}" for kind in ("log", "json"))
-    environment = bench.environment() | {"SIM_HOST": host, "LD_PRELOAD": f"{preload}{bench.library}"}
-    if packets:
-        environment["PACKETS"] = str(packets)
+    environment = bench.environment() | {"SIM_HOST": host}
+    if packets or bend:
+        environment["LD_PRELOAD"] = f"{bench.room}/out/bent_replies.so:{bench.library}"
+        environment |= {"PACKETS": str(bench.path / packets)} if packets else {"BEND": bend}
     words = [bench.room / "out/seat", "--ibsm", program or bench.program, "--status", status, "-v", *words]
     with open(log, "w") as said:
         how = {"cwd": bench.path, "env": environment, "stdin": subprocess.DEVNULL, "stderr": said}
@@ -201,6 +202,14 @@ def ways(bench):
     bench.check(same == plan.count("switch ") > 0, f"ibroute dumps the plan at {same} switches")
 
 
+def between(bench, name):
+    """A program that is `ibsm`, and keeps what it is told and prints in NAME.told and NAME.printed."""
+    script = bench.path / name
+    script.write_text(f'#!/bin/sh\ntee -a {name}.told | {bench.program} "$@" | tee -a {name}.printed\n')
+    script.chmod(0o755)
+    return script
+
+
 def lines_of(path, word):
     return [line.split()[1:] for line in path.read_text().splitlines() if line.startswith(word + " ")] if path.exists() else []
 
@@ -211,17 +220,13 @@ def without_number(packet):
 
 def faithful(bench):
     """What goes out is what was printed, and what is told is what came, but for the numbers of requests: seen from both sides."""
-    script = bench.path / "between"
-    script.write_text(f'#!/bin/sh\ntee -a told.txt | {bench.program} "$@" | tee -a printed.txt\n')
-    script.chmod(0o755)
-    packets = bench.path / "packets.txt"
-    preload = f"{bench.room}/out/bent_replies.so:"
-    with seated(bench, "H1", "-p", 5, "-x", program=script, preload=preload, packets=packets) as seat:
+    script = between(bench, "all")
+    with seated(bench, "H1", "-p", 5, "-x", program=script, packets="all.packets") as seat:
         bench.check(seat.settles(), "a subnet is brought up by Sets as they are printed")
         seat.end()
-    printed = [bytes.fromhex(words[0]) for words in lines_of(bench.path / "printed.txt", "send")]
-    told = [bytes.fromhex(words[0]) for words in lines_of(bench.path / "told.txt", "packet")]
-    sent, came = ([bytes.fromhex(words[0]) for words in lines_of(packets, word)] for word in ("out", "in"))
+    printed = [bytes.fromhex(words[0]) for words in lines_of(bench.path / "all.printed", "send")]
+    told = [bytes.fromhex(words[0]) for words in lines_of(bench.path / "all.told", "packet")]
+    sent, came = ([bytes.fromhex(words[0]) for words in lines_of(bench.path / "all.packets", word)] for word in ("out", "in"))
     bench.check({without_number(it) for it in sent} == {without_number(it) for it in printed}, f"{len(sent)} packets: those that were printed")
     numbers = [it[NUMBER][4:] for it in sent]
     bench.check(len(set(numbers)) == len(numbers) == len(printed) > 50, "each has a number of its own")
@@ -238,6 +243,39 @@ def what_ports_hold(bench, name):
     infos = live_checks.port_infos(bench.path / f"{name}.reports").values()
     prefixes = {info[8:16].hex() for info in infos if info[16:18] != b"\0\0"}
     return prefixes, {info[42] & 31 for info in infos if info[16:18] == b"\0\0" and info[32] & 15 == 4}
+
+
+def repeated(bench, name):
+    """Where packets are lost, a request is sent again as a copy, up to twice; what is given up is told once."""
+    sent = [bytes.fromhex(words[0]) for words in lines_of(bench.path / f"{name}.packets", "out")]
+    copies = {}
+    for packet in sent:
+        copies.setdefault(packet[NUMBER], []).append(packet)
+    bench.check(all(len(set(group)) == 1 and len(group) <= 3 for group in copies.values()), "what is sent again is a copy")
+    bench.check(any(len(group) == 3 for group in copies.values()), "up to twice")
+    told = [words[0] for words in lines_of(bench.path / f"{name}.told", "timeout")]
+    printed = {words[0][16:32] for words in lines_of(bench.path / f"{name}.printed", "send")}
+    bench.check(0 < len(told) == len(set(told)) and set(told) <= printed, f"given up: {len(told)}, each told once, as it was printed")
+    answered = {words[0][16:32] for words in lines_of(bench.path / f"{name}.told", "packet")}
+    bench.check(not answered & set(told), "and none of these had an answer")
+
+
+def repressed(bench):
+    """Each trap that came was answered by TrapRepress, the same packet but for its method."""
+    came, sent = ([bytes.fromhex(words[0]) for words in lines_of(bench.path / "traps.packets", word)] for word in ("in", "out"))
+    traps = [packet for packet in came if packet[1] == 1 and packet[3] == 5]
+    answers = [packet for packet in sent if packet[3] == 7]
+    bench.check(answers == [packet[:3] + b"\7" + packet[4:] for packet in traps] != [], f"traps: {len(traps)}, each repressed")
+
+
+def bent(bench):
+    """Hop pointer 1 of an answer over no hops becomes 0; an answer that is refused is given up."""
+    with seated(bench, "H1", "-p", 5, bend="pointer") as seat:
+        bench.check(seat.settles() and seat.status()["packets"]["pointers_set"] > 0, "hop pointer 1 over no hops: SUBNET UP")
+    with seated(bench, "H1", "-p", 5, "-s", 0, bend="status") as seat:
+        bench.check(until(lambda: seat.count("NOT WHOLE") > 0) is not None, "PortInfo of port 2 is refused: NOT WHOLE")
+        told = seat.status()
+        bench.check(told["packets"]["refused"] > 0 and "Get 0x0015 modifier 2" in told["silent"][0], f"it is named: {told['silent'][:1]}")
 
 
 def zeros(bench):
@@ -258,7 +296,7 @@ def images(bench):
 
 def cable(bench):
     """A cable between switches is cut, and plugged again: by traps alone the subnet follows."""
-    with seated(bench, "H1", "-p", 5, "-s", 0) as seat:
+    with seated(bench, "H1", "-p", 5, "-s", 0, packets="traps.packets") as seat:
         bench.check(seat.settles(), "SUBNET UP")
         before = held(bench, "whole")
         (name, port), (far, back) = next((end, peer) for end, peer in bench.fabric.peers.items() if all(map(bench.fabric.is_switch, (end[0], peer[0]))))
@@ -269,6 +307,8 @@ def cable(bench):
             after = held(bench, f"cable{count}")
             bench.check(lids(before) == lids(after), "LIDs stay")
             bench.check((before == after) == (count == 3), "tables are others" if count == 2 else "tables are as at first")
+        seat.end()
+    repressed(bench)
 
 
 def losses(bench):
@@ -284,10 +324,13 @@ def losses(bench):
     end = next(end for end in bench.fabric.ends() if end[1] and end[0] not in ("H1", "H2"))
     near = bench.fabric.peers[end]
     bench.tell(f'Error "{near[0]}"[{near[1]}] 100')
-    with seated(bench, "H1", "-p", 5, "-s", 1, "-r", 1) as seat:
+    words = ["-p", 5, "-s", 1, "-r", 2]
+    with seated(bench, "H1", *words, program=between(bench, "lost"), packets="lost.packets") as seat:
         bench.check(until(lambda: seat.count("NOT WHOLE") > 1) is not None, f"where an adapter is silent: {seat.said().splitlines()[-2:]}")
         told = seat.status()
         bench.check(told["writing"]["count"] == 0 and len(told["silent"]) >= 1, f"nothing is written: {told['silent']}")
+        seat.end()
+    repeated(bench, "lost")
     with seated(bench, "H1", "-p", 5, "-s", 0, "-r", 1, "--partial") as seat:
         bench.check(until(lambda: seat.count("SUBNET UP") > 0) is not None, "with --partial it is")
     bench.tell(f'Error "{near[0]}"[{near[1]}] 0')
@@ -362,7 +405,7 @@ def beside_opensm(bench):
 # Fabrics on which it is tried, and what.
 SEATED = (
     ("triangle", sample_fabrics.triangle, (dry_run, wrong_usage, brought_up, two_seats)),
-    ("another triangle", sample_fabrics.triangle, (faithful, zeros)),
+    ("another triangle", sample_fabrics.triangle, (faithful, zeros, bent)),
     ("a third triangle", sample_fabrics.triangle, (images,)),
     ("a torus of 9 switches", lambda: sample_fabrics.torus(3, 3), (brought_up, cable, losses, two_seats, killed_while_it_writes, beside_opensm)),
 )

@@ -10,33 +10,42 @@
 #include "seat.h"
 
 enum phase { RESTS, SWEEPS, WRITES, HANDS_OVER };
-enum { LINK_STATE_CHANGED = 128, CAPABILITIES_CHANGED = 144, MOST_REPEATS = 3, MOST_WAIT = 30 };
+enum { LINK_STATE_CHANGED = 128, CAPABILITIES_CHANGED = 144, MOST_REPEATS = 3, MOST_WAIT = 10 };
 #define SHORTEST 1.0	/* seconds from the begin of a sweep to that of the next */
 
 static enum phase phase;
 static struct standing status;
 static char state[16], *kept_plan, *managers;
-static int has_news, is_wanted, repeats, faults;
+static int has_news, is_wanted, repeats, faults, gaps;
 static unsigned left_not_active, polled;
 static uint32_t newest;
-static double earliest, next_sweep, next_poll, began;
+static double earliest, next_sweep, next_poll, sweep_begun, began;
 
 void heard_news(void)
 {
 	has_news = 1;
 }
 
+/* What failed before may go now, so nothing waits but for the shortest time. */
+static void want_sweep(void)
+{
+	is_wanted = 1;
+	faults = 0;
+	earliest = sweep_begun + SHORTEST;
+}
+
 void heard_hangup(void)
 {
 	note("a sweep is asked for");
-	is_wanted = 1;
+	want_sweep();
 }
 
 int heard_trap(unsigned number, unsigned lid)
 {
 	if (options.verbose)
 		note("trap %u from LID %u", number, lid);
-	is_wanted |= number == LINK_STATE_CHANGED || number == CAPABILITIES_CHANGED;
+	if (number == LINK_STATE_CHANGED || number == CAPABILITIES_CHANGED)
+		want_sweep();
 	return !strcmp(state, "master");
 }
 
@@ -96,7 +105,7 @@ static void begin_sweep(void)
 
 	newest = clock > newest ? clock : newest + 1;
 	is_wanted = 0;
-	began = now();
+	sweep_begun = began = now();
 	earliest = began + SHORTEST;
 	status.generation = newest;
 	status.sweep_began = time(NULL);
@@ -111,7 +120,7 @@ static void begin_sweep(void)
 /* Goes on later, the later the more often it failed in a row. */
 static void wait_longer(void)
 {
-	double wait = faults < 5 ? 1 << faults : MOST_WAIT;
+	double wait = faults < 4 ? 1 << faults : MOST_WAIT;
 
 	faults++;
 	is_wanted = 1;
@@ -242,12 +251,13 @@ static void after_sweep(void)
 		end_dry_run();
 	next_sweep = now() + seat.sweep_seconds;
 	polled = is_state("standby") ? master_lid() : 0;
-	if (!status.is_whole) {
+	gaps = status.is_whole ? 0 : gaps + 1;
+	if (gaps) {
 		say_silent();
 		wait_longer();
-		if (!seat.partial || faults <= MOST_REPEATS)
+		if (!seat.partial || gaps <= MOST_REPEATS)
 			return;
-		note("it is written all the same, since --partial says so");
+		note("what is known is planned all the same, since --partial says so");
 	}
 	if (is_state("master"))
 		judge_plan();
