@@ -1,6 +1,6 @@
 /*
- * Packets between the port and the process that decides: byte for byte as it printed them and as they came, but for the
- * TransactionID of a request, which Linux halves: it is numbered here, and put back in its answer.
+ * Packets between the port and the process that decides: byte for byte as it printed them and as they came, but for
+ * the TransactionID of a request, which Linux halves: it is numbered here, and put back in its answer.
  *
  * What is printed waits in a queue for its place in a window. Answers to others go out at once and outside it.
  */

@@ -100,7 +100,8 @@ void stop_manager(void)
 	if (WIFEXITED(status) && WEXITSTATUS(status) == NOT_FOUND)
 		end(NO_FABRIC, "there is no program %s; --ibsm names one", seat.program);
 	if (!is_ended())
-		note("the process of %s serve has ended with %s %d", seat.program, WIFSIGNALED(status) ? "signal" : "status",
+		note("the process of %s serve has ended with %s %d", seat.program,
+		     WIFSIGNALED(status) ? "signal" : "status",
 		     WIFSIGNALED(status) ? WTERMSIG(status) : WEXITSTATUS(status));
 }
 

@@ -1,6 +1,6 @@
 /*
- * When what is told: a sweep where there is news or it is time for one, a writing after a sweep that has every answer and
- * whose plan is not what was written, polls while another manager is the master.
+ * When what is told: a sweep where there is news or it is time for one, a writing after a sweep that has every answer
+ * and whose plan is not what was written, polls while another manager is the master.
  *
  * All of it is told while no packet is queued or out.
  */
@@ -282,10 +282,24 @@ static void after_writing(void)
 	hand_over();
 }
 
+/* The greatest manager that the sweep saw was handed over to. */
 static void after_handover(void)
 {
+	unsigned long long guid, greatest = 0;
+	unsigned priority, most = 0;
+	char word[sizeof state];
+	const char *line;
+
 	phase = RESTS;
-	note(is_state("master") ? "the other manager does not take over" : "HANDOVER: the other manager is the master");
+	for (line = managers; *line; line = strchr(line, '\n') + 1)
+		if (sscanf(line, "manager %*s guid %llx priority %u state %15s", &guid, &priority, word) == 3 &&
+		    (!strcmp(word, "standby") || !strcmp(word, "master")) &&
+		    (!greatest || priority > most || (priority == most && guid < greatest))) {
+			greatest = guid;
+			most = priority;
+		}
+	note("HANDOVER to %016llx, priority %u%s", greatest, most,
+	     is_state("master") ? ", which does not take over" : "");
 }
 
 static void rest(void)

@@ -51,9 +51,9 @@ static const char usage_text[] =
 "\n"
 "It goes on until SIGTERM or SIGINT. SIGHUP makes it sweep.\n"
 "\n"
-"The exit status is 0 where a signal ended it, or a dry run had every answer; 1 where a dry run had not; 2 where the\n"
-"command line is wrong; 3 where the program refuses a file; 4 without a subnet, the program, or the right to be its\n"
-"manager; 5 without memory.\n";
+"The exit status is 0 where a signal ended it, or a dry run had every answer; 1 where a dry run had not; 2 where\n"
+"the command line is wrong; 3 where the program refuses a file; 4 without a subnet, the program, or the right to be\n"
+"its manager; 5 without memory.\n";
 
 int is_ended(void)
 {
@@ -99,9 +99,10 @@ static void catch_signals(void)
 enum { PARTIAL = 256 };
 
 static const struct option words[] = {
-	{ "priority", 1, 0, 'p' }, { "lmc", 1, 0, 'l' }, { "routing", 1, 0, 'R' }, { "roots", 1, 0, 'f' }, { "order", 1, 0, 'o' },
-	{ "ibsm", 1, 0, 'i' }, { "sweep", 1, 0, 's' }, { "poll", 1, 0, 'm' }, { "after", 1, 0, 'a' }, { "dry-run", 0, 0, 'd' },
-	{ "status", 1, 0, 'S' }, { "as-printed", 0, 0, 'x' }, { "partial", 0, 0, PARTIAL }, { "ca", 1, 0, 'C' },
+	{ "priority", 1, 0, 'p' }, { "lmc", 1, 0, 'l' }, { "routing", 1, 0, 'R' }, { "roots", 1, 0, 'f' },
+	{ "order", 1, 0, 'o' }, { "ibsm", 1, 0, 'i' }, { "sweep", 1, 0, 's' }, { "poll", 1, 0, 'm' },
+	{ "after", 1, 0, 'a' }, { "dry-run", 0, 0, 'd' }, { "status", 1, 0, 'S' }, { "as-printed", 0, 0, 'x' },
+	{ "partial", 0, 0, PARTIAL }, { "ca", 1, 0, 'C' },
 	{ "port", 1, 0, 'P' }, { "outstanding", 1, 0, 'n' }, { "timeout", 1, 0, 't' }, { "retries", 1, 0, 'r' },
 	{ "quiet", 0, 0, 'q' }, { "verbose", 0, 0, 'v' }, { "help", 0, 0, 'h' }, { "version", 0, 0, 'V' }, { 0 }
 };

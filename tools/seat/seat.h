@@ -13,9 +13,10 @@ struct seat_options {
 	int priority, sweep_seconds, poll_ms, dry_run, as_printed, partial;
 };
 
-/* What was carried since the process that decides was started, and what the last sweep did not get. */
+/* What was carried since the start. */
 struct carried {
-	unsigned long sent, again, answered, given_up, late, refused, requests, traps, repressed, pointers, filled, unfilled;
+	unsigned long sent, again, answered, given_up, late, refused, requests, traps, repressed, pointers;
+	unsigned long filled, unfilled;	/* Sets */
 };
 
 extern struct seat_options seat;
@@ -31,7 +32,7 @@ int is_ended(void);
 void start_manager(void);
 void stop_manager(void);
 int manager_is_gone(void);
-/* Tells it a line, and gives what it answered but for packets, which are handed to queue_packet; good to the next call. */
+/* Tells it a line, and gives its answer, up to the next call, without packets, which queue_packet gets. */
 const char *tell(const char *format, ...) __attribute__((format(printf, 1, 2)));
 
 /* carry.c: packets. */

@@ -2,8 +2,8 @@
  * What Sets of PortInfo and SwitchInfo carry beside what the manager set.
  *
  * The manager sets fields of an attribute whose other bytes are 0, and to hardware some of these zeros are values: a
- * lifetime of 4 microseconds, a GID prefix of 0. So a Set gets what its port told last, and what the manager set; where
- * what is read is no value to write it says "no change". Blocks of tables are whole, and go as they are.
+ * lifetime of 4 microseconds, a GID prefix of 0. So a Set gets what its port told last, and what the manager set;
+ * where what is read is no value to write it says "no change". Blocks of tables are whole, and go as they are.
  */
 #include <stdlib.h>
 #include <string.h>
@@ -27,7 +27,8 @@ static int is_kept(const uint8_t *packet)
 {
 	uint16_t attribute = get(packet + 16, 2);
 
-	return packet[1] == DIRECTED_CLASS && packet[7] <= MOST_HOPS && (attribute == PORT_INFO || attribute == SWITCH_INFO);
+	return packet[1] == DIRECTED_CLASS && packet[7] <= MOST_HOPS &&
+	       (attribute == PORT_INFO || attribute == SWITCH_INFO);
 }
 
 static struct image *find_image(uint16_t attribute, uint32_t modifier, uint8_t hops, const uint8_t *path)
@@ -39,8 +40,8 @@ static struct image *find_image(uint16_t attribute, uint32_t modifier, uint8_t h
 	for (i = 0; i < hops; i++)
 		hash = (hash ^ path[i]) * 0x100000001b3u;
 	for (place = hash >> 20 & (room - 1); images[place].is_used; place = (place + 1) & (room - 1))
-		if (images[place].attribute == attribute && images[place].modifier == modifier && images[place].hops == hops &&
-		    !memcmp(images[place].path, path, hops))
+		if (images[place].attribute == attribute && images[place].modifier == modifier &&
+		    images[place].hops == hops && !memcmp(images[place].path, path, hops))
 			break;
 	return &images[place];
 }
@@ -113,7 +114,7 @@ static void fill_port(uint8_t *info, const uint8_t *set)
 	}
 	info[29] = 0;						/* LinkWidthEnabled: no change */
 	info[32] = (info[32] & 0xf0) | (set[32] & 0x0f);	/* PortState */
-	info[33] = 0;						/* PortPhysicalState, LinkDownDefaultState: no change */
+	info[33] = 0;						/* PortPhysicalState, LinkDownDefault: no change */
 	info[35] &= 0xf0;					/* LinkSpeedEnabled: no change */
 	info[51] &= 0x7f;					/* ClientReregister */
 	info[63] &= 0xe0;					/* LinkSpeedExtEnabled: no change */

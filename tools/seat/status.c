@@ -22,7 +22,8 @@ static void print_sweep(FILE *file, const struct standing *status)
 	print_time(file, "began", status->sweep_began);
 	fprintf(file, ", ");
 	print_time(file, "ended", status->sweep_ended);
-	fprintf(file, ", \"whole\": %s, \"unanswered\": %lu, \"managers_silent\": %lu, \"too_far\": %lu},\n \"silent\": [",
+	fprintf(file,
+		", \"whole\": %s, \"unanswered\": %lu, \"managers_silent\": %lu, \"too_far\": %lu},\n \"silent\": [",
 		status->is_whole ? "true" : "false", status->unanswered, status->silent, status->too_far);
 	for (i = 0; i < silent_requests(); i++)
 		fprintf(file, "%s\"%s\"", i ? ", " : "", silent_request(i));
@@ -38,31 +39,33 @@ static void print_managers(FILE *file, const char *line)
 	fprintf(file, " \"managers\": [");
 	for (; line && *line; line = strchr(line, '\n') + 1)
 		if (sscanf(line, "manager %*s guid %16s priority %u state %15s", guid, &priority, state) == 3)
-			fprintf(file, "%s{\"guid\": \"%s\", \"priority\": %u, \"state\": \"%s\"}", count++ ? ", " : "", guid,
-				priority, state);
+			fprintf(file, "%s{\"guid\": \"%s\", \"priority\": %u, \"state\": \"%s\"}",
+				count++ ? ", " : "", guid, priority, state);
 	fprintf(file, "],\n");
 }
 
 static void print_counts(FILE *file)
 {
-	fprintf(file, " \"packets\": {\"sent\": %lu, \"sent_again\": %lu, \"answered\": %lu, \"given_up\": %lu, \"refused\": %lu, "
-		"\"late\": %lu, \"asked_by_others\": %lu, \"traps\": %lu, \"repressed\": %lu, \"pointers_set\": %lu, "
-		"\"sets_filled\": %lu, \"sets_not_filled\": %lu}\n",
+	fprintf(file, " \"packets\": {\"sent\": %lu, \"sent_again\": %lu, \"answered\": %lu, \"given_up\": %lu, "
+		"\"refused\": %lu, \"late\": %lu, \"asked_by_others\": %lu, \"traps\": %lu, \"repressed\": %lu, "
+		"\"pointers_set\": %lu, \"sets_filled\": %lu, \"sets_not_filled\": %lu}\n",
 		carried.sent, carried.again, carried.answered, carried.given_up, carried.refused, carried.late,
-		carried.requests, carried.traps, carried.repressed, carried.pointers, carried.filled, carried.unfilled);
+		carried.requests, carried.traps, carried.repressed, carried.pointers, carried.filled,
+		carried.unfilled);
 }
 
 static void print_status(FILE *file, const struct standing *status)
 {
 	fprintf(file, "{\"version\": \"%s\", \"state\": \"%s\", ", VERSION, status->state);
 	print_time(file, "since", status->state_since);
-	fprintf(file, ", \"port\": \"%s\", \"guid\": \"%016" PRIx64 "\", \"priority\": %d,\n", own_port.name, own_port.guid,
-		seat.priority);
+	fprintf(file, ", \"port\": \"%s\", \"guid\": \"%016" PRIx64 "\", \"priority\": %d,\n", own_port.name,
+		own_port.guid, seat.priority);
 	print_sweep(file, status);
 	fprintf(file, " \"writing\": {\"count\": %lu, ", status->writings);
 	print_time(file, "ended", status->written_at);
-	fprintf(file, ", \"written\": %s, \"settled\": %s, \"lids\": %zu, \"switches\": %zu},\n", status->is_written ? "true" : "false",
-		status->is_settled ? "true" : "false", status->lids, status->switches);
+	fprintf(file, ", \"written\": %s, \"settled\": %s, \"lids\": %zu, \"switches\": %zu},\n",
+		status->is_written ? "true" : "false", status->is_settled ? "true" : "false", status->lids,
+		status->switches);
 	print_managers(file, status->managers);
 	print_counts(file);
 	fprintf(file, "}\n");
