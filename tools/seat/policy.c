@@ -232,6 +232,8 @@ static void end_dry_run(void)
 {
 	const char *plan = tell("plan");
 
+	if (manager_is_gone())
+		return;
 	fputs(plan, stdout);
 	if (fflush(stdout))
 		end(NO_FABRIC, "cannot write standard output");
@@ -245,10 +247,14 @@ static void after_sweep(void)
 {
 	phase = RESTS;
 	read_progress();
+	if (manager_is_gone())	/* another one begins anew */
+		return;
 	if (options.verbose)
 		note("swept in %.3f s, %s", now() - began, status.is_whole ? "all is answered" : "not whole");
-	if (seat.dry_run)
+	if (seat.dry_run) {
 		end_dry_run();
+		return;
+	}
 	next_sweep = now() + seat.sweep_seconds;
 	polled = is_state("standby") ? master_lid() : 0;
 	gaps = status.is_whole ? 0 : gaps + 1;
@@ -270,6 +276,8 @@ static void after_writing(void)
 {
 	phase = RESTS;
 	status.is_written = strstr(tell("written"), "yes") != NULL;
+	if (manager_is_gone())
+		return;
 	status.written_at = time(NULL);
 	if (!status.is_written) {
 		note("NOT WRITTEN: some of it was not answered");
@@ -342,6 +350,8 @@ void policy(void)
 	if (has_news || phase != RESTS)
 		look_at_state();
 	has_news = 0;
+	if (manager_is_gone())
+		return;
 	if (phase == SWEEPS)
 		after_sweep();
 	else if (phase == WRITES)
