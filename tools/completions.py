@@ -11,6 +11,7 @@ COMMANDS = {
     "plan": f"{FLOOR} {PLANS}",
     "order": f"{FLOOR} {ORDERS}",
     "audit": FLOOR,
+    "order-of": FLOOR,
     "next": f"{FLOOR} {PLANS}",
     "run": PLANS,
     "serve": PLANS,
