@@ -185,6 +185,18 @@ def brought_up(bench):
         bench.check(seat.end() == 0 and "ended by signal 15" in seat.said(), "SIGTERM: status 0")
 
 
+def by_options(bench):
+    """What is handed on to the program: LMC, rule and roots."""
+    root = next(node for node in bench.fabric.nodes if bench.fabric.is_switch(node))
+    (bench.path / "roots").write_text(f"{bench.fabric.guid(root):x}\n")
+    words = ["--lmc", 2, "--routing", "spread", "--roots", "roots"]
+    with seated(bench, "H1", "-p", 5, *words) as seat:
+        bench.check(seat.settles(), "SUBNET UP")
+    bench.record("-q", "-g", 1, "-T", "spread", "spread.reports")
+    bench.run(bench.program, "plan", *words, "spread.reports")
+    bench.check(bench.printed == (bench.path / "spread").read_text() and " lmc 2\n" in bench.printed, "held is the plan of these options")
+
+
 def ways(bench):
     """`ibtracert` finds a way between any two adapters, and `ibroute` dumps the plan."""
     plan = (bench.path / "up.plan").read_text()
@@ -409,5 +421,6 @@ SEATED = (
     ("triangle", sample_fabrics.triangle, (dry_run, wrong_usage, brought_up, two_seats)),
     ("another triangle", sample_fabrics.triangle, (faithful, zeros, bent)),
     ("a third triangle", sample_fabrics.triangle, (images,)),
+    ("a ring of 6 switches", lambda: sample_fabrics.ring(6), (by_options,)),
     ("a torus of 9 switches", lambda: sample_fabrics.torus(3, 3), (brought_up, cable, losses, two_seats, killed_while_it_writes, beside_opensm)),
 )
