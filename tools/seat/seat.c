@@ -29,7 +29,7 @@ static const char usage_text[] =
 "\n"
 "  -p, --priority N       of this manager, 0 to 15 (0)\n"
 "  -l, --lmc N            an adapter's port has 2^N LIDs, 0 to 7 (0)\n"
-"  -R, --routing RULE     updown or spread (updown)\n"
+"  -R, --routing RULE     the rule of routing, as of `ibsm plan` (updown)\n"
 "  -f, --roots FILE       with spread: the switches from which it counts distances\n"
 "  -o, --order FILE       with spread: the order by which it grows\n"
 "  -i, --ibsm PROGRAM     the program (ibsm)\n"
