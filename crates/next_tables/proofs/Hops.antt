@@ -145,7 +145,7 @@ channel_leads cells tables lid i edge h =
     let at : slice_get (switches cells) (c / 256) ≡ Some g = ap (slice_get (switches cells)) over ∙ placed (switches cells) i less in (
       over,
       ap (λ o. option_map_or (λ x. slice_index_or (row_of cells x) (c % 256) Nothing) o Nothing) at
-      ∙ ap (λ p. slice_index_or row p Nothing) rest ∙ far,
+          ∙ ap (λ p. slice_index_or row p Nothing) rest ∙ far,
       omega arith,
     )
 
