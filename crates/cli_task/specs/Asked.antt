@@ -119,7 +119,7 @@ task_behind word command =
     else (if bytes_eq command (codes "run") then option_map (λ by. Run by.0 by.1) (planning_asked word)
     else (if bytes_eq command (codes "serve") then option_map Serve (serving_asked word)
     else option_and_then (λ output. option_map (λ floor. Answer (record { output = output; floor = floor }))
-    (floor_asked (word (codes "floor")))) (output_asked word command))))
+    (floor_asked (word (codes "floor")))) (output_asked word command)))))
 
 -- the task that the words ask for
 abbrev pub task_asked : ArgMatches → Option Task
