@@ -15,6 +15,8 @@ echo 'usage: NAME [OPTION]... FILE'
 echo '  -q, --quiet            neither'
 """
 
+TOOLS_IN_C = "ibsm-record", "ibsm-send", "ibsm-seat"
+
 
 def run(words, **how):
     return subprocess.run([str(word) for word in words], capture_output=True, text=True, stdin=subprocess.DEVNULL, **how)
@@ -24,7 +26,7 @@ def installed(room, program):
     """The tree is laid out, installed, run, completed, and taken off."""
     made = room.path / "made"
     made.mkdir()
-    for name, script in (("ibsm", PROGRAM), ("record", IN_C), ("send", IN_C)):
+    for name, script in (("ibsm", PROGRAM), *((name, IN_C) for name in ("record", "send", "seat"))):
         (made / name).write_text(script.replace("NAME", name))
         (made / name).chmod(0o755)
     (made / "ibsm.sources").write_text("0123\n")
@@ -37,7 +39,10 @@ def installed(room, program):
     room.check(tools[0] == "ibsm" and len(tools) >= 12 and all(name.startswith("ibsm-") for name in tools[1:]), f"names: {tools}")
     runs(room, to, tools)
     told = pages(room, to, tools)
-    room.check(f"ExecStart={to}/bin/ibsm-round " in (to / "lib/systemd/system/ibsm-round.service").read_text(), "the unit's path")
+    units = to / "lib/systemd/system"
+    room.check(f"ExecStart={to}/bin/ibsm-round " in (units / "ibsm-round.service").read_text(), "the unit's path")
+    seat = f"ExecStart={to}/bin/ibsm-seat --ibsm {to}/bin/ibsm "
+    room.check(seat in (units / "ibsm-seat.service").read_text(), "the paths of the seat's unit")
     completed(room, to, program)
     taken_off(room, to, told)
 
@@ -46,7 +51,7 @@ def runs(room, to, tools):
     """Each runs from anywhere, by its installed name; the program's version tells what it was built from."""
     for tool in tools[1:]:
         done = run([to / "bin" / tool, "--help"], cwd="/", env={"PATH": os.environ["PATH"]})
-        name = tool if tool not in ("ibsm-record", "ibsm-send") else tool[5:]
+        name = tool if tool not in TOOLS_IN_C else tool[5:]
         room.check(done.returncode == 0 and f"usage: {name} " in done.stdout and not done.stderr, f"{tool} --help: {done.stdout[:80]}{done.stderr}")
         room.check("tools/" + tool[5:] not in done.stdout, f"{tool} calls itself by its name")
         if name == tool:
@@ -70,7 +75,7 @@ def pages(room, to, tools):
         if shutil.which("man"):
             done = run(["man", "--warnings", "-E", "UTF-8", "-l", "-Tutf8", "-Z", page], env=os.environ | {"MANROFFSEQ": ""})
             room.check(done.returncode == 0 and not done.stderr, f"man finds no fault in {page.name}: {done.stderr}")
-        if tool not in ("ibsm", "ibsm-record", "ibsm-send"):
+        if tool not in ("ibsm", *TOOLS_IN_C):
             wanted = set(re.findall(r"(?<![\w-])--[a-z][a-z-]*", run([to / "bin" / tool, "--help"]).stdout))
             there = set(re.findall(r"--[a-z][a-z-]*", page.read_text().replace("\\", "")))
             lacks = wanted - there - {"--node-name-map"}

@@ -129,6 +129,30 @@ def ways(tables, hop):
     return ends, met, over != met
 
 
+def turns(subnet, tables):
+    """For each switch the pairs of switches of which packets for some LID come from the one to it and leave it for the other."""
+    found = {guid: set() for guid in subnet.switches}
+    for lid in range(1, max(tables.tops.values(), default=0) + 1):
+        hops = subnet.hops(tables.column(subnet.switches, lid), [])
+        for guid, (kind, at) in hops.items():
+            if kind == ON and hops[at][0] == ON:
+                found[at].add((guid, hops[at][1]))
+    return found
+
+
+def told_order(subnet, tables):
+    """The switches in an order by which these tables lead packets up and then down, or None: from the last one on, each time the one
+    of the greatest GUID at which no packet turns between two that are left."""
+    found, left, taken = turns(subnet, tables), set(subnet.switches), []
+    while left:
+        free = [guid for guid in left if not any(one in left and other in left for one, other in found[guid])]
+        if not free:
+            return None
+        taken.append(max(free))
+        left.remove(taken[-1])
+    return taken[::-1]
+
+
 def next_column(subnet, held, planned, end):
     """The next entries for a LID that the end alone holds, by the entries that are held and those of the plan."""
     by_held, by_plan, there = subnet.hops(held, [end]), subnet.hops(planned, [end]), (TAKEN, end)

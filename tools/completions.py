@@ -4,18 +4,20 @@ from __future__ import annotations
 import re
 
 # The commands of the program, and their options.
-FLOOR, PLANS, ORDERS = "--floor", "--lmc --routing --roots --order", "--roots --order"
+FLOOR, PLANS, ORDERS = "--floor", "--lmc --routing --roots --order", "--routing --roots --order"
 COMMANDS = {
     "facts": FLOOR,
     "join": FLOOR,
     "plan": f"{FLOOR} {PLANS}",
     "order": f"{FLOOR} {ORDERS}",
     "audit": FLOOR,
+    "order-of": FLOOR,
     "next": f"{FLOOR} {PLANS}",
     "run": PLANS,
+    "serve": PLANS,
     "help": "",
 }
-RULES = "updown spread"
+RULES = "updown spread balance"
 
 
 def options_in(text: str) -> str:

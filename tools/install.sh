@@ -48,8 +48,9 @@ while read -r name; do
     rm -f -- "$root/$name"
     cp -P --preserve=mode -- "$here/tree/$name" "$root/$name"
 done <"$list.new"
-unit=$root/lib/systemd/system/ibsm-round.service
-sed "s|/usr/local/|$prefix/|" "$here/tree/lib/systemd/system/ibsm-round.service" >"$unit"
+for unit in ibsm-round ibsm-seat; do
+    sed "s|/usr/local/|$prefix/|g" "$here/tree/lib/systemd/system/$unit.service" >"$root/lib/systemd/system/$unit.service"
+done
 # What an older one had, and this one has not.
 if [ -f "$list" ]; then
     while read -r name; do grep -qxF -- "$name" "$list.new" || rm -f -- "$root/$name"; done <"$list"

@@ -60,6 +60,15 @@ int take_shared_option(int letter, const char *text);
 uint64_t get(const uint8_t *bytes, int count);
 void put(uint8_t *bytes, int count, uint64_t value);
 
+/* port.c: the port of this machine that the options name, or the first that is up. */
+struct own_port {
+	char name[64], adapter[32];
+	uint64_t guid;
+	int number;
+};
+/* Opens it, or ends; what libibumad calls it. */
+int open_own_port(struct own_port *port);
+
 /* ask.c: requests, and their replies in the order of the requests. */
 void open_port(void);
 void close_port(void);

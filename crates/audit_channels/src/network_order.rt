@@ -2,8 +2,7 @@ ghost use Rattle.std.specs.Prelude.{IfOk};
 ghost use Rattle.fact_store.specs.View.{cells_of};
 ghost use Rattle.audit_channels.specs.Waiting.{IsOrderOf, IsShortestOf};
 
-use crate::network_waits::waits;
-use crate::{ChannelOrder, order_channels};
+use crate::{ChannelOrder, channel_waits, order_channels};
 use audit::Network;
 use std::alloc::{AllocError, Global};
 
@@ -18,7 +17,7 @@ pub fn channel_order(alloc: Global, network: &Network) -> Result<ChannelOrder, A
     ensures order { IfOk result (λ found. IsOrderOf (cells_of network.now.facts) network.now.held found) }
     ensures shortest { IfOk result (λ found. IsShortestOf (cells_of network.now.facts) network.now.held found) }
 {
-    let waits = waits(alloc, network)?;
+    let waits = channel_waits(alloc, network)?;
     let found = order_channels(alloc, &waits)?;
     Ok(found)
 }

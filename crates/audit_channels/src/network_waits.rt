@@ -9,14 +9,16 @@ use port_graph::Edge;
 use smp_bytes::Lid;
 use std::alloc::{AllocError, Global};
 
-/// For each channel those that packets take next, LID by LID up to the greatest top: above it no switch sends them on.
-pub(crate) fn waits(alloc: Global, network: &Network) -> Result<Waits, AllocError>
+/// Returns for each channel those that packets take next by the tables of a network. The channels have the numbers that
+/// they have in `channel_order`. Takes what that does, but for the order.
+pub fn channel_waits(alloc: Global, network: &Network) -> Result<Waits, AllocError>
     ensures { IfOk result (λ waits. AreWaits (cells_of network.now.facts) network.now.held waits) }
 {
     let count = network.switch_count().checked_mul(256).ok_or(AllocError)?;
     let mut waits = Waits::new(alloc, count)?;
     let mut blocks = network.blocks(alloc, 0)?;
     let mut before = Vec::new(alloc);
+    // Above the greatest top no switch sends packets on.
     for below in 0..network.greatest_top().number() {
         let lid = Lid::new(below + 1);
         blocks = network.blocks_for(alloc, blocks, lid)?;

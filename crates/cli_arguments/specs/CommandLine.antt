@@ -48,13 +48,29 @@ routing_rule words = record (option_rule (codes "routing")) { parser = Some (Nam
 abbrev pub of_files : List Rule
 of_files = files_rule ∷ floor_rule ∷ []
 
+-- the number of a port
+abbrev pub port_rule : Rule
+port_rule = record (text_rule (codes "PORT")) { parser = Some (Signed (pos 1) (pos 254)) }
+
+-- the priority of a manager
+abbrev pub priority_rule : Rule
+priority_rule = record (text_rule (codes "PRIORITY")) { parser = Some (Signed (pos 0) (pos 15)) }
+
+-- a manager at a port
+abbrev pub of_seat : List Rule
+of_seat = text_rule (codes "GUID") ∷ port_rule ∷ priority_rule ∷ []
+
 -- how switches are ordered
 abbrev pub of_order : List Rule
 of_order = option_rule (codes "roots") ∷ option_rule (codes "order") ∷ []
 
+-- by which rule, and how
+abbrev pub of_routing : Bor (List (Bor Text)) → List Rule
+of_routing words = routing_rule words ∷ of_order
+
 -- how plans are made
 abbrev pub of_planning : Bor (List (Bor Text)) → List Rule
-of_planning words = lmc_rule ∷ routing_rule words ∷ of_order
+of_planning words = lmc_rule ∷ of_routing words
 
 -- subcommands --------------------------------------------------------------------------------------------
 
@@ -70,11 +86,14 @@ join_shape = subcommand_shape (codes "join") of_files
 abbrev pub plan_shape : Bor (List (Bor Text)) → Shape
 plan_shape words = subcommand_shape (codes "plan") (of_files ++ of_planning words)
 
-abbrev pub order_shape : Shape
-order_shape = subcommand_shape (codes "order") (of_files ++ of_order)
+abbrev pub order_shape : Bor (List (Bor Text)) → Shape
+order_shape words = subcommand_shape (codes "order") (of_files ++ of_routing words)
 
 abbrev pub audit_shape : Shape
 audit_shape = subcommand_shape (codes "audit") (text_rule (codes "TABLES") ∷ of_files)
+
+abbrev pub order_of_shape : Shape
+order_of_shape = subcommand_shape (codes "order-of") (text_rule (codes "TABLES") ∷ of_files)
 
 abbrev pub next_shape : Bor (List (Bor Text)) → Shape
 next_shape words = subcommand_shape (codes "next") (text_rule (codes "TABLES") ∷ of_files ++ of_planning words)
@@ -82,6 +101,9 @@ next_shape words = subcommand_shape (codes "next") (text_rule (codes "TABLES") �
 abbrev pub run_shape : Bor (List (Bor Text)) → Shape
 run_shape words =
     subcommand_shape (codes "run") (text_rule (codes "TOPOLOGY") ∷ text_rule (codes "SCHEDULE") ∷ of_planning words)
+
+abbrev pub serve_shape : Bor (List (Bor Text)) → Shape
+serve_shape words = subcommand_shape (codes "serve") (of_seat ++ of_planning words)
 
 -- the program, which does nothing without a subcommand
 abbrev pub program_app : App
@@ -93,12 +115,14 @@ abbrev pub command_line : Bor (List (Bor Text)) → App
 command_line words = record {
   top = record program_app.top { is_leaf = false };
   subs =
-      facts_shape ∷ join_shape ∷ plan_shape words ∷ order_shape ∷ audit_shape ∷ next_shape words ∷ run_shape words ∷ [];
+      facts_shape ∷ join_shape ∷ plan_shape words ∷ order_shape words ∷ audit_shape ∷ order_of_shape ∷ next_shape words
+      ∷ run_shape words ∷ serve_shape words ∷ [];
 }
 
 -- the rules of routing by their words
 abbrev pub AreRoutings : Bor (List (Bor Text)) → Type 0
-AreRoutings words = map (λ word. word.now) words.now ≡ codes "updown" ∷ codes "spread" ∷ []
+AreRoutings words =
+    map (λ word. word.now) words.now ≡ codes "updown" ∷ codes "spread" ∷ codes "balance" ∷ []
 
 -- commands -----------------------------------------------------------------------------------------------
 

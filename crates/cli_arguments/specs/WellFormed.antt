@@ -1,10 +1,10 @@
 -- What words have that a command line takes: a subcommand, each argument that it requires, numbers in their ranges.
-use Rattle.std.specs.Prelude.{◌≡◌, ◌⊎◌, ⊤, ℕ, ◌&&◌, true, false, List, Option, None, Some, codes, is_some, pos}
+use Rattle.std.specs.Prelude.{◌≡◌, ◌⊎◌, ⊤, ℕ, true, false, List, Option, None, Some, codes, is_some, pos}
 use Rattle.clap.specs.Matches.{subcommand_name_of}
 use Rattle.clap.specs.Values.{IsSignedIn}
 use Rattle.clap.specs.Walk.{Text}
 use Rattle.clap.specs.declared.parser.matches.ArgMatches.{ArgMatches}
-use Rattle.cli_arguments.specs.Words.{files_named, has_conflict_of, word_named}
+use Rattle.cli_arguments.specs.Words.{files_named, has_conflict_of, is_guid, order_rule, word_named}
 
 -- the word, if there is one, writes a number within these bounds
 abbrev pub IsNumberWithin : ℕ → ℕ → Option Text → Type 0
@@ -14,7 +14,7 @@ IsNumberWithin least most (Some word) = IsSignedIn (pos least) (pos most) word
 -- the word, if there is one, names a rule of routing
 abbrev pub IsRouting : Option Text → Type 0
 IsRouting None = ⊤
-IsRouting (Some word) = (word ≡ codes "updown") ⊎ (word ≡ codes "spread")
+IsRouting (Some word) = (word ≡ codes "updown") ⊎ ((word ≡ codes "spread") ⊎ (word ≡ codes "balance"))
 
 -- an argument has a word
 abbrev pub IsGiven : Option Text → Type 0
@@ -32,9 +32,19 @@ pub record NamesPlanning (word : Text → Option Text) : Type 0 where
   pub apart : has_conflict_of (word (codes "routing")) (is_some (word (codes "roots"))) (is_some (word (codes "order")))
       ≡ false
 
--- how switches are ordered can be done: not from roots and by an order both
-abbrev pub NamesOrder : (Text → Option Text) → Type 0
-NamesOrder word = (is_some (word (codes "roots")) && is_some (word (codes "order"))) ≡ false
+-- how switches are ordered can be done: a rule that takes the roots or the order, if one of them is named
+pub record NamesOrder (word : Text → Option Text) : Type 0 where
+  pub routing : IsRouting (word (codes "routing"))
+  pub apart : has_conflict_of (order_rule (word (codes "routing"))) (is_some (word (codes "roots")))
+      (is_some (word (codes "order"))) ≡ false
+
+-- a manager's port and its priority are named
+pub record NamesSeat (word : Text → Option Text) : Type 0 where
+  pub guid : is_guid (word (codes "GUID")) ≡ true
+  pub port_given : IsGiven (word (codes "PORT"))
+  pub port : IsNumberWithin 1 254 (word (codes "PORT"))
+  pub priority_given : IsGiven (word (codes "PRIORITY"))
+  pub priority : IsNumberWithin 0 15 (word (codes "PRIORITY"))
 
 -- a subcommand has the words that it takes
 pub data HasItsWords (word : Text → Option Text) (files : Option (List Text)) (name : Text) : Type 0 where
@@ -43,10 +53,13 @@ pub data HasItsWords (word : Text → Option Text) (files : Option (List Text)) 
   plan : name ≡ codes "plan" → NamesFiles word files → NamesPlanning word → HasItsWords word files name
   order : name ≡ codes "order" → NamesFiles word files → NamesOrder word → HasItsWords word files name
   audit : name ≡ codes "audit" → IsGiven (word (codes "TABLES")) → NamesFiles word files → HasItsWords word files name
+  order_of : name ≡ codes "order-of" → IsGiven (word (codes "TABLES")) → NamesFiles word files
+      → HasItsWords word files name
   next : name ≡ codes "next" → IsGiven (word (codes "TABLES")) → NamesFiles word files → NamesPlanning word
       → HasItsWords word files name
   run : name ≡ codes "run" → IsGiven (word (codes "TOPOLOGY")) → IsGiven (word (codes "SCHEDULE")) → NamesPlanning word
       → HasItsWords word files name
+  serve : name ≡ codes "serve" → NamesSeat word → NamesPlanning word → HasItsWords word files name
 
 -- the words name a subcommand, and have the words that it takes
 pub record IsWellFormed (matches : ArgMatches) : Type 0 where

@@ -1,5 +1,7 @@
 -- The words of the command line by the names of their arguments, and which of them contradict each other.
-use Rattle.std.specs.Prelude.{ℕ, Bool, false, List, Option, None, Some, codes, find, is_some, not, option_and_then, option_map, slice_get, ◌&&◌, ◌||◌, if◌then◌else◌}
+use Rattle.std.specs.Prelude.{ℕ, Bool, false, List, Option, None, Some, codes, find, is_some, length, nat_le, not, option_and_then, option_map, slice_get, ◌&&◌, ◌||◌, if◌then◌else◌}
+use Rattle.std.specs.Char.{is_ascii_hexdigit}
+use Rattle.std.specs.List.{list_all}
 use Rattle.std.specs.Str.{bytes_eq}
 use Rattle.clap.specs.Simple.{subcommand_rows_of}
 use Rattle.clap.specs.Walk.{Row}
@@ -30,11 +32,30 @@ lacks_rule (Some word) named = named && not (bytes_eq word (codes "spread"))
 abbrev pub has_conflict_of : Option (List ℕ) → Bool → Bool → Bool
 has_conflict_of routing rooted ordered = (rooted && ordered) || lacks_rule routing (rooted || ordered)
 
--- in the subcommand with this name; one that prints an order needs no rule
+-- the rule of an order: the one that spreads where no word names one
+abbrev pub order_rule : Option (List ℕ) → Option (List ℕ)
+order_rule None = Some (codes "spread")
+order_rule (Some word) = Some word
+
+-- 1 to 16 hex digits
+abbrev pub is_guid_word : List ℕ → Bool
+is_guid_word word = nat_le 1 (length word) && nat_le (length word) 16 && list_all is_ascii_hexdigit word
+
+abbrev pub is_guid : Option (List ℕ) → Bool
+is_guid None = false
+is_guid (Some word) = is_guid_word word
+
+-- of a plan or an order, in the subcommand with this name; one that prints an order needs no word for its rule
+abbrev pub planning_conflict : List ℕ → (List ℕ → Option (List ℕ)) → Bool
+planning_conflict name word =
+    has_conflict_of (if bytes_eq name (codes "order") then order_rule (word (codes "routing")) else word (codes "routing"))
+    (is_some (word (codes "roots"))) (is_some (word (codes "order")))
+
+-- in the subcommand with this name; one that serves a manager needs a GUID besides
 abbrev pub has_conflict : List ℕ → (List ℕ → Option (List ℕ)) → Bool
 has_conflict name word =
-    if bytes_eq name (codes "order") then is_some (word (codes "roots")) && is_some (word (codes "order"))
-    else has_conflict_of (word (codes "routing")) (is_some (word (codes "roots"))) (is_some (word (codes "order")))
+    if bytes_eq name (codes "serve") then planning_conflict name word || not (is_guid (word (codes "GUID")))
+    else planning_conflict name word
 
 -- in the one that was named, if one was
 abbrev pub has_conflict_behind : Option (List ℕ × List Row) → Bool

@@ -12,11 +12,26 @@ pub const PLAN: &str = "plan";
 /// The subcommand that audits tables.
 pub const AUDIT: &str = "audit";
 
+/// The subcommand that prints the order of switches that tables tell.
+pub const ORDER_OF: &str = "order-of";
+
 /// The subcommand that prints the tables to write next.
 pub const NEXT: &str = "next";
 
 /// The subcommand that runs a schedule.
 pub const RUN: &str = "run";
+
+/// The subcommand that serves a manager.
+pub const SERVE: &str = "serve";
+
+/// The GUID of the port that a manager sits at.
+pub const GUID: &str = "GUID";
+
+/// The number of that port.
+pub const PORT: &str = "PORT";
+
+/// The priority of a manager.
+pub const PRIORITY: &str = "PRIORITY";
 
 /// The files of a subcommand.
 pub const FILE: &str = "FILE";
@@ -41,6 +56,9 @@ pub const ORDER: &str = "order";
 
 /// The rule that spreads, and takes roots or an order.
 pub const SPREAD: &str = "spread";
+
+/// The rule that spreads in the order of the least trial load, which takes none.
+pub const BALANCE: &str = "balance";
 
 /// The rule that goes up and down, which takes none.
 pub const UPDOWN: &str = "updown";

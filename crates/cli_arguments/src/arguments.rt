@@ -1,27 +1,32 @@
 //! The command line.
-ghost use Rattle.std.specs.Prelude.{◌≡◌, ◌∷◌, ◌++◌, [], IfOk, codes, false, is_some, map};
+ghost use Rattle.std.specs.Prelude.{◌≡◌, ◌∷◌, ◌++◌, [], IfOk, codes, false, if◌then◌else◌, is_some, map};
+ghost use Rattle.std.specs.Char.{is_ascii_hexdigit};
+ghost use Rattle.std.specs.List.{list_all};
+ghost use Rattle.std.specs.Str.{bytes_eq};
 ghost use Rattle.clap.specs.Matches.{first_value, found_of};
 ghost use Rattle.clap.specs.Simple.{App, Shape, subcommand_rows_of, with_subcommand};
 ghost use Rattle.clap.specs.Values.{kind_of};
 ghost use Rattle.clap.specs.Walk.{rule_of};
 ghost use Rattle.cli_arguments.specs.CommandLine.{AddsRules, AreRoutings, IsApp, IsOf, IsReadAs};
-ghost use Rattle.cli_arguments.specs.CommandLine.{audit_shape, facts_shape, join_shape, next_shape, order_shape};
-ghost use Rattle.cli_arguments.specs.CommandLine.{command_line, of_files, of_order, of_planning, plan_shape};
-ghost use Rattle.cli_arguments.specs.CommandLine.{program_app, run_shape};
+ghost use Rattle.cli_arguments.specs.CommandLine.{audit_shape, facts_shape, join_shape, next_shape, order_of_shape};
+ghost use Rattle.cli_arguments.specs.CommandLine.{order_shape};
+ghost use Rattle.cli_arguments.specs.CommandLine.{command_line, of_files, of_order, of_planning, of_routing, of_seat};
+ghost use Rattle.cli_arguments.specs.CommandLine.{plan_shape, port_rule, priority_rule, program_app, run_shape, serve_shape};
 ghost use Rattle.cli_arguments.specs.CommandLine.{files_rule, floor_rule, lmc_rule, option_rule, routing_rule};
 ghost use Rattle.cli_arguments.specs.CommandLine.{text_rule};
 ghost use Rattle.cli_arguments.specs.WellFormed.{IsWellFormed};
-ghost use Rattle.cli_arguments.specs.Words.{has_conflict, has_conflict_behind, lacks_rule};
+ghost use Rattle.cli_arguments.specs.Words.{has_conflict, has_conflict_behind, is_guid, is_guid_word, lacks_rule, order_rule};
+ghost use Rattle.cli_arguments.specs.Words.{planning_conflict};
 
 use crate::argument_names::{
-    AUDIT, FACTS, FILE, FLOOR, JOIN, LMC, NEXT, ORDER, PLAN, ROOTS, ROUTING, RUN, SCHEDULE, SPREAD,
-    TABLES, TOPOLOGY, UPDOWN,
+    AUDIT, BALANCE, FACTS, FILE, FLOOR, GUID, JOIN, LMC, NEXT, ORDER, ORDER_OF, PLAN, PORT,
+    PRIORITY, ROOTS, ROUTING, RUN, SCHEDULE, SERVE, SPREAD, TABLES, TOPOLOGY, UPDOWN,
 };
 use clap::error::ErrorKind;
 use clap::{Arg, ArgAction, ArgMatches, Command, Error, value_parser};
 use std::alloc::{AllocError, Global};
 
-const RULES: [&str; 2] = [UPDOWN, SPREAD];
+const RULES: [&str; 3] = [UPDOWN, SPREAD, BALANCE];
 
 const VERSION: &str = "0.1.0";
 
@@ -49,6 +54,12 @@ const AUDIT_END: &str =
      4  a file cannot be opened or read, or the output takes no more\n  \
      5  out of memory\n\nExample:\n  ibsm audit held.tables fabric.reports";
 
+const ORDER_OF_END: &str = "Exit status:\n  0  done\n  \
+     1  done, and there is no such order, so nothing is printed\n  \
+     2  the command line is wrong\n  3  a file is refused\n  \
+     4  a file cannot be opened or read, or the output takes no more\n  \
+     5  out of memory\n\nExample:\n  ibsm order-of held.tables fabric.reports > fabric.order";
+
 const NEXT_END: &str =
     "Exit status:\n  0  done, and no mixture of both tables can make a credit loop\n  \
      1  done, and the credit loop on standard error can come about while they are written\n  \
@@ -59,6 +70,13 @@ const NEXT_END: &str =
 const RUN_END: &str = "Exit status:\n  0  done\n  2  the command line is wrong\n  \
      3  a file is refused\n  4  a file cannot be opened or read, or the output takes no more\n  \
      5  out of memory\n\nExample:\n  ibsm run triangle.topology bring_up.schedule";
+
+const SERVE_END: &str =
+    "It is no subnet administration: it has no path records and no multicast groups, knows no partitions \
+     and no lanes, and its SMInfo does not yet go together with a stock OpenSM.\n\n\
+     Exit status:\n  0  done\n  2  the command line is wrong\n  3  a file is refused\n  \
+     4  a file or standard input cannot be opened or read, or the output takes no more\n  \
+     5  out of memory\n\nExample:\n  ibsm serve 0000000000000101 1 5";
 
 /// What the words of a command line are, the program's name first, or what is wrong with them: a fault by
 /// `command_line`, options that contradict each other, or that memory ran out as they were read. So says an outer `Err`
@@ -90,10 +108,12 @@ fn command_line<'a>(alloc: Global, routings: &'a [&'a str]) -> Result<Command<'a
     let command = with(Ok(program(alloc)), facts(alloc));
     let command = with(command, join(alloc));
     let command = with(command, plan(alloc, routings));
-    let command = with(command, order(alloc));
+    let command = with(command, order(alloc, routings));
     let command = with(command, audit(alloc));
+    let command = with(command, order_of(alloc));
     let command = with(command, next(alloc, routings));
-    with(command, run(alloc, routings))
+    let command = with(command, run(alloc, routings));
+    with(command, serve(alloc, routings))
 }
 
 /// A command with another subcommand.
@@ -149,15 +169,15 @@ fn plan<'a>(alloc: Global, routings: &'a [&'a str]) -> Result<Command<'a>, Alloc
     with_planning(alloc, routings, of_files(alloc, command)?)
 }
 
-fn order<'a>(alloc: Global) -> Result<Command<'a>, AllocError>
-    ensures { IfOk result (IsOf order_shape) }
+fn order<'a>(alloc: Global, routings: &'a [&'a str]) -> Result<Command<'a>, AllocError>
+    ensures { IfOk result (IsOf (order_shape routings.entry)) }
 {
     let command = Command::new(alloc, ORDER)
         .about(
-            "Prints the switches in the order by which plan --routing spread goes, a GUID a line, for --order",
+            "Prints the switches in the order by which a plan goes, by spread if no rule is named, a GUID a line, for --order",
         )
         .after_help(ORDER_END);
-    with_order(alloc, of_files(alloc, command)?)
+    with_routing(alloc, routings, of_files(alloc, command)?)
 }
 
 fn audit<'a>(alloc: Global) -> Result<Command<'a>, AllocError>
@@ -169,6 +189,18 @@ fn audit<'a>(alloc: Global) -> Result<Command<'a>, AllocError>
              files",
         )
         .after_help(AUDIT_END);
+    of_tables(alloc, command)
+}
+
+fn order_of<'a>(alloc: Global) -> Result<Command<'a>, AllocError>
+    ensures { IfOk result (IsOf order_of_shape) }
+{
+    let command = Command::new(alloc, ORDER_OF)
+        .about(
+            "Prints the switches in an order by which the tables that switches hold lead packets up and then \
+             down, a GUID a line, for --order",
+        )
+        .after_help(ORDER_OF_END);
     of_tables(alloc, command)
 }
 
@@ -205,6 +237,27 @@ fn run<'a>(alloc: Global, routings: &'a [&'a str]) -> Result<Command<'a>, AllocE
     with_planning(alloc, routings, command)
 }
 
+fn serve<'a>(alloc: Global, routings: &'a [&'a str]) -> Result<Command<'a>, AllocError>
+    ensures { IfOk result (IsOf (serve_shape routings.entry)) }
+{
+    let command = Command::new(alloc, SERVE)
+        .about(
+            "Serves a subnet manager by the lines on standard input, and prints what it sends and tells",
+        )
+        .after_help(SERVE_END);
+    with_planning(alloc, routings, of_seat(alloc, command)?)
+}
+
+/// A subcommand of a manager at a port.
+fn of_seat<'a>(alloc: Global, command: Command<'a>) -> Result<Command<'a>, AllocError>
+    ensures { IfOk result (AddsRules of_seat command.entry) }
+{
+    command
+        .arg(text(alloc, GUID, "The GUID of the port, 1 to 16 hex digits"))?
+        .arg(port(alloc))?
+        .arg(priority(alloc))
+}
+
 /// A subcommand of files, from a floor on.
 fn of_files<'a>(alloc: Global, command: Command<'a>) -> Result<Command<'a>, AllocError>
     ensures { IfOk result (AddsRules of_files command.entry) }
@@ -232,7 +285,19 @@ fn with_planning<'a>(
 ) -> Result<Command<'a>, AllocError>
     ensures { IfOk result (AddsRules (of_planning routings.entry) command.entry) }
 {
-    let command = command.arg(lmc(alloc))?.arg(routing(alloc, routings))?;
+    let command = command.arg(lmc(alloc))?;
+    with_routing(alloc, routings, command)
+}
+
+/// With a rule of routing, and its roots or its order.
+fn with_routing<'a>(
+    alloc: Global,
+    routings: &'a [&'a str],
+    command: Command<'a>,
+) -> Result<Command<'a>, AllocError>
+    ensures { IfOk result (AddsRules (of_routing routings.entry) command.entry) }
+{
+    let command = command.arg(routing(alloc, routings))?;
     with_order(alloc, command)
 }
 
@@ -251,6 +316,30 @@ fn text<'a>(alloc: Global, name: &'a str, help: &'a str) -> Arg<'a>
     Arg::new(alloc, name)
         .help(help)
         .required(true)
+        .action(ArgAction::Set)
+}
+
+/// The number of a port.
+fn port<'a>(alloc: Global) -> Arg<'a>
+    ensures rule { rule_of result ≡ port_rule }
+    ensures own { result.global ≡ false }
+{
+    Arg::new(alloc, PORT)
+        .help("The number of the port, 1 to 254")
+        .required(true)
+        .value_parser(value_parser!(u8).range(1..=254))
+        .action(ArgAction::Set)
+}
+
+/// The priority of a manager.
+fn priority<'a>(alloc: Global) -> Arg<'a>
+    ensures rule { rule_of result ≡ priority_rule }
+    ensures own { result.global ≡ false }
+{
+    Arg::new(alloc, PRIORITY)
+        .help("The priority of the manager, 0 to 15")
+        .required(true)
+        .value_parser(value_parser!(u8).range(0..=15))
         .action(ArgAction::Set)
 }
 
@@ -290,7 +379,8 @@ fn routing<'a>(alloc: Global, routings: &'a [&'a str]) -> Arg<'a>
         .value_name("RULE")
         .help(
             "updown leads packets by one root of each component, and is what is taken where none is named; \
-             spread leads them over all wires, so that none is much busier than others",
+             spread leads them over all wires, so that none is much busier than others; balance does so in \
+             the best of several orders of switches, which pays where the fabric is no tree",
         )
         .value_parser(routings)
         .action(ArgAction::Set)
@@ -325,7 +415,7 @@ fn order_file<'a>(alloc: Global) -> Arg<'a>
 }
 
 /// Whether options contradict each other: roots and an order are named, or one of them with another rule of routing than
-/// the one that takes them, or with none.
+/// the one that takes them, or with none; or a word stands for a GUID that is none.
 fn has_conflict(matches: &ArgMatches<'_>) -> bool
     ensures { result ≡ has_conflict_behind (subcommand_rows_of matches.now) }
 {
@@ -339,20 +429,54 @@ fn has_conflict(matches: &ArgMatches<'_>) -> bool
 fn has_conflict_in(name: &str, words: &ArgMatches<'_>) -> bool
     ensures { result ≡ has_conflict name.now (first_value (found_of words.now)) }
 {
-    let rooted = is_named(words, ROOTS);
-    let ordered = is_named(words, ORDER);
     match name {
-        ORDER => rooted && ordered,
-        _ => (rooted && ordered) || lacks_rule(words, rooted || ordered),
+        SERVE => planning_conflict(name, words) || !has_guid(words),
+        _ => planning_conflict(name, words),
     }
 }
 
-/// Whether the rule lacks that takes roots or an order, where one of them is named.
-fn lacks_rule(words: &ArgMatches<'_>, named: bool) -> bool
-    ensures { result ≡ lacks_rule (first_value (found_of words.now) (codes "routing")) named }
+/// Returns whether options of a plan or an order contradict each other.
+fn planning_conflict(name: &str, words: &ArgMatches<'_>) -> bool
+    ensures { result ≡ planning_conflict name.now (first_value (found_of words.now)) }
 {
-    match words.get_str(ROUTING) {
-        Some(SPREAD) => false,
+    let rooted = is_named(words, ROOTS);
+    let ordered = is_named(words, ORDER);
+    (rooted && ordered) || lacks_rule(name, words, rooted || ordered)
+}
+
+/// Returns whether the word for a GUID is one: 1 to 16 hex digits.
+fn has_guid(words: &ArgMatches<'_>) -> bool
+    ensures { result ≡ is_guid (first_value (found_of words.now) (codes "GUID")) }
+{
+    match words.get_str(GUID) {
+        Some(word) => is_guid_word(word.as_bytes()),
+        None => false,
+    }
+}
+
+/// Returns whether these bytes are 1 to 16 hex digits.
+fn is_guid_word(word: &[u8]) -> bool
+    ensures { result ≡ is_guid_word word.now }
+{
+    !word.is_empty() && word.len() <= 16 && are_hex_digits(word)
+}
+
+/// Returns whether all are hex digits.
+fn are_hex_digits(bytes: &[u8]) -> bool
+    ensures { result ≡ list_all is_ascii_hexdigit bytes.now }
+{
+    bytes.iter().all(|byte| byte.is_ascii_hexdigit())
+}
+
+/// Whether the rule lacks that takes roots or an order, where one of them is named; behind the subcommand that prints an
+/// order the rule is that one if none is named.
+fn lacks_rule(name: &str, words: &ArgMatches<'_>, named: bool) -> bool
+    ensures { result ≡ lacks_rule (if bytes_eq name.now (codes "order")
+        then order_rule (first_value (found_of words.now) (codes "routing"))
+        else first_value (found_of words.now) (codes "routing")) named }
+{
+    match (name, words.get_str(ROUTING)) {
+        (_, Some(SPREAD)) | (ORDER, None) => false,
         _ => named,
     }
 }
@@ -377,6 +501,9 @@ fn conflict_text(matches: &ArgMatches<'_>) -> &'static str {
     let Some((_, words)) = matches.subcommand() else {
         return "";
     };
+    if is_named(words, GUID) && !has_guid(words) {
+        return "invalid value for '<GUID>': 1 to 16 hex digits are wanted";
+    }
     match (is_named(words, ROOTS), is_named(words, ORDER)) {
         (true, true) => "the argument '--roots <FILE>' cannot be used with '--order <FILE>'",
         (true, false) => "the argument '--roots <FILE>' cannot be used without '--routing spread'",
@@ -389,7 +516,8 @@ fn subcommand<'a>(alloc: Global, name: Option<&str>) -> Result<Command<'a>, Allo
     match name {
         Some(NEXT) => next(alloc, RULES.as_slice())?.bin_name("ibsm next"),
         Some(RUN) => run(alloc, RULES.as_slice())?.bin_name("ibsm run"),
-        Some(ORDER) => order(alloc)?.bin_name("ibsm order"),
+        Some(ORDER) => order(alloc, RULES.as_slice())?.bin_name("ibsm order"),
+        Some(SERVE) => serve(alloc, RULES.as_slice())?.bin_name("ibsm serve"),
         _ => plan(alloc, RULES.as_slice())?.bin_name("ibsm plan"),
     }
 }

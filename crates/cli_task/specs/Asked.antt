@@ -5,16 +5,18 @@ use Rattle.std.specs.Str.{bytes_eq}
 use Rattle.std.specs.Str.Parse.{starts_with_minus, without_leading_plus}
 use Rattle.clap.specs.Matches.{subcommand_name_of}
 use Rattle.clap.specs.declared.parser.matches.ArgMatches.{ArgMatches}
-use Rattle.cli_arguments.specs.Words.{files_named, word_named}
+use Rattle.cli_arguments.specs.Words.{files_named, order_rule, word_named}
 use Rattle.text_words.specs.Number.{number_of}
 use Rattle.sm_cli.specs.Asked.{rule_for}
 use Rattle.sm_cli.specs.declared.asked.Output.{Output}
 use Rattle.sm_cli.specs.declared.asked.Output.TheVariants.{Facts, Join, Plan, Order}
 use Rattle.sm_cli.specs.declared.asked.RuleAsked.{RuleAsked}
-use Rattle.sm_cli.specs.declared.asked.RuleAsked.TheVariants.{UpDown, Spread, SpreadFromRoots, SpreadInOrder}
+use Rattle.sm_cli.specs.declared.asked.RuleAsked.TheVariants.{UpDown, Spread, SpreadFromRoots, SpreadInOrder, Balance}
 use Rattle.next_run.specs.declared.run_step.StepAsked.{StepAsked}
+use Rattle.serve_lines.specs.ServeLine.{hex_number}
+use Rattle.serve_task.specs.declared.serving.Serving.{Serving}
 use Rattle.cli_task.specs.declared.task.Task.{Task}
-use Rattle.cli_task.specs.declared.task.Task.TheVariants.{Answer, Audit, Next, Run}
+use Rattle.cli_task.specs.declared.task.Task.TheVariants.{Answer, Audit, OrderOf, Next, Run, Serve}
 
 -- options ---------------------------------------------------------------------------------------
 
@@ -56,7 +58,8 @@ abbrev pub rule_asked : Option (List ℕ) → Bool → Bool → Option RuleAsked
 rule_asked None rooted ordered = if rooted || ordered then None else Some UpDown
 rule_asked (Some word) rooted ordered =
     if bytes_eq word (codes "spread") then spread_asked rooted ordered
-    else (if bytes_eq word (codes "updown") && not (rooted || ordered) then Some UpDown else None)
+    else (if bytes_eq word (codes "updown") && not (rooted || ordered) then Some UpDown
+    else (if bytes_eq word (codes "balance") && not (rooted || ordered) then Some Balance else None))
 
 -- tasks -----------------------------------------------------------------------------------------
 
@@ -68,12 +71,36 @@ planning_asked word = option_and_then (λ lmc. option_map (λ rule. (lmc, rule))
 
 -- what an order goes by
 abbrev pub order_asked : (List ℕ → Option (List ℕ)) → Option RuleAsked
-order_asked word = spread_asked (is_some (word (codes "roots"))) (is_some (word (codes "order")))
+order_asked word =
+    rule_asked (order_rule (word (codes "routing"))) (is_some (word (codes "roots"))) (is_some (word (codes "order")))
 
 -- the step
 abbrev pub step_asked : (List ℕ → Option (List ℕ)) → Option StepAsked
 step_asked word = option_and_then (λ by. option_map (λ floor. record { lmc = by.0; rule = by.1; floor = floor })
     (floor_asked (word (codes "floor")))) (planning_asked word)
+
+-- a GUID, by 1 to 16 hex digits
+abbrev pub guid_asked : Option (List ℕ) → Option ℕ
+guid_asked word = option_and_then hex_number word
+
+-- the number of a port
+abbrev pub port_asked : Option (List ℕ) → Option ℕ
+port_asked word = option_and_then (within 1 254) (option_and_then number_in word)
+
+-- a priority
+abbrev pub priority_asked : Option (List ℕ) → Option ℕ
+priority_asked word = option_and_then (within 0 15) (option_and_then number_in word)
+
+-- a manager at a port, which plans so
+abbrev pub serving_by : ℕ × RuleAsked → Option ℕ → Option ℕ → Option ℕ → Option Serving
+serving_by by guid port priority =
+    option_and_then (λ g. option_and_then (λ p. option_map
+    (λ q. record { guid = g; port = p; priority = q; lmc = by.0; rule = by.1 }) priority) port) guid
+
+-- the manager that is served
+abbrev pub serving_asked : (List ℕ → Option (List ℕ)) → Option Serving
+serving_asked word = option_and_then (λ by. serving_by by (guid_asked (word (codes "GUID")))
+    (port_asked (word (codes "PORT"))) (priority_asked (word (codes "PRIORITY")))) (planning_asked word)
 
 -- what a command writes of files
 abbrev pub output_asked : (List ℕ → Option (List ℕ)) → List ℕ → Option Output
@@ -87,10 +114,12 @@ output_asked word command =
 abbrev pub task_behind : (List ℕ → Option (List ℕ)) → List ℕ → Option Task
 task_behind word command =
     if bytes_eq command (codes "audit") then option_map Audit (floor_asked (word (codes "floor")))
+    else (if bytes_eq command (codes "order-of") then option_map OrderOf (floor_asked (word (codes "floor")))
     else (if bytes_eq command (codes "next") then option_map Next (step_asked word)
     else (if bytes_eq command (codes "run") then option_map (λ by. Run by.0 by.1) (planning_asked word)
+    else (if bytes_eq command (codes "serve") then option_map Serve (serving_asked word)
     else option_and_then (λ output. option_map (λ floor. Answer (record { output = output; floor = floor }))
-    (floor_asked (word (codes "floor")))) (output_asked word command)))
+    (floor_asked (word (codes "floor")))) (output_asked word command)))))
 
 -- the task that the words ask for
 abbrev pub task_asked : ArgMatches → Option Task
@@ -104,29 +133,36 @@ texts_of_rule word UpDown = Some []
 texts_of_rule word Spread = Some []
 texts_of_rule word SpreadFromRoots = option_map (λ roots. roots ∷ []) (word (codes "roots"))
 texts_of_rule word SpreadInOrder = option_map (λ order. order ∷ []) (word (codes "order"))
+texts_of_rule word Balance = Some []
 
 -- by which rule a task plans; where it does not, by one that takes no text
 abbrev pub rule_of_task : Task → RuleAsked
 rule_of_task (Answer request) = rule_for request.output
 rule_of_task (Audit floor) = UpDown
+rule_of_task (OrderOf floor) = UpDown
 rule_of_task (Next asked) = asked.rule
 rule_of_task (Run lmc rule) = rule
+rule_of_task (Serve asked) = asked.rule
 
 -- the other texts that a task takes
 abbrev pub texts_asked : (List ℕ → Option (List ℕ)) → Task → Option (List (List ℕ))
 texts_asked word (Answer request) = Some []
 texts_asked word (Audit floor) = option_map (λ tables. tables ∷ []) (word (codes "TABLES"))
+texts_asked word (OrderOf floor) = option_map (λ tables. tables ∷ []) (word (codes "TABLES"))
 texts_asked word (Next asked) = option_map (λ tables. tables ∷ []) (word (codes "TABLES"))
 texts_asked word (Run lmc rule) =
     option_and_then (λ topology. option_map (λ schedule. topology ∷ schedule ∷ []) (word (codes "SCHEDULE")))
     (word (codes "TOPOLOGY"))
+texts_asked word (Serve asked) = option_map (λ guid. codes "/dev/stdin" ∷ []) (word (codes "GUID"))
 
 -- whether it takes files
 abbrev pub takes_files : Task → Bool
 takes_files (Answer request) = true
 takes_files (Audit floor) = true
+takes_files (OrderOf floor) = true
 takes_files (Next asked) = true
 takes_files (Run lmc rule) = false
+takes_files (Serve asked) = false
 
 -- its files, where these are named
 abbrev pub files_asked : Option (List (List ℕ)) → Task → Option (List (List ℕ))

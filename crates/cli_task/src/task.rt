@@ -4,18 +4,20 @@ ghost use Rattle.clap.specs.Matches.{first_value, found_of, matched_of, raw_valu
 ghost use Rattle.cli_task.specs.Asked.{floor_asked, lmc_asked, number_in, number_or, planning_asked, rule_asked};
 ghost use Rattle.cli_task.specs.Asked.{order_asked, output_asked, step_asked, task_asked, task_behind, within};
 ghost use Rattle.cli_task.specs.Asked.{names_asked, names_in, rule_of_task, spread_asked, takes_files, texts_asked};
-ghost use Rattle.cli_task.specs.Asked.{texts_of_rule};
+ghost use Rattle.cli_task.specs.Asked.{guid_asked, port_asked, priority_asked, serving_asked, texts_of_rule};
 
 use arrayvec::ArrayVec;
-use attr_codec::Lmc;
+use attr_codec::{Lmc, Priority};
 use clap::ArgMatches;
 use cli_arguments::argument_names::{
-    AUDIT, FACTS, FILE, FLOOR, JOIN, LMC, NEXT, ORDER, PLAN, ROOTS, ROUTING, RUN, SCHEDULE, SPREAD,
-    TABLES, TOPOLOGY, UPDOWN,
+    AUDIT, BALANCE, FACTS, FILE, FLOOR, GUID, JOIN, LMC, NEXT, ORDER, ORDER_OF, PLAN, PORT,
+    PRIORITY, ROOTS, ROUTING, RUN, SCHEDULE, SERVE, SPREAD, TABLES, TOPOLOGY, UPDOWN,
 };
 use next_run::StepAsked;
+use serve_lines::hex_number;
+use serve_task::Serving;
 use sm_cli::{Invocation, Output, RuleAsked};
-use smp_bytes::Generation;
+use smp_bytes::{Generation, Guid, PortNum};
 use std::alloc::{AllocError, Global};
 
 /// What the program is asked to do.
@@ -25,12 +27,20 @@ pub enum Task {
     Answer(Invocation),
     /// To audit tables in the subnet of files, where nothing older than the generation counts.
     Audit(Generation),
+    /// To write the order of switches that tables tell in the subnet of files, where nothing older than the generation
+    /// counts.
+    OrderOf(Generation),
     /// To write the tables to write next.
     Next(StepAsked),
     /// To run a schedule in the fabric of a topology, with managers that plan 2^LMC LIDs for each adapter port, by a
     /// rule.
     Run(Lmc, RuleAsked),
+    /// To serve a manager by lines.
+    Serve(Serving),
 }
+
+/// Where lines are read from.
+const LINES: &str = "/dev/stdin";
 
 impl Task {
     /// By which rule it plans; where it does not, by one that takes no text.
@@ -39,9 +49,10 @@ impl Task {
     {
         match self {
             Task::Answer(request) => request.output.rule(),
-            Task::Audit(_) => RuleAsked::UpDown,
+            Task::Audit(_) | Task::OrderOf(_) => RuleAsked::UpDown,
             Task::Next(asked) => asked.rule,
             Task::Run(_, rule) => *rule,
+            Task::Serve(asked) => asked.rule,
         }
     }
 
@@ -50,8 +61,8 @@ impl Task {
         ensures { result ≡ takes_files self.now }
     {
         match self {
-            Task::Answer(_) | Task::Audit(_) | Task::Next(_) => true,
-            Task::Run(..) => false,
+            Task::Answer(_) | Task::Audit(_) | Task::OrderOf(_) | Task::Next(_) => true,
+            Task::Run(..) | Task::Serve(_) => false,
         }
     }
 }
@@ -70,11 +81,13 @@ fn task_behind(command: &str, words: &ArgMatches<'_>) -> Option<Task>
 {
     match command {
         AUDIT => Some(Task::Audit(floor_of(words)?)),
+        ORDER_OF => Some(Task::OrderOf(floor_of(words)?)),
         NEXT => Some(Task::Next(step_of(words)?)),
         RUN => {
             let (lmc, rule) = planning_of(words)?;
             Some(Task::Run(lmc, rule))
         }
+        SERVE => Some(Task::Serve(serving_of(words)?)),
         _ => {
             let output = output_of(command, words)?;
             let floor = floor_of(words)?;
@@ -90,6 +103,52 @@ fn step_of(words: &ArgMatches<'_>) -> Option<StepAsked>
     let (lmc, rule) = planning_of(words)?;
     let floor = floor_of(words)?;
     Some(StepAsked { lmc, rule, floor })
+}
+
+/// Returns the manager that the words behind a subcommand ask for.
+fn serving_of(words: &ArgMatches<'_>) -> Option<Serving>
+    ensures { result ≡ serving_asked (first_value (found_of words.now)) }
+{
+    let (lmc, rule) = planning_of(words)?;
+    let guid = guid_of(words)?;
+    let port = port_of(words)?;
+    let priority = priority_of(words)?;
+    Some(Serving {
+        guid,
+        port,
+        priority,
+        lmc,
+        rule,
+    })
+}
+
+/// Returns the GUID that the words behind a subcommand tell: up to 16 hex digits.
+fn guid_of(words: &ArgMatches<'_>) -> Option<Guid>
+    ensures { result ≡ guid_asked (first_value (found_of words.now) (codes "GUID")) }
+{
+    Some(Guid::new(hex_number(words.get_str(GUID)?.as_bytes())?))
+}
+
+/// Returns the number of a port that the words behind a subcommand tell.
+fn port_of(words: &ArgMatches<'_>) -> Option<PortNum>
+    ensures { result ≡ port_asked (first_value (found_of words.now) (codes "PORT")) }
+{
+    let port = number_in(words.get_str(PORT)?)?;
+    if port == 0 || port > 254 {
+        return None;
+    }
+    Some(PortNum::new(port as u8))
+}
+
+/// Returns the priority that the words behind a subcommand tell.
+fn priority_of(words: &ArgMatches<'_>) -> Option<Priority>
+    ensures { result ≡ priority_asked (first_value (found_of words.now) (codes "PRIORITY")) }
+{
+    let priority = number_in(words.get_str(PRIORITY)?)?;
+    if priority > 15 {
+        return None;
+    }
+    Priority::new(priority as u8)
 }
 
 /// What a subcommand is to write of files, by the words behind it.
@@ -117,14 +176,17 @@ fn planning_of(words: &ArgMatches<'_>) -> Option<(Lmc, RuleAsked)>
     Some((lmc, rule))
 }
 
-/// What the order goes by that the words behind a subcommand ask for.
+/// What the order goes by that the words behind a subcommand ask for, the rule that spreads where they ask for none.
 fn order_of(words: &ArgMatches<'_>) -> Option<RuleAsked>
     ensures { result ≡ order_asked (first_value (found_of words.now)) }
 {
-    spread_by(
-        words.get_str(ROOTS).is_some(),
-        words.get_str(ORDER).is_some(),
-    )
+    match words.get_str(ROUTING) {
+        Some(_) => rule_of(words),
+        None => spread_by(
+            words.get_str(ROOTS).is_some(),
+            words.get_str(ORDER).is_some(),
+        ),
+    }
 }
 
 /// Returns the floor that the words behind a subcommand ask for, 1 if they ask for none.
@@ -169,6 +231,7 @@ fn rule_of(words: &ArgMatches<'_>) -> Option<RuleAsked>
     let ordered = words.get_str(ORDER).is_some();
     match words.get_str(ROUTING) {
         None | Some(UPDOWN) if !rooted && !ordered => Some(RuleAsked::UpDown),
+        Some(BALANCE) if !rooted && !ordered => Some(RuleAsked::Balance),
         Some(SPREAD) => spread_by(rooted, ordered),
         _ => None,
     }
@@ -236,7 +299,7 @@ fn texts_of_rule<'a>(words: &ArgMatches<'a>, rule: RuleAsked) -> Option<ArrayVec
 {
     let mut texts = ArrayVec::new();
     match rule {
-        RuleAsked::UpDown | RuleAsked::Spread => {}
+        RuleAsked::UpDown | RuleAsked::Spread | RuleAsked::Balance => {}
         RuleAsked::SpreadFromRoots => texts.push(words.get_str(ROOTS)?),
         RuleAsked::SpreadInOrder => texts.push(words.get_str(ORDER)?),
     }
@@ -251,10 +314,14 @@ fn texts_of<'a>(words: &ArgMatches<'a>, task: &Task) -> Option<ArrayVec<&'a str,
     let mut texts = ArrayVec::new();
     match task {
         Task::Answer(_) => {}
-        Task::Audit(_) | Task::Next(_) => texts.push(words.get_str(TABLES)?),
+        Task::Audit(_) | Task::OrderOf(_) | Task::Next(_) => texts.push(words.get_str(TABLES)?),
         Task::Run(..) => {
             texts.push(words.get_str(TOPOLOGY)?);
             texts.push(words.get_str(SCHEDULE)?);
+        }
+        Task::Serve(_) => {
+            words.get_str(GUID)?;
+            texts.push(LINES);
         }
     }
     Some(texts)

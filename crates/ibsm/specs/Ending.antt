@@ -13,21 +13,26 @@ use Rattle.sm_cli.specs.declared.fault.Fault.{Fault}
 use Rattle.sm_cli.specs.declared.fault.Fault.TheVariants.{Open, File, Text, NoRoom, Write, Memory}
 use Rattle.audit_report.specs.RunAudit.{HasAudited, IsAuditFault}
 use Rattle.next_run.specs.RunNext.{HasStepped, IsStepFault}
+use Rattle.order_run.specs.OrderRun.{HasTold, IsOrderFault}
+use Rattle.record_file.specs.declared.file_fault.FileFault.TheVariants.{Read}
 use Rattle.schedule_run.specs.Run.{HasRun, IsRunFault}
+use Rattle.serve_task.specs.RunServe.{HasServedLines, IsServeFault}
 use Rattle.cli_task.specs.Asked.{names_asked, task_asked}
 use Rattle.ibsm.specs.declared.opener.OpenFault.{OpenFault}
 use Rattle.cli_task.specs.declared.task.Task.{Task}
-use Rattle.cli_task.specs.declared.task.Task.TheVariants.{Answer, Audit, Next, Run}
+use Rattle.cli_task.specs.declared.task.Task.TheVariants.{Answer, Audit, OrderOf, Next, Run, Serve}
 use Rattle.ibsm.specs.Opening.{AreOpened, IsOpenFault}
 
 -- what is done ----------------------------------------------------------------------------------
 
--- so many names are enough for the texts that a task takes; a run takes no files behind them
+-- so many names are enough for the texts that a task takes; a run or a manager takes no files behind them
 abbrev pub HasEnoughNames : Task → ℕ → Type 0
 HasEnoughNames (Answer request) count = texts_for (rule_for request.output) ≤ count
 HasEnoughNames (Audit floor) count = 1 ≤ count
+HasEnoughNames (OrderOf floor) count = 1 ≤ count
 HasEnoughNames (Next asked) count = texts_for asked.rule + 1 ≤ count
 HasEnoughNames (Run lmc rule) count = count ≡ texts_for rule + 2
+HasEnoughNames (Serve asked) count = count ≡ texts_for asked.rule + 1
 
 -- what a task does with open inputs, where this holds of what it prints, and this of what it says on standard error;
 -- what judges nothing passes
@@ -37,10 +42,14 @@ Does state (Answer request) olds news prints says passed =
     (passed ≡ true) × HasAnswered state request olds news prints
 Does state (Audit floor) olds news prints says passed =
     HasAudited state floor olds news prints passed
+Does state (OrderOf floor) olds news prints says passed =
+    HasTold state floor olds news prints passed
 Does state (Next asked) olds news prints says passed =
     HasStepped state asked olds news prints says passed
 Does state (Run lmc rule) olds news prints says passed =
     (passed ≡ true) × HasRun state lmc rule olds news prints
+Does state (Serve asked) olds news prints says passed =
+    (passed ≡ true) × HasServedLines state asked olds news prints
 
 -- where a task is done, standard error stays as it was; but a step says there what it has to
 abbrev pub StaysSilent : {E : Type 0} → Task → E → E → Type 0
@@ -79,43 +88,49 @@ IsDone status = (passed : Bool) × (status ≡ status_after passed)
 
 -- faults ----------------------------------------------------------------------------------------
 
--- why a task over open inputs ends early; where memory was refused as a run went on, this holds of what it would have
--- printed
+-- why a task over open inputs ends early; where memory was refused as it went on, the first of these holds of what it
+-- would have printed, and where lines could be read no more the second
 abbrev pub IsFaultOver : {S : Type 0} → (S → SourceState) → Task → List S → List S
-    → (List ℕ → Type 0) → Bool → Fault → Type 0
-IsFaultOver state (Answer request) olds news prints output_failed fault =
+    → (List ℕ → Type 0) → (List ℕ → Type 0) → Bool → Fault → Type 0
+IsFaultOver state (Answer request) olds news prints whole output_failed fault =
     IsFaultOf state request olds news output_failed fault
-IsFaultOver state (Audit floor) olds news prints output_failed fault =
+IsFaultOver state (Audit floor) olds news prints whole output_failed fault =
     IsAuditFault state floor olds news output_failed fault
-IsFaultOver state (Next asked) olds news prints output_failed fault =
+IsFaultOver state (OrderOf floor) olds news prints whole output_failed fault =
+    IsOrderFault state floor olds news output_failed fault
+IsFaultOver state (Next asked) olds news prints whole output_failed fault =
     IsStepFault state asked olds news output_failed fault
-IsFaultOver state (Run lmc rule) olds news prints output_failed fault =
+IsFaultOver state (Run lmc rule) olds news prints whole output_failed fault =
     IsRunFault state lmc rule olds news prints output_failed fault
+IsFaultOver state (Serve asked) olds news prints whole output_failed fault =
+    IsServeFault state asked olds news prints whole output_failed fault
 
 -- the files were opened, and the task over them ends with the fault
 pub record FailsOverFiles {S : Type 0} (answers : List ℕ → Result S OpenFault → Type 0) (state : S → SourceState)
-    (task : Task) (names : List (Bor (List ℕ))) (prints : List ℕ → Type 0) (output_failed : Bool)
+    (task : Task) (names : List (Bor (List ℕ))) (prints whole : List ℕ → Type 0) (output_failed : Bool)
     (fault : Fault) : Type 0 where
   pub olds : List S
   pub news : List S
   pub opened : AreOpened answers names olds
-  pub fails : IsFaultOver state task olds news prints output_failed fault
+  pub fails : IsFaultOver state task olds news prints whole output_failed fault
 
 -- why a task is not done: its files are not open, or it ends early
 abbrev pub IsTaskFault : {S : Type 0} → (List ℕ → Result S OpenFault → Type 0) → (S → SourceState) → Task
-    → List (Bor (List ℕ)) → (List ℕ → Type 0) → Bool → Fault → Type 0
-IsTaskFault answers state task names prints output_failed fault =
+    → List (Bor (List ℕ)) → (List ℕ → Type 0) → (List ℕ → Type 0) → Bool → Fault → Type 0
+IsTaskFault answers state task names prints whole output_failed fault =
     IsOpenFault answers names fault
-    ⊎ FailsOverFiles answers state task names prints output_failed fault
+    ⊎ FailsOverFiles answers state task names prints whole output_failed fault
 
--- a run prints as it goes on, and may lack memory then; each other task prints once it is done
-abbrev pub PrintsAsItGoes : Task → Type 0
-PrintsAsItGoes (Run lmc rule) = Unit {0}
-PrintsAsItGoes task = ⊥
+-- a run prints as it goes on, and may lack memory then, and so does a manager, whose lines may be read no more, too; each
+-- other task prints once it is done
+abbrev pub StopsAsItGoes : Task → Fault → Type 0
+StopsAsItGoes (Run lmc rule) fault = fault ≡ Memory
+StopsAsItGoes (Serve asked) fault = (fault ≡ Memory) ⊎ (fault ≡ File (texts_for asked.rule) Read)
+StopsAsItGoes task fault = ⊥
 
--- where a task ends with a fault the output stays as it was, but where it took no more, or a run lacked memory
+-- where a task ends with a fault the output stays as it was, but where it took no more, or what goes on stopped
 abbrev pub KeepsOutput : Task → Type 0 → Fault → Type 0
-KeepsOutput task stays fault = (fault ≡ Write) ⊎ ((PrintsAsItGoes task × (fault ≡ Memory)) ⊎ stays)
+KeepsOutput task stays fault = (fault ≡ Write) ⊎ (StopsAsItGoes task fault ⊎ stays)
 
 -- the name of a file, and nothing where there is no file of that input
 abbrev pub name_at : Option (Bor (List ℕ)) → List ℕ
@@ -147,8 +162,8 @@ pub record SaysWhy (task : Task) (names : List (Bor (List ℕ))) (IsFault : Faul
 
 -- so it is with the task that words ask for, over the files that they name
 pub record SaysWhyOfWords {S : Type 0} (answers : List ℕ → Result S OpenFault → Type 0) (state : S → SourceState)
-    (matches : ArgMatches) (prints : List ℕ → Type 0) (output_failed : Bool) (stays : Type 0) (status : ExitStatus)
-    (says : List ℕ → Type 0) : Type 0 where
+    (matches : ArgMatches) (prints whole : List ℕ → Type 0) (output_failed : Bool) (stays : Type 0)
+    (status : ExitStatus) (says : List ℕ → Type 0) : Type 0 where
   pub asked : AsksWhole matches
   pub why : SaysWhy asked.task asked.names
-      (IsTaskFault answers state asked.task asked.names prints output_failed) stays status says
+      (IsTaskFault answers state asked.task asked.names prints whole output_failed) stays status says

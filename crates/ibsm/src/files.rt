@@ -14,7 +14,9 @@ use audit_report::run_audit;
 use byte_io::{Sink, Source, ToWrite};
 use cli_task::Task;
 use next_run::run_next;
+use order_run::run_order_of;
 use schedule_run::run_schedule;
+use serve_task::run_serve;
 use sm_cli::{ExitStatus, Fault, run_files, write_fault};
 use std::alloc::Global;
 use std::io::Write;
@@ -42,6 +44,7 @@ where
     ensures says_why { IsDone result ⊎ SaysWhy task names.now
         (IsTaskFault (R.answers rt.now) R.Opened.state task names.now
         (PrintsSome ⟦<ToWrite<O> as Sink>⟧.written ⟦<ToWrite<O> as Sink>⟧.has_failed output.old output.new)
+        (Appends (⟦<ToWrite<O> as Sink>⟧.written output.old) (⟦<ToWrite<O> as Sink>⟧.written output.new))
         (⟦<ToWrite<O> as Sink>⟧.has_failed output.new))
         (output.new ≡ output.old) result
         (IsSaid ⟦<ToWrite<E> as Sink>⟧.written ⟦<ToWrite<E> as Sink>⟧.has_failed errors.old errors.new) }
@@ -84,6 +87,7 @@ where
         (IsTaskFault (R.answers rt.now) R.Opened.state
         task names.now
         (PrintsSome ⟦<ToWrite<O> as Sink>⟧.written ⟦<ToWrite<O> as Sink>⟧.has_failed output.old output.new)
+        (Appends (⟦<ToWrite<O> as Sink>⟧.written output.old) (⟦<ToWrite<O> as Sink>⟧.written output.new))
         (⟦<ToWrite<O> as Sink>⟧.has_failed output.new)) }
     ensures kept { IfErr result (KeepsOutput task (output.new ≡ output.old)) }
     ensures silent { OnOk result (StaysSilent task errors.old errors.new) }
@@ -109,7 +113,8 @@ fn do_task<S: Source, W: Sink, E: Sink>(
         (IsSaid E.written E.has_failed errors.old errors.new)) }
     ensures flushed { OnOk result (IsTrue (W.is_flushed output.new)) }
     ensures refused { IfErr result (IsFaultOver S.state task inputs.old inputs.new
-        (PrintsSome W.written W.has_failed output.old output.new) (W.has_failed output.new)) }
+        (PrintsSome W.written W.has_failed output.old output.new)
+        (Appends (W.written output.old) (W.written output.new)) (W.has_failed output.new)) }
     ensures kept { IfErr result (KeepsOutput task (output.new ≡ output.old)) }
     ensures silent { OnOk result (StaysSilent task errors.old errors.new) }
     ensures nothing_said { OnErr result (errors.new ≡ errors.old) }
@@ -120,8 +125,13 @@ fn do_task<S: Source, W: Sink, E: Sink>(
             Err(fault) => Err(fault),
         },
         Task::Audit(floor) => run_audit(alloc, inputs, floor, output),
+        Task::OrderOf(floor) => run_order_of(alloc, inputs, floor, output),
         Task::Next(asked) => run_next(alloc, inputs, asked, output, errors),
         Task::Run(lmc, rule) => match run_schedule(alloc, inputs, lmc, rule, output) {
+            Ok(()) => Ok(true),
+            Err(fault) => Err(fault),
+        },
+        Task::Serve(asked) => match run_serve(alloc, inputs, asked, output) {
             Ok(()) => Ok(true),
             Err(fault) => Err(fault),
         },

@@ -86,6 +86,7 @@ where
     ensures says_why { IfOk result (λ status. IsDone status
         ⊎ SaysWhyOfWords (R.answers rt.now) R.Opened.state matches.now
         (PrintsSome ⟦<ToWrite<O> as Sink>⟧.written ⟦<ToWrite<O> as Sink>⟧.has_failed output.old output.new)
+        (Appends (⟦<ToWrite<O> as Sink>⟧.written output.old) (⟦<ToWrite<O> as Sink>⟧.written output.new))
         (⟦<ToWrite<O> as Sink>⟧.has_failed output.new) (output.new ≡ output.old) status
         (IsSaid ⟦<ToWrite<E> as Sink>⟧.written ⟦<ToWrite<E> as Sink>⟧.has_failed errors.old errors.new)) }
     ensures no_usage { IfOk result (λ status. status ≢ ExitStatus.Usage) }

@@ -115,7 +115,7 @@ pub record BringsUpAlone (nodes : List Node) (w : WorldValue) (s : SeatedValue) 
   -- and in the end the line `written` says that it is written
   pub writer : Manager
   pub only_at_end : IsOnly (at_end nodes w between after) s writer
-  pub written : shown_of (at_end nodes w between after) 0 Written ≡ written_line s.name true
+  pub written : shown_of (at_end nodes w between after) 0 Written ≡ written_line (Some s.name) true
 
 -- then each `ping` from an end port of what its port is joined to, for each LID of the plan, says that it reached the
 -- owner

@@ -71,14 +71,14 @@ MergedManagersPlanAlike =
 abbrev pub WrittenLinesTell : Type 0
 WrittenLinesTell =
     (w : WorldValue) (seat : ℕ) (s : SeatedValue) → slice_get w.managers seat ≡ Some s
-    → (shown_of w seat Written ≡ written_line s.name true) ↔ (is_written s.manager ≡ true)
+    → (shown_of w seat Written ≡ written_line (Some s.name) true) ↔ (is_written s.manager ≡ true)
 
 -- `progress` and `silent` print a sweep that is done, so many requests without an answer, all to managers, and no port
 -- that leads too far
 pub record SayAllAnswered (w : WorldValue) (seat : ℕ) (name : List ℕ) (unanswered : ℕ) : Type 0 where
   pub few : unanswered < 2 ^ 64
-  pub progress : shown_of w seat Progress ≡ progress_line name (Done unanswered 0)
-  pub silent : shown_of w seat Silent ≡ silent_line name (Some unanswered)
+  pub progress : shown_of w seat Progress ≡ progress_line (Some name) (Done unanswered 0)
+  pub silent : shown_of w seat Silent ≡ silent_line (Some name) (Some unanswered)
 
 -- they do so exactly where the manager's last sweep has every answer then
 abbrev pub SweepLinesTell : Type 0

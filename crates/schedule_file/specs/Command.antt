@@ -1,5 +1,6 @@
 -- What a line says: nothing, a new manager, or a command with the names that it tells.
-use Rattle.std.specs.Prelude.{ℕ, ◌-◌, ◌^◌, List, [], ◌∷◌, Option, None, Some, option_map, option_and_then, codes, decimal, nat_le, ◌==◌, if◌then◌else◌}
+use Rattle.std.specs.Prelude.{ℕ, ◌-◌, ◌^◌, List, [], ◌∷◌, Option, None, Some, option_map, option_and_then, codes, decimal, if◌then◌else◌}
+use Rattle.std.specs.Option.{option_map_or}
 use Rattle.std.specs.Str.{bytes_eq}
 use Rattle.text_words.specs.Text.{words}
 use Rattle.text_words.specs.NodeName.{name_in}
@@ -21,6 +22,7 @@ use Rattle.schedule_file.specs.declared.line.ScheduleLine.TheVariants as line
 use Rattle.schedule_file.specs.declared.line.NewManager.{NewManager}
 use Rattle.schedule_file.specs.declared.named.PortName.{PortName}
 use Rattle.schedule_file.specs.ManagerName.{manager_name_in}
+use Rattle.schedule_file.specs.ManagerWords.{asked_by, generation_of, lid_of, number_up_to, shown_by}
 
 -- a command as its line tells it: managers and nodes by their names
 abbrev pub NamedCommand : Type 0
@@ -30,10 +32,6 @@ NamedCommand = Command (List ℕ) PortName
 abbrev pub pair : List (List ℕ) → Option (List ℕ × List ℕ)
 pair (one ∷ other ∷ []) = Some (one, other)
 pair _ = None
-
--- a number in decimal, up to the most
-abbrev pub number_up_to : ℕ → List ℕ → Option ℕ
-number_up_to most word = option_and_then (λ n. if nat_le n most then Some n else None) (number_of 10 word)
 
 -- a packet in flight: the last, or one by its serial number
 abbrev pub which_of : List ℕ → Option Which
@@ -58,10 +56,6 @@ new_manager (name ∷ rest) =
     (λ n. option_and_then (λ p. option_map (λ q. record { name = n; at = p; priority = q })
     (number_up_to 15 x.1)) (port_name x.0)) (manager_name_in name)) (pair rest)
 
--- a generation in decimal
-abbrev pub generation_of : List ℕ → Option ℕ
-generation_of word = option_and_then (λ n. if n == 0 then None else Some n) (number_up_to 0xFFFFFFFF word)
-
 -- commands of one word -----------------------------------------------------------------------
 
 abbrev pub bare_of : List ℕ → Option NamedCommand
@@ -82,17 +76,9 @@ show what name = option_map (λ manager. command.Show manager what) (manager_nam
 -- a command to one manager, by its word
 abbrev pub to_manager : List ℕ → List ℕ → Option NamedCommand
 to_manager word name =
-    if bytes_eq word (codes "sweep") then ask Sweep name
-    else if bytes_eq word (codes "write") then ask Write name
-    else if bytes_eq word (codes "handover") then ask Handover name
-    else if bytes_eq word (codes "timeout") then option_map command.Timeout (manager_name_in name)
-    else if bytes_eq word (codes "facts") then show Facts name
-    else if bytes_eq word (codes "plan") then show Plan name
-    else if bytes_eq word (codes "progress") then show Progress name
-    else if bytes_eq word (codes "silent") then show Silent name
-    else if bytes_eq word (codes "written") then show Written name
-    else if bytes_eq word (codes "state") then show State name
-    else None
+    option_map_or (λ what. ask what name) (asked_by word)
+    (if bytes_eq word (codes "timeout") then option_map command.Timeout (manager_name_in name)
+    else option_and_then (λ what. show what name) (shown_by word))
 
 -- what becomes of a packet in flight
 abbrev pub packet : Fate → List ℕ → Option NamedCommand
@@ -115,7 +101,7 @@ merge one other = option_and_then (λ m. option_map (command.Merge m) (manager_n
 
 abbrev pub poll : List ℕ → List ℕ → Option NamedCommand
 poll name lid =
-    option_and_then (λ m. option_map (λ n. command.Ask m (Poll n)) (number_up_to 0xFFFF lid)) (manager_name_in name)
+    option_and_then (λ m. option_map (λ n. command.Ask m (Poll n)) (lid_of lid)) (manager_name_in name)
 
 abbrev pub floor : List ℕ → List ℕ → Option NamedCommand
 floor name generation =
@@ -125,7 +111,7 @@ abbrev pub plug : List ℕ → List ℕ → Option NamedCommand
 plug one other = option_and_then (λ p. option_map (command.Plug p) (port_name other)) (port_name one)
 
 abbrev pub ping : List ℕ → List ℕ → Option NamedCommand
-ping port lid = option_and_then (λ p. option_map (command.Ping p) (number_up_to 0xFFFF lid)) (port_name port)
+ping port lid = option_and_then (λ p. option_map (command.Ping p) (lid_of lid)) (port_name port)
 
 abbrev pub of_two : List ℕ → List ℕ → List ℕ → Option NamedCommand
 of_two word one other =

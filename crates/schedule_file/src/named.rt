@@ -1,14 +1,15 @@
 //! Commands as their lines tell them. A table by the number of words behind a command's own has a line for each.
 ghost use Rattle.std.specs.Prelude.{◌≡◌, option_map};
 ghost use Rattle.text_words.specs.Text.{words};
-ghost use Rattle.schedule_file.specs.Command.{ask, bare_of, bracketed_number, command_in, floor, generation_of};
-ghost use Rattle.schedule_file.specs.Command.{merge, number_up_to, of_one, of_two, packet, pair, ping, plug, poll};
+ghost use Rattle.schedule_file.specs.Command.{ask, bare_of, bracketed_number, command_in, floor};
+ghost use Rattle.schedule_file.specs.Command.{merge, of_one, of_two, packet, pair, ping, plug, poll};
 ghost use Rattle.schedule_file.specs.Command.{port_name, show, to_manager, which_of};
 
 use crate::command::{Ask, Command, Fate, Shown, Which};
 use crate::manager_name::ManagerName;
+use crate::manager_words::{asked_by, generation_of, lid_of, shown_by};
 use crate::numbers::{number_up_to, serial};
-use smp_bytes::{Generation, Lid, PortNum};
+use smp_bytes::PortNum;
 use text_words::{NodeName, enclosed, is_word, split_word};
 
 /// A port as a line tells it.
@@ -73,28 +74,12 @@ fn of_one(word: &[u8], arg: &[u8]) -> Option<NamedCommand>
 fn to_manager(word: &[u8], name: &[u8]) -> Option<NamedCommand>
     ensures { result ≡ to_manager word.now name.now }
 {
-    if is_word(word, "sweep") {
-        ask(Ask::Sweep, name)
-    } else if is_word(word, "write") {
-        ask(Ask::Write, name)
-    } else if is_word(word, "handover") {
-        ask(Ask::Handover, name)
+    if let Some(what) = asked_by(word) {
+        ask(what, name)
     } else if is_word(word, "timeout") {
         Some(Command::Timeout(ManagerName::new(name)?))
-    } else if is_word(word, "facts") {
-        show(Shown::Facts, name)
-    } else if is_word(word, "plan") {
-        show(Shown::Plan, name)
-    } else if is_word(word, "progress") {
-        show(Shown::Progress, name)
-    } else if is_word(word, "silent") {
-        show(Shown::Silent, name)
-    } else if is_word(word, "written") {
-        show(Shown::Written, name)
-    } else if is_word(word, "state") {
-        show(Shown::State, name)
     } else {
-        None
+        show(shown_by(word)?, name)
     }
 }
 
@@ -179,20 +164,6 @@ fn which(word: &[u8]) -> Option<Which>
     } else {
         Some(Which::Serial(serial(word)?))
     }
-}
-
-/// A LID up to 65,535 in decimal.
-fn lid_of(word: &[u8]) -> Option<Lid>
-    ensures { result ≡ number_up_to 0xFFFF word.now }
-{
-    Some(Lid::new(number_up_to(word, 0xFFFF)? as u16))
-}
-
-/// A generation from 1 to 4,294,967,295 in decimal.
-fn generation_of(word: &[u8]) -> Option<Generation>
-    ensures { result ≡ generation_of word.now }
-{
-    Generation::new(number_up_to(word, u32::MAX)?)
 }
 
 /// A node's name in quotes, and at once behind it a port up to 255 in brackets.

@@ -5,7 +5,8 @@ ghost use Rattle.text_words.specs.Printed.{named_text, quoted_text};
 ghost use Rattle.topo_file.specs.Printed.{name_at};
 ghost use Rattle.schedule_lines.specs.Lines.{count_text, counts_text, end_text, flight_line, ping_line};
 ghost use Rattle.schedule_lines.specs.Lines.{port_text, progress_line, start_text, stage_text, state_line};
-ghost use Rattle.schedule_lines.specs.Lines.{answer_word, silent_line, silent_text, written_line};
+ghost use Rattle.schedule_lines.specs.Lines.{answer_word, end_word, head_text, name_of, silent_line, silent_text};
+ghost use Rattle.schedule_lines.specs.Lines.{written_line};
 
 use byte_io::{Sink, WriteFault, write_number};
 use fabric_model::{NodeId, NodePort};
@@ -25,18 +26,29 @@ fn name_at(topology: &Topology, node: NodeId) -> &str
     }
 }
 
-/// Prints how far a manager is with its sweep.
+/// Prints how far a manager is with its sweep, with its name where it has one.
 pub fn write_progress<W: Sink>(
     sink: &mut W,
-    manager: &str,
+    manager: Option<&str>,
     progress: Progress,
 ) -> Result<(), WriteFault>
     ensures writes { Writes W.written W.has_failed result sink.old sink.new
-        (progress_line manager.now progress) }
+        (progress_line (name_of manager.entry) progress) }
 {
-    write_pair(sink, b"progress ", manager.as_bytes())?;
+    write_head(sink, b"progress", manager)?;
     write_stage(sink, progress)?;
     sink.write(b"\n")
+}
+
+/// Prints a word, and behind it the name of a manager where it has one.
+fn write_head<W: Sink>(sink: &mut W, word: &[u8], manager: Option<&str>) -> Result<(), WriteFault>
+    ensures writes { Writes W.written W.has_failed result sink.old sink.new
+        (head_text word.now (name_of manager.entry)) }
+{
+    match manager {
+        None => sink.write(word),
+        Some(name) => write_between(sink, word, b" ", name.as_bytes()),
+    }
 }
 
 fn write_stage<W: Sink>(sink: &mut W, progress: Progress) -> Result<(), WriteFault>
@@ -64,13 +76,13 @@ fn write_stage<W: Sink>(sink: &mut W, progress: Progress) -> Result<(), WriteFau
 /// Prints how many managers did not answer a manager's last sweep.
 pub fn write_silent<W: Sink>(
     sink: &mut W,
-    manager: &str,
+    manager: Option<&str>,
     silent: Option<u64>,
 ) -> Result<(), WriteFault>
     ensures writes { Writes W.written W.has_failed result sink.old sink.new
-        (silent_line manager.now silent) }
+        (silent_line (name_of manager.entry) silent) }
 {
-    write_pair(sink, b"silent ", manager.as_bytes())?;
+    write_head(sink, b"silent", manager)?;
     write_how_many(sink, silent)?;
     sink.write(b"\n")
 }
@@ -85,12 +97,23 @@ fn write_how_many<W: Sink>(sink: &mut W, silent: Option<u64>) -> Result<(), Writ
 }
 
 /// Prints whether a manager's plan is written.
-pub fn write_written<W: Sink>(sink: &mut W, manager: &str, written: bool) -> Result<(), WriteFault>
+pub fn write_written<W: Sink>(
+    sink: &mut W,
+    manager: Option<&str>,
+    written: bool,
+) -> Result<(), WriteFault>
     ensures writes { Writes W.written W.has_failed result sink.old sink.new
-        (written_line manager.now written) }
+        (written_line (name_of manager.entry) written) }
 {
-    write_between(sink, b"written ", manager.as_bytes(), b" ")?;
-    write_pair(sink, answer_word(written).as_bytes(), b"\n")
+    write_head(sink, b"written", manager)?;
+    write_end_word(sink, answer_word(written))
+}
+
+/// Prints a blank, a word and the end of the line.
+fn write_end_word<W: Sink>(sink: &mut W, word: &str) -> Result<(), WriteFault>
+    ensures writes { Writes W.written W.has_failed result sink.old sink.new (end_word word.now) }
+{
+    write_between(sink, b" ", word.as_bytes(), b"\n")
 }
 
 fn answer_word(answer: bool) -> &'static str
@@ -100,12 +123,16 @@ fn answer_word(answer: bool) -> &'static str
 }
 
 /// Prints a manager's state.
-pub fn write_state<W: Sink>(sink: &mut W, manager: &str, state: SmState) -> Result<(), WriteFault>
+pub fn write_state<W: Sink>(
+    sink: &mut W,
+    manager: Option<&str>,
+    state: SmState,
+) -> Result<(), WriteFault>
     ensures writes { Writes W.written W.has_failed result sink.old sink.new
-        (state_line manager.now state) }
+        (state_line (name_of manager.entry) state) }
 {
-    write_between(sink, b"state ", manager.as_bytes(), b" ")?;
-    write_pair(sink, state.word().as_bytes(), b"\n")
+    write_head(sink, b"state", manager)?;
+    write_end_word(sink, state.word())
 }
 
 /// Prints how many requests were not answered, and how many ports lead too far.

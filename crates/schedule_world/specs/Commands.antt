@@ -10,12 +10,10 @@ use Rattle.topo_file.specs.declared.fault.TopoFault.{TopoFault}
 use Rattle.topo_file.specs.declared.node.Node.{Node}
 use Rattle.schedule_file.specs.Schedule.{Script, SeatCommand, schedule_of}
 use Rattle.schedule_file.specs.declared.command.Ask.{Ask}
-use Rattle.schedule_file.specs.declared.command.Ask.TheVariants.{Sweep, Write, Handover, Poll}
 use Rattle.schedule_file.specs.declared.command.Command.TheVariants as command
 use Rattle.schedule_file.specs.declared.command.Fate.{Fate}
 use Rattle.schedule_file.specs.declared.command.Fate.TheVariants.{Deliver, Lose, Repeat}
 use Rattle.schedule_file.specs.declared.command.Shown.{Shown}
-use Rattle.schedule_file.specs.declared.command.Shown.TheVariants.{Facts, Plan, Progress, Silent, State, Written}
 use Rattle.schedule_file.specs.declared.command.Which.{Which}
 use Rattle.schedule_file.specs.declared.fault.ScheduleFault.{ScheduleFault}
 use Rattle.schedule_file.specs.declared.schedule.Seat.{Seat}
@@ -31,44 +29,22 @@ use Rattle.fabric_sim.specs.declared.fault.FabricFault.{FabricFault}
 use Rattle.fabric_sim.specs.declared.fault.FabricFault.TheVariants.{NoSuchPacket}
 use Rattle.fabric_sim.specs.declared.flight.Flight.{Flight}
 use Rattle.fabric_sim.specs.declared.packet.Packet.{Packet}
-use Rattle.fact_store.specs.View.{cells_of}
-use Rattle.lft_blocks.specs.Plan.{plan_of}
-use Rattle.lft_blocks.specs.PlanText.{plan_text}
-use Rattle.subnet_view.specs.Reading.{Cells}
-use Rattle.record_file.specs.FactsText.{facts_text}
-use Rattle.sm_manager.specs.declared.fault.ManagerFault.{ManagerFault}
-use Rattle.sm_manager.specs.Election.{after_handover, handover_fault, poll_fault, after_poll}
 use Rattle.lft_blocks.specs.Planning.{Planning}
-use Rattle.sm_manager.specs.Manager.{Manager, begin_fault, after_raise_floor, after_merge, new_manager, outstanding, progress_of, after_begin_sweep, silent_in}
+use Rattle.sm_manager.specs.Manager.{after_raise_floor, after_merge, new_manager, outstanding}
 use Rattle.sm_manager.specs.Packets as manager
-use Rattle.sm_manager.specs.Plans.{plan_fault, writing_fault}
-use Rattle.sm_manager.specs.Writing.{after_write_steps, is_written}
 use Rattle.schedule_world.specs.Flights.{serial_of}
-use Rattle.schedule_lines.specs.Lines.{flight_line, ping_line, progress_line, silent_line, state_line, written_line}
+use Rattle.schedule_lines.specs.Asked.{after_asked, asked_fault, text_of}
+use Rattle.schedule_lines.specs.Lines.{flight_line, ping_line}
 use Rattle.schedule_lines.specs.Refusals.{refusal_line}
 use Rattle.schedule_lines.specs.Tables.{tables_text}
 use Rattle.schedule_lines.specs.Outcome.{Outcome, and_then, quiet, shows}
-use Rattle.schedule_world.specs.World.{SeatedValue, WorldValue, after_ask, at_seat, after_fabric_call, manager_line, after_send, with_manager}
+use Rattle.schedule_world.specs.World.{SeatedValue, WorldValue, after_ask, at_seat, after_fabric_call, after_send, with_manager}
 
 -- managers -----------------------------------------------------------------------------------------
 
 -- `manager M "n"[p] P`: the manager comes to sit at its port
 unfoldable pub after_manager_line : WorldValue → ℕ → Outcome WorldValue
 after_manager_line w seat = at_seat w seat (λ s. after_fabric_call w (after_seat w.fabric s.at))
-
--- why a manager refuses what it is asked for, by `sweep`, `write`, `handover` or `poll`
-abbrev pub asked_fault : Ask → Manager → Option ManagerFault
-asked_fault Sweep m = begin_fault m
-asked_fault Write m = writing_fault m
-asked_fault Handover m = handover_fault m
-asked_fault (Poll lid) m = poll_fault m
-
--- the manager that does what it is asked for
-abbrev pub after_asked : Ask → Manager → Manager
-after_asked Sweep m = after_begin_sweep m
-after_asked Write m = after_write_steps m
-after_asked Handover m = after_handover m
-after_asked (Poll lid) m = after_poll m lid
 
 -- such a line: the manager of a seat does it, and then it sends what it has queued
 unfoldable pub after_ask_line : WorldValue → ℕ → Ask → Outcome WorldValue
@@ -179,25 +155,13 @@ ping_shown nodes w source lid = ping_text nodes w.fabric source lid (ping_fault 
 
 -- what managers know -----------------------------------------------------------------------------------
 
--- the plan, or why there is none
-abbrev pub plan_or_refusal : Planning → Cells → Option ManagerFault → List ℕ
-plan_or_refusal planning cells None = plan_text (plan_of planning.rule planning.lmc cells)
-plan_or_refusal planning cells (Some fault) = manager_line fault
-
 -- what `facts`, `plan`, `progress`, `silent`, `written` or `state` show of a manager
-abbrev pub text_of : Shown → SeatedValue → List ℕ
-text_of Facts s = facts_text s.manager.store
-text_of Plan s =
-    plan_or_refusal s.manager.planning (cells_of s.manager.store)
-    (plan_fault s.manager.planning.lmc (cells_of s.manager.store))
-text_of Progress s = progress_line s.name (progress_of s.manager.sweep)
-text_of Silent s = silent_line s.name (silent_in s.manager.sweep)
-text_of Written s = written_line s.name (is_written s.manager)
-text_of State s = state_line s.name s.manager.standing.state
+abbrev pub shown_at : Shown → SeatedValue → List ℕ
+shown_at what s = text_of what (Some s.name) s.manager
 
 -- of the manager of a seat
 unfoldable pub shown_of : WorldValue → ℕ → Shown → List ℕ
-shown_of w seat what = option_map_or (text_of what) (slice_get w.managers seat) []
+shown_of w seat what = option_map_or (shown_at what) (slice_get w.managers seat) []
 
 -- all of them ------------------------------------------------------------------------------------------
 

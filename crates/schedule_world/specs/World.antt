@@ -10,8 +10,8 @@ use Rattle.fabric_sim.specs.Called.{Called}
 use Rattle.fabric_sim.specs.Simulation.{Simulation}
 use Rattle.sm_manager.specs.declared.fault.ManagerFault.{ManagerFault}
 use Rattle.sm_manager.specs.declared.outgoing.Outgoing.{Outgoing}
-use Rattle.sm_manager.specs.Fault.{manager_fault_name}
 use Rattle.sm_manager.specs.Manager.{Manager}
+use Rattle.schedule_lines.specs.Asked.{emptied, manager_line}
 use Rattle.schedule_lines.specs.Outcome.{Outcome, and_then, quiet, shows}
 use Rattle.schedule_lines.specs.Prints.{PrintsUnless}
 use Rattle.schedule_lines.specs.Refusals.{refusal_line}
@@ -71,10 +71,6 @@ at_seat w seat run = option_map_or run (slice_get w.managers seat) (quiet w)
 abbrev pub with_manager : WorldValue → ℕ → SeatedValue → Manager → WorldValue
 with_manager w seat s manager = record w { managers = slice_set w.managers seat (record s { manager = manager }) }
 
--- a refusal is told by its line
-abbrev pub manager_line : ManagerFault → List ℕ
-manager_line fault = refusal_line (manager_fault_name fault)
-
 -- a call of a manager: it is refused, or leaves this manager, and then comes what is next
 abbrev pub after_manager_call : (WorldValue → Outcome WorldValue) → WorldValue → ℕ → SeatedValue → Option ManagerFault
     → Manager → Outcome WorldValue
@@ -86,10 +82,6 @@ abbrev pub after_ask : (WorldValue → Outcome WorldValue) → WorldValue → �
     → (Manager → Manager) → Outcome WorldValue
 after_ask next w seat fault after =
     at_seat w seat (λ s. after_manager_call next w seat s (fault s.manager) (after s.manager))
-
--- nothing is left to be sent
-abbrev pub emptied : Manager → Manager
-emptied m = record m { outgoing = [] }
 
 -- all that the manager of a seat has queued goes out
 abbrev pub after_send_by : WorldValue → ℕ → SeatedValue → Outcome WorldValue

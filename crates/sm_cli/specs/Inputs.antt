@@ -7,11 +7,11 @@ use Rattle.roots_file.specs.Reading.{roots_of}
 use Rattle.roots_file.specs.RootsTextFault.{RootsTextFault as RootsFault}
 use Rattle.text_words.specs.declared.fault.LinesFault.TheVariants as wrong
 use Rattle.lft_blocks.specs.Rules.{RuleValue, spread_in, up_and_down}
-use Rattle.spread_routes.specs.SwitchOrders.{OrderValue, as_named, from_roots}
+use Rattle.spread_routes.specs.SwitchOrders.{OrderValue, as_named, from_roots, least_loaded}
 use Rattle.sm_cli.specs.Asked.{texts_for}
 use Rattle.sm_cli.specs.Sources.{IsOneRead, Parts}
 use Rattle.sm_cli.specs.declared.asked.RuleAsked.{RuleAsked}
-use Rattle.sm_cli.specs.declared.asked.RuleAsked.TheVariants.{UpDown, Spread, SpreadFromRoots, SpreadInOrder}
+use Rattle.sm_cli.specs.declared.asked.RuleAsked.TheVariants.{UpDown, Spread, SpreadFromRoots, SpreadInOrder, Balance}
 use Rattle.sm_cli.specs.declared.fault.Fault.{Fault}
 use Rattle.sm_cli.specs.declared.fault.Fault.TheVariants.{File, Text}
 use Rattle.sm_cli.specs.declared.text_fault.TextFault.{TextFault}
@@ -33,10 +33,12 @@ fault_of_first (root ∷ roots) unusable = option_map texts.NoSwitch unusable
 abbrev pub roots_fault : (ℕ → Bool) → List ℕ → Option TextFault
 roots_fault usable roots = fault_of_first roots (first_unusable usable roots)
 
--- why no plan goes by an order: its roots; one in which switches are named goes whatever they are
+-- why no plan goes by an order: its roots; one in which switches are named goes whatever they are, and so does one that
+-- names none
 abbrev pub order_fault : (ℕ → Bool) → OrderValue → Option TextFault
 order_fault usable (from_roots roots) = roots_fault usable roots
 order_fault usable (as_named switches) = None
+order_fault usable least_loaded = None
 
 -- why no plan goes by the rule that was asked for: its roots, where a text names them
 abbrev pub rule_fault : (ℕ → Bool) → RuleAsked → RuleValue → Option TextFault
@@ -45,6 +47,7 @@ rule_fault usable Spread rule = None
 rule_fault usable SpreadFromRoots up_and_down = None
 rule_fault usable SpreadFromRoots (spread_in order) = order_fault usable order
 rule_fault usable SpreadInOrder rule = None
+rule_fault usable Balance rule = None
 
 -- rules ------------------------------------------------------------------------------------------
 
@@ -91,6 +94,7 @@ IsRuleRead state UpDown olds news rule = (news ≡ olds) × (rule ≡ up_and_dow
 IsRuleRead state Spread olds news rule = (news ≡ olds) × (rule ≡ spread_in (from_roots []))
 IsRuleRead state SpreadFromRoots olds news rule = IsOrderRead state from_roots olds news rule
 IsRuleRead state SpreadInOrder olds news rule = IsOrderRead state as_named olds news rule
+IsRuleRead state Balance olds news rule = (news ≡ olds) × (rule ≡ spread_in least_loaded)
 
 -- why there is no such rule: the text is not read
 abbrev pub IsRuleFault : {S : Type 0} → (S → SourceState) → RuleAsked → List S → List S
@@ -101,6 +105,7 @@ IsRuleFault state SpreadFromRoots olds news fault =
     IsOneRead olds news (λ old new. IsRootsFault state old new fault)
 IsRuleFault state SpreadInOrder olds news fault =
     IsOneRead olds news (λ old new. IsRootsFault state old new fault)
+IsRuleFault state Balance olds news fault = ⊥
 
 -- inputs ----------------------------------------------------------------------------------------
 

@@ -15,6 +15,8 @@ pub enum RuleAsked {
     SpreadFromRoots,
     /// Spread over all wires, in an order that grows as a text names switches.
     SpreadInOrder,
+    /// Spread over all wires, in the order of the least trial load.
+    Balance,
 }
 
 impl RuleAsked {
@@ -25,7 +27,7 @@ impl RuleAsked {
         ensures { result ≡ texts_for self }
     {
         match self {
-            RuleAsked::UpDown | RuleAsked::Spread => 0,
+            RuleAsked::UpDown | RuleAsked::Spread | RuleAsked::Balance => 0,
             RuleAsked::SpreadFromRoots | RuleAsked::SpreadInOrder => 1,
         }
     }

@@ -87,6 +87,9 @@ fn read_rule<S: Source>(alloc: Global, asked: RuleAsked, texts: &mut [S]) -> Res
                 roots: Vec::new(alloc),
             },
         }),
+        RuleAsked::Balance => Ok(Rule::Spread {
+            order: SwitchOrder::LeastLoaded,
+        }),
         RuleAsked::SpreadFromRoots => match read_roots(alloc, &mut texts[0]) {
             Ok(roots) => Ok(Rule::Spread {
                 order: SwitchOrder::FromRoots { roots },
@@ -150,7 +153,7 @@ fn order_fault<S: Source, R: InputReader<S>>(
         SwitchOrder::FromRoots { roots } => {
             fault_of_first(roots, first_unusable(roots, reader, told))
         }
-        SwitchOrder::AsNamed { .. } => None,
+        SwitchOrder::AsNamed { .. } | SwitchOrder::LeastLoaded => None,
     }
 }
 

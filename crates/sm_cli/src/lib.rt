@@ -20,5 +20,6 @@ pub use fault_text::write_fault;
 pub use input_files::FilesFrom;
 pub use input_tables::{TablesAndFacts, TablesAndFiles, read_tables_and_files};
 pub use inputs::{InputReader, read_inputs};
+pub use order_text::write_order;
 pub use run::run_files;
 pub use text_fault::TextFault;

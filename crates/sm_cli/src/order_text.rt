@@ -9,7 +9,7 @@ use byte_io::{Sink, WriteFault, write_guid};
 use smp_bytes::Guid;
 
 /// Writes a line for each switch, its GUID behind `0x`, and flushes.
-pub(crate) fn write_order<W: Sink>(sink: &mut W, switches: &[Guid]) -> Result<(), WriteFault>
+pub fn write_order<W: Sink>(sink: &mut W, switches: &[Guid]) -> Result<(), WriteFault>
     ensures writes { Writes W.written W.has_failed result sink.old sink.new (order_text switches.now) }
     ensures flushed { OnOk result (IsTrue (W.is_flushed sink.new)) }
 {

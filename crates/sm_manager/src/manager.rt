@@ -236,6 +236,13 @@ impl Manager {
         }
     }
 
+    /// Returns the managers that the last sweep saw, in the order in which it did.
+    pub fn seen_managers(&self) -> &[SeenManager]
+        ensures { result.now ≡ self.now.seen }
+    {
+        &self.seen
+    }
+
     /// Whether a sweep was begun and is not done.
     pub(crate) fn is_running(&self) -> bool
         ensures { result ≡ is_running self.now.sweep }

@@ -92,7 +92,7 @@ pub(crate) fn earlier(keys: &[VertexKey], found: Option<usize>, vertex: usize) -
 }
 
 /// Whether one vertex has the earlier key.
-fn is_before(keys: &[VertexKey], one: usize, other: usize) -> bool
+pub fn is_before(keys: &[VertexKey], one: usize, other: usize) -> bool
     requires one { one < length keys.now }
     requires other { other < length keys.now }
     ensures { result ≡ before_by keys.now one other }

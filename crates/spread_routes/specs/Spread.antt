@@ -1,6 +1,6 @@
 -- The rule by the wires, the leaf switches and what the order grows by alone: the keys, and which of its edges a LID
 -- takes.
-use Rattle.std.specs.Prelude.{◌≡◌, ℕ, Bool, List, map, filter, length, nat_lt, ◌+◌, ◌/◌, ◌%◌, slice_index, if◌then◌else◌}
+use Rattle.std.specs.Prelude.{◌≡◌, ℕ, Bool, List, [], map, filter, length, nat_lt, ◌+◌, ◌/◌, ◌%◌, slice_index, if◌then◌else◌}
 use Rattle.std.specs.List.{list_any}
 use Rattle.port_graph.specs.declared.edge.Edge.{Edge}
 use Rattle.spread_labels.specs.declared.vertex_key.VertexKey.{VertexKey}
@@ -12,9 +12,10 @@ use Rattle.subnet_view.specs.SwitchEdges.{SwitchEdges}
 use Rattle.subnet_view.specs.Graph.{guids_of}
 use Rattle.subnet_view.specs.GraphLaws.{IsGraph}
 use Rattle.subnet_view.specs.Routing.{Routing, IsRouting}
+use Rattle.trial_loads.specs.LeastLoaded.{least_loaded_keys}
 use Rattle.spread_routes.specs.declared.lid_digit.LidDigit.{LidDigit}
 use Rattle.spread_routes.specs.Rule.{by_index, order_by_keys, spread}
-use Rattle.spread_routes.specs.SwitchOrders.{OrderValue, as_named, from_roots, keys_as_named, switches_by_keys}
+use Rattle.spread_routes.specs.SwitchOrders.{OrderValue, as_named, from_roots, least_loaded, keys_as_named, switches_by_keys}
 
 -- what the rule goes by: the wires, and of each switch, by rising GUID, its key and its level
 pub record Grading : Type 0 where
@@ -64,10 +65,16 @@ abbrev pub keys_from_roots : List SwitchEdges → List ℕ → List ℕ → List
 keys_from_roots graph leaves roots =
     keys_of (by_index graph) (distance_classes_of (by_index graph) (indices_of graph leaves) (indices_of graph roots))
 
+-- the keys whose order has the least trial load between the leaf switches, of those from no roots and those by depth
+abbrev pub keys_least_loaded : List SwitchEdges → List ℕ → List VertexKey
+keys_least_loaded graph leaves =
+    least_loaded_keys (by_index graph) (indices_of graph leaves) (keys_from_roots graph leaves [])
+
 -- the keys by what the order grows by
 abbrev pub keys_by : List SwitchEdges → List ℕ → OrderValue → List VertexKey
 keys_by graph leaves (from_roots roots) = keys_from_roots graph leaves roots
 keys_by graph leaves (as_named switches) = keys_as_named graph switches
+keys_by graph leaves least_loaded = keys_least_loaded graph leaves
 
 -- what the leaf switches and the order give
 abbrev pub grading_of : List SwitchEdges → List ℕ → OrderValue → Grading

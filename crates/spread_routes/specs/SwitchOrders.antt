@@ -1,21 +1,24 @@
--- By what the order of switches grows: from roots, or by a list that names switches.
+-- By what the order of switches grows: from roots, by a list that names switches, or so that ways are spread best.
 use Rattle.std.specs.Prelude.{ℕ, List, map}
 use Rattle.spread_labels.specs.declared.vertex_key.VertexKey.{VertexKey}
 use Rattle.spread_labels.specs.Orders.{at_position, position_of}
 use Rattle.subnet_view.specs.SwitchEdges.{SwitchEdges}
 use Rattle.subnet_view.specs.Graph.{guids_of}
 use Rattle.spread_routes.specs.declared.switch_order.SwitchOrder.{SwitchOrder}
-use Rattle.spread_routes.specs.declared.switch_order.SwitchOrder.TheVariants.{FromRoots, AsNamed}
+use Rattle.spread_routes.specs.declared.switch_order.SwitchOrder.TheVariants.{FromRoots, AsNamed, LeastLoaded}
 use Rattle.spread_routes.specs.Rule.{order_by_keys}
 
--- from these roots, of which there may be none; or by these switches, as they are named
+-- from these roots, of which there may be none; by these switches, as they are named; or by the keys of the least trial
+-- load, of those that are tried
 pub data OrderValue : Type 0 where
   from_roots : List ℕ → OrderValue
   as_named : List ℕ → OrderValue
+  least_loaded : OrderValue
 
 abbrev pub order_value_of : SwitchOrder → OrderValue
 order_value_of (FromRoots roots) = from_roots roots.items
 order_value_of (AsNamed switches) = as_named switches.items
+order_value_of LeastLoaded = least_loaded
 
 -- the key of a switch by a list: how many stand before it there, and all of them where it is not named
 abbrev pub key_as_named : List ℕ → ℕ → VertexKey

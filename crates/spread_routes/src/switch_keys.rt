@@ -4,7 +4,8 @@ ghost use Rattle.subnet_view.specs.GraphLaws.{IsGraph};
 ghost use Rattle.spread_labels.specs.Levels.{levels_of};
 ghost use Rattle.spread_labels.specs.Orders.{at_position};
 ghost use Rattle.spread_routes.specs.Rule.{by_index};
-ghost use Rattle.spread_routes.specs.Spread.{indices_of, keys_by, keys_from_roots, switches_in_order};
+ghost use Rattle.spread_routes.specs.Spread.{indices_of, keys_by, keys_from_roots, keys_least_loaded};
+ghost use Rattle.spread_routes.specs.Spread.{switches_in_order};
 ghost use Rattle.spread_routes.specs.SwitchOrders.{keys_as_named, order_value_of};
 
 use crate::SwitchOrder;
@@ -13,6 +14,7 @@ use smp_bytes::Guid;
 use spread_labels::{Grades, VertexKey, grade, grown_order, keys};
 use std::alloc::{AllocError, Global};
 use subnet_view::SwitchGraph;
+use trial_loads::least_loaded_keys;
 
 /// What switches are ordered and led by.
 #[derive(Drop)]
@@ -65,6 +67,7 @@ pub(crate) fn switch_keys(
     match order {
         SwitchOrder::FromRoots { roots } => from_roots(alloc, graph, leaves, roots),
         SwitchOrder::AsNamed { switches } => as_named(alloc, graph, leaves, switches),
+        SwitchOrder::LeastLoaded => least_loaded(alloc, graph, leaves),
     }
 }
 
@@ -108,6 +111,23 @@ fn as_named(
         levels,
     } = grade(alloc, edges, &leaves, &[])?;
     let keys = keys_as_named(alloc, graph, switches)?;
+    Ok(SwitchKeys { keys, levels })
+}
+
+/// The same by the order of the least trial load.
+fn least_loaded(
+    alloc: Global,
+    graph: &SwitchGraph,
+    leaves: &[Guid],
+) -> Result<SwitchKeys, AllocError>
+    ensures keys { IfOk result (λ found. found.keys.items ≡ keys_least_loaded graph.now leaves.now) }
+    ensures levels { IfOk result (λ found. found.levels.items
+        ≡ levels_of (by_index graph.now) (indices_of graph.now leaves.now)) }
+{
+    let edges = graph.adjacency();
+    let SwitchKeys { keys, levels } = from_roots(alloc, graph, leaves, &[])?;
+    let bearing = indices(alloc, graph, leaves)?;
+    let keys = least_loaded_keys(alloc, edges, &bearing, &keys)?;
     Ok(SwitchKeys { keys, levels })
 }
 

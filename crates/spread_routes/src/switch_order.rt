@@ -17,6 +17,9 @@ pub enum SwitchOrder {
         /// The switches. Those that it lacks come behind, by rising GUID; GUIDs that are no switch count for nothing.
         switches: Vec<Guid>,
     },
+    /// So that the busiest channel carries least: of the order without roots and of orders by depth from the eight
+    /// switches of least GUID, forwards and backwards, the first whose trial load between the leaf switches is least.
+    LeastLoaded,
 }
 
 impl SwitchOrder {
@@ -31,6 +34,7 @@ impl SwitchOrder {
             SwitchOrder::AsNamed { switches } => Ok(SwitchOrder::AsNamed {
                 switches: Vec::from_slice(alloc, switches)?,
             }),
+            SwitchOrder::LeastLoaded => Ok(SwitchOrder::LeastLoaded),
         }
     }
 }

@@ -1,0 +1,132 @@
+//! A manager is served: lines are read, and each is dealt with before the next one is read.
+ghost use Rattle.std.specs.Prelude.{◌≡◌, ◌<◌, IfErr, OnOk, IsTrue, false, length};
+ghost use Rattle.std.specs.Io.KnownBytes.{Appends};
+ghost use Rattle.schedule_lines.specs.Prints.{PrintsSome};
+ghost use Rattle.serve_run.specs.Kept.{after_byte, after_bytes, kept_with};
+ghost use Rattle.serve_run.specs.Lives.{Lives};
+ghost use Rattle.serve_run.specs.Serving.{HasServed, ServesPiece, StopsServing, value_of};
+
+use crate::serve_fault::ServeFault;
+use crate::serve_line::serve_line;
+use byte_io::{ReadError, Sink, Source};
+use schedule_lines::RunFault;
+use serve_lines::{MOST_BYTES, read_line};
+use sm_manager::Manager;
+use std::alloc::{AllocError, Global};
+
+/// How many bytes are read at once, at most.
+const PIECE: usize = 4096;
+
+/// A manager, and the line that is begun: its first bytes, up to one more than a line may have.
+#[derive(Drop)]
+pub(crate) struct Server {
+    manager: Manager,
+    begun: Vec<u8>,
+}
+
+/// Serves a manager by lines until they end. Each line is answered, and the answer passed on, before more is read.
+///
+/// What is written is `served_by` of all that was read; bytes behind the last line feed are no line. Takes the memory of
+/// the manager, and 601 bytes for the line that is begun.
+///
+/// # Errors
+///
+/// `Read`: the lines can't be read, and all that were read have been answered. `Memory`: a beginning of the answers was
+/// written. `Write`: how much was written isn't said.
+pub fn serve<S: Source, W: Sink>(
+    alloc: Global,
+    manager: Manager,
+    lines: &mut S,
+    sink: &mut W,
+) -> Result<(), ServeFault>
+    ensures served { OnOk result (HasServed S.state lines.old lines.new manager
+        (Appends (W.written sink.old) (W.written sink.new))) }
+    ensures flushed { OnOk result (IsTrue (W.is_flushed sink.new)) }
+    ensures sink_works { OnOk result (W.has_failed sink.new ≡ false) }
+    ensures stopped { IfErr result (StopsServing S.state lines.old lines.new manager
+        (PrintsSome W.written W.has_failed sink.old sink.new)
+        (Appends (W.written sink.old) (W.written sink.new)) (W.has_failed sink.new)) }
+{
+    let mut server = Server {
+        manager,
+        begun: Vec::new(alloc),
+    };
+    sink.flush()?;
+    for _ in 0..u64::MAX {
+        if !server.serve_piece(alloc, lines, sink)? {
+            return Ok(());
+        }
+    }
+    Err(ServeFault::Read)
+}
+
+impl Server {
+    /// Reads some bytes, and deals with the lines that end in them. Nothing is held back as it reads. Answers whether
+    /// more may come.
+    fn serve_piece<S: Source, W: Sink>(
+        &mut self,
+        alloc: Global,
+        lines: &mut S,
+        sink: &mut W,
+    ) -> Result<bool, ServeFault>
+        requires { IsTrue (W.is_flushed sink.old) }
+        ensures serves { ServesPiece S.state W.written W.has_failed lines.old lines.new (value_of self.old)
+            (value_of self.new) sink.old sink.new result }
+        ensures flushed { OnOk result (IsTrue (W.is_flushed sink.new)) }
+    {
+        let mut room = [0u8; PIECE];
+        match lines.read(&mut room) {
+            Ok(0) => Ok(false),
+            Ok(count) => {
+                self.serve_bytes(alloc, &room[..count], sink)?;
+                Ok(true)
+            }
+            Err(ReadError::Interrupted) => Ok(true),
+            Err(ReadError::Failed) => Err(ServeFault::Read),
+        }
+    }
+
+    /// Deals with the lines that end in these bytes.
+    fn serve_bytes<W: Sink>(
+        &mut self,
+        alloc: Global,
+        bytes: &[u8],
+        sink: &mut W,
+    ) -> Result<(), RunFault>
+        requires { IsTrue (W.is_flushed sink.old) }
+        ensures serves { Lives W.written W.has_failed (value_of self.new) result sink.old sink.new
+            (after_bytes (value_of self.old) bytes.now) }
+        ensures flushed { OnOk result (IsTrue (W.is_flushed sink.new)) }
+    {
+        for byte in bytes {
+            self.serve_byte(alloc, *byte, sink)?;
+        }
+        Ok(())
+    }
+
+    /// Deals with the line that is begun if the byte ends it; else the line goes on.
+    fn serve_byte<W: Sink>(&mut self, alloc: Global, byte: u8, sink: &mut W) -> Result<(), RunFault>
+        requires { IsTrue (W.is_flushed sink.old) }
+        ensures serves { Lives W.written W.has_failed (value_of self.new) result sink.old sink.new
+            (after_byte (value_of self.old) byte) }
+        ensures flushed { OnOk result (IsTrue (W.is_flushed sink.new)) }
+    {
+        if byte != b'\n' {
+            keep(&mut self.begun, byte)?;
+            return Ok(());
+        }
+        let line = read_line(&self.begun);
+        self.begun.clear();
+        serve_line(alloc, &mut self.manager, line, sink)
+    }
+}
+
+/// Puts a byte behind those of a line, unless these are too many for a line already.
+fn keep(begun: &mut Vec<u8>, byte: u8) -> Result<(), AllocError>
+    ensures { OnOk result (begun.new.items ≡ kept_with begun.old.items byte) }
+{
+    if begun.len() <= MOST_BYTES {
+        begun.push(byte)?;
+    }
+    Ok(())
+}

@@ -1,0 +1,53 @@
+//! The switch that may be the last of those that are left.
+ghost use Rattle.std.specs.Prelude.{◌≡◌};
+ghost use Rattle.told_order.specs.Last.{IsNextBy, may_be_last, turns_in};
+ghost use Rattle.told_order.specs.ToldOrder.{is_left};
+ghost use Rattle.told_order.specs.Turns.{lists_of};
+
+use crate::turns::SwitchTurn;
+
+/// Returns the switch that may be the last of those that are left, by the turns of each: of several the one that stands
+/// last in a list. Takes a step for each switch of the list, and one for each turn of those that are left until it
+/// finds one.
+pub(crate) fn last_of(
+    turns: &[Vec<SwitchTurn>],
+    preferred: &[usize],
+    left: &[bool],
+) -> Option<usize>
+    ensures { IsNextBy (lists_of turns.now) preferred.now left.now result }
+{
+    for index in (0..preferred.len()).rev() {
+        let switch = preferred[index];
+        if may_be_last(turns, left, switch) {
+            return Some(switch);
+        }
+    }
+    None
+}
+
+/// Whether a switch is left, and packets from none that is left turn there to one that is.
+fn may_be_last(turns: &[Vec<SwitchTurn>], left: &[bool], switch: usize) -> bool
+    ensures { result ≡ may_be_last (lists_of turns.now) left.now switch }
+{
+    is_left(left, switch)
+        && match turns.get(switch) {
+            Some(turns) => !turns_in(turns, left),
+            None => true,
+        }
+}
+
+/// Whether a turn leads from a switch that is left to one that is.
+fn turns_in(turns: &[SwitchTurn], left: &[bool]) -> bool
+    ensures { result ≡ turns_in left.now turns.now }
+{
+    turns
+        .iter()
+        .any(|turn| is_left(left, turn.from) && is_left(left, turn.to))
+}
+
+/// Whether the switch at an index is left.
+pub(crate) fn is_left(left: &[bool], index: usize) -> bool
+    ensures { result ≡ is_left left.now index }
+{
+    left.get(index).copied().unwrap_or(false)
+}
