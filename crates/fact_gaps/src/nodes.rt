@@ -63,7 +63,7 @@ fn add_own_nodes(guids: &mut Vec<Guid>, store: &Store, known: &[Guid]) -> Result
     Ok(())
 }
 
-/// Adds the unusable nodes to which links lead to `guids`; the nodes in `known` are known.
+/// Appends to `guids` the unusable nodes at the far ends of links. Skips the nodes in `known`.
 fn add_far_nodes(guids: &mut Vec<Guid>, store: &Store, known: &[Guid]) -> Result<(), AllocError>
     requires { AreKnownNodes (cells_of store.now) known.now }
     ensures { OnOk result (guids.new.items ≡ guids.old.items

@@ -97,7 +97,7 @@ fn add_own_ports(
     Ok(())
 }
 
-/// Adds the unjoined ports to which links lead to `ports`; the ports in `known` are joined or down.
+/// Appends to `ports` the far ends of links that are neither joined nor down. Skips the ports in `known`.
 fn add_far_ports(
     ports: &mut Vec<(Guid, PortNum)>,
     wires: &Wires,
@@ -158,8 +158,8 @@ fn if_unjoined(
     }
 }
 
-/// Whether it is known where a port leads, where some ports are given of which it is known. Takes a search among
-/// these, and three more where it is none of them.
+/// Returns whether it is known where a port leads. All ports in `known` are. Takes one binary search of `known`, and three
+/// of the store if it lacks the port.
 fn is_known_by(wires: &Wires, known: &[(Guid, PortNum)], node: Guid, port: PortNum) -> bool
     requires { AreKnownPorts (cells_of wires.now) known.now }
     ensures { result ≡ is_known_port (cells_of wires.now) (node, port) }

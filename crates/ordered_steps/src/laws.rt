@@ -59,8 +59,8 @@ pub fn heal_by_order()
     ensures law { HealByOrder }
 {}
 
-/// After twice as many steps as there are switches, and one at least, the tables are right by each order by which the
-/// goal is, if the first tables deliver a packet at its end port only from switches from which the goal does.
+/// After `2n` steps among `n` switches, or one step if `n` is 0, the tables are right by every order by which the goal is
+/// right, if the first tables deliver a packet only from switches from which the goal does.
 pub fn end_right_by_any()
     ensures law { EndRightByAny }
 {}

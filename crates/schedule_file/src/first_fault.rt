@@ -55,7 +55,7 @@ fn judge_line(
             Ok(seats.try_push(seat).is_ok())
         }
         Some(ScheduleLine::Command(named)) => {
-            let _known = resolve(topology, seats.as_slice(), number, named)?;
+            resolve(topology, seats.as_slice(), number, named)?;
             Ok(true)
         }
     }
