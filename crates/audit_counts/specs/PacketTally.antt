@@ -8,14 +8,14 @@ use Rattle.audit_counts.specs.Pairs.{ArePairs, ArePairsIf, ArePairsWithArrived}
 use Rattle.audit_counts.specs.FirstFew.{listed, listed_of}
 
 -- how many packets there are, how many of them and of those between adapter ports arrive, for what others are lost, and
--- how many of each kind do not, with the first
-pub record IsTally (packets : List SentPacket) (tally : PacketTally) : Type 0 where
+-- how many of each kind do not, with the first, of which up to `most` are told
+pub record IsTally (most : ℕ) (packets : List SentPacket) (tally : PacketTally) : Type 0 where
   pub all : ArePairs packets tally.all
   pub between : ArePairs (filter is_between packets) tally.between
   pub causes : tally.causes ≡ causes_of packets
-  pub lost : tally.lost ≡ listed_of is_lost packets
-  pub misdelivered : tally.misdelivered ≡ listed_of is_misdelivered packets
-  pub round : tally.round ≡ listed_of goes_round packets
+  pub lost : tally.lost ≡ listed_of most is_lost packets
+  pub misdelivered : tally.misdelivered ≡ listed_of most is_misdelivered packets
+  pub round : tally.round ≡ listed_of most goes_round packets
 
 -- told with those of its kind
 pub record IsTold (old : PacketTally) (packet : SentPacket) (new : PacketTally) : Type 0 where

@@ -25,17 +25,22 @@ pub struct PacketSurvey {
     pub told: Vec<bool>,
 }
 
-/// Counts the packets that end ports send to the LIDs of their components. Takes what `Network::blocks` and
+/// Counts the packets that end ports send to the LIDs of their components, and tells up to `most` of each kind. Takes what `Network::blocks` and
 /// `Network::deliveries` do for each 64 LIDs; and for each LID whose packets are not seen to arrive by these what
 /// `Network::ends` does, and a step for each end port where they do not.
-pub fn survey(alloc: Global, network: &Network, sites: &[Site]) -> Result<PacketSurvey, AllocError>
+pub fn survey(
+    alloc: Global,
+    most: usize,
+    network: &Network,
+    sites: &[Site],
+) -> Result<PacketSurvey, AllocError>
     requires { sites.now ≡ map (site_of (cells_of network.now.facts)) (end_ports (cells_of network.now.facts)) }
     ensures tally { IfOk result (λ survey.
-        IsTally (packets_of (cells_of network.now.facts) network.now.held) survey.tally) }
+        IsTally most (packets_of (cells_of network.now.facts) network.now.held) survey.tally) }
     ensures told { IfOk result (λ survey.
         AreTold (cells_of network.now.facts) network.now.held survey.told.items) }
 {
-    let mut tally = PacketTally::new(alloc);
+    let mut tally = PacketTally::new(alloc, most);
     let mut told = Vec::new(alloc);
     add_lines(alloc, &mut tally, &mut told, network, sites)?;
     Ok(PacketSurvey { tally, told })
@@ -50,12 +55,12 @@ fn add_lines(
     network: &Network,
     sites: &[Site],
 ) -> Result<(), AllocError>
-    requires tally { IsTally [] tally.old }
     requires told { told.old.items ≡ [] }
     requires sites { sites.now
         ≡ map (site_of (cells_of network.now.facts)) (end_ports (cells_of network.now.facts)) }
     ensures tally { OnOk result
-        (IsTally (packets_of (cells_of network.now.facts) network.now.held) tally.new) }
+        ((most : ℕ) → IsTally most [] tally.old
+        → IsTally most (packets_of (cells_of network.now.facts) network.now.held) tally.new) }
     ensures told { OnOk result (AreTold (cells_of network.now.facts) network.now.held told.new.items) }
 {
     let mut index = 0;
@@ -104,8 +109,8 @@ fn add_packets(
     requires census { IsCensus sites.now census }
     requires listed { Contains sites.now owner.now }
     requires owner { owner.now ≡ site_of (cells_of network.now.facts) line.now.port }
-    ensures counted { OnOk result ((packets : List Sent) → IsTally packets tally.old
-        → IsTally (packets ++ sent_to (cells_of network.now.facts) network.now.held line.now) tally.new) }
+    ensures counted { OnOk result ((most : ℕ) (packets : List Sent) → IsTally most packets tally.old
+        → IsTally most (packets ++ sent_to (cells_of network.now.facts) network.now.held line.now) tally.new) }
     ensures told { IfOk result (λ all. all ≡ true → AllComeTo (cells_of network.now.facts) network.now.held line.now) }
 {
     if network.all_arrive(deliveries, line) {

@@ -24,17 +24,17 @@ impl PacketTally {
     ghost use Rattle.audit_counts.specs.Packets.{arrives};
     ghost use Rattle.audit_counts.specs.PacketTally.{IsCountedWith, IsMissed, IsTally, IsWith, IsWithArrived};
 
-    /// No packet.
-    pub(crate) fn new(alloc: Global) -> Self
-        ensures { IsTally [] result }
+    /// Creates a tally of no packets, of which up to `most` of each kind are told.
+    pub(crate) fn new(alloc: Global, most: usize) -> Self
+        ensures { IsTally most [] result }
     {
         PacketTally {
             all: Pairs::new(),
             between: Pairs::new(),
             causes: Causes::new(),
-            lost: FirstFew::new(alloc),
-            misdelivered: FirstFew::new(alloc),
-            round: FirstFew::new(alloc),
+            lost: FirstFew::new(alloc, most),
+            misdelivered: FirstFew::new(alloc, most),
+            round: FirstFew::new(alloc, most),
         }
     }
 

@@ -34,16 +34,16 @@ pub struct Unmatched {
 }
 
 impl Unmatched {
-    /// Returns those of each kind. Takes two searches for each LID that is held; a walk over the switches that are held
-    /// for each switch; one over the LIDs for each end port; and what
-    /// `unusable_nodes` and `unjoined_ports` take.
-    pub fn of(alloc: Global, network: &Network) -> Result<Self, Refused>
-        ensures { IfOk result (IsUnmatched (cells_of network.now.facts) network.now.held) }
+    /// Returns what differs, with up to `most` of each kind. Takes two searches for each LID that is held; a walk over
+    /// the switches that are held for each switch; one over the LIDs for each end port; and what `unusable_nodes` and
+    /// `unjoined_ports` take.
+    pub fn of(alloc: Global, most: usize, network: &Network) -> Result<Self, Refused>
+        ensures { IfOk result (IsUnmatched most (cells_of network.now.facts) network.now.held) }
     {
-        let (unowned, twice) = unowned_and_twice(alloc, network)?;
-        let (unknown, tableless) = unknown_and_tableless(alloc, network)?;
-        let lidless = lidless_of(alloc, network)?;
-        let (unusable, unjoined) = unusable_and_unjoined(alloc, network.store())?;
+        let (unowned, twice) = unowned_and_twice(alloc, most, network)?;
+        let (unknown, tableless) = unknown_and_tableless(alloc, most, network)?;
+        let lidless = lidless_of(alloc, most, network)?;
+        let (unusable, unjoined) = unusable_and_unjoined(alloc, most, network.store())?;
         Ok(Unmatched {
             unowned,
             twice,
@@ -59,79 +59,87 @@ impl Unmatched {
 /// LIDs with ports that are no end ports of the facts, and LIDs that more than one port holds.
 fn unowned_and_twice(
     alloc: Global,
+    most: usize,
     network: &Network,
 ) -> Result<(FirstFew<HeldLid>, FirstFew<HeldLid>), AllocError>
-    ensures unowned { IfOk result (λ both. both.0 ≡ unowned (cells_of network.now.facts) network.now.held) }
-    ensures twice { IfOk result (λ both. both.1 ≡ twice network.now.held) }
+    ensures unowned { IfOk result (λ both. both.0 ≡ unowned most (cells_of network.now.facts) network.now.held) }
+    ensures twice { IfOk result (λ both. both.1 ≡ twice most network.now.held) }
 {
-    let unowned = unowned(alloc, network.lids(), network.store())?;
-    let twice = twice(alloc, network)?;
+    let unowned = unowned(alloc, most, network.lids(), network.store())?;
+    let twice = twice(alloc, most, network)?;
     Ok((unowned, twice))
 }
 
 /// Switches with tables that are no usable switches of the facts, and usable switches without tables.
 fn unknown_and_tableless(
     alloc: Global,
+    most: usize,
     network: &Network,
 ) -> Result<(FirstFew<Guid>, FirstFew<Guid>), Refused>
-    ensures unknown { IfOk result (λ both. both.0 ≡ unknown (cells_of network.now.facts) network.now.held) }
-    ensures tableless { IfOk result (λ both. both.1 ≡ tableless (cells_of network.now.facts) network.now.held) }
+    ensures unknown { IfOk result (λ both. both.0 ≡ unknown most (cells_of network.now.facts) network.now.held) }
+    ensures tableless { IfOk result (λ both. both.1 ≡ tableless most (cells_of network.now.facts) network.now.held) }
 {
-    let unknown = unknown(alloc, network.held(), network.store())?;
-    let tableless = tableless_of(alloc, network)?;
+    let unknown = unknown(alloc, most, network.held(), network.store())?;
+    let tableless = tableless_of(alloc, most, network)?;
     Ok((unknown, tableless))
 }
 
 /// Nodes and ports that the facts name, and of which they do not tell what they are, or where they lead.
 fn unusable_and_unjoined(
     alloc: Global,
+    most: usize,
     store: &Store,
 ) -> Result<(FirstFew<Guid>, FirstFew<EndPort>), Refused>
-    ensures unusable { IfOk result (λ both. both.0 ≡ unusable (cells_of store.now)) }
-    ensures unjoined { IfOk result (λ both. both.1 ≡ unjoined (cells_of store.now)) }
+    ensures unusable { IfOk result (λ both. both.0 ≡ unusable most (cells_of store.now)) }
+    ensures unjoined { IfOk result (λ both. both.1 ≡ unjoined most (cells_of store.now)) }
 {
-    let unusable = unusable_of(alloc, store)?;
-    let unjoined = unjoined_of(alloc, store)?;
+    let unusable = unusable_of(alloc, most, store)?;
+    let unjoined = unjoined_of(alloc, most, store)?;
     Ok((unusable, unjoined))
 }
 
 /// Nodes that the facts name, and of which they do not tell what they are.
-fn unusable_of(alloc: Global, store: &Store) -> Result<FirstFew<Guid>, AllocError>
-    ensures { IfOk result (λ few. few ≡ unusable (cells_of store.now)) }
+fn unusable_of(alloc: Global, most: usize, store: &Store) -> Result<FirstFew<Guid>, AllocError>
+    ensures { IfOk result (λ few. few ≡ unusable most (cells_of store.now)) }
 {
     let guids = unusable_nodes(alloc, store)?;
-    FirstFew::of(alloc, &guids)
+    FirstFew::of(alloc, most, &guids)
 }
 
 /// Ports that the facts name, and of which they do not tell where they lead.
-fn unjoined_of(alloc: Global, store: &Store) -> Result<FirstFew<EndPort>, Refused>
-    ensures { IfOk result (λ few. few ≡ unjoined (cells_of store.now)) }
+fn unjoined_of(alloc: Global, most: usize, store: &Store) -> Result<FirstFew<EndPort>, Refused>
+    ensures { IfOk result (λ few. few ≡ unjoined most (cells_of store.now)) }
 {
     let ports = unjoined_ports(alloc, store)?;
-    Ok(FirstFew::of(alloc, &ports)?)
+    Ok(FirstFew::of(alloc, most, &ports)?)
 }
 
 /// Usable switches without tables.
-fn tableless_of(alloc: Global, network: &Network) -> Result<FirstFew<Guid>, Refused>
-    ensures { IfOk result (λ few. few ≡ tableless (cells_of network.now.facts) network.now.held) }
+fn tableless_of(alloc: Global, most: usize, network: &Network) -> Result<FirstFew<Guid>, Refused>
+    ensures { IfOk result (λ few. few ≡ tableless most (cells_of network.now.facts) network.now.held) }
 {
     let guids = switches(alloc, network.store())?;
-    Ok(tableless(alloc, network.held(), &guids)?)
+    Ok(tableless(alloc, most, network.held(), &guids)?)
 }
 
 /// End ports without a LID.
-fn lidless_of(alloc: Global, network: &Network) -> Result<FirstFew<EndPort>, Refused>
-    ensures { IfOk result (λ few. few ≡ lidless (cells_of network.now.facts) network.now.held) }
+fn lidless_of(alloc: Global, most: usize, network: &Network) -> Result<FirstFew<EndPort>, Refused>
+    ensures { IfOk result (λ few. few ≡ lidless most (cells_of network.now.facts) network.now.held) }
 {
     let ports = end_ports(alloc, network.store())?;
-    Ok(lidless(alloc, network.held(), &ports)?)
+    Ok(lidless(alloc, most, network.held(), &ports)?)
 }
 
 /// Returns those of some lines with ports that are no end ports of the facts.
-fn unowned(alloc: Global, lines: &[HeldLid], store: &Store) -> Result<FirstFew<HeldLid>, AllocError>
-    ensures { IfOk result (λ few. few ≡ unowned_among (cells_of store.now) lines.now) }
+fn unowned(
+    alloc: Global,
+    most: usize,
+    lines: &[HeldLid],
+    store: &Store,
+) -> Result<FirstFew<HeldLid>, AllocError>
+    ensures { IfOk result (λ few. few ≡ unowned_among most (cells_of store.now) lines.now) }
 {
-    let mut few = FirstFew::new(alloc);
+    let mut few = FirstFew::new(alloc, most);
     for line in lines {
         if !is_end_port(store, line.port.node, line.port.port) {
             few.add(*line)?;
@@ -141,10 +149,10 @@ fn unowned(alloc: Global, lines: &[HeldLid], store: &Store) -> Result<FirstFew<H
 }
 
 /// LIDs that more than one port holds, with each of these.
-fn twice(alloc: Global, network: &Network) -> Result<FirstFew<HeldLid>, AllocError>
-    ensures { IfOk result (λ few. few ≡ twice network.now.held) }
+fn twice(alloc: Global, most: usize, network: &Network) -> Result<FirstFew<HeldLid>, AllocError>
+    ensures { IfOk result (λ few. few ≡ twice most network.now.held) }
 {
-    let mut few = FirstFew::new(alloc);
+    let mut few = FirstFew::new(alloc, most);
     for line in network.lids() {
         if network.is_told_twice(line.lid) {
             few.add(*line)?;
@@ -154,10 +162,15 @@ fn twice(alloc: Global, network: &Network) -> Result<FirstFew<HeldLid>, AllocErr
 }
 
 /// Switches with tables that are no usable switches of the facts.
-fn unknown(alloc: Global, held: &Held, store: &Store) -> Result<FirstFew<Guid>, AllocError>
-    ensures { IfOk result (λ few. few ≡ unknown (cells_of store.now) held.now) }
+fn unknown(
+    alloc: Global,
+    most: usize,
+    held: &Held,
+    store: &Store,
+) -> Result<FirstFew<Guid>, AllocError>
+    ensures { IfOk result (λ few. few ≡ unknown most (cells_of store.now) held.now) }
 {
-    let mut few = FirstFew::new(alloc);
+    let mut few = FirstFew::new(alloc, most);
     for switch in held.switches() {
         if !is_usable(store, switch.guid) {
             few.add(switch.guid)?;
@@ -167,10 +180,15 @@ fn unknown(alloc: Global, held: &Held, store: &Store) -> Result<FirstFew<Guid>, 
 }
 
 /// Returns those of some switches that have no tables.
-fn tableless(alloc: Global, held: &Held, guids: &[Guid]) -> Result<FirstFew<Guid>, AllocError>
-    ensures { IfOk result (λ few. few ≡ tableless_among guids.now held.now) }
+fn tableless(
+    alloc: Global,
+    most: usize,
+    held: &Held,
+    guids: &[Guid],
+) -> Result<FirstFew<Guid>, AllocError>
+    ensures { IfOk result (λ few. few ≡ tableless_among most guids.now held.now) }
 {
-    let mut few = FirstFew::new(alloc);
+    let mut few = FirstFew::new(alloc, most);
     for guid in guids {
         if !is_held(held, *guid) {
             few.add(*guid)?;
@@ -187,10 +205,15 @@ fn is_held(held: &Held, guid: Guid) -> bool
 }
 
 /// Returns those of some end ports that hold no LID.
-fn lidless(alloc: Global, held: &Held, ports: &[EndPort]) -> Result<FirstFew<EndPort>, AllocError>
-    ensures { IfOk result (λ few. few ≡ lidless_among ports.now held.now) }
+fn lidless(
+    alloc: Global,
+    most: usize,
+    held: &Held,
+    ports: &[EndPort],
+) -> Result<FirstFew<EndPort>, AllocError>
+    ensures { IfOk result (λ few. few ≡ lidless_among most ports.now held.now) }
 {
-    let mut few = FirstFew::new(alloc);
+    let mut few = FirstFew::new(alloc, most);
     for port in ports {
         if !has_lid(held, port) {
             few.add(*port)?;

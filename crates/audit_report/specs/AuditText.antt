@@ -189,34 +189,34 @@ pairs_told packets =
     counts_told (codes "") packets ++ counts_told (codes "between adapters ") (filter is_between packets)
     ++ counts_told (codes "with a switch ") (filter (λ packet. not (is_between packet)) packets)
 
--- how many of some packets arrive, how many of each kind do not, and the first of these
-abbrev pub packets_told : Cells → HeldPlan → List SentPacket → List ℕ
-packets_told cells held packets =
+-- how many of some packets arrive, how many of each kind do not, and the first of these, up to `most` of each kind
+abbrev pub packets_told : ℕ → Cells → HeldPlan → List SentPacket → List ℕ
+packets_told most cells held packets =
     pairs_told packets
     ++ missed_line (causes_of packets) (count_by is_misdelivered packets) (count_by goes_round packets)
-    ++ missed_text cells held (listed_of is_lost packets) (listed_of is_misdelivered packets)
-    (listed_of goes_round packets)
+    ++ missed_text cells held (listed_of most is_lost packets) (listed_of most is_misdelivered packets)
+    (listed_of most goes_round packets)
 
--- the first of each kind in which tables and facts differ, or that the facts do not tell
-abbrev pub unmatched_told : Cells → HeldPlan → List ℕ
-unmatched_told cells held =
-    kind_text lid_line (codes "unowned") (unowned cells held) ++ kind_text lid_line (codes "twice") (twice held)
-    ++ kind_text switch_line (codes "unknown") (unknown cells held)
-    ++ kind_text switch_line (codes "tableless") (tableless cells held)
-    ++ kind_text switch_line (codes "unusable") (unusable cells)
-    ++ kind_text port_line (codes "lidless") (lidless cells held)
-    ++ kind_text port_line (codes "unjoined") (unjoined cells)
+-- the first of each kind in which tables and facts differ, or that the facts do not tell, up to `most`
+abbrev pub unmatched_told : ℕ → Cells → HeldPlan → List ℕ
+unmatched_told most cells held =
+    kind_text lid_line (codes "unowned") (unowned most cells held) ++ kind_text lid_line (codes "twice") (twice most held)
+    ++ kind_text switch_line (codes "unknown") (unknown most cells held)
+    ++ kind_text switch_line (codes "tableless") (tableless most cells held)
+    ++ kind_text switch_line (codes "unusable") (unusable most cells)
+    ++ kind_text port_line (codes "lidless") (lidless most cells held)
+    ++ kind_text port_line (codes "unjoined") (unjoined most cells)
 
 -- how far packets go between adapter ports, and how evenly they load the channels
 abbrev pub ways_told : Cells → HeldPlan → List ℕ
 ways_told cells held = ways_text (figures_of (hops_of cells held)) (figures_of (loads_of cells held))
 
 -- the packets, where tables and facts differ, disputed facts, ways and loads, and the cycle
-abbrev pub text_of : Cells → HeldPlan → List ℕ → List ℕ
-text_of cells held cycle =
-    packets_told cells held (packets_of cells held) ++ unmatched_told cells held ++ disputed_line (disputed cells)
+abbrev pub text_of : ℕ → Cells → HeldPlan → List ℕ → List ℕ
+text_of most cells held cycle =
+    packets_told most cells held (packets_of cells held) ++ unmatched_told most cells held ++ disputed_line (disputed cells)
     ++ ways_told cells held
     ++ cycle_line cells cycle
 
 unfoldable pub audit_text : Audited → List ℕ
-audit_text audit = text_of (cells_of audit.facts) audit.held audit.cycle
+audit_text audit = text_of audit.most (cells_of audit.facts) audit.held audit.cycle

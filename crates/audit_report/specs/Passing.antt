@@ -1,5 +1,5 @@
 -- When the tables that a subnet's switches hold pass.
-use Rattle.std.specs.Prelude.{◌≡◌, ℕ, true, List, [], ◌∷◌, Contains, Some}
+use Rattle.std.specs.Prelude.{◌≡◌, ℕ, Bool, true, List, [], ◌∷◌, Contains, Option, None, Some, nat_le}
 use Rattle.std.specs.Coded.{Coded, code_by, coded×, coded_ℕ}
 use Rattle.std.specs.Prelude.{refl}
 use base.Stored.{coded_list}
@@ -18,8 +18,10 @@ use Rattle.audit.specs.declared.end.End.TheVariants.{Taken}
 use Rattle.audit.specs.Network.{Seen}
 use Rattle.audit.specs.NextHops.{IsBrought}
 use Rattle.audit_channels.specs.Waiting.{RiseOnWays, WaitInCycle}
+use Rattle.audit_ways.specs.declared.figures.Figures.{Figures}
 use Rattle.audit_ways.specs.declared.ways.WayFigures.{WayFigures}
-use Rattle.audit_ways.specs.Ways.{IsToldOfWays}
+use Rattle.audit_ways.specs.Figures.{figures_of}
+use Rattle.audit_ways.specs.Ways.{IsToldOfWays, loads_of}
 use Rattle.audit_counts.specs.declared.packet_tally.PacketTally.{PacketTally}
 use Rattle.audit_counts.specs.declared.unmatched.Unmatched.{Unmatched}
 use Rattle.audit_counts.specs.Disputed.{disputed}
@@ -85,13 +87,25 @@ pub record Passes (cells : Cells) (held : HeldPlan) : Type 0 where
   pub whole : IsWholeFor cells held
   pub sound : IsSound cells held
 
+-- a greatest load is no more than a bound, if there is one
+abbrev pub is_within : Option ℕ → Option Figures → Bool
+is_within None load = true
+is_within (Some bound) None = true
+is_within (Some bound) (Some load) = nat_le load.most bound
+
+-- both, and no channel carries more pairs of adapter ports than a bound, if there is one
+pub record PassesWithin (bound : Option ℕ) (cells : Cells) (held : HeldPlan) : Type 0 where
+  pub passes : Passes cells held
+  pub within : is_within bound (figures_of (loads_of cells held)) ≡ true
+
 -- channels that wait for each other in a credit loop; none where they can be numbered so
 abbrev pub IsCycle : Cells → HeldPlan → List ℕ → Type 0
 IsCycle cells held [] = CanRise cells held
 IsCycle cells held (channel ∷ later) = WaitInCycle cells held (channel ∷ later)
 
--- facts and tables, and the cycle that is told
+-- facts and tables, the cycle that is told, and how many lines of each kind may be
 pub record Audited : Type 0 where
+  pub most : ℕ
   pub facts : Facts
   pub held : HeldPlan
   pub cycle : List ℕ
@@ -99,15 +113,16 @@ pub record Audited : Type 0 where
 -- stored as pairs
 abbrev pub audited_code : Coded Audited
 audited_code =
-    code_by (Facts × (HeldPlan × List ℕ)) (coded× facts_code (coded× (held_plan.the_row).coded (coded_list coded_ℕ)))
-    (λ a. (a.facts, (a.held, a.cycle)))
-    (λ p. record { facts = p.0; held = p.1.0; cycle = p.1.1 }) (λ _. refl)
+    code_by (ℕ × (Facts × (HeldPlan × List ℕ)))
+    (coded× coded_ℕ (coded× facts_code (coded× (held_plan.the_row).coded (coded_list coded_ℕ))))
+    (λ a. (a.most, (a.facts, (a.held, a.cycle))))
+    (λ p. record { most = p.0; facts = p.1.0; held = p.1.1.0; cycle = p.1.1.1 }) (λ _. refl)
 
 -- what is found of facts and tables
-pub record IsFound (seen : Seen) (tally : PacketTally) (unmatched : Unmatched) (count : ℕ) (ways : WayFigures)
+pub record IsFound (most : ℕ) (seen : Seen) (tally : PacketTally) (unmatched : Unmatched) (count : ℕ) (ways : WayFigures)
     (cycle : List ℕ) : Type 0 where
-  pub counted : IsTally (packets_of (cells_of seen.facts) seen.held) tally
-  pub differ : IsUnmatched (cells_of seen.facts) seen.held unmatched
+  pub counted : IsTally most (packets_of (cells_of seen.facts) seen.held) tally
+  pub differ : IsUnmatched most (cells_of seen.facts) seen.held unmatched
   pub count_is : count ≡ disputed (cells_of seen.facts)
   pub told : IsToldOfWays (cells_of seen.facts) seen.held ways
   pub waits : IsCycle (cells_of seen.facts) seen.held cycle

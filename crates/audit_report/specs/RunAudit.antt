@@ -1,32 +1,39 @@
 -- What an audit of tables and files does: it reads all of them, and writes how packets fare, or says which one it
 -- refuses.
-use Rattle.std.specs.Prelude.{◌↔◌, ◌⊎◌, ℕ, Bool, List, IsTrue}
+use Rattle.std.specs.Prelude.{◌↔◌, ◌⊎◌, ℕ, Bool, List, IsTrue, if◌then◌else◌}
 use Rattle.byte_io.specs.Source.{SourceState}
 use Rattle.fact_store.specs.View.{Facts, cells_of}
 use Rattle.plan_file.specs.Held.{HeldPlan}
 use Rattle.audit_channels.specs.Waiting.{NoneShorter}
 use Rattle.audit_report.specs.AuditText.{audit_text}
-use Rattle.audit_report.specs.Passing.{Passes, IsCycle}
+use Rattle.audit_report.specs.Passing.{IsCycle, PassesWithin}
+use Rattle.audit_report.specs.declared.audit_run.AuditAsked.{AuditAsked}
 use Rattle.sm_cli.specs.declared.fault.Fault.{Fault}
 use Rattle.sm_cli.specs.declared.fault.Fault.TheVariants.{Write, Memory}
 use Rattle.sm_cli.specs.InputTables.{AreNoTablesAndFiles, AreTablesAndFiles}
 use Rattle.sm_cli.specs.declared.input_tables.TablesAndFacts.{TablesAndFacts}
 
--- this holds of what was written, which says how packets fare, with a shortest credit loop where there is one, and
--- whether they pass is told
-pub record IsAudited (facts : Facts) (held : HeldPlan) (prints : List ℕ → Type 0) (passed : Bool) : Type 0 where
+-- how many lines of each kind are told: all, or the first 20
+abbrev pub most_told : Bool → ℕ
+most_told all = if all then 18446744073709551615 else 20
+
+-- `prints` holds of what was written, which says how packets fare, with a shortest credit loop if there is one; whether
+-- they pass, within the bound that was asked for, is told
+pub record IsAudited (asked : AuditAsked) (facts : Facts) (held : HeldPlan) (prints : List ℕ → Type 0) (passed : Bool)
+    : Type 0 where
   pub cycle : List ℕ
   pub waits : IsCycle (cells_of facts) held cycle
   pub shortest : NoneShorter (cells_of facts) held cycle
-  pub answered : prints (audit_text (record { facts = facts; held = held; cycle = cycle }))
-  pub judged : IsTrue passed ↔ Passes (cells_of facts) held
+  pub answered : prints
+      (audit_text (record { most = most_told asked.all; facts = facts; held = held; cycle = cycle }))
+  pub judged : IsTrue passed ↔ PassesWithin asked.max_load (cells_of facts) held
 
 -- the tables and then the files were read, and how packets fare was written
-pub record HasAudited {S : Type 0} (state : S → SourceState) (floor : ℕ) (olds news : List S)
+pub record HasAudited {S : Type 0} (state : S → SourceState) (asked : AuditAsked) (olds news : List S)
     (prints : List ℕ → Type 0) (passed : Bool) : Type 0 where
   pub told : TablesAndFacts
-  pub read : AreTablesAndFiles state floor olds news told
-  pub audited : IsAudited told.store told.held prints passed
+  pub read : AreTablesAndFiles state asked.floor olds news told
+  pub audited : IsAudited asked told.store told.held prints passed
 
 -- why what was read is not answered
 abbrev pub IsAnswerFault : Bool → Fault → Type 0

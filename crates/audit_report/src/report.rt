@@ -1,12 +1,13 @@
 ghost use Rattle.std.specs.Prelude.{◌≡◌, ◌↔◌, IfOk, IsTrue};
 ghost use Rattle.fact_store.specs.View.{cells_of};
 ghost use Rattle.audit_channels.specs.Waiting.{NoneShorter};
-ghost use Rattle.audit_ways.specs.Ways.{AreTold, IsToldOfWays};
+ghost use Rattle.audit_ways.specs.Figures.{figures_of};
+ghost use Rattle.audit_ways.specs.Ways.{AreTold, IsToldOfWays, loads_of};
 ghost use Rattle.audit_counts.specs.Packets.{packets_of};
 ghost use Rattle.audit_counts.specs.PacketTally.{IsTally};
 ghost use Rattle.audit_counts.specs.Unmatched.{IsUnmatched};
 ghost use Rattle.audit_report.specs.Passing.{EachHasTables, EachHoldsLid, EachNodeIsKnown, IsCycle, IsFound};
-ghost use Rattle.audit_report.specs.Passing.{IsSound, IsWholeFor, Passes};
+ghost use Rattle.audit_report.specs.Passing.{IsSound, IsWholeFor, Passes, PassesWithin, is_within};
 
 use audit::Network;
 use audit_channels::{ChannelOrder, channel_order};
@@ -20,6 +21,8 @@ use std::marker::Model;
 /// What the tables that switches hold do with the packets of a subnet.
 #[derive(Drop)]
 pub struct Audit<'a> {
+    /// How many of each kind are told.
+    most: usize,
     pub(crate) network: Network<'a>,
     pub(crate) findings: Findings,
 }
@@ -44,10 +47,15 @@ impl<'a> Model for Audit<'a> {
 
     ghost coded = { audited_code };
 
-    ghost view = { λ a. record { facts = a.network.facts; held = a.network.held; cycle = a.findings.cycle.items } };
+    ghost view = { λ a. record {
+      most = a.most;
+      facts = a.network.facts;
+      held = a.network.held;
+      cycle = a.findings.cycle.items;
+    } };
 
-    ghost invariant = { λ a. IsFound a.network a.findings.tally a.findings.unmatched a.findings.disputed a.findings.ways
-        a.findings.cycle.items };
+    ghost invariant = { λ a. IsFound a.most a.network a.findings.tally a.findings.unmatched a.findings.disputed
+        a.findings.ways a.findings.cycle.items };
 }
 
 impl<'a> Audit<'a> {
@@ -57,15 +65,37 @@ impl<'a> Audit<'a> {
     /// and what `Network::edges` does for each LID twice; for each LID whose packets are not seen to arrive by the
     /// deliveries what `Network::ends` does besides, twice where not all are delivered at its port, and then a step or
     /// two for each end port.
-    pub fn of(alloc: Global, store: &'a Store, held: &'a Held) -> Result<Self, Refused>
+    pub fn of(alloc: Global, most: usize, store: &'a Store, held: &'a Held) -> Result<Self, Refused>
+        ensures most { IfOk result (λ audit. audit.most ≡ most) }
         ensures facts { IfOk result (λ audit. audit.facts ≡ store.now) }
         ensures held { IfOk result (λ audit. audit.held ≡ held.now) }
         ensures cycle { IfOk result (λ audit. IsCycle (cells_of store.now) held.now audit.cycle) }
         ensures shortest { IfOk result (λ audit. NoneShorter (cells_of store.now) held.now audit.cycle) }
     {
         let network = Network::of(alloc, store, held)?;
-        let findings = findings_of(alloc, &network)?;
-        Ok(Audit { network, findings })
+        let findings = findings_of(alloc, most, &network)?;
+        Ok(Audit {
+            most,
+            network,
+            findings,
+        })
+    }
+
+    /// Returns whether the tables pass, and no channel carries more pairs of adapter ports than `bound`, if there is one.
+    pub fn passes_within(&self, bound: Option<u64>) -> bool
+        ensures { IsTrue result ↔ PassesWithin bound (cells_of self.now.facts) self.now.held }
+    {
+        self.passes() && self.is_within(bound)
+    }
+
+    /// Returns whether the greatest load of a channel is no more than `bound`, if there is one.
+    fn is_within(&self, bound: Option<u64>) -> bool
+        ensures { result ≡ is_within bound (figures_of (loads_of (cells_of self.now.facts) self.now.held)) }
+    {
+        match (bound, &self.findings.ways.load) {
+            (Some(bound), Some(load)) => load.most <= bound,
+            _ => true,
+        }
     }
 
     /// Whether nothing is missing, each packet arrives, and there is no cycle.
@@ -114,12 +144,12 @@ impl<'a> Audit<'a> {
 }
 
 /// What is found of a network.
-fn findings_of(alloc: Global, network: &Network) -> Result<Findings, Refused>
-    ensures found { IfOk result (λ f. IsFound network.now f.tally f.unmatched f.disputed f.ways f.cycle.items) }
+fn findings_of(alloc: Global, most: usize, network: &Network) -> Result<Findings, Refused>
+    ensures found { IfOk result (λ f. IsFound most network.now f.tally f.unmatched f.disputed f.ways f.cycle.items) }
     ensures shortest { IfOk result (λ f. NoneShorter (cells_of network.now.facts) network.now.held f.cycle.items) }
 {
-    let (tally, ways) = packets_and_ways(alloc, network)?;
-    let (unmatched, cycle) = unmatched_and_cycle(alloc, network)?;
+    let (tally, ways) = packets_and_ways(alloc, most, network)?;
+    let (unmatched, cycle) = unmatched_and_cycle(alloc, most, network)?;
     let disputed = disputed(network.store());
     Ok(Findings {
         tally,
@@ -131,32 +161,40 @@ fn findings_of(alloc: Global, network: &Network) -> Result<Findings, Refused>
 }
 
 /// What is counted of the packets, and of the wires and the channels that they take.
-fn packets_and_ways(alloc: Global, network: &Network) -> Result<(PacketTally, WayFigures), Refused>
-    ensures tally { IfOk result (λ both. IsTally (packets_of (cells_of network.now.facts) network.now.held) both.0) }
+fn packets_and_ways(
+    alloc: Global,
+    most: usize,
+    network: &Network,
+) -> Result<(PacketTally, WayFigures), Refused>
+    ensures tally { IfOk result (λ both. IsTally most (packets_of (cells_of network.now.facts) network.now.held) both.0) }
     ensures ways { IfOk result (λ both. IsToldOfWays (cells_of network.now.facts) network.now.held both.1) }
 {
-    let survey = survey_of(alloc, network)?;
+    let survey = survey_of(alloc, most, network)?;
     let ways = figures_of_ways_told(alloc, network, &survey.told)?;
     Ok((survey.tally, ways))
 }
 
 /// What is counted of the packets, and for which LIDs it is seen that all arrive.
-fn survey_of(alloc: Global, network: &Network) -> Result<PacketSurvey, Refused>
+fn survey_of(alloc: Global, most: usize, network: &Network) -> Result<PacketSurvey, Refused>
     ensures tally { IfOk result (λ survey.
-        IsTally (packets_of (cells_of network.now.facts) network.now.held) survey.tally) }
+        IsTally most (packets_of (cells_of network.now.facts) network.now.held) survey.tally) }
     ensures told { IfOk result (λ survey. AreTold (cells_of network.now.facts) network.now.held survey.told.items) }
 {
     let sites = sites(alloc, network.store())?;
-    Ok(survey(alloc, network, &sites)?)
+    Ok(survey(alloc, most, network, &sites)?)
 }
 
 /// Where tables and facts differ, and channels that wait for each other in a credit loop.
-fn unmatched_and_cycle(alloc: Global, network: &Network) -> Result<(Unmatched, Vec<usize>), Refused>
-    ensures unmatched { IfOk result (λ both. IsUnmatched (cells_of network.now.facts) network.now.held both.0) }
+fn unmatched_and_cycle(
+    alloc: Global,
+    most: usize,
+    network: &Network,
+) -> Result<(Unmatched, Vec<usize>), Refused>
+    ensures unmatched { IfOk result (λ both. IsUnmatched most (cells_of network.now.facts) network.now.held both.0) }
     ensures cycle { IfOk result (λ both. IsCycle (cells_of network.now.facts) network.now.held both.1.items) }
     ensures shortest { IfOk result (λ both. NoneShorter (cells_of network.now.facts) network.now.held both.1.items) }
 {
-    let unmatched = Unmatched::of(alloc, network)?;
+    let unmatched = Unmatched::of(alloc, most, network)?;
     let cycle = cycle_of(alloc, network)?;
     Ok((unmatched, cycle))
 }

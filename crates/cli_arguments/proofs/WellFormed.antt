@@ -83,6 +83,11 @@ module _ (routings : Bor (List (Bor Text))) (known : AreRoutings routings) (c : 
             (word_passes c name (codes "floor") f rows is taken);
       }
 
+  names_load : (m : Rule) → arg_by_id c (codes "max-load") ≡ Some m → m.parser ≡ Some (Signed (pos 0) (pos 4294967295))
+      → IsNumberWithin 0 4294967295 (word (codes "max-load"))
+  names_load m is parser =
+      number_read 0 4294967295 m parser (word (codes "max-load")) (word_passes c name (codes "max-load") m rows is taken)
+
   names_planning : (l r : Rule) → arg_by_id c (codes "lmc") ≡ Some l → l.parser ≡ Some (Signed (pos 0) (pos 7)) → arg_by_id c (codes "routing") ≡ Some r
       → r.parser ≡ Some (Names routings) → r.ignore_case ≡ false
       → has_conflict_of (word (codes "routing")) (is_some (word (codes "roots"))) (is_some (word (codes "order"))) ≡ false → NamesPlanning word
@@ -150,7 +155,7 @@ all_plain routings = (
       (
         ((refl, refl), ((refl, refl), ((refl, refl), ((refl, refl), ((refl, refl), ((refl, refl), tt)))))),
         (
-          ((refl, refl), ((refl, refl), ((refl, refl), ((refl, refl), tt)))),
+          ((refl, refl), ((refl, refl), ((refl, refl), ((refl, refl), ((refl, refl), ((refl, refl), tt)))))),
           (
             ((refl, refl), ((refl, refl), ((refl, refl), ((refl, refl), tt)))),
             (
@@ -187,7 +192,8 @@ all_fit routings known = (
             (names_order routings known _ (codes "order") rows t _ refl refl refl apart),
         (
           λ other differs is rows t e apart. audit refl (text_given routings known _ (codes "audit") rows t (codes "TABLES") _ refl refl (given_first _ _ e).0)
-              (names_files routings known _ (codes "audit") rows t _ refl refl (given_first _ _ (given_first _ _ e).1).0),
+              (names_files routings known _ (codes "audit") rows t _ refl refl (given_first _ _ (given_first _ _ e).1).0)
+              (names_load routings known _ (codes "audit") rows t _ refl refl),
           (
             λ other differs is rows t e apart. order_of refl (text_given routings known _ (codes "order-of") rows t (codes "TABLES") _ refl refl (given_first _ _ e).0)
                 (names_files routings known _ (codes "order-of") rows t _ refl refl (given_first _ _ (given_first _ _ e).1).0),

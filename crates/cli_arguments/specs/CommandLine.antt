@@ -7,7 +7,7 @@ use Rattle.clap.specs.Faults.{fault_of}
 use Rattle.clap.specs.Simple.{App, Shape, app_of, new_rule, new_shape, shape_of, subcommand_of, subcommand_rows_of}
 use Rattle.clap.specs.Values.{kind_of}
 use Rattle.clap.specs.Walk.{Rule, Text}
-use Rattle.clap.specs.declared.builder.action.ArgAction.TheVariants.{Append, Set}
+use Rattle.clap.specs.declared.builder.action.ArgAction.TheVariants.{Append, Set, SetTrue}
 use Rattle.clap.specs.declared.builder.command.Command.{Command}
 use Rattle.clap.specs.declared.builder.command.Command.TheViews.{out-Command as fields_of}
 use Rattle.clap.specs.declared.builder.value_parser.ValueParser.TheVariants.{Names, Signed}
@@ -36,6 +36,17 @@ option_rule name = record (new_rule name) { long = Some name; value_names = 1; a
 
 abbrev pub floor_rule : Rule
 floor_rule = record (option_rule (codes "floor")) { parser = Some (Signed (pos 1) (pos 4294967295)) }
+
+-- an option with no word behind it
+abbrev pub all_rule : Rule
+all_rule = record (new_rule (codes "all")) { long = Some (codes "all"); action = Some SetTrue }
+
+abbrev pub max_load_rule : Rule
+max_load_rule = record (option_rule (codes "max-load")) { parser = Some (Signed (pos 0) (pos 4294967295)) }
+
+-- how much an audit prints, and which load it lets pass
+abbrev pub of_report : List Rule
+of_report = all_rule ∷ max_load_rule ∷ []
 
 abbrev pub lmc_rule : Rule
 lmc_rule = record (option_rule (codes "lmc")) { parser = Some (Signed (pos 0) (pos 7)) }
@@ -90,7 +101,7 @@ abbrev pub order_shape : Bor (List (Bor Text)) → Shape
 order_shape words = subcommand_shape (codes "order") (of_files ++ of_routing words)
 
 abbrev pub audit_shape : Shape
-audit_shape = subcommand_shape (codes "audit") (text_rule (codes "TABLES") ∷ of_files)
+audit_shape = subcommand_shape (codes "audit") (text_rule (codes "TABLES") ∷ of_files ++ of_report)
 
 abbrev pub order_of_shape : Shape
 order_of_shape = subcommand_shape (codes "order-of") (text_rule (codes "TABLES") ∷ of_files)

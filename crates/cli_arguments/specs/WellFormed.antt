@@ -52,7 +52,8 @@ pub data HasItsWords (word : Text → Option Text) (files : Option (List Text)) 
   join : name ≡ codes "join" → NamesFiles word files → HasItsWords word files name
   plan : name ≡ codes "plan" → NamesFiles word files → NamesPlanning word → HasItsWords word files name
   order : name ≡ codes "order" → NamesFiles word files → NamesOrder word → HasItsWords word files name
-  audit : name ≡ codes "audit" → IsGiven (word (codes "TABLES")) → NamesFiles word files → HasItsWords word files name
+  audit : name ≡ codes "audit" → IsGiven (word (codes "TABLES")) → NamesFiles word files
+      → IsNumberWithin 0 4294967295 (word (codes "max-load")) → HasItsWords word files name
   order_of : name ≡ codes "order-of" → IsGiven (word (codes "TABLES")) → NamesFiles word files
       → HasItsWords word files name
   next : name ≡ codes "next" → IsGiven (word (codes "TABLES")) → NamesFiles word files → NamesPlanning word

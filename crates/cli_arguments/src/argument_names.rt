@@ -42,6 +42,12 @@ pub const TABLES: &str = "TABLES";
 /// The generation before which nothing counts.
 pub const FLOOR: &str = "floor";
 
+/// Whether an audit prints all lines of each kind.
+pub const ALL: &str = "all";
+
+/// The most pairs of adapter ports that a channel may carry.
+pub const MAX_LOAD: &str = "max-load";
+
 /// The LMC of the plans.
 pub const LMC: &str = "lmc";
 

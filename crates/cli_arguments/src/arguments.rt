@@ -12,15 +12,16 @@ ghost use Rattle.cli_arguments.specs.CommandLine.{audit_shape, facts_shape, join
 ghost use Rattle.cli_arguments.specs.CommandLine.{order_shape};
 ghost use Rattle.cli_arguments.specs.CommandLine.{command_line, of_files, of_order, of_planning, of_routing, of_seat};
 ghost use Rattle.cli_arguments.specs.CommandLine.{plan_shape, port_rule, priority_rule, program_app, run_shape, serve_shape};
-ghost use Rattle.cli_arguments.specs.CommandLine.{files_rule, floor_rule, lmc_rule, option_rule, routing_rule};
+ghost use Rattle.cli_arguments.specs.CommandLine.{all_rule, files_rule, floor_rule, lmc_rule, max_load_rule};
+ghost use Rattle.cli_arguments.specs.CommandLine.{of_report, option_rule, routing_rule};
 ghost use Rattle.cli_arguments.specs.CommandLine.{text_rule};
 ghost use Rattle.cli_arguments.specs.WellFormed.{IsWellFormed};
 ghost use Rattle.cli_arguments.specs.Words.{has_conflict, has_conflict_behind, is_guid, is_guid_word, lacks_rule, order_rule};
 ghost use Rattle.cli_arguments.specs.Words.{planning_conflict};
 
 use crate::argument_names::{
-    AUDIT, BALANCE, FACTS, FILE, FLOOR, GUID, JOIN, LMC, NEXT, ORDER, ORDER_OF, PLAN, PORT,
-    PRIORITY, ROOTS, ROUTING, RUN, SCHEDULE, SERVE, SPREAD, TABLES, TOPOLOGY, UPDOWN,
+    ALL, AUDIT, BALANCE, FACTS, FILE, FLOOR, GUID, JOIN, LMC, MAX_LOAD, NEXT, ORDER, ORDER_OF,
+    PLAN, PORT, PRIORITY, ROOTS, ROUTING, RUN, SCHEDULE, SERVE, SPREAD, TABLES, TOPOLOGY, UPDOWN,
 };
 use clap::error::ErrorKind;
 use clap::{Arg, ArgAction, ArgMatches, Command, Error, value_parser};
@@ -49,7 +50,8 @@ const ORDER_END: &str = "Exit status:\n  0  done\n  2  the command line is wrong
      5  out of memory\n\nExample:\n  ibsm order fabric.reports > fabric.order";
 
 const AUDIT_END: &str =
-    "Exit status:\n  0  the tables pass\n  1  they do not pass, and what was printed says why\n  \
+    "Exit status:\n  0  the tables pass, and no channel is busier than --max-load\n  \
+     1  they do not pass, or a channel is busier, and what was printed says why\n  \
      2  the command line is wrong\n  3  a file is refused\n  \
      4  a file cannot be opened or read, or the output takes no more\n  \
      5  out of memory\n\nExample:\n  ibsm audit held.tables fabric.reports";
@@ -189,7 +191,7 @@ fn audit<'a>(alloc: Global) -> Result<Command<'a>, AllocError>
              files",
         )
         .after_help(AUDIT_END);
-    of_tables(alloc, command)
+    with_report(alloc, of_tables(alloc, command)?)
 }
 
 fn order_of<'a>(alloc: Global) -> Result<Command<'a>, AllocError>
@@ -277,6 +279,13 @@ fn of_tables<'a>(alloc: Global, command: Command<'a>) -> Result<Command<'a>, All
     of_files(alloc, command)
 }
 
+/// With how much an audit prints, and which load it lets pass.
+fn with_report<'a>(alloc: Global, command: Command<'a>) -> Result<Command<'a>, AllocError>
+    ensures { IfOk result (AddsRules of_report command.entry) }
+{
+    command.arg(all(alloc))?.arg(max_load(alloc))
+}
+
 /// With how plans are made: their LMC, their rule of routing, and its roots or its order.
 fn with_planning<'a>(
     alloc: Global,
@@ -353,6 +362,33 @@ fn floor<'a>(alloc: Global) -> Arg<'a>
         .value_name("G")
         .help("Forgets what is older than generation G, 1 to 4294967295")
         .value_parser(value_parser!(u32).range(1..))
+        .action(ArgAction::Set)
+}
+
+/// All lines of each kind.
+fn all<'a>(alloc: Global) -> Arg<'a>
+    ensures rule { rule_of result ≡ all_rule }
+    ensures own { result.global ≡ false }
+{
+    Arg::new(alloc, ALL)
+        .long(ALL)
+        .help("Prints all lines of each kind, and not the first 20 alone")
+        .action(ArgAction::SetTrue)
+}
+
+/// The most pairs of a channel.
+fn max_load<'a>(alloc: Global) -> Arg<'a>
+    ensures rule { rule_of result ≡ max_load_rule }
+    ensures own { result.global ≡ false }
+{
+    Arg::new(alloc, MAX_LOAD)
+        .long(MAX_LOAD)
+        .value_name("N")
+        .help(
+            "Lets no tables pass by which a channel carries more than N pairs of adapter ports, N from 0 to \
+             4294967295",
+        )
+        .value_parser(value_parser!(u32).range(0..))
         .action(ArgAction::Set)
 }
 

@@ -7,7 +7,7 @@ use Rattle.cli_arguments.specs.WellFormed.{HasItsWords, IsGiven, IsNumberWithin,
 use Rattle.cli_arguments.specs.Words.{files_named, has_conflict_of, is_guid, order_rule, word_named}
 use Rattle.sm_cli.specs.declared.asked.RuleAsked.{RuleAsked}
 use Rattle.sm_cli.specs.declared.asked.RuleAsked.TheVariants.{UpDown, Spread, SpreadFromRoots, SpreadInOrder, Balance}
-use Rattle.cli_task.specs.Asked.{floor_asked, followed_by, guid_asked, lmc_asked, number_in, port_asked, priority_asked, within, names_in, planning_asked, rule_asked, task_behind, texts_of_rule}
+use Rattle.cli_task.specs.Asked.{floor_asked, followed_by, guid_asked, lmc_asked, max_load_asked, number_in, port_asked, priority_asked, within, names_in, planning_asked, rule_asked, task_behind, texts_of_rule}
 use Rattle.cli_task.proofs.Guids.{guid_is_read}
 use Rattle.cli_task.proofs.Within.{number_within}
 
@@ -19,6 +19,12 @@ known (Some x) e = (x, refl)
 floor_there : (o : Option (List ℕ)) → IsNumberWithin 1 4294967295 o → is_some (floor_asked o) ≡ true
 floor_there None h = refl
 floor_there (Some word) h = number_within 1 4294967295 word h
+
+max_load_there : (o : Option (List ℕ)) → IsNumberWithin 0 4294967295 o → is_some (max_load_asked o) ≡ true
+max_load_there None h = refl
+max_load_there (Some word) h =
+    let is = known (option_and_then (within 0 4294967295) (number_in word)) (number_within 0 4294967295 word h) in
+    ap (λ o. is_some (option_map Some o)) is.1
 
 lmc_there : (o : Option (List ℕ)) → IsNumberWithin 0 7 o → is_some (lmc_asked o) ≡ true
 lmc_there None h = refl
@@ -153,10 +159,11 @@ module _ (word : List ℕ → Option (List ℕ)) (files : Option (List (List ℕ
       (order_routing (word (codes "routing")) p.routing) p.apart in
       rw (rule.1, floor.1) (both_there (texts_of_rule word rule.0) (followed_by (Some []) files) (rule.2 word refl refl) (both_there (Some []) files refl h.named))
 
-  audit_asks : IsGiven (word (codes "TABLES")) → NamesFiles word files → Asks (codes "audit")
-  audit_asks t h =
+  audit_asks : IsGiven (word (codes "TABLES")) → NamesFiles word files → IsNumberWithin 0 4294967295 (word (codes "max-load")) → Asks (codes "audit")
+  audit_asks t h m =
       let floor = known (floor_asked (word (codes "floor"))) (floor_there (word (codes "floor")) h.floor) in
-      rw floor.1 (both_there (Some []) _ refl (both_there _ files (one_there (word (codes "TABLES")) t) h.named))
+      let load = known (max_load_asked (word (codes "max-load"))) (max_load_there (word (codes "max-load")) m) in
+      rw floor.1 rw load.1 (both_there (Some []) _ refl (both_there _ files (one_there (word (codes "TABLES")) t) h.named))
 
   order_of_asks : IsGiven (word (codes "TABLES")) → NamesFiles word files → Asks (codes "order-of")
   order_of_asks t h =
@@ -188,7 +195,7 @@ module _ (word : List ℕ → Option (List ℕ)) (files : Option (List (List ℕ
   words_ask name (join is h) = subst Asks (sym is) (join_ask h)
   words_ask name (plan is h p) = subst Asks (sym is) (plan_asks h p)
   words_ask name (order is h p) = subst Asks (sym is) (order_asks h p)
-  words_ask name (audit is t h) = subst Asks (sym is) (audit_asks t h)
+  words_ask name (audit is t h m) = subst Asks (sym is) (audit_asks t h m)
   words_ask name (order_of is t h) = subst Asks (sym is) (order_of_asks t h)
   words_ask name (next is t h p) = subst Asks (sym is) (next_asks t h p)
   words_ask name (run is t s p) = subst Asks (sym is) (run_asks t s p)

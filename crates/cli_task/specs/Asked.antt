@@ -7,6 +7,7 @@ use Rattle.clap.specs.Matches.{subcommand_name_of}
 use Rattle.clap.specs.declared.parser.matches.ArgMatches.{ArgMatches}
 use Rattle.cli_arguments.specs.Words.{files_named, order_rule, word_named}
 use Rattle.text_words.specs.Number.{number_of}
+use Rattle.audit_report.specs.declared.audit_run.AuditAsked.{AuditAsked}
 use Rattle.sm_cli.specs.Asked.{rule_for}
 use Rattle.sm_cli.specs.declared.asked.Output.{Output}
 use Rattle.sm_cli.specs.declared.asked.Output.TheVariants.{Facts, Join, Plan, Order}
@@ -74,6 +75,22 @@ abbrev pub order_asked : (List ℕ → Option (List ℕ)) → Option RuleAsked
 order_asked word =
     rule_asked (order_rule (word (codes "routing"))) (is_some (word (codes "roots"))) (is_some (word (codes "order")))
 
+-- a flag is set: its word is that of the parser of words
+abbrev pub is_set : Option (List ℕ) → Bool
+is_set None = false
+is_set (Some word) = bytes_eq word (codes "true")
+
+-- the greatest load that passes, if a word names one
+abbrev pub max_load_asked : Option (List ℕ) → Option (Option ℕ)
+max_load_asked None = Some None
+max_load_asked (Some word) = option_map Some (option_and_then (within 0 4294967295) (number_in word))
+
+-- the audit
+abbrev pub audit_asked : (List ℕ → Option (List ℕ)) → Option AuditAsked
+audit_asked word = option_and_then (λ floor. option_map
+    (λ max_load. record { floor = floor; all = is_set (word (codes "all")); max_load = max_load })
+    (max_load_asked (word (codes "max-load")))) (floor_asked (word (codes "floor")))
+
 -- the step
 abbrev pub step_asked : (List ℕ → Option (List ℕ)) → Option StepAsked
 step_asked word = option_and_then (λ by. option_map (λ floor. record { lmc = by.0; rule = by.1; floor = floor })
@@ -113,7 +130,7 @@ output_asked word command =
 -- the task of a command, by the words of its arguments
 abbrev pub task_behind : (List ℕ → Option (List ℕ)) → List ℕ → Option Task
 task_behind word command =
-    if bytes_eq command (codes "audit") then option_map Audit (floor_asked (word (codes "floor")))
+    if bytes_eq command (codes "audit") then option_map Audit (audit_asked word)
     else (if bytes_eq command (codes "order-of") then option_map OrderOf (floor_asked (word (codes "floor")))
     else (if bytes_eq command (codes "next") then option_map Next (step_asked word)
     else (if bytes_eq command (codes "run") then option_map (λ by. Run by.0 by.1) (planning_asked word)
@@ -138,7 +155,7 @@ texts_of_rule word Balance = Some []
 -- by which rule a task plans; where it does not, by one that takes no text
 abbrev pub rule_of_task : Task → RuleAsked
 rule_of_task (Answer request) = rule_for request.output
-rule_of_task (Audit floor) = UpDown
+rule_of_task (Audit asked) = UpDown
 rule_of_task (OrderOf floor) = UpDown
 rule_of_task (Next asked) = asked.rule
 rule_of_task (Run lmc rule) = rule
@@ -147,7 +164,7 @@ rule_of_task (Serve asked) = asked.rule
 -- the other texts that a task takes
 abbrev pub texts_asked : (List ℕ → Option (List ℕ)) → Task → Option (List (List ℕ))
 texts_asked word (Answer request) = Some []
-texts_asked word (Audit floor) = option_map (λ tables. tables ∷ []) (word (codes "TABLES"))
+texts_asked word (Audit asked) = option_map (λ tables. tables ∷ []) (word (codes "TABLES"))
 texts_asked word (OrderOf floor) = option_map (λ tables. tables ∷ []) (word (codes "TABLES"))
 texts_asked word (Next asked) = option_map (λ tables. tables ∷ []) (word (codes "TABLES"))
 texts_asked word (Run lmc rule) =
@@ -158,7 +175,7 @@ texts_asked word (Serve asked) = option_map (λ guid. codes "/dev/stdin" ∷ [])
 -- whether it takes files
 abbrev pub takes_files : Task → Bool
 takes_files (Answer request) = true
-takes_files (Audit floor) = true
+takes_files (Audit asked) = true
 takes_files (OrderOf floor) = true
 takes_files (Next asked) = true
 takes_files (Run lmc rule) = false

@@ -1,17 +1,19 @@
 //! What the words of the command line ask for.
 ghost use Rattle.std.specs.Prelude.{◌≡◌, IfOk, codes, is_some, map, option_and_then, option_map};
 ghost use Rattle.clap.specs.Matches.{first_value, found_of, matched_of, raw_values};
-ghost use Rattle.cli_task.specs.Asked.{floor_asked, lmc_asked, number_in, number_or, planning_asked, rule_asked};
+ghost use Rattle.cli_task.specs.Asked.{audit_asked, floor_asked, is_set, lmc_asked, max_load_asked, number_in};
+ghost use Rattle.cli_task.specs.Asked.{number_or, planning_asked, rule_asked};
 ghost use Rattle.cli_task.specs.Asked.{order_asked, output_asked, step_asked, task_asked, task_behind, within};
 ghost use Rattle.cli_task.specs.Asked.{names_asked, names_in, rule_of_task, spread_asked, takes_files, texts_asked};
 ghost use Rattle.cli_task.specs.Asked.{guid_asked, port_asked, priority_asked, serving_asked, texts_of_rule};
 
 use arrayvec::ArrayVec;
 use attr_codec::{Lmc, Priority};
+use audit_report::AuditAsked;
 use clap::ArgMatches;
 use cli_arguments::argument_names::{
-    AUDIT, BALANCE, FACTS, FILE, FLOOR, GUID, JOIN, LMC, NEXT, ORDER, ORDER_OF, PLAN, PORT,
-    PRIORITY, ROOTS, ROUTING, RUN, SCHEDULE, SERVE, SPREAD, TABLES, TOPOLOGY, UPDOWN,
+    ALL, AUDIT, BALANCE, FACTS, FILE, FLOOR, GUID, JOIN, LMC, MAX_LOAD, NEXT, ORDER, ORDER_OF,
+    PLAN, PORT, PRIORITY, ROOTS, ROUTING, RUN, SCHEDULE, SERVE, SPREAD, TABLES, TOPOLOGY, UPDOWN,
 };
 use next_run::StepAsked;
 use serve_lines::hex_number;
@@ -25,8 +27,8 @@ use std::alloc::{AllocError, Global};
 pub enum Task {
     /// To write what files say.
     Answer(Invocation),
-    /// To audit tables in the subnet of files, where nothing older than the generation counts.
-    Audit(Generation),
+    /// To audit tables in the subnet of files.
+    Audit(AuditAsked),
     /// To write the order of switches that tables tell in the subnet of files, where nothing older than the generation
     /// counts.
     OrderOf(Generation),
@@ -80,7 +82,7 @@ fn task_behind(command: &str, words: &ArgMatches<'_>) -> Option<Task>
     ensures { result ≡ task_behind (first_value (found_of words.now)) command.now }
 {
     match command {
-        AUDIT => Some(Task::Audit(floor_of(words)?)),
+        AUDIT => Some(Task::Audit(audit_of(words)?)),
         ORDER_OF => Some(Task::OrderOf(floor_of(words)?)),
         NEXT => Some(Task::Next(step_of(words)?)),
         RUN => {
@@ -93,6 +95,40 @@ fn task_behind(command: &str, words: &ArgMatches<'_>) -> Option<Task>
             let floor = floor_of(words)?;
             Some(Task::Answer(Invocation { output, floor }))
         }
+    }
+}
+
+/// Returns the audit that the words behind a subcommand ask for.
+fn audit_of(words: &ArgMatches<'_>) -> Option<AuditAsked>
+    ensures { result ≡ audit_asked (first_value (found_of words.now)) }
+{
+    let floor = floor_of(words)?;
+    let max_load = max_load_of(words)?;
+    Some(AuditAsked {
+        floor,
+        all: is_set(words, ALL),
+        max_load,
+    })
+}
+
+/// Returns whether the words behind a subcommand set the flag `name`.
+fn is_set(words: &ArgMatches<'_>, name: &str) -> bool
+    ensures { result ≡ is_set (first_value (found_of words.now) name.now) }
+{
+    match words.get_str(name) {
+        Some(word) => word == "true",
+        None => false,
+    }
+}
+
+/// Returns the greatest load that the words behind a subcommand let pass, if they name one; `None` if what they name is
+/// none.
+fn max_load_of(words: &ArgMatches<'_>) -> Option<Option<u64>>
+    ensures { result ≡ max_load_asked (first_value (found_of words.now) (codes "max-load")) }
+{
+    match words.get_str(MAX_LOAD) {
+        Some(text) => Some(Some(u64::from(number_in(text)?))),
+        None => Some(None),
     }
 }
 

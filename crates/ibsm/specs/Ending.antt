@@ -28,7 +28,7 @@ use Rattle.ibsm.specs.Opening.{AreOpened, IsOpenFault}
 -- so many names are enough for the texts that a task takes; a run or a manager takes no files behind them
 abbrev pub HasEnoughNames : Task → ℕ → Type 0
 HasEnoughNames (Answer request) count = texts_for (rule_for request.output) ≤ count
-HasEnoughNames (Audit floor) count = 1 ≤ count
+HasEnoughNames (Audit asked) count = 1 ≤ count
 HasEnoughNames (OrderOf floor) count = 1 ≤ count
 HasEnoughNames (Next asked) count = texts_for asked.rule + 1 ≤ count
 HasEnoughNames (Run lmc rule) count = count ≡ texts_for rule + 2
@@ -40,8 +40,8 @@ abbrev pub Does : {S : Type 0} → (S → SourceState) → Task → List S → L
     → (List ℕ → Type 0) → Bool → Type 0
 Does state (Answer request) olds news prints says passed =
     (passed ≡ true) × HasAnswered state request olds news prints
-Does state (Audit floor) olds news prints says passed =
-    HasAudited state floor olds news prints passed
+Does state (Audit asked) olds news prints says passed =
+    HasAudited state asked olds news prints passed
 Does state (OrderOf floor) olds news prints says passed =
     HasTold state floor olds news prints passed
 Does state (Next asked) olds news prints says passed =
@@ -94,8 +94,8 @@ abbrev pub IsFaultOver : {S : Type 0} → (S → SourceState) → Task → List 
     → (List ℕ → Type 0) → (List ℕ → Type 0) → Bool → Fault → Type 0
 IsFaultOver state (Answer request) olds news prints whole output_failed fault =
     IsFaultOf state request olds news output_failed fault
-IsFaultOver state (Audit floor) olds news prints whole output_failed fault =
-    IsAuditFault state floor olds news output_failed fault
+IsFaultOver state (Audit asked) olds news prints whole output_failed fault =
+    IsAuditFault state asked.floor olds news output_failed fault
 IsFaultOver state (OrderOf floor) olds news prints whole output_failed fault =
     IsOrderFault state floor olds news output_failed fault
 IsFaultOver state (Next asked) olds news prints whole output_failed fault =

@@ -124,7 +124,7 @@ fn do_task<S: Source, W: Sink, E: Sink>(
             Ok(()) => Ok(true),
             Err(fault) => Err(fault),
         },
-        Task::Audit(floor) => run_audit(alloc, inputs, floor, output),
+        Task::Audit(asked) => run_audit(alloc, inputs, asked, output),
         Task::OrderOf(floor) => run_order_of(alloc, inputs, floor, output),
         Task::Next(asked) => run_next(alloc, inputs, asked, output, errors),
         Task::Run(lmc, rule) => match run_schedule(alloc, inputs, lmc, rule, output) {
