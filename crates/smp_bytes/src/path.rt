@@ -4,7 +4,8 @@ use crate::port_num::PortNum;
 use arrayvec::ArrayVec;
 use std::marker::Model;
 
-/// The ports that a directed packet leaves by, one after the other: at most `MAX`. Contracts see the list.
+/// The ports that a directed packet leaves by, one after the other: at most `MAX`. Contracts see
+/// the list.
 #[derive(Debug, Drop)]
 pub struct Path<const MAX: usize> {
     ports: ArrayVec<u8, MAX>,
@@ -19,7 +20,7 @@ impl<const MAX: usize> Model for Path<MAX> {
 }
 
 impl<const MAX: usize> Path<MAX> {
-    /// The empty path.
+    /// Creates an empty path.
     pub fn new() -> Self
         ensures { result ≡ [] }
     {
@@ -28,7 +29,7 @@ impl<const MAX: usize> Path<MAX> {
         }
     }
 
-    /// A path of its own with the same ports.
+    /// Returns a copy of the path.
     pub fn copy(&self) -> Self
         ensures { result ≡ self.now }
     {
@@ -39,7 +40,7 @@ impl<const MAX: usize> Path<MAX> {
         }
     }
 
-    /// Adds a port at the end.
+    /// Appends a port.
     pub fn push(&mut self, port: PortNum)
         requires { length self.old < MAX }
         ensures { self.new ≡ self.old ++ port ∷ [] }
@@ -60,14 +61,14 @@ impl<const MAX: usize> Path<MAX> {
         self.ports.is_empty()
     }
 
-    /// Whether there is no room for another port.
+    /// Returns whether there is no room for another port.
     pub fn is_full(&self) -> bool
         ensures { IsTrue result ↔ (length self.now ≡ MAX) }
     {
         self.len() == MAX
     }
 
-    /// The port at index `i`, from 0 on.
+    /// Returns the port at index `i`, counted from 0.
     pub fn get(&self, i: usize) -> Option<PortNum>
         ensures { result ≡ slice_get self.now i }
     {
