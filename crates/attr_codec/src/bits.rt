@@ -15,8 +15,7 @@ pub fn bits<const AT: usize, const SHIFT: u32, const WIDTH: u32>(bytes: &[u8; 64
     bits_at(bytes, AT, SHIFT, WIDTH)
 }
 
-/// Writes `number` into `WIDTH` bits of the byte at `AT`, the lowest of which is bit `SHIFT`. All
-/// other bits stay.
+/// Writes `number` into `WIDTH` bits of the byte at `AT`, the lowest of which is bit `SHIFT`. All other bits stay.
 pub fn with_bits<const AT: usize, const SHIFT: u32, const WIDTH: u32>(
     bytes: &mut [u8; 64],
     number: u8,

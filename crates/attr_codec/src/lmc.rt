@@ -2,8 +2,8 @@ ghost use Rattle.std.specs.Prelude.{◌≡◌, ◌<◌, ◌≤◌, ◌^◌, ◌�
 
 use std::marker::Model;
 
-/// The LID mask control of a subnet, 0 to 7: an adapter's port has 2^LMC consecutive LIDs
-/// (addressing; subnet management, PortInfo: LMC).
+/// The LID mask control of a subnet, 0 to 7: an adapter's port has 2^LMC consecutive LIDs (addressing; subnet
+/// management, PortInfo: LMC).
 #[derive(Clone, Copy, Debug, PartialEq, Eq)]
 pub struct Lmc(u8);
 

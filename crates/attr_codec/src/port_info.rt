@@ -14,8 +14,8 @@ use crate::port_state::PortState;
 use smp_bytes::{AttributeId, Lid, PortNum};
 use std::marker::Model;
 
-/// What a port is and does (subnet management, PortInfo): 64 bytes. Those without a name are
-/// carried as they are. Contracts see the bytes.
+/// What a port is and does (subnet management, PortInfo): 64 bytes. Those without a name are carried as they are.
+/// Contracts see the bytes.
 #[derive(Clone, Copy, Debug, PartialEq, Eq)]
 pub struct PortInfo {
     bytes: [u8; 64],
@@ -56,8 +56,8 @@ impl Attribute for PortInfo {
     ghost reads_back = { λ _ _. refl };
 }
 
-/// The place of each named field: for whole bytes the type and the first byte; for bits their byte,
-/// the lowest bit and the number of bits.
+/// The place of each named field: for whole bytes the type and the first byte; for bits their byte, the lowest bit and
+/// the number of bits.
 macro_rules! port_info {
     ($access:ident m_key $args:tt) => { field_type::$access::<u64, 0> $args };
     ($access:ident gid_prefix $args:tt) => { field_type::$access::<u64, 8> $args };

@@ -2,8 +2,7 @@ ghost use Rattle.std.specs.Prelude.{◌≡◌, ◌<◌, ◌↔◌, IsSome, IfSom
 
 use std::marker::Model;
 
-/// The state of a subnet manager as SMInfo spells it: a number from 0 to 15, possibly a reserved
-/// one.
+/// The state of a subnet manager as SMInfo spells it: a number from 0 to 15, possibly a reserved one.
 #[derive(Clone, Copy, Debug, PartialEq, Eq, PartialOrd, Ord)]
 pub struct SmStateNumber(u8);
 

@@ -12,8 +12,8 @@ use crate::field_type;
 use smp_bytes::{AttributeId, Lid, PortNum};
 use std::marker::Model;
 
-/// What a switch is and does (subnet management, SwitchInfo): 64 bytes. Those without a name are
-/// carried as they are. Contracts see the bytes.
+/// What a switch is and does (subnet management, SwitchInfo): 64 bytes. Those without a name are carried as they are.
+/// Contracts see the bytes.
 #[derive(Clone, Copy, Debug, PartialEq, Eq)]
 pub struct SwitchInfo {
     bytes: [u8; 64],
@@ -54,8 +54,8 @@ impl Attribute for SwitchInfo {
     ghost reads_back = { λ _ _. refl };
 }
 
-/// The place of each named field: for whole bytes the type and the first byte; for bits their byte,
-/// the lowest bit and the number of bits.
+/// The place of each named field: for whole bytes the type and the first byte; for bits their byte, the lowest bit and
+/// the number of bits.
 macro_rules! switch_info {
     ($access:ident linear_fdb_cap $args:tt) => { field_type::$access::<u16, 0> $args };
     ($access:ident random_fdb_cap $args:tt) => { field_type::$access::<u16, 2> $args };

@@ -6,8 +6,7 @@ ghost use Rattle.byte_io.specs.Source.{interruption};
 use crate::source::{ReadError, Source};
 use std::marker::Model;
 
-/// A source over bytes in memory. No read fails or is interrupted. Contracts see the bytes that are
-/// left.
+/// A source over bytes in memory. No read fails or is interrupted. Contracts see the bytes that are left.
 #[derive(Drop)]
 pub struct FromBytes<'b> {
     left: &'b [u8],
@@ -32,8 +31,7 @@ impl<'b> FromBytes<'b> {
 impl<'b> Source for FromBytes<'b> {
     ghost state = { λ s. record { left = Some s; has_failed = false; interruptions = 0 } };
 
-    /// Gives as many of the bytes that are left as `room` can take. The rest of `room` is
-    /// unchanged.
+    /// Gives as many of the bytes that are left as `room` can take. The rest of `room` is unchanged.
     fn read(&mut self, room: &mut [u8]) -> Result<usize, ReadError>
         ensures count { result ≡ Ok (min (length room.old) (length self.old)) }
         ensures given { room.new ≡ take (length room.old) self.old ++ drop (length self.old) room.old }

@@ -4,9 +4,8 @@ use crate::interruption::is_interruption;
 use crate::source::{ReadError, Source};
 use std::io::Read;
 
-/// A source over any reader. A failed read is remembered: every later call fails too. `Interrupted`
-/// is not a failure; every other error is. Readers' contracts do not say when they fail, so no
-/// clause here can.
+/// A source over any reader. A failed read is remembered: every later call fails too. `Interrupted` is not a failure;
+/// every other error is. Readers' contracts do not say when they fail, so no clause here can.
 #[derive(Drop)]
 pub struct FromRead<R> {
     reader: R,

@@ -42,8 +42,8 @@ impl<'s, S: Source> Reading<'s, S> {
         self.budget.is_spent()
     }
 
-    /// Reads until a call is not interrupted, and returns how many bytes it put in the front of
-    /// `room`; 0 means the end.
+    /// Reads until a call is not interrupted, and returns how many bytes it put in the front of `room`; 0 means the
+    /// end.
     ///
     /// # Errors
     ///

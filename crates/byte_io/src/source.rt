@@ -20,9 +20,8 @@ pub trait Source {
     // The bytes that are left, whether a call has failed, and how many calls were interrupted.
     ghost state: { Self → SourceState };
 
-    /// Reads into the front of `room` and returns how many bytes; 0 only at the end, or if `room`
-    /// is empty. The bytes of `room` behind them, and all of `room` after an `Err`, are
-    /// unspecified.
+    /// Reads into the front of `room` and returns how many bytes; 0 only at the end, or if `room` is empty. The bytes
+    /// of `room` behind them, and all of `room` after an `Err`, are unspecified.
     fn read(&mut self, room: &mut [u8]) -> Result<usize, ReadError>
         ensures within { IfOk result (λ n. n ≤ length room.new) }
         ensures bytes { ReadConsumes (state self.old).left (state self.new).left result room.new }

@@ -8,9 +8,8 @@ use std::io::Write;
 /// The number of interrupted tries of one call that counts as a failure.
 const MOST_INTERRUPTIONS: u64 = 1 << 40;
 
-/// A sink over any writer. A failed write is remembered: every later call fails too. An
-/// `Interrupted` call is made again; every other error is a failure. Writers' contracts do not say
-/// when they fail, so no clause here can.
+/// A sink over any writer. A failed write is remembered: every later call fails too. An `Interrupted` call is made
+/// again; every other error is a failure. Writers' contracts do not say when they fail, so no clause here can.
 #[derive(Drop)]
 pub struct ToWrite<W> {
     writer: W,
@@ -19,8 +18,7 @@ pub struct ToWrite<W> {
 }
 
 impl<W: Write> ToWrite<W> {
-    /// Creates a sink over `writer`. The writer may hold bytes back already, so the first flush is
-    /// passed on.
+    /// Creates a sink over `writer`. The writer may hold bytes back already, so the first flush is passed on.
     pub fn new(writer: W) -> Self
         ensures written { ⟦<ToWrite<W> as Sink>⟧.written result ≡ W.contents writer }
         ensures has_failed { ⟦<ToWrite<W> as Sink>⟧.has_failed result ≡ false }
@@ -41,8 +39,8 @@ impl<W: Write> Sink for ToWrite<W> {
 
     ghost is_flushed = { λ s. s.is_flushed };
 
-    /// Writes all of the bytes. A write that takes no byte counts as failed, and so does the 2^40th
-    /// interrupted one of a call.
+    /// Writes all of the bytes. A write that takes no byte counts as failed, and so does the 2^40th interrupted one of
+    /// a call.
     fn write(&mut self, bytes: &[u8]) -> Result<(), WriteFault> {
         if self.has_failed {
             return Err(WriteFault::Write);

@@ -11,12 +11,11 @@ use port_graph::{Adjacency, Edge};
 use spread_labels::VertexKey;
 use std::alloc::{AllocError, Global};
 
-/// Returns the vertices in their order by depth from `root`. Next comes a neighbor of the vertex
-/// that was placed last, as long as one of its neighbors is left; else of the last one before it
-/// that has such a neighbor. Of these neighbors comes the one that most edges lead from to placed
-/// vertices, and `direction` decides between equals. If no placed vertex has a neighbor left, the
-/// first of all that are left comes next. For each vertex, takes one step for each edge that is
-/// looked at before a neighbor is found.
+/// Returns the vertices in their order by depth from `root`. Next comes a neighbor of the vertex that was placed last,
+/// as long as one of its neighbors is left; else of the last one before it that has such a neighbor. Of these neighbors
+/// comes the one that most edges lead from to placed vertices, and `direction` decides between equals. If no placed
+/// vertex has a neighbor left, the first of all that are left comes next. For each vertex, takes one step for each edge
+/// that is looked at before a neighbor is found.
 pub fn order_by_depth(
     alloc: Global,
     edges: &Adjacency,
@@ -132,8 +131,8 @@ fn better(
     }
 }
 
-/// Returns whether one vertex goes before another: more of its edges lead to placed vertices, or as
-/// many do and `direction` takes it.
+/// Returns whether one vertex goes before another: more of its edges lead to placed vertices, or as many do and
+/// `direction` takes it.
 fn goes_before(
     edges: &Adjacency,
     keys: &[VertexKey],

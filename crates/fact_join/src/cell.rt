@@ -3,8 +3,7 @@ ghost use Rattle.fact_join.specs.Cell.{generation_of};
 
 use smp_bytes::Generation;
 
-/// What is known of one fact: its value at its newest generation, or that different values were
-/// told there.
+/// What is known of one fact: its value at its newest generation, or that different values were told there.
 #[derive(Clone, Copy, Debug, PartialEq, Eq)]
 pub enum Cell<V> {
     /// The one value that was told at its newest generation.

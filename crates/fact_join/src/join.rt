@@ -37,8 +37,8 @@ pub trait Join: Sized {
     ghost least: { (x y z : Self) → below x z → below y z → below (joined x y) z };
 }
 
-/// A cell of a greater generation is above. Within one generation a disputed cell is above all
-/// others, and two different values are in no order.
+/// A cell of a greater generation is above. Within one generation a disputed cell is above all others, and two
+/// different values are in no order.
 impl<V: Exact> Join for Cell<V> {
     ghost use Rattle.fact_join.specs.Cell.{IsBelow, joined_by};
 

@@ -27,8 +27,8 @@ fn join_cells(first: &Sighting, second: &Sighting) -> Sighting
     Sighting::new(first.key(), first.cell().join(&second.cell())).unwrap()
 }
 
-/// Adds a cell: inserts it if its key has none, and joins the two otherwise. Moves the fingers of
-/// its kind and of its GUID there.
+/// Adds a cell: inserts it if its key has none, and joins the two otherwise. Moves the fingers of its kind and of its
+/// GUID there.
 pub(crate) fn put(cells: &mut PageList<Sighting>, fingers: &mut Fingers, sighting: Sighting)
     requires cells { AreCells cells.old.items }
     requires room { 0 < cells.old.room }
@@ -42,8 +42,7 @@ pub(crate) fn put(cells: &mut PageList<Sighting>, fingers: &mut Fingers, sightin
     fingers.put(&key, slot);
 }
 
-/// Adds a cell at the place that was found for its key: joins it with the key's cell, or inserts
-/// it. Returns its slot.
+/// Adds a cell at the place that was found for its key: joins it with the key's cell, or inserts it. Returns its slot.
 fn put_found(cells: &mut PageList<Sighting>, found: Found, sighting: Sighting) -> Slot
     requires cells { AreCells cells.old.items }
     requires in_range { IsSighting sighting }
@@ -81,8 +80,8 @@ pub(crate) fn put_kept(
     }
 }
 
-/// Merges the cells of two lists, walked in step: each step passes a key of one or of both. Adds
-/// the number of comparisons to `steps`.
+/// Merges the cells of two lists, walked in step: each step passes a key of one or of both. Adds the number of
+/// comparisons to `steps`.
 pub(crate) fn merge_cells(
     first: &PageList<Sighting>,
     second: &PageList<Sighting>,

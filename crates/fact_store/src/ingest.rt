@@ -25,8 +25,7 @@ impl Store {
     ///
     /// # Errors
     ///
-    /// Returns the report's first fault, or `Memory` if it has none and memory runs out. Nothing
-    /// changes then.
+    /// Returns the report's first fault, or `Memory` if it has none and memory runs out. Nothing changes then.
     pub fn ingest(&mut self, report: &Report) -> Result<(), IngestFault>
         ensures judged { JudgesButFor is_memory result (ingest_fault report.now) }
         ensures ok { OnOk result (self.new ≡ merge self.old (view (sightings_of report.now))) }

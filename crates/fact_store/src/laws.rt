@@ -1,13 +1,12 @@
-//! The laws of views and merges: what a store holds depends only on which sightings were put in and
-//! which floor is the greatest that was raised, in whatever order, however often, and through
-//! whatever stores.
+//! The laws of views and merges: what a store holds depends only on which sightings were put in and which floor is the
+//! greatest that was raised, in whatever order, however often, and through whatever stores.
 ghost use Rattle.fact_store.specs.View.{ViewLaw, ViewIsUnique, MembersDecideView, ViewOfItsCells, RaisingForgets};
 ghost use Rattle.fact_store.specs.Merge.{MergeLaw, MergeIsUnique, ViewOfBoth, MergeIsCommutative};
 ghost use Rattle.fact_store.specs.Merge.{MergeIsAssociative, MergeIsIdempotent, GroupingIsFree, MergingInTurn};
 
-/// A view at a floor has a cell exactly for each key that was sighted at the floor or above it: of
-/// the newest generation of its sightings, known with a value if all sightings of that generation
-/// say that value, and else disputed.
+/// A view at a floor has a cell exactly for each key that was sighted at the floor or above it: of the newest
+/// generation of its sightings, known with a value if all sightings of that generation say that value, and else
+/// disputed.
 pub fn view_has_its_law()
     ensures { ViewLaw }
 {}
@@ -62,14 +61,14 @@ pub fn merge_is_idempotent()
     ensures { MergeIsIdempotent }
 {}
 
-/// Stores hold the view of all their sightings at the greatest floor, however they are grouped for
-/// merging and whenever floors are raised.
+/// Stores hold the view of all their sightings at the greatest floor, however they are grouped for merging and whenever
+/// floors are raised.
 pub fn grouping_is_free()
     ensures { GroupingIsFree }
 {}
 
-/// An empty store into which any number of stores are merged in turn holds the view of all their
-/// sightings at the greatest of their floors.
+/// An empty store into which any number of stores are merged in turn holds the view of all their sightings at the
+/// greatest of their floors.
 pub fn merging_in_turn()
     ensures { MergingInTurn }
 {}

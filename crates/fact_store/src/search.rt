@@ -10,8 +10,7 @@ use page_list::{PageList, Slot};
 use reply_facts::{Key, Sighting};
 use std::cmp::Ordering;
 
-/// Compares the key of a cell with `key`, and counts one step. A store compares keys only by this
-/// function.
+/// Compares the key of a cell with `key`, and counts one step. A store compares keys only by this function.
 pub(crate) fn compare(held: &Sighting, key: &Key, steps: &mut u128) -> Ordering
     requires { steps.old < 2 ^ 127 }
     ensures order { result ≡ key_cmp held.now.0 key.now }
@@ -21,8 +20,7 @@ pub(crate) fn compare(held: &Sighting, key: &Key, steps: &mut u128) -> Ordering
     held.key_cmp(key)
 }
 
-/// The place of a key's cell: `Ok` with its index, or `Err` with the index where it would be
-/// inserted.
+/// The place of a key's cell: `Ok` with its index, or `Err` with the index where it would be inserted.
 #[derive(Clone, Copy)]
 pub(crate) struct Found {
     pub index: Result<usize, usize>,
@@ -30,8 +28,7 @@ pub(crate) struct Found {
     pub near: Slot,
 }
 
-/// Finds the place of a key's cell, to put one in there: at a finger, behind the last cell, or else
-/// by a search.
+/// Finds the place of a key's cell, to put one in there: at a finger, behind the last cell, or else by a search.
 pub(crate) fn index_of(cells: &PageList<Sighting>, key: &Key, fingers: &Fingers) -> Found
     requires { AreCells cells.now.items }
     ensures { IsSearched key.now cells.now.items result.index }
@@ -75,8 +72,8 @@ fn found_at_finger(cells: &PageList<Sighting>, key: &Key, finger: Slot) -> Optio
     })
 }
 
-/// Returns the place of a key's cell if the key is that of the cell at `finger`, that of the next
-/// one, or between the two. Takes at most two comparisons.
+/// Returns the place of a key's cell if the key is that of the cell at `finger`, that of the next one, or between the
+/// two. Takes at most two comparisons.
 fn index_at_finger(
     cells: &PageList<Sighting>,
     key: &Key,
@@ -117,8 +114,7 @@ pub(crate) struct SearchResult {
     pub steps: u32,
 }
 
-/// Searches for the place of a key's cell. Compares at most as many keys as the number of cells has
-/// binary digits.
+/// Searches for the place of a key's cell. Compares at most as many keys as the number of cells has binary digits.
 pub(crate) fn find(cells: &PageList<Sighting>, key: &Key) -> SearchResult
     requires { AreCells cells.now.items }
     ensures index { IsSearched key.now cells.now.items result.found.index }

@@ -35,8 +35,8 @@ impl From<AllocError> for Refused {
 /// The greatest number of sightings that are added one by one: a report has no more.
 const SIGHTINGS_PER_REPORT: usize = 4;
 
-/// What is known of a subnet: the view of all that was put in, a cell for each key. What is below
-/// its floor is forgotten for good.
+/// What is known of a subnet: the view of all that was put in, a cell for each key. What is below its floor is
+/// forgotten for good.
 #[derive(Drop)]
 pub struct Store {
     /// The least generation that counts.
@@ -80,9 +80,8 @@ impl Store {
         self.floor
     }
 
-    /// Forgets all cells below `floor`, and ignores sightings below it from then on. Takes no
-    /// memory, and frees that of the forgotten cells. Walks the cells if `floor` is greater than
-    /// the store's floor, and otherwise does nothing.
+    /// Forgets all cells below `floor`, and ignores sightings below it from then on. Takes no memory, and frees that of
+    /// the forgotten cells. Walks the cells if `floor` is greater than the store's floor, and otherwise does nothing.
     pub fn raise_floor(&mut self, floor: Generation)
         ensures { self.new ≡ raised self.old floor }
     {
@@ -92,11 +91,10 @@ impl Store {
         }
     }
 
-    /// Adds the sighting; ignores it if it is below the floor. Takes two comparisons if its key is
-    /// that of the last sighting added of its kind, the next key, or between the two (for links, of
-    /// the last sighting but one); four if that holds only for the last one with its GUID, for a
-    /// node, a port's GUID or a link, as far as a hash tells; otherwise a search. Moves at most a
-    /// page.
+    /// Adds the sighting; ignores it if it is below the floor. Takes two comparisons if its key is that of the last
+    /// sighting added of its kind, the next key, or between the two (for links, of the last sighting but one); four if
+    /// that holds only for the last one with its GUID, for a node, a port's GUID or a link, as far as a hash tells;
+    /// otherwise a search. Moves at most a page.
     pub fn add(&mut self, sighting: Sighting) -> Result<(), Refused>
         ensures ok { OnOk result (self.new ≡ merge self.old (view (sighting ∷ []))) }
         ensures err { OnErr result (self.new ≡ self.old) }
@@ -106,8 +104,8 @@ impl Store {
         Ok(())
     }
 
-    /// Adds all sightings or, if memory runs out, none. A few are added one by one; more are put in
-    /// order first, and then merged.
+    /// Adds all sightings or, if memory runs out, none. A few are added one by one; more are put in order first, and
+    /// then merged.
     pub fn add_all(&mut self, sightings: &[Sighting]) -> Result<(), Refused>
         ensures ok { OnOk result (self.new ≡ merge self.old (view sightings.now)) }
         ensures err { OnErr result (self.new ≡ self.old) }
@@ -119,8 +117,8 @@ impl Store {
         }
     }
 
-    /// Builds a store of the sightings and merges it. Not inlined: a `Store` is large on the stack,
-    /// and a report has few sightings.
+    /// Builds a store of the sightings and merges it. Not inlined: a `Store` is large on the stack, and a report has
+    /// few sightings.
     fn add_many(&mut self, sightings: &[Sighting]) -> Result<(), Refused>
         ensures ok { OnOk result (self.new ≡ merge self.old (view sightings.now)) }
         ensures err { OnErr result (self.new ≡ self.old) }
@@ -142,8 +140,8 @@ impl Store {
         Ok(())
     }
 
-    /// Adds all that `other` holds, and takes the greater of the two floors. Walks both stores. If
-    /// memory runs out, nothing changes.
+    /// Adds all that `other` holds, and takes the greater of the two floors. Walks both stores. If memory runs out,
+    /// nothing changes.
     pub fn merge(&mut self, other: &Store) -> Result<(), Refused>
         ensures ok { OnOk result (self.new ≡ merge self.old other.now) }
         ensures least { OnOk result (IsMerge self.old other.now self.new) }
@@ -236,8 +234,8 @@ impl Store {
         self.cells.len()
     }
 
-    /// Returns the cell at index `i` in the order of keys, from 0 on, with its key. Takes a binary
-    /// search among the pages.
+    /// Returns the cell at index `i` in the order of keys, from 0 on, with its key. Takes a binary search among the
+    /// pages.
     pub fn cell(&self, i: usize) -> Option<Sighting>
         ensures exact { result ≡ slice_get (cells_of self.now) i }
         ensures in_range { AreInRange self.now }

@@ -4,8 +4,7 @@ use fact_store::Refused;
 use std::alloc::AllocError;
 use thiserror::Error;
 
-/// An end port finds no LID: no range that fits is left below the room of the smallest forwarding
-/// table.
+/// An end port finds no LID: no range that fits is left below the room of the smallest forwarding table.
 #[derive(Clone, Copy, Debug, PartialEq, Eq)]
 pub struct NoRoom {
     /// The number of end ports.

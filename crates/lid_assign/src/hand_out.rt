@@ -18,9 +18,8 @@ pub(crate) struct Next {
     adapter: usize,
 }
 
-/// Returns the end ports in their order, each with its LID: the claim that it keeps, or the least
-/// number whose range fits and has no number that is taken. Returns `None` if one of them finds
-/// none.
+/// Returns the end ports in their order, each with its LID: the claim that it keeps, or the least number whose range
+/// fits and has no number that is taken. Returns `None` if one of them finds none.
 pub(crate) fn hand_out(
     alloc: Global,
     lmc: Lmc,

@@ -4,16 +4,15 @@ ghost use Rattle.lid_assign.specs.Lids.{OwnersAreInverse, RisingLidsLaw};
 ghost use Rattle.lid_assign.specs.Ranges.{RangesLaw};
 ghost use Rattle.lid_assign.specs.Stability.{LidsSettle, LidsStay};
 
-/// The tests of a number in a range, of two ranges that meet, and of a range that fits below a room
-/// agree with the statements, if the ranges are not empty.
+/// The tests of a number in a range, of two ranges that meet, and of a range that fits below a room agree with the
+/// statements, if the ranges are not empty.
 pub fn ranges_law()
     ensures { RangesLaw }
 {}
 
-/// Each end port has one LID, whose range fits below the room, and no two ranges have a number in
-/// common; an end port keeps a claim whose range fits and meets none that fits and that an earlier
-/// end port claims; and each other one has the least number whose range fits and has no number that
-/// was taken before; if there is room.
+/// Each end port has one LID, whose range fits below the room, and no two ranges have a number in common; an end port
+/// keeps a claim whose range fits and meets none that fits and that an earlier end port claims; and each other one has
+/// the least number whose range fits and has no number that was taken before; if there is room.
 pub fn lids_law()
     ensures { LidsLaw }
 {}
@@ -28,8 +27,8 @@ pub fn no_room_law()
     ensures { NoRoomLaw }
 {}
 
-/// With one LID for each port, there is no room exactly if there are end ports, and at least as
-/// many as numbers below the room, including 0.
+/// With one LID for each port, there is no room exactly if there are end ports, and at least as many as numbers below
+/// the room, including 0.
 pub fn no_room_at_lmc_0()
     ensures { NoRoomAtLmc0 }
 {}
@@ -49,15 +48,14 @@ pub fn rising_lids_law()
     ensures { RisingLidsLaw }
 {}
 
-/// All LIDs stay, and there is room, if the facts differ only in claims from those of a view with
-/// room, and each end port claims the LID that it has there.
+/// All LIDs stay, and there is room, if the facts differ only in claims from those of a view with room, and each end
+/// port claims the LID that it has there.
 pub fn lids_settle()
     ensures { LidsSettle }
 {}
 
-/// End ports that claim the LIDs that they have in one view keep them in each view with room, if
-/// the other end ports claim nothing or 0 there, and the tables have room for the ranges of these
-/// LIDs.
+/// End ports that claim the LIDs that they have in one view keep them in each view with room, if the other end ports
+/// claim nothing or 0 there, and the tables have room for the ranges of these LIDs.
 pub fn lids_stay()
     ensures { LidsStay }
 {}

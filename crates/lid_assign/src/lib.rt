@@ -1,5 +1,5 @@
-//! LIDs for each end port, one or 2^LMC: claims that hold are kept, and the other end ports take
-//! the least ranges that are left.
+//! LIDs for each end port, one or 2^LMC: claims that hold are kept, and the other end ports take the least ranges that
+//! are left.
 #![tactic(auto)]
 
 mod assignment;

@@ -11,8 +11,7 @@ use std::collections::BTreeMap;
 use std::marker::Model;
 use subnet_view::EndPort;
 
-/// The LID of each end port, and with it its range: one number for a switch, and 2^LMC for an
-/// adapter's port.
+/// The LID of each end port, and with it its range: one number for a switch, and 2^LMC for an adapter's port.
 #[derive(Drop)]
 pub struct LidMap {
     lmc: Lmc,
@@ -64,8 +63,7 @@ impl LidMap {
         })
     }
 
-    /// Returns the LMC of an end port: 0 for port 0, which is a switch's, and otherwise the map's
-    /// LMC.
+    /// Returns the LMC of an end port: 0 for port 0, which is a switch's, and otherwise the map's LMC.
     pub fn lmc_of(&self, port: &EndPort) -> Lmc
         ensures { result ≡ lmc_of self.now port.now }
     {
@@ -104,8 +102,7 @@ impl LidMap {
         &self.rising
     }
 
-    /// Returns the greatest number that an end port has, the last of the highest range. Takes one
-    /// step.
+    /// Returns the greatest number that an end port has, the last of the highest range. Takes one step.
     pub fn top(&self) -> Option<Lid>
         ensures { result ≡ top_of self.now }
     {
@@ -113,8 +110,7 @@ impl LidMap {
     }
 }
 
-/// Returns a table with the end port that has a number, at the number. Writes the first end port's
-/// entries last.
+/// Returns a table with the end port that has a number, at the number. Writes the first end port's entries last.
 fn owners(
     alloc: Global,
     lmc: Lmc,

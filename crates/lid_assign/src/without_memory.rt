@@ -17,8 +17,7 @@ use subnet_view::next_end_port;
 /// The count of numbers below the first one past the unicast LIDs.
 const NUMBERS: usize = Lid::UNICAST_END as usize;
 
-/// Returns whether an end port finds no LID. Takes no memory, and walks the cells twice for each
-/// end port.
+/// Returns whether an end port finds no LID. Takes no memory, and walks the cells twice for each end port.
 pub(crate) fn runs_out(store: &Store, lmc: Lmc) -> bool
     ensures { result ≡ is_no_room lmc (cells_of store.now) }
 {
@@ -51,8 +50,8 @@ fn keep_in_turn(store: &Store, lmc: Lmc, claimed: &mut [bool], taken: &mut [bool
     }
 }
 
-/// Returns whether an end port that keeps no claim finds no LID. The numbers of those that keep one
-/// are marked in `taken`.
+/// Returns whether an end port that keeps no claim finds no LID. The numbers of those that keep one are marked in
+/// `taken`.
 fn runs_out_after(store: &Store, lmc: Lmc, claimed: &mut [bool], taken: &mut [bool]) -> bool
     requires claimed { claimed.old ≡ replicate (room (cells_of store.now)) false }
     requires taken { AreTaken (room (cells_of store.now))

@@ -20,8 +20,8 @@ pub(crate) fn insert_within<T>(page: &mut Vec<T>, index: usize, item: T)
     }
 }
 
-/// Inserts an item into a full page and moves half of the page to the empty page `tail`. Returns
-/// the number of items that stay in `page`.
+/// Inserts an item into a full page and moves half of the page to the empty page `tail`. Returns the number of items
+/// that stay in `page`.
 pub(crate) fn insert_halved<T: Copy>(
     page: &mut Vec<T>,
     tail: &mut Vec<T>,

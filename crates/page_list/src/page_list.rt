@@ -63,16 +63,16 @@ impl<T: Copy> PageList<T> {
         self.len
     }
 
-    /// Returns the item at index `i`. Takes one step if the first or the last page contains it,
-    /// otherwise a binary search among the pages.
+    /// Returns the item at index `i`. Takes one step if the first or the last page contains it, otherwise a binary
+    /// search among the pages.
     pub fn get(&self, i: usize) -> Option<T>
         ensures { result ≡ slice_get self.now.items i }
     {
         self.get_near(i, Slot::first()).copied()
     }
 
-    /// Returns the item at index `i`. Takes one step if the page of `near` contains it, otherwise a
-    /// binary search among the pages.
+    /// Returns the item at index `i`. Takes one step if the page of `near` contains it, otherwise a binary search among
+    /// the pages.
     pub fn get_near(&self, i: usize, near: Slot) -> Option<&T>
         ensures { option_copied result ≡ slice_get self.now.items i }
     {
@@ -83,8 +83,7 @@ impl<T: Copy> PageList<T> {
         Some(&self.pages[at.page][at.offset])
     }
 
-    /// Returns the index that `slot` stands for, or `None` if the list has no such page or index.
-    /// Takes one step.
+    /// Returns the index that `slot` stands for, or `None` if the list has no such page or index. Takes one step.
     pub fn index_at(&self, slot: Slot) -> Option<usize>
         ensures { IfSome result (λ i. i < length self.now.items) }
     {
@@ -106,8 +105,8 @@ impl<T: Copy> PageList<T> {
         }
     }
 
-    /// Replaces the item at index `i` and returns its slot. Takes one step if the page of `near`
-    /// contains it, otherwise a binary search among the pages.
+    /// Replaces the item at index `i` and returns its slot. Takes one step if the page of `near` contains it, otherwise
+    /// a binary search among the pages.
     pub fn set_near(&mut self, i: usize, item: T, near: Slot) -> Slot
         requires { i < length self.old.items }
         ensures items { self.new.items ≡ slice_set self.old.items i item }
@@ -128,11 +127,10 @@ impl<T: Copy> PageList<T> {
         self.insert_near(i, item, Slot::first());
     }
 
-    /// Inserts an item at index `i`, before the item that is there, and returns its slot. Finds the
-    /// page in one step if it is that of `near`. Moves the items behind it in its page, increments
-    /// the start indices of at most 64 pages, and one number for each 64 further pages. About once
-    /// in a hundred items a full page is halved, which moves the list of pages and walks their
-    /// start indices.
+    /// Inserts an item at index `i`, before the item that is there, and returns its slot. Finds the page in one step if
+    /// it is that of `near`. Moves the items behind it in its page, increments the start indices of at most 64 pages,
+    /// and one number for each 64 further pages. About once in a hundred items a full page is halved, which moves the
+    /// list of pages and walks their start indices.
     pub fn insert_near(&mut self, i: usize, item: T, near: Slot) -> Slot
         requires index { i ≤ length self.old.items }
         requires room { 0 < self.old.room }
@@ -158,8 +156,8 @@ impl<T: Copy> PageList<T> {
         slot_in_halves(at)
     }
 
-    /// Reserves memory for `n` further items. Each may need a page of its own. Keeps the room that
-    /// there was if memory runs out.
+    /// Reserves memory for `n` further items. Each may need a page of its own. Keeps the room that there was if memory
+    /// runs out.
     pub fn reserve(&mut self, n: usize) -> Result<(), AllocError>
         ensures ok { OnOk result (n ≤ self.new.room) }
         ensures room { self.old.room ≤ self.new.room }
@@ -228,8 +226,7 @@ impl<T: Copy> PageList<T> {
     }
 }
 
-/// Returns the slot of an item that was inserted at `at` into a full page, once that page is
-/// halved.
+/// Returns the slot of an item that was inserted at `at` into a full page, once that page is halved.
 fn slot_in_halves(at: Slot) -> Slot {
     if at.offset <= PAGE / 2 {
         return at;

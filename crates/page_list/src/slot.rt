@@ -2,8 +2,8 @@ ghost use Rattle.std.specs.Prelude.{◌≡◌, ◌+◌, ◌<◌, ◌≤◌, Some
 
 use crate::starts::Starts;
 
-/// Returns the last page that begins at index `at` or before it; `starts` has the index of each
-/// page's first item. Takes one step if that is the last page of all, otherwise a binary search.
+/// Returns the last page that begins at index `at` or before it; `starts` has the index of each page's first item.
+/// Takes one step if that is the last page of all, otherwise a binary search.
 pub(crate) fn page_of(starts: &Starts, at: usize) -> usize
     requires { slice_get starts.now.items 0 ≡ Some 0 }
     ensures within { result < length starts.now.items }
@@ -28,8 +28,8 @@ pub(crate) fn page_of(starts: &Starts, at: usize) -> usize
 
 ghost use Rattle.page_list.specs.Pages.{items_of, starts_from, IsSlot};
 
-/// The place of an item in its list. It is a hint: the list looks there first. Insertions move
-/// items, so nothing depends on it.
+/// The place of an item in its list. It is a hint: the list looks there first. Insertions move items, so nothing
+/// depends on it.
 #[derive(Clone, Copy)]
 pub struct Slot {
     pub(crate) page: usize,

@@ -10,8 +10,8 @@ use std::marker::Model;
 /// The number of indices in a group.
 const GROUP: usize = 64;
 
-/// The indices of the pages' first items, in order, in groups of 64. To increment all from some
-/// page on, only the indices of its own group and one number for each later group are changed.
+/// The indices of the pages' first items, in order, in groups of 64. To increment all from some page on, only the
+/// indices of its own group and one number for each later group are changed.
 #[derive(Drop)]
 pub(crate) struct Starts {
     /// Each index, without what is added to its group.
@@ -62,8 +62,8 @@ impl Starts {
         self.starts[page] + self.added[page / GROUP]
     }
 
-    /// Adds one to each index from page `from` on. Takes at most one step for each index of a
-    /// group, and one for each later group.
+    /// Adds one to each index from page `from` on. Takes at most one step for each index of a group, and one for each
+    /// later group.
     pub(crate) fn shift(&mut self, from: usize)
         requires fits { All (λ start. start + 1 < 2 ^ 64) self.old.items }
         ensures items { self.new.items
@@ -85,8 +85,8 @@ impl Starts {
         count_up(&mut self.added, group + 1, groups);
     }
 
-    /// Inserts an index at `page`. The caller has reserved room. Walks all indices, unless nothing
-    /// is added to any group.
+    /// Inserts an index at `page`. The caller has reserved room. Walks all indices, unless nothing is added to any
+    /// group.
     pub(crate) fn insert(&mut self, page: usize, start: usize)
         requires page { page ≤ length self.old.items }
         requires room { 0 < self.old.room }
@@ -97,8 +97,7 @@ impl Starts {
         insert_within(&mut self.starts, page, start);
     }
 
-    /// Appends an index. The caller has reserved room. Walks all indices only if something was
-    /// added to its group.
+    /// Appends an index. The caller has reserved room. Walks all indices only if something was added to its group.
     pub(crate) fn push(&mut self, start: usize)
         requires room { 0 < self.old.room }
         ensures items { self.new.items ≡ self.old.items ++ start ∷ [] }

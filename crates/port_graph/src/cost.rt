@@ -7,8 +7,8 @@ use crate::adjacency::Adjacency;
 use crate::edge::Edge;
 use std::alloc::{AllocError, Global};
 
-/// Computes the cost of each vertex: its distance if it has one, otherwise one more than the least
-/// cost of the vertices up from it. Takes one step for each vertex and each edge.
+/// Computes the cost of each vertex: its distance if it has one, otherwise one more than the least cost of the vertices
+/// up from it. Takes one step for each vertex and each edge.
 pub(crate) fn costs(
     alloc: Global,
     ups: &Adjacency,

@@ -17,8 +17,8 @@ pub(crate) struct Hops {
     pub(crate) ports: [u8; LANES],
 }
 
-/// For each lane, finds the least number of the vertices that the edges lead to, and the port of
-/// the first edge to a vertex with that number.
+/// For each lane, finds the least number of the vertices that the edges lead to, and the port of the first edge to a
+/// vertex with that number.
 pub(crate) fn nearest(edges: &[Edge], numbers: &[[u8; LANES]]) -> Hops
     requires { All (λ edge. edge.to < length numbers.now) edges.now }
     ensures { EachLane (λ k. (slice_index result.numbers k, slice_index result.ports k)
@@ -34,8 +34,7 @@ pub(crate) fn nearest(edges: &[Edge], numbers: &[[u8; LANES]]) -> Hops
     nearest
 }
 
-/// For each lane, replaces the number found by the vertex's number if that is less, with the port
-/// that leads there.
+/// For each lane, replaces the number found by the vertex's number if that is less, with the port that leads there.
 fn take_nearer(found: &mut Hops, numbers: &[u8; LANES], port: u8)
     ensures { EachLane (λ k. (slice_index found.new.numbers k, slice_index found.new.ports k)
         ≡ nearer (slice_index found.old.numbers k, slice_index found.old.ports k) (slice_index numbers.now k) port) }
@@ -52,8 +51,7 @@ fn take_nearer(found: &mut Hops, numbers: &[u8; LANES], port: u8)
     }
 }
 
-/// Adds one to the number in each lane that has one. Returns `None` if a number gets too great for
-/// a lane.
+/// Adds one to the number in each lane that has one. Returns `None` if a number gets too great for a lane.
 pub(crate) fn one_more(numbers: &[u8; LANES]) -> Option<[u8; LANES]>
     ensures { IfSome result (λ more. EachLane (λ k. IsOneMore (slice_index numbers.now k) (slice_index more k))) }
 {

@@ -12,9 +12,8 @@ use crate::next_port::next_ports;
 use smp_bytes::PortNum;
 use std::alloc::{AllocError, Global};
 
-/// Computes the next ports between `vertices`: for each as a target, the next port of each. Takes
-/// one step for each vertex and each edge for 16 targets at a time, or for each target if a cost is
-/// greater than 254.
+/// Computes the next ports between `vertices`: for each as a target, the next port of each. Takes one step for each
+/// vertex and each edge for 16 targets at a time, or for each target if a cost is greater than 254.
 pub fn next_ports_between(
     alloc: Global,
     ups: &Adjacency,
@@ -39,8 +38,7 @@ pub fn next_ports_between(
     Ok(rows)
 }
 
-/// Returns the targets of the lanes: the vertices from index `first` on, and the last one in the
-/// lanes left over.
+/// Returns the targets of the lanes: the vertices from index `first` on, and the last one in the lanes left over.
 fn targets_from(vertices: &[usize], first: usize) -> [usize; LANES]
     requires { first < length vertices.now }
     ensures { EachLane (λ k. slice_index result k ≡ target_in vertices.now first k) }
@@ -122,9 +120,8 @@ impl Block {
     }
 }
 
-/// Computes for each lane the costs of all vertices and their next ports to its target: down
-/// distances from the last vertex to the first, and then costs from the first to the last. Returns
-/// `false` if a cost is too great for a lane.
+/// Computes for each lane the costs of all vertices and their next ports to its target: down distances from the last
+/// vertex to the first, and then costs from the first to the last. Returns `false` if a cost is too great for a lane.
 fn route_in_lanes(
     ups: &Adjacency,
     downs: &Adjacency,
@@ -172,8 +169,8 @@ fn route_in_lanes(
     true
 }
 
-/// Computes the down distances of a vertex and its ports down, given the numbers of the vertices
-/// down from it. Returns `None` if a distance is too great for a lane.
+/// Computes the down distances of a vertex and its ports down, given the numbers of the vertices down from it. Returns
+/// `None` if a distance is too great for a lane.
 fn down_from(
     downs: &[Edge],
     numbers: &[[u8; LANES]],
@@ -193,8 +190,8 @@ fn down_from(
     })
 }
 
-/// Computes the costs of a vertex and its ports up for the lanes without a down distance, given the
-/// costs of the vertices up from it. Returns `None` if a cost is too great for a lane.
+/// Computes the costs of a vertex and its ports up for the lanes without a down distance, given the costs of the
+/// vertices up from it. Returns `None` if a cost is too great for a lane.
 fn up_from(ups: &[Edge], numbers: &[[u8; LANES]], down: Hops) -> Option<Hops>
     requires { All (λ edge. edge.to < length numbers.now) ups.now }
     ensures { IfSome result (λ hops. EachLane (λ k. IsStepUp (slice_index down.numbers k) (slice_index down.ports k)

@@ -14,8 +14,8 @@ use std::marker::Model;
 /// The bytes of the awaited part that came with earlier pieces. No part is longer than a record.
 type Part = ArrayVec<u8, RECORD_LEN>;
 
-/// Reads a file piece by piece. Judges each record once its last byte is there: in the piece itself
-/// or, if it was cut, put together here. Takes no memory of its own.
+/// Reads a file piece by piece. Judges each record once its last byte is there: in the piece itself or, if it was cut,
+/// put together here. Takes no memory of its own.
 #[derive(Drop)]
 pub struct Absorber {
     awaited: Result<Awaited, FileFault>,
@@ -45,10 +45,10 @@ impl Absorber {
     ///
     /// # Errors
     ///
-    /// Returns `Magic` once 8 bytes are there that are no magic, `BadFloor` for the header,
-    /// `BadReport`, `BadCell`, `CellOrder` or `Memory` for the first record with such a fault, and
-    /// behind the records `TooLong` with the 2^40th byte. The store then holds the floor and the
-    /// records before the fault. Every later call returns that error and changes nothing.
+    /// Returns `Magic` once 8 bytes are there that are no magic, `BadFloor` for the header, `BadReport`, `BadCell`,
+    /// `CellOrder` or `Memory` for the first record with such a fault, and behind the records `TooLong` with the 2^40th
+    /// byte. The store then holds the floor and the records before the fault. Every later call returns that error and
+    /// changes nothing.
     pub fn feed(&mut self, piece: &[u8], store: &mut Store) -> Result<(), FileFault>
         ensures feeds { FeedsPiece self.old piece.now result self.new store.old store.new }
     {
@@ -67,8 +67,8 @@ impl Absorber {
     ///
     /// # Errors
     ///
-    /// Returns the fault that `feed` returned, `Magic` for fewer than 8 bytes, and `Truncated`
-    /// within a header or a record.
+    /// Returns the fault that `feed` returned, `Magic` for fewer than 8 bytes, and `Truncated` within a header or a
+    /// record.
     pub fn finish(self) -> Result<(), FileFault>
         ensures finishes { Finishes self result }
     {
@@ -107,8 +107,7 @@ fn take_piece(
     Ok(next)
 }
 
-/// Takes the bytes that belong to the awaited part. Returns what is awaited behind them, and how
-/// many they are.
+/// Takes the bytes that belong to the awaited part. Returns what is awaited behind them, and how many they are.
 fn take_front(
     awaited: Awaited,
     part: &mut Part,

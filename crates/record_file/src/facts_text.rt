@@ -81,8 +81,8 @@ fn write_line<W: Sink>(sink: &mut W, cell: &Sighting) -> Result<(), WriteFault>
     sink.write(b"\n")
 }
 
-/// Writes the line of a cell: its key, its value or `disputed`, and `@` with its generation. A line
-/// of at most 64 bytes is written in one call.
+/// Writes the line of a cell: its key, its value or `disputed`, and `@` with its generation. A line of at most 64 bytes
+/// is written in one call.
 pub fn write_cell<W: Sink>(sink: &mut W, cell: &Sighting) -> Result<(), WriteFault>
     ensures writes { Writes W.written W.has_failed result sink.old sink.new (line_text cell.now) }
 {
@@ -106,8 +106,8 @@ fn write_floor<W: Sink>(sink: &mut W, floor: Generation) -> Result<(), WriteFaul
     sink.write(b"\n")
 }
 
-/// Writes the line of the floor, if it is over 1, and that of each cell in the order of keys, and
-/// flushes. Takes no memory.
+/// Writes the line of the floor, if it is over 1, and that of each cell in the order of keys, and flushes. Takes no
+/// memory.
 pub fn write_facts<W: Sink>(sink: &mut W, store: &Store) -> Result<(), WriteFault>
     ensures writes { Writes W.written W.has_failed result sink.old sink.new (facts_text store.now) }
     ensures flushed { OnOk result (IsTrue (W.is_flushed sink.new)) }

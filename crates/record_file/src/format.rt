@@ -8,8 +8,7 @@ use smp_bytes::Generation;
 pub(crate) enum Format {
     /// Reports, in the order in which they came.
     Reports,
-    /// The cells of a store, in the order of keys. None is below the floor of the header, if there
-    /// is one.
+    /// The cells of a store, in the order of keys. None is below the floor of the header, if there is one.
     Cells { floor: Option<Generation> },
 }
 

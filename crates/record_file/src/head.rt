@@ -1,5 +1,4 @@
-//! The head of a file: its magic and, behind the magic of newer store files, a header with their
-//! floor.
+//! The head of a file: its magic and, behind the magic of newer store files, a header with their floor.
 ghost use Rattle.std.specs.Prelude.{◌≡◌, length, Some};
 ghost use Rattle.record_file.specs.Head.{floor_told as floor_in_header, head_bytes, header};
 ghost use Rattle.record_file.specs.declared.format.Format.TheVariants.{Cells};

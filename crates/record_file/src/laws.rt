@@ -8,8 +8,7 @@ ghost use Rattle.record_file.specs.PieceLaws.{CutsChangeNothing, FaultsStay, Pie
 
 use byte_io::Source;
 
-/// Neither the fault of a bad header or record, nor the floor, nor what is kept depends on what
-/// follows it.
+/// Neither the fault of a bad header or record, nor the floor, nor what is kept depends on what follows it.
 pub fn bad_part_stays()
     ensures { BadPartStays }
 {}
@@ -39,20 +38,18 @@ pub fn records_are_spellings()
     ensures { RecordsAreSpellings }
 {}
 
-/// A store file, with either head, is accepted exactly if it has a record for each cell of some
-/// facts that are in range.
+/// A store file, with either head, is accepted exactly if it has a record for each cell of some facts that are in
+/// range.
 pub fn store_files_are_accepted()
     ensures { StoreFilesAreAccepted }
 {}
 
-/// A store file of facts is read back as these facts, with their floor; if it has no floor, as
-/// facts at floor 1.
+/// A store file of facts is read back as these facts, with their floor; if it has no floor, as facts at floor 1.
 pub fn facts_are_read_back()
     ensures { FactsAreReadBack }
 {}
 
-/// Two store files are equal if they are accepted, have a floor in their heads, and say equal
-/// facts.
+/// Two store files are equal if they are accepted, have a floor in their heads, and say equal facts.
 pub fn facts_have_one_spelling()
     ensures { FactsHaveOneSpelling }
 {}

@@ -12,8 +12,8 @@ use crate::store_file::cell_of;
 use fact_store::{Cell, IngestFault, Key, ReportFault, Store, Value};
 use smp_bytes::Generation;
 
-/// Adds what a record says to the store. Returns the key of its cell, or `None` for a report.
-/// `last` is the key of the cell before it.
+/// Adds what a record says to the store. Returns the key of its cell, or `None` for a report. `last` is the key of the
+/// cell before it.
 pub(crate) fn absorb_record(
     format: Format,
     last: Option<Key>,
@@ -54,8 +54,8 @@ fn absorb_report(bytes: &[u8], index: u64, store: &mut Store) -> Result<(), File
     }
 }
 
-/// Adds the cell of a record, and returns its key. The cell must not be below the floor of the
-/// header, and its key must come after `last`.
+/// Adds the cell of a record, and returns its key. The cell must not be below the floor of the header, and its key must
+/// come after `last`.
 fn absorb_cell(
     floor: Option<Generation>,
     last: Option<Key>,
@@ -93,8 +93,7 @@ fn is_after(key: &Key, last: &Option<Key>) -> bool
     }
 }
 
-/// Returns whether a cell is at the floor of the header or above it; any cell is if the header has
-/// none.
+/// Returns whether a cell is at the floor of the header or above it; any cell is if the header has none.
 fn is_at_told(floor: Option<Generation>, cell: &Cell<Value>) -> bool
     ensures { result ≡ is_at_floor_told floor cell.now }
 {

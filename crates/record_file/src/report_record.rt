@@ -5,8 +5,7 @@ use crate::numbers::{u32_of, u64_of};
 use fact_store::{Context, Report};
 use smp_bytes::{Guid, PortNum};
 
-/// The number of bytes of a record: generation, context, port, two zero bytes, GUID and the 256
-/// bytes of the reply.
+/// The number of bytes of a record: generation, context, port, two zero bytes, GUID and the 256 bytes of the reply.
 pub(crate) const RECORD_LEN: usize = 272;
 
 /// Returns the report that a record spells, or `None` if it spells none.

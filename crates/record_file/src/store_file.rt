@@ -14,17 +14,14 @@ use byte_io::{Sink, WriteFault};
 use fact_store::{Cell, Key, Sighting, Store, Value};
 use smp_bytes::{Generation, Guid, Lid, PortNum};
 
-/// The number of bytes of a record: kind, state, port, a zero byte, generation, GUID and 16 value
-/// bytes.
+/// The number of bytes of a record: kind, state, port, a zero byte, generation, GUID and 16 value bytes.
 pub(crate) const RECORD_LEN: usize = 32;
 
-/// The number of value bytes of a record. They are 0 behind the value, and all 0 for a disputed
-/// cell.
+/// The number of value bytes of a record. They are 0 behind the value, and all 0 for a disputed cell.
 const VALUE_LEN: usize = 16;
 
-/// Writes a store file of all that the store holds, its floor and then a record for each cell in
-/// the order of keys, and flushes. Takes no memory of its own. If a write fails, how much was
-/// written is unspecified.
+/// Writes a store file of all that the store holds, its floor and then a record for each cell in the order of keys, and
+/// flushes. Takes no memory of its own. If a write fails, how much was written is unspecified.
 pub fn write_store<W: Sink>(sink: &mut W, store: &Store) -> Result<(), WriteFault>
     ensures writes { Writes W.written W.has_failed result sink.old sink.new
         (store_bytes store.now.floor (cells_of store.now)) }

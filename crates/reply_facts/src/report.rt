@@ -3,8 +3,8 @@ ghost use Rattle.reply_facts.specs.Sighting.{is_guid};
 
 use smp_bytes::{Guid, PortNum};
 
-/// What a manager knows of the node that a reply came from: that it is the manager's own node, the
-/// last port that the request's path leads out of, or the GUID of the node.
+/// What a manager knows of the node that a reply came from: that it is the manager's own node, the last port that the
+/// request's path leads out of, or the GUID of the node.
 #[derive(Clone, Copy, Debug, PartialEq, Eq)]
 pub enum Context {
     Start,
@@ -15,8 +15,7 @@ pub enum Context {
 impl Context {
     ghost use Rattle.reply_facts.specs.Report.{about_of, via_of};
 
-    /// Returns the node and the last port that the request's path leads out of, if the context says
-    /// it.
+    /// Returns the node and the last port that the request's path leads out of, if the context says it.
     pub(crate) fn via(&self) -> Option<(Guid, PortNum)>
         ensures parts { result ≡ via_of self.now }
         ensures in_range { IfSome result (λ via. IsTrue (is_guid via.0)) }

@@ -59,8 +59,7 @@ pub fn sightings_in(
     }
 }
 
-/// Returns the first reason why the packet is not a successful answer on a directed route, or
-/// `None` if it is one.
+/// Returns the first reason why the packet is not a successful answer on a directed route, or `None` if it is one.
 pub fn answer_fault(smp: &Smp) -> Option<ReportFault>
     ensures { result ≡ answer_fault smp.now }
 {
@@ -174,8 +173,7 @@ fn are_ports_in_range(context: &Context, kind: NodeType, info: &NodeInfo) -> boo
     is_cabled_port(info.num_ports) && asked_by <= info.num_ports && may_be_asked
 }
 
-/// Returns the facts of an answer of PortInfo, or its fault: whether the port is up, and the LID
-/// that it claims.
+/// Returns the facts of an answer of PortInfo, or its fault: whether the port is up, and the LID that it claims.
 fn sightings_by_port_info(
     generation: Generation,
     context: &Context,
@@ -213,8 +211,8 @@ pub fn is_up(info: &PortInfo) -> bool
     }
 }
 
-/// Returns the facts of an answer of SwitchInfo, or its fault: how many LIDs the switch's
-/// forwarding table has room for.
+/// Returns the facts of an answer of SwitchInfo, or its fault: how many LIDs the switch's forwarding table has room
+/// for.
 fn sightings_by_switch_info(
     generation: Generation,
     context: &Context,

@@ -12,8 +12,7 @@ use smp_bytes::{Generation, Guid, Lid, NodeType, PortNum};
 use std::cmp::Ordering;
 use std::marker::Model;
 
-/// A fact as it was told once, or that it is disputed. Takes 24 bytes, as long lists hold and move
-/// sightings.
+/// A fact as it was told once, or that it is disputed. Takes 24 bytes, as long lists hold and move sightings.
 #[derive(Clone, Copy, Debug)]
 pub struct Sighting {
     /// The GUID of the key.
@@ -67,8 +66,8 @@ impl Model for Sighting {
 impl Sighting {
     ghost use Rattle.reply_facts.specs.Sighting.{IsSighting};
 
-    /// Creates a sighting of a cell under a key. Returns `None` if the key cannot have its port, or
-    /// if the value is of another kind than the key or has a number out of range.
+    /// Creates a sighting of a cell under a key. Returns `None` if the key cannot have its port, or if the value is of
+    /// another kind than the key or has a number out of range.
     pub fn new(key: Key, cell: Cell<Value>) -> Option<Self>
         ensures exact { IsSome result ↔ IsSighting (key, cell) }
         ensures value { IfSome result (λ s. s ≡ (key, cell)) }

@@ -8,8 +8,8 @@ use std::alloc::{AllocError, Global};
 use std::collections::VecDeque;
 use std::marker::Model;
 
-/// Requests by rising numbers. No number is given twice. Contracts see the requests, the number of
-/// the next one, and how many more there is memory for.
+/// Requests by rising numbers. No number is given twice. Contracts see the requests, the number of the next one, and
+/// how many more there is memory for.
 #[derive(Drop)]
 pub struct RequestTable<T: Numbered> {
     next: u64,
@@ -103,8 +103,8 @@ impl<T: Numbered + Drop> RequestTable<T> {
         self.requests.get(index)
     }
 
-    /// Counts the requests with numbers below `number`: the index of the request with this number,
-    /// if there is one. Takes a binary search.
+    /// Counts the requests with numbers below `number`: the index of the request with this number, if there is one.
+    /// Takes a binary search.
     pub fn count_below(&self, number: u64) -> usize
         ensures index { IsIndex (λ r. nat_lt (T.number r) number) self.now.requests result }
         ensures numbered { AreNumbered T.number self.now.requests self.now.next }

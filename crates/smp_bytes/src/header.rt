@@ -1,5 +1,4 @@
-/// How a packet is routed: by a LID and the switches' tables, or by the ports of a path that it
-/// carries.
+/// How a packet is routed: by a LID and the switches' tables, or by the ports of a path that it carries.
 #[derive(Clone, Copy, Debug, PartialEq, Eq)]
 pub enum SmpClass {
     LidRouted,

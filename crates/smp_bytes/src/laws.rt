@@ -1,5 +1,4 @@
-//! The laws of packets: what a write into a field or into bits does, and what the packets that are
-//! made contain.
+//! The laws of packets: what a write into a field or into bits does, and what the packets that are made contain.
 ghost use Rattle.std.specs.Prelude.{◌≡◌};
 ghost use Rattle.smp_bytes.specs.Header.{get, set, get_resp, done, method_not_supported};
 ghost use Rattle.smp_bytes.specs.Header.{method_and_attribute_not_supported, invalid_field, node_description};
@@ -25,8 +24,7 @@ pub fn bytes_outside_field_stay()
     ensures { BytesOutsideStay }
 {}
 
-/// A write into a field gives the only bytes that hold the number there and are otherwise as they
-/// were.
+/// A write into a field gives the only bytes that hold the number there and are otherwise as they were.
 pub fn write_is_unique()
     ensures { WriteIsUnique }
 {}
@@ -69,8 +67,7 @@ pub fn answer_reads_back()
     ensures { AnswerReadsBack }
 {}
 
-/// A status that is written is read; the class stays, and so does the direction of a directed
-/// packet.
+/// A status that is written is read; the class stays, and so does the direction of a directed packet.
 pub fn status_reads_back()
     ensures { StatusReadsBack }
 {}

@@ -36,8 +36,7 @@ impl Lid {
         self.0
     }
 
-    /// Returns the number of the forwarding table block that contains the LID's entry
-    /// (LinearForwardingTable).
+    /// Returns the number of the forwarding table block that contains the LID's entry (LinearForwardingTable).
     pub const fn block(self) -> u16
         ensures { result ≡ self / 64 }
     {

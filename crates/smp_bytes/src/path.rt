@@ -4,8 +4,7 @@ use crate::port_num::PortNum;
 use arrayvec::ArrayVec;
 use std::marker::Model;
 
-/// The ports that a directed packet leaves by, one after the other: at most `MAX`. Contracts see
-/// the list.
+/// The ports that a directed packet leaves by, one after the other: at most `MAX`. Contracts see the list.
 #[derive(Debug, Drop)]
 pub struct Path<const MAX: usize> {
     ports: ArrayVec<u8, MAX>,

@@ -50,8 +50,8 @@ const PERMISSIVE_LID: u16 = 0xFFFF;
 const MAX_HOPS: u8 = 63;
 
 impl Smp {
-    /// Parses 256 bytes as a packet: base version and class version 1, and one of the two classes.
-    /// Keeps the bytes as they are.
+    /// Parses 256 bytes as a packet: base version and class version 1, and one of the two classes. Keeps the bytes as
+    /// they are.
     ///
     /// # Errors
     ///
@@ -185,8 +185,7 @@ impl Smp {
         Lid::new(u16_at(&self.bytes, field::DR_DLID))
     }
 
-    /// Returns entry `i` of InitialPath: the port by which a directed packet leaves at step `i`.
-    /// Index 0 is not used.
+    /// Returns entry `i` of InitialPath: the port by which a directed packet leaves at step `i`. Index 0 is not used.
     pub fn initial_path(&self, i: usize) -> PortNum
         requires { i < 64 }
         ensures { result ≡ number_in (initial_path i) self.now }
@@ -194,8 +193,8 @@ impl Smp {
         PortNum::new(u8_at(&self.bytes, field::INITIAL_PATH + i))
     }
 
-    /// Returns entry `i` of ReturnPath: the port by which the answer to a directed packet leaves at
-    /// step `i`. Index 0 is not used.
+    /// Returns entry `i` of ReturnPath: the port by which the answer to a directed packet leaves at step `i`. Index 0
+    /// is not used.
     pub fn return_path(&self, i: usize) -> PortNum
         requires { i < 64 }
         ensures { result ≡ number_in (return_path i) self.now }

@@ -5,8 +5,7 @@ use crate::{
 use std::process::Abort;
 use std::test::Fail;
 
-/// The answer of an adapter with one port to a directed Get(NodeInfo) without hops. All later bytes
-/// are 0.
+/// The answer of an adapter with one port to a directed Get(NodeInfo) without hops. All later bytes are 0.
 const REPLY: [u8; 101] = [
     0x01, 0x81, 0x01, 0x81, 0x80, 0x00, 0x00, 0x00, 0, 0, 0, 1, 0, 0, 0, 1, // up to TransactionID
     0x00, 0x11, 0, 0, 0, 0, 0, 0, 0, 0, 0, 0, 0, 0, 0, 0, // up to M_Key

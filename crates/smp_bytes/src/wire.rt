@@ -107,8 +107,7 @@ pub fn bits_at(bytes: &[u8], at: usize, shift: u32, width: u32) -> u8
     number as u8
 }
 
-/// Writes `number` into `width` bits of the byte at `at`, the lowest of which is bit `shift`. All
-/// other bits stay.
+/// Writes `number` into `width` bits of the byte at `at`, the lowest of which is bit `shift`. All other bits stay.
 pub fn put_bits(bytes: &mut [u8], at: usize, shift: u32, width: u32, number: u8)
     requires offset { at < length bytes.old }
     requires some { 1 ≤ width }

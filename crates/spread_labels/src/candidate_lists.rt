@@ -36,9 +36,8 @@ impl CandidateLists {
         Ok(CandidateLists { lists })
     }
 
-    /// Finds the ports of the edges whose set has a target, for each target, in the order of the
-    /// edges. They replace what was found before. Takes one step for each edge, and one for each
-    /// port that is found.
+    /// Finds the ports of the edges whose set has a target, for each target, in the order of the edges. They replace
+    /// what was found before. Takes one step for each edge, and one for each port that is found.
     pub fn find(&mut self, edges: &[Edge], sets: &[TargetSet]) -> Result<(), AllocError>
         requires { length sets.now ≡ length edges.now }
         ensures { OnOk result (EachTarget (λ k. slice_index_or self.new k []

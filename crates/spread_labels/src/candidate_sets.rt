@@ -25,9 +25,8 @@ impl Model for CandidateSets {
 }
 
 impl CandidateSets {
-    /// Finds the sets of all edges towards `targets`, of which there are at most 64. Takes a step
-    /// or two for each edge in each round, for all targets together; there are as many rounds as
-    /// the greatest cost, and one more.
+    /// Finds the sets of all edges towards `targets`, of which there are at most 64. Takes a step or two for each edge
+    /// in each round, for all targets together; there are as many rounds as the greatest cost, and one more.
     pub fn towards(alloc: Global, edges: &Adjacency, targets: &[usize]) -> Result<Self, AllocError>
         requires lead { LeadToVertices edges.now }
         requires few { length targets.now ≤ 64 }

@@ -26,17 +26,15 @@ pub(crate) struct DistanceSum {
 /// The distance classes and levels of vertices, by which they are ordered and led.
 #[derive(Drop)]
 pub struct Grades {
-    /// The distance class of each vertex: its distance from the nearest root, if its component has
-    /// one; otherwise four times its mean distance from the leaf vertices of its component, rounded
-    /// down, or 0 if there are none.
+    /// The distance class of each vertex: its distance from the nearest root, if its component has one; otherwise four
+    /// times its mean distance from the leaf vertices of its component, rounded down, or 0 if there are none.
     pub distance_classes: Vec<u128>,
-    /// The level of each vertex: its distance from the nearest leaf vertex, or 0 if its component
-    /// has none.
+    /// The level of each vertex: its distance from the nearest leaf vertex, or 0 if its component has none.
     pub levels: Vec<usize>,
 }
 
-/// Computes the distance classes and levels of vertices. Takes a breadth-first search from each
-/// root and each leaf vertex.
+/// Computes the distance classes and levels of vertices. Takes a breadth-first search from each root and each leaf
+/// vertex.
 pub fn grade(
     alloc: Global,
     edges: &Adjacency,
@@ -60,8 +58,7 @@ pub fn grade(
     })
 }
 
-/// Returns the distance class of each vertex, given its distances from roots and from leaf
-/// vertices.
+/// Returns the distance class of each vertex, given its distances from roots and from leaf vertices.
 fn distance_classes(
     alloc: Global,
     roots: &[DistanceSum],

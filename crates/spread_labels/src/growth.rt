@@ -21,9 +21,9 @@ pub(crate) enum Stage {
     Placed,
 }
 
-/// Returns the vertices in their grown order. Next comes the vertex of the earliest key among those
-/// with an edge to a placed one; if there is none, the earliest of all that are left. Of equal keys
-/// the lesser vertex's is earlier. Takes one step for each pair of vertices and for each edge.
+/// Returns the vertices in their grown order. Next comes the vertex of the earliest key among those with an edge to a
+/// placed one; if there is none, the earliest of all that are left. Of equal keys the lesser vertex's is earlier. Takes
+/// one step for each pair of vertices and for each edge.
 pub fn grown_order(
     alloc: Global,
     edges: &Adjacency,
@@ -101,8 +101,7 @@ pub fn is_before(keys: &[VertexKey], one: usize, other: usize) -> bool
     one_key.is_less(&other_key) || (!other_key.is_less(&one_key) && one < other)
 }
 
-/// Places a vertex. The vertices that its edges lead to and that are left are beside a placed one
-/// then.
+/// Places a vertex. The vertices that its edges lead to and that are left are beside a placed one then.
 fn add_vertex(edges: &[Edge], vertex: usize, stages: &mut [Stage])
     requires vertex { vertex < length stages.old }
     requires lead { All (λ edge. edge.to < length stages.old) edges.now }

@@ -25,9 +25,9 @@ pub(crate) fn near_or_0(
         .collect(alloc)
 }
 
-/// Computes the digit weight of the level of each vertex: the product of the widths of all lesser
-/// levels, but at most 65536. The width of a level is the greatest number of edges to higher
-/// vertices that a vertex of it has, but at least 1. Takes one step for each edge at each level.
+/// Computes the digit weight of the level of each vertex: the product of the widths of all lesser levels, but at most
+/// 65536. The width of a level is the greatest number of edges to higher vertices that a vertex of it has, but at least
+/// 1. Takes one step for each edge at each level.
 pub fn digit_weights(
     alloc: Global,
     edges: &Adjacency,

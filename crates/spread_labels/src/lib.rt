@@ -1,5 +1,4 @@
-//! Routes by labels: how far from the target each vertex gets its label, in rounds, and which edges
-//! gave it.
+//! Routes by labels: how far from the target each vertex gets its label, in rounds, and which edges gave it.
 #![tactic(auto)]
 
 mod candidate_lists;

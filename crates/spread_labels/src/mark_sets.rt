@@ -81,8 +81,7 @@ fn note(row: &mut [TargetSet], edges: &[Edge], vertex: usize, marks: &MarkSets, 
     }
 }
 
-/// Returns the sets of a vertex after one more round. Notes for each of its edges the targets for
-/// which it gave a mark.
+/// Returns the sets of a vertex after one more round. Notes for each of its edges the targets for which it gave a mark.
 fn set_step(edges: &[Edge], vertex: usize, marks: &MarkSets, row: &mut [TargetSet]) -> VertexSets
     requires row { length row.old ≡ length edges.now }
     requires in_marked { vertex < length marks.now.marked.items }

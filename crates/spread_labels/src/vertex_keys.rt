@@ -9,9 +9,8 @@ use crate::vertex_key::VertexKey;
 use port_graph::{Adjacency, distances};
 use std::alloc::{AllocError, Global};
 
-/// Computes the key of each vertex: its distance class, and its distance from the first of its
-/// component, which is the vertex of the least distance class, and of those the least. Takes two
-/// breadth-first searches for each component.
+/// Computes the key of each vertex: its distance class, and its distance from the first of its component, which is the
+/// vertex of the least distance class, and of those the least. Takes two breadth-first searches for each component.
 pub fn keys(
     alloc: Global,
     edges: &Adjacency,

@@ -19,8 +19,7 @@ pub fn positions(alloc: Global, vertices: &[usize], count: usize) -> Result<Vec<
     Ok(positions)
 }
 
-/// Returns the edges of the vertex at each position of an order, as edges to positions. Takes one
-/// step for each edge.
+/// Returns the edges of the vertex at each position of an order, as edges to positions. Takes one step for each edge.
 pub fn by_positions(
     alloc: Global,
     edges: &Adjacency,

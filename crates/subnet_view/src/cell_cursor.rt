@@ -82,8 +82,8 @@ impl<'s> CellCursor<'s> {
         matches!(self.known(Key::Port(node, port)), Some(Value::Up(true)))
     }
 
-    /// Returns the known value of a key. Passes the cells of earlier keys, so only this key and
-    /// later ones can be asked for then.
+    /// Returns the known value of a key. Passes the cells of earlier keys, so only this key and later ones can be asked
+    /// for then.
     fn known(&mut self, key: Key) -> Option<Value>
         ensures value { result ≡ known_in self.old key }
         ensures later { KeepsFrom key self.old self.new }

@@ -19,8 +19,8 @@ pub struct EndPort {
     pub port: PortNum,
 }
 
-/// Returns whether a port is an end port: port 0 of a switch, or a port of another node, with a
-/// known GUID. Takes two searches.
+/// Returns whether a port is an end port: port 0 of a switch, or a port of another node, with a known GUID. Takes two
+/// searches.
 pub fn is_end_port(store: &Store, node: Guid, port: PortNum) -> bool
     ensures { result ≡ is_end_port (cells_of store.now) node port }
 {
@@ -34,8 +34,7 @@ pub fn end_ports(alloc: Global, store: &Store) -> Result<Vec<EndPort>, Refused>
     Ok(listed_end_ports(alloc, store)?)
 }
 
-/// Counts the end ports. Takes no memory. Walks the cells, and subtracts those that are no end
-/// port's GUID from all.
+/// Counts the end ports. Takes no memory. Walks the cells, and subtracts those that are no end port's GUID from all.
 pub fn count_end_ports(store: &Store) -> usize
     ensures { result ≡ length (end_ports (cells_of store.now)) }
 {
@@ -98,8 +97,7 @@ pub(crate) fn sort_key(end: &(Guid, EndPort)) -> [u64; 3]
     ]
 }
 
-/// Returns the end port of a cell with its port GUID, if the cell is an end port's GUID. Takes a
-/// search.
+/// Returns the end port of a cell with its port GUID, if the cell is an end port's GUID. Takes a search.
 pub(crate) fn guid_and_port(store: &Store, sighting: &Sighting) -> Option<(Guid, EndPort)>
     requires { cell_for store.now sighting.now.0 ≡ Some sighting.now.1 }
     ensures { result ≡ guid_and_port (cells_of store.now) sighting.now }
@@ -117,8 +115,7 @@ pub(crate) fn guid_and_port(store: &Store, sighting: &Sighting) -> Option<(Guid,
     }
 }
 
-/// Returns whether the port is port 0 of a switch, or a port from 1 to the count of another node.
-/// Takes a search.
+/// Returns whether the port is port 0 of a switch, or a port from 1 to the count of another node. Takes a search.
 fn is_end_port_number(store: &Store, node: Guid, port: PortNum) -> bool
     ensures { result ≡ is_end_port_number (cells_of store.now) node port }
 {

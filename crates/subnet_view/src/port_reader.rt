@@ -31,8 +31,8 @@ impl<'s> PortReader<'s> {
         }
     }
 
-    /// Returns the port of a link's cell and where the link leads, if the port can have a wire.
-    /// Passes what is known of earlier ports.
+    /// Returns the port of a link's cell and where the link leads, if the port can have a wire. Passes what is known of
+    /// earlier ports.
     pub(crate) fn wire_end(
         &mut self,
         sighting: &Sighting,

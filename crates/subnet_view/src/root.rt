@@ -8,8 +8,8 @@ use crate::switch_graph::SwitchGraph;
 use smp_bytes::Guid;
 use std::alloc::{AllocError, Global};
 
-/// Returns the root of each switch's component. A switch that no earlier one reaches is the root of
-/// its component. Takes one search for each component.
+/// Returns the root of each switch's component. A switch that no earlier one reaches is the root of its component.
+/// Takes one search for each component.
 pub(crate) fn roots(alloc: Global, graph: &SwitchGraph) -> Result<Vec<Option<Guid>>, AllocError>
     ensures { IfOk result (λ roots. roots.items ≡ map (root_of graph.now) (guids_of graph.now)) }
 {

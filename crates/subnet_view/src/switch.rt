@@ -8,8 +8,7 @@ use fact_store::{Key, Refused, Sighting, Store};
 use smp_bytes::Guid;
 use std::alloc::{AllocError, Global};
 
-/// Returns whether a node is a usable switch: known to be a switch, with known table room. Takes
-/// two searches.
+/// Returns whether a node is a usable switch: known to be a switch, with known table room. Takes two searches.
 pub fn is_usable(store: &Store, node: Guid) -> bool
     ensures { result ≡ is_usable (cells_of store.now) node }
 {
@@ -36,8 +35,7 @@ fn listed_switches(alloc: Global, store: &Store) -> Result<Vec<Guid>, AllocError
     Ok(found)
 }
 
-/// Returns the node of a cell of the store, if it is a usable switch. Takes a search if it is a
-/// switch.
+/// Returns the node of a cell of the store, if it is a usable switch. Takes a search if it is a switch.
 pub fn usable_guid(store: &Store, sighting: &Sighting) -> Option<Guid>
     requires { cell_for store.now sighting.now.0 ≡ Some sighting.now.1 }
     ensures { result ≡ usable_guid (cells_of store.now) sighting.now }

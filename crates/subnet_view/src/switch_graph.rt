@@ -41,9 +41,8 @@ impl Model for SwitchGraph {
 }
 
 impl SwitchGraph {
-    /// Builds the graph of the view's usable switches and the wires between them. Takes two
-    /// searches among the wires for each port of a switch, and one among the switches for each
-    /// wire.
+    /// Builds the graph of the view's usable switches and the wires between them. Takes two searches among the wires
+    /// for each port of a switch, and one among the switches for each wire.
     pub fn of(alloc: Global, wires: &Wires) -> Result<Self, Refused>
         ensures { IfOk result (λ graph. graph ≡ graph_of (cells_of wires.now)) }
     {
@@ -105,8 +104,7 @@ impl SwitchGraph {
         &self.edges
     }
 
-    /// Returns the distances from the switch at index `from` to each switch. Takes a breadth-first
-    /// search.
+    /// Returns the distances from the switch at index `from` to each switch. Takes a breadth-first search.
     pub fn distances(&self, alloc: Global, from: usize) -> Result<Vec<Option<usize>>, AllocError>
         requires { from < length self.now }
         ensures { IfOk result (λ found. found.items ≡ distances_from self.now from) }
@@ -114,8 +112,8 @@ impl SwitchGraph {
         port_graph::distances(alloc, &self.edges, from)
     }
 
-    /// Returns the root of each switch's component, the least GUID in it, by rising GUID of the
-    /// switches. Takes a breadth-first search for each component.
+    /// Returns the root of each switch's component, the least GUID in it, by rising GUID of the switches. Takes a
+    /// breadth-first search for each component.
     pub fn roots(&self, alloc: Global) -> Result<Vec<Option<Guid>>, AllocError>
         ensures { IfOk result (λ roots. roots.items ≡ map (root_of self.now) (guids_of self.now)) }
     {
@@ -159,8 +157,8 @@ fn edges_of(
     Ok(found)
 }
 
-/// Returns the edge of the wire in a port, if it leads to a switch. Takes two searches among the
-/// wires, and one among the switches if there is a wire.
+/// Returns the edge of the wire in a port, if it leads to a switch. Takes two searches among the wires, and one among
+/// the switches if there is a wire.
 fn edge_at(wires: &Wires, guids: &[Guid], guid: Guid, port: PortNum) -> Option<Edge>
     requires { guids.now ≡ switches (cells_of wires.now) }
     ensures wire { option_map (by_guid guids.now) result ≡ edge_at (cells_of wires.now) guid port }

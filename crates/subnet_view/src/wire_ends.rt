@@ -6,9 +6,8 @@ use crate::reading::{is_switch, is_up};
 use fact_store::Store;
 use smp_bytes::{Guid, NodeType, PortNum};
 
-/// Returns the node and the port at the other end of the wire in a port. There is a wire if the
-/// links of two different ports name each other, and both ports are up and belong to usable
-/// switches or are end ports. Takes eight searches.
+/// Returns the node and the port at the other end of the wire in a port. There is a wire if the links of two different
+/// ports name each other, and both ports are up and belong to usable switches or are end ports. Takes eight searches.
 pub fn wire(store: &Store, node: Guid, port: PortNum) -> Option<(Guid, PortNum)>
     ensures { result ≡ across (cells_of store.now) node port }
 {
@@ -20,8 +19,8 @@ pub fn wire(store: &Store, node: Guid, port: PortNum) -> Option<(Guid, PortNum)>
     }
 }
 
-/// Returns the switch and its port that the wire in an adapter port leads to. A port of a node that
-/// is known to be a switch is attached to nothing. Takes ten searches.
+/// Returns the switch and its port that the wire in an adapter port leads to. A port of a node that is known to be a
+/// switch is attached to nothing. Takes ten searches.
 pub fn attached(store: &Store, node: Guid, port: PortNum) -> Option<(Guid, PortNum)>
     ensures { result ≡ attached (cells_of store.now) node port }
 {

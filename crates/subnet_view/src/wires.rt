@@ -49,8 +49,8 @@ impl<'s> Wires<'s> {
         self.store
     }
 
-    /// Returns the node and the port at the other end of the wire in a port, as `wire` does. Takes
-    /// two searches among the ports that can have a wire.
+    /// Returns the node and the port at the other end of the wire in a port, as `wire` does. Takes two searches among
+    /// the ports that can have a wire.
     pub fn across(&self, node: Guid, port: PortNum) -> Option<(Guid, PortNum)>
         ensures { result ≡ across (cells_of self.now) node port }
     {
@@ -63,8 +63,8 @@ impl<'s> Wires<'s> {
         }
     }
 
-    /// Returns the switch and its port that the wire in an adapter port leads to, as `attached`
-    /// does. Takes four searches.
+    /// Returns the switch and its port that the wire in an adapter port leads to, as `attached` does. Takes four
+    /// searches.
     pub fn attached(&self, node: Guid, port: PortNum) -> Option<(Guid, PortNum)>
         ensures { result ≡ attached (cells_of self.now) node port }
     {
@@ -79,8 +79,7 @@ impl<'s> Wires<'s> {
         }
     }
 
-    /// Returns where the link of a port leads, if the port can have a wire. Takes a search among
-    /// the ports that can.
+    /// Returns where the link of a port leads, if the port can have a wire. Takes a search among the ports that can.
     fn end_link(&self, node: Guid, port: PortNum) -> Option<(Guid, PortNum)>
         ensures { result ≡ end_link (cells_of self.now) node port }
     {

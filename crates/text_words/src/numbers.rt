@@ -3,8 +3,8 @@ ghost use Rattle.text_words.specs.Number.{digit_of, number_of, count_of, guid_of
 
 use smp_bytes::Guid;
 
-/// Parses a word of digits in a base from 2 to 36, or returns `None` if the word is anything else.
-/// A number over `u64::MAX` gives `u64::MAX`. Takes a step for each digit.
+/// Parses a word of digits in a base from 2 to 36, or returns `None` if the word is anything else. A number over
+/// `u64::MAX` gives `u64::MAX`. Takes a step for each digit.
 pub fn number(word: &[u8], base: u32) -> Option<u64>
     requires { 2 ≤ base × base ≤ 36 }
     ensures { result ≡ option_map (min (2 ^ 64 - 1)) (number_of base word.now) }
@@ -37,8 +37,8 @@ fn with_digit(number: u64, base: u32, digit: u32) -> u64
         .saturating_add(u64::from(digit))
 }
 
-/// Parses a word of decimal digits as a number from 1 to `most`. Returns `None` if the word is no
-/// number, and `Some(None)` if the number is out of range.
+/// Parses a word of decimal digits as a number from 1 to `most`. Returns `None` if the word is no number, and
+/// `Some(None)` if the number is out of range.
 pub fn count(word: &[u8], most: u16) -> Option<Option<u16>>
     ensures { result ≡ count_of most word.now }
 {
@@ -47,8 +47,8 @@ pub fn count(word: &[u8], most: u16) -> Option<Option<u16>>
     Some(if is_within { Some(number as u16) } else { None })
 }
 
-/// Parses a word of decimal digits as a port from 1 to 254. Returns `None` if the word is no
-/// number, and `Some(None)` if the number is out of range.
+/// Parses a word of decimal digits as a port from 1 to 254. Returns `None` if the word is no number, and `Some(None)`
+/// if the number is out of range.
 pub fn port_number(word: &[u8]) -> Option<Option<u8>>
     ensures { result ≡ count_of 254 word.now }
 {

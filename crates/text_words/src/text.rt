@@ -5,8 +5,7 @@ ghost use Rattle.text_words.specs.Text.{lines, words, is_blank, parts, is_behind
 ghost use Rattle.text_words.specs.Text.{without_return};
 
 #[tactic(auto, using(crate::proofs::Splits::lines_at, crate::proofs::Splits::lines_none))]
-/// Returns the first line of a text without its line end, and the text behind it. Returns `None` if
-/// the text is empty.
+/// Returns the first line of a text without its line end, and the text behind it. Returns `None` if the text is empty.
 pub fn split_line(text: &[u8]) -> Option<(&[u8], &[u8])>
     ensures line { MatchOption result (lines text.now ≡ [])
         (λ x. lines text.now ≡ x.0.now ∷ lines x.1.now) }
@@ -68,16 +67,14 @@ fn word_len(line: &[u8]) -> usize
     line.len()
 }
 
-/// Returns whether a word ends before `byte`. `is_quoted` says whether the word is within quotes
-/// there.
+/// Returns whether a word ends before `byte`. `is_quoted` says whether the word is within quotes there.
 fn is_behind_word(is_quoted: bool, byte: u8) -> bool
     ensures { result ≡ is_behind_word is_quoted byte }
 {
     !is_quoted && (byte == b'#' || is_blank(byte))
 }
 
-/// Returns whether a word is within quotes behind `byte`. `is_quoted` says whether it is before
-/// `byte`.
+/// Returns whether a word is within quotes behind `byte`. `is_quoted` says whether it is before `byte`.
 fn is_quoted_after(is_quoted: bool, byte: u8) -> bool
     ensures { result ≡ is_quoted_after is_quoted byte }
 {

@@ -35,9 +35,8 @@ impl Model for Graph {
 }
 
 impl Graph {
-    /// Builds the graph of the view's usable switches and the wires between them. Takes two
-    /// searches among the wires for each port of a switch, one among the switches for each wire,
-    /// and a breadth-first search for each component.
+    /// Builds the graph of the view's usable switches and the wires between them. Takes two searches among the wires
+    /// for each port of a switch, one among the switches for each wire, and a breadth-first search for each component.
     pub fn of(alloc: Global, wires: &Wires) -> Result<Self, Refused>
         ensures { IfOk result (λ graph. graph ≡ graph_of (cells_of wires.now)) }
     {
@@ -82,8 +81,8 @@ impl Graph {
         self.graph.index_of(switch)
     }
 
-    /// Returns the number of wires from the root of its component to a switch, or `None` for
-    /// another GUID. Takes a search.
+    /// Returns the number of wires from the root of its component to a switch, or `None` for another GUID. Takes a
+    /// search.
     pub fn rank(&self, switch: Guid) -> Option<usize>
         ensures { result ≡ rank_of self.now switch }
     {
@@ -91,8 +90,8 @@ impl Graph {
         self.ranks[index]
     }
 
-    /// Returns the root of each switch's component, the least GUID in it, by rising GUID of the
-    /// switches. Takes a breadth-first search for each component.
+    /// Returns the root of each switch's component, the least GUID in it, by rising GUID of the switches. Takes a
+    /// breadth-first search for each component.
     pub fn roots(&self, alloc: Global) -> Result<Vec<Option<Guid>>, AllocError>
         ensures { IfOk result (λ roots. roots.items ≡ map (root_of self.now) (guids_of self.now)) }
     {

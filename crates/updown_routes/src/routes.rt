@@ -34,8 +34,7 @@ impl<'g> Model for Routes<'g> {
 }
 
 impl<'g> Routes<'g> {
-    /// Computes the routes of a graph. For each target takes one step for each switch and each
-    /// wire.
+    /// Computes the routes of a graph. For each target takes one step for each switch and each wire.
     pub fn of(alloc: Global, graph: &'g Graph) -> Result<Self, Refused>
         ensures { IfOk result (λ routes. routes ≡ graph.now) }
     {
@@ -46,9 +45,9 @@ impl<'g> Routes<'g> {
         Ok(Routes { graph, towards })
     }
 
-    /// Returns the port by which a packet leaves a switch for another: down if a walk down leads to
-    /// the target, otherwise up. Returns `None` at the target, between components, and if one of
-    /// them is no switch. Takes two searches.
+    /// Returns the port by which a packet leaves a switch for another: down if a walk down leads to the target,
+    /// otherwise up. Returns `None` at the target, between components, and if one of them is no switch. Takes two
+    /// searches.
     pub fn next_port(&self, switch: Guid, target: Guid) -> Option<PortNum>
         ensures { result ≡ next_port (slopes_of self.now) switch target }
     {
@@ -57,8 +56,8 @@ impl<'g> Routes<'g> {
         self.next_port_at(switch, target)
     }
 
-    /// Returns the next port between the switches at two indices of the graph, or `None` if there
-    /// is none. Takes one step.
+    /// Returns the next port between the switches at two indices of the graph, or `None` if there is none. Takes one
+    /// step.
     pub fn next_port_at(&self, switch: usize, target: usize) -> Option<PortNum>
         ensures { result ≡ next_port_at self.now switch target }
     {

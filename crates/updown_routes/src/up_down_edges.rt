@@ -18,8 +18,8 @@ pub(crate) struct UpDownEdges {
 }
 
 impl UpDownEdges {
-    /// Finds the wires up and down of each switch. `order` is by rank and then by GUID, and
-    /// `positions` are its positions.
+    /// Finds the wires up and down of each switch. `order` is by rank and then by GUID, and `positions` are its
+    /// positions.
     pub(crate) fn of(
         alloc: Global,
         graph: &Graph,

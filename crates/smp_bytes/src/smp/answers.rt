@@ -6,8 +6,8 @@ use crate::path::Path;
 use crate::smp::Smp;
 
 impl Smp {
-    /// Returns whether the packet has TransactionID, attribute, modifier and way of a request: over
-    /// `path`, or by LIDs if `path` is `None`. Looks at neither method nor status.
+    /// Returns whether the packet has TransactionID, attribute, modifier and way of a request: over `path`, or by LIDs
+    /// if `path` is `None`. Looks at neither method nor status.
     pub fn answers(
         &self,
         transaction: u64,

@@ -9,8 +9,8 @@ use crate::smp::{DIRECTED_ROUTE, LID_ROUTED, PERMISSIVE_LID, Smp, VERSION};
 use crate::wire::{put_bytes, put_u8, put_u16, put_u32, put_u64};
 
 impl Smp {
-    /// Creates a request that leaves by the ports of `path`, one after the other. Every other field
-    /// is 0, except the versions, HopCount and the permissive LIDs.
+    /// Creates a request that leaves by the ports of `path`, one after the other. Every other field is 0, except the
+    /// versions, HopCount and the permissive LIDs.
     pub fn directed(
         method: Method,
         attribute: AttributeId,
@@ -47,9 +47,8 @@ impl Smp {
         Smp { bytes }
     }
 
-    /// Creates the answer to this request: method GetResp, `status`, and `payload` as the
-    /// attribute; if the request is directed, the D bit is set. Everything else stays as in the
-    /// request.
+    /// Creates the answer to this request: method GetResp, `status`, and `payload` as the attribute; if the request is
+    /// directed, the D bit is set. Everything else stays as in the request.
     pub fn answer(&self, status: Status, payload: &[u8; 64]) -> Smp
         requires { is_directed self.now ≡ true → status.0 < 2 ^ 15 }
         ensures { result ≡ answer_packet self.now status.0 payload.now }
