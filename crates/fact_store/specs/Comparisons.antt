@@ -39,8 +39,8 @@ abbrev pub HasDigits : ℕ → ℕ → Type 0
 HasDigits n zero = Unit {0}
 HasDigits n (suc digits) = 2 ^ digits ≤ n
 
--- after `steps` comparisons in a search of n indices at most `most` indices are left: each binary digit of n allows one
--- comparison, and each further one leaves at most half of them
+-- a search of n indices that made `steps` comparisons may make `left` more, at most one for each binary digit of n in
+-- all; they suffice for `most` indices, 2^left - 1
 pub record IsBudget (n steps most : ℕ) : Type 0 where
   pub left : ℕ
   pub digits : HasDigits n (steps + left)

@@ -8,8 +8,8 @@ use smp_bytes::Guid;
 const GUIDS: usize = 256;
 
 /// The slots where cells were put last, by the kind of their keys. The next key of a kind is looked for there first.
-/// Both ends of a link are told one after the other, so for links it is the last slot but one. Neighbours ask for a
-/// switch in turn, so for nodes, port GUIDs and links there is also the last slot by the hash of the GUID.
+/// Both ends of a link are told one after the other, so for links it is the last slot but one. The neighbours of a
+/// switch tell of it in turn, so for nodes, port GUIDs and links there is also the last slot by the hash of the GUID.
 #[derive(Clone, Copy)]
 pub(crate) struct Fingers {
     node: Slot,

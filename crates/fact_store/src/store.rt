@@ -80,8 +80,9 @@ impl Store {
         self.floor
     }
 
-    /// Forgets all cells below `floor`, and ignores sightings below it from then on. Takes no memory, and frees that of
-    /// the forgotten cells. Walks the cells if `floor` is greater than the store's floor, and otherwise does nothing.
+    /// Forgets all cells below `floor`, and ignores sightings below it from then on. Takes no memory, and frees pages
+    /// that are not needed then. Walks the cells if `floor` is greater than the store's floor, and otherwise does
+    /// nothing.
     pub fn raise_floor(&mut self, floor: Generation)
         ensures { self.new ≡ raised self.old floor }
     {
@@ -92,9 +93,9 @@ impl Store {
     }
 
     /// Adds the sighting; ignores it if it is below the floor. Takes two comparisons if its key is that of the last
-    /// sighting added of its kind, the next key, or between the two (for links, of the last sighting but one); four if
-    /// that holds only for the last one with its GUID, for a node, a port's GUID or a link, as far as a hash tells;
-    /// otherwise a search. Moves at most a page.
+    /// sighting added of its kind (for links, the last but one), the next key held, or between the two; four if that is
+    /// so only for the last one with its GUID, for a node, a port's GUID or a link, as far as a hash tells; otherwise a
+    /// search. Moves at most a page.
     pub fn add(&mut self, sighting: Sighting) -> Result<(), Refused>
         ensures ok { OnOk result (self.new ≡ merge self.old (view (sighting ∷ []))) }
         ensures err { OnErr result (self.new ≡ self.old) }
@@ -117,8 +118,8 @@ impl Store {
         }
     }
 
-    /// Builds a store of the sightings and merges it. Not inlined: a `Store` is large on the stack, and a report has
-    /// few sightings.
+    /// Builds a store of the sightings and merges it. It is a function of its own since a `Store` is large on the
+    /// stack, and a report has few sightings.
     fn add_many(&mut self, sightings: &[Sighting]) -> Result<(), Refused>
         ensures ok { OnOk result (self.new ≡ merge self.old (view sightings.now)) }
         ensures err { OnErr result (self.new ≡ self.old) }

@@ -16,7 +16,7 @@ pub record AreOwnersMore (e : EndPort) (r : Range) (old new : List (Option EndPo
   pub all : length new ≡ length old
   pub each : (n : ℕ) → slice_index_or new n None ≡ (if is_in r n then Some e else slice_index_or old n None)
 
--- a number is marked if it is an end port's LID
+-- a number is marked exactly if it is an end port's LID
 abbrev pub AreLidMarks : List (EndPort × ℕ) → List Bool → Type 0
 AreLidMarks given marks = (n : ℕ) → slice_index_or marks n false ≡ is_lid given n
 

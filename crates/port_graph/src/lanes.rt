@@ -17,7 +17,7 @@ pub(crate) struct Hops {
     pub(crate) ports: [u8; LANES],
 }
 
-/// For each lane, finds the least number of the vertices that the edges lead to, and the port of the first edge to a
+/// Finds for each lane the least number of the vertices that the edges lead to, and the port of the first edge to a
 /// vertex with that number.
 pub(crate) fn nearest(edges: &[Edge], numbers: &[[u8; LANES]]) -> Hops
     requires { All (λ edge. edge.to < length numbers.now) edges.now }
@@ -34,7 +34,7 @@ pub(crate) fn nearest(edges: &[Edge], numbers: &[[u8; LANES]]) -> Hops
     nearest
 }
 
-/// For each lane, replaces the number found by the vertex's number if that is less, with the port that leads there.
+/// Replaces in each lane the number found by that of `numbers` if this is less, and the port by `port`.
 fn take_nearer(found: &mut Hops, numbers: &[u8; LANES], port: u8)
     ensures { EachLane (λ k. (slice_index found.new.numbers k, slice_index found.new.ports k)
         ≡ nearer (slice_index found.old.numbers k, slice_index found.old.ports k) (slice_index numbers.now k) port) }
@@ -79,7 +79,7 @@ pub(crate) fn set_at_target(numbers: &mut [u8; LANES], targets: &[usize; LANES],
     }
 }
 
-/// For each lane without a number, takes number and port of `others`.
+/// Takes number and port of `others` in each lane without a number.
 pub(crate) fn fill_in(hops: &mut Hops, others: &Hops)
     ensures numbers { EachLane (λ k. slice_index hops.new.numbers k
         ≡ cond (nat_lt (slice_index hops.old.numbers k) 255) (slice_index hops.old.numbers k)

@@ -29,7 +29,7 @@ pub record EndsBehindRecord (taken : List ℕ) : Type 0 where
   pub good : AreGoodRecords format None (records ++ last ∷ [])
   pub near : length behind < 4096
 
--- what the taken bytes say was merged into the store; if memory ran out, what those before the record say that needed
+-- what the taken bytes say was merged into the store; if memory ran out, only what comes before the record that needed
 -- it
 abbrev pub HoldsKept : Result (Unit {0}) FileFault → Facts → Facts → List ℕ → Type 0
 HoldsKept (Err Memory) old new taken =

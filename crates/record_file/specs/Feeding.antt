@@ -170,7 +170,7 @@ abbrev pub TakesTo : List ℕ → List ℕ → Result Awaited FileFault → List
 TakesTo fed piece (Ok next) part old new = Awaits next part (fed ++ piece) × AddsSightings fed piece old new
 TakesTo fed piece (Err fault) part old new = StopsWith fault fed piece old new
 
--- where `piece` leads from each state in which `part` of the awaited part came
+-- `piece` leads there behind any bytes after which `part` of the awaited part came
 abbrev pub TakesPiece : Awaited → List ℕ → List ℕ → Result Awaited FileFault → List ℕ → Facts → Facts → Type 0
 TakesPiece awaited part piece answer part' old new =
     (fed : List ℕ) → Awaits awaited part fed → TakesTo fed piece answer part' old new

@@ -15,8 +15,8 @@ pub record Gives (edges : List (List Edge)) (marks : Marks) (s : ℕ) (e : Edge)
   pub labelled : marks e.to ≡ Some (record { cost = cost; label = label })
   pub up_or_down : (e.to < s) ⊎ (label ≡ Down)
 
--- no edge gives s a label from a lesser cost than `round`, and the label is Up if an edge that gives from this cost
--- leads up
+-- an edge gives s a label from cost `round`, and none from a lesser cost; the label is Up exactly if one that gives
+-- from this cost leads up
 pub record IsGiven (edges : List (List Edge)) (marks : Marks) (s round : ℕ) (label : Label) : Type 0 where
   pub edge : Edge
   pub given : Gives edges marks s edge round

@@ -2,7 +2,7 @@
 use Rattle.std.specs.Prelude.{◌≡◌, ◌<◌, ◌+◌, ◌*◌, ◌/◌, ◌%◌, ◌^◌}
 use Rattle.spread_routes.specs.declared.round_robin.RoundRobin.{RoundRobin}
 
--- the turn is right for the LIDs from `start` on that have one digit
+-- `start` and the LIDs behind it with one digit, `weight` of them, have the turn `choice`
 pub record IsTurn (turn : RoundRobin) : Type 0 where
   pub weight : 0 < turn.weight
   pub offset : turn.offset < 2 ^ 16

@@ -19,7 +19,7 @@ use Rattle.subnet_view.specs.Reading.{Cells, is_switch_node, is_port_of}
 abbrev pub is_end_port_number : Cells → ℕ → ℕ → Bool
 is_end_port_number cells g p = if is_switch_node cells g then p == 0 else is_port_of cells g p
 
--- an end port: such a port with a known GUID
+-- an end port: port 0 of a switch, or a port of another node, with a known GUID
 abbrev pub is_end_port : Cells → ℕ → ℕ → Bool
 is_end_port cells g p = is_end_port_number cells g p && is_some (port_guid_of cells g p)
 

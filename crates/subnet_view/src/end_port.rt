@@ -34,7 +34,7 @@ pub fn end_ports(alloc: Global, store: &Store) -> Result<Vec<EndPort>, Refused>
     Ok(listed_end_ports(alloc, store)?)
 }
 
-/// Counts the end ports. Takes no memory. Walks the cells, and subtracts those that are no end port's GUID from all.
+/// Counts the end ports: the cells, except those that are no end port's GUID. Takes no memory, and walks the cells.
 pub fn count_end_ports(store: &Store) -> usize
     ensures { result ≡ length (end_ports (cells_of store.now)) }
 {
