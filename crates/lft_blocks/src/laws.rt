@@ -22,8 +22,8 @@ pub fn blocks_hold_entries()
     ensures { BlocksHoldEntries }
 {}
 
-/// A plan has a block exactly for a usable switch and a number up to that of the greatest LID's block, and it is that
-/// switch's.
+/// A plan has block `b` of a switch exactly if the switch is usable and the greatest LID is in block `b` or a later
+/// one, and the block is that switch's.
 pub fn blocks_are_of_switches()
     ensures { BlocksAreOfSwitches }
 {}

@@ -50,19 +50,20 @@ pub fn other_bytes_stay()
 {}
 
 /// A directed request holds the method, attribute, modifier, transaction ID, path and data that were given; HopPointer
-/// is 0, HopCount the path's length, both LIDs are the permissive one, and all else is 0.
+/// is 0, HopCount the path's length, both LIDs are the permissive one, and all else except the versions and the class
+/// is 0.
 pub fn directed_request_reads_back()
     ensures { DirectedReadsBack }
 {}
 
 /// A LID-routed request holds the method, attribute, modifier, transaction ID and data that were given, and all else
-/// but the versions is 0.
+/// except the versions and the class is 0.
 pub fn lid_routed_request_reads_back()
     ensures { LidRoutedReadsBack }
 {}
 
-/// An answer holds the status and the data that were given, and is on its way back if it is directed; all else but the
-/// method stands as in the request.
+/// An answer holds the status and the data that were given, and is on its way back if it is directed; all else except
+/// the method is as in the request.
 pub fn answer_reads_back()
     ensures { AnswerReadsBack }
 {}
