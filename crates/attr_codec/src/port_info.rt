@@ -56,8 +56,8 @@ impl Attribute for PortInfo {
     ghost reads_back = { λ _ _. refl };
 }
 
-/// The place of each named field: for whole bytes the type and the first byte; for bits their byte, the lowest bit and
-/// the number of bits.
+/// Each named field: for whole bytes the type and the first byte; for bits their byte, the lowest bit and the number of
+/// bits.
 macro_rules! port_info {
     ($access:ident m_key $args:tt) => { field_type::$access::<u64, 0> $args };
     ($access:ident gid_prefix $args:tt) => { field_type::$access::<u64, 8> $args };

@@ -54,8 +54,8 @@ impl Attribute for SwitchInfo {
     ghost reads_back = { λ _ _. refl };
 }
 
-/// The place of each named field: for whole bytes the type and the first byte; for bits their byte, the lowest bit and
-/// the number of bits.
+/// Each named field: for whole bytes the type and the first byte; for bits their byte, the lowest bit and the number of
+/// bits.
 macro_rules! switch_info {
     ($access:ident linear_fdb_cap $args:tt) => { field_type::$access::<u16, 0> $args };
     ($access:ident random_fdb_cap $args:tt) => { field_type::$access::<u16, 2> $args };

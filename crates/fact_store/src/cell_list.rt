@@ -42,7 +42,7 @@ pub(crate) fn put(cells: &mut PageList<Sighting>, fingers: &mut Fingers, sightin
     fingers.put(&key, slot);
 }
 
-/// Adds a cell at the place that was found for its key: joins it with the key's cell, or inserts it. Returns its slot.
+/// Adds a cell at the index that was found for its key: joins it with the key's cell, or inserts it. Returns its slot.
 fn put_found(cells: &mut PageList<Sighting>, found: Found, sighting: Sighting) -> Slot
     requires cells { AreCells cells.old.items }
     requires in_range { IsSighting sighting }

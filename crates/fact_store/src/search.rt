@@ -20,7 +20,7 @@ pub(crate) fn compare(held: &Sighting, key: &Key, steps: &mut u128) -> Ordering
     held.key_cmp(key)
 }
 
-/// The place of a key's cell: `Ok` with its index, or `Err` with the index where it would be inserted.
+/// Where a key has its cell: `index` is `Ok` with its index, or `Err` with the index where it would be inserted.
 #[derive(Clone, Copy)]
 pub(crate) struct Found {
     pub index: Result<usize, usize>,
@@ -28,7 +28,8 @@ pub(crate) struct Found {
     pub near: Slot,
 }
 
-/// Finds the place of a key's cell, to put one in there: at a finger, behind the last cell, or else by a search.
+/// Finds the index of a key's cell, or the one where it would be inserted: at a finger, behind the last cell, or else
+/// by a search.
 pub(crate) fn index_of(cells: &PageList<Sighting>, key: &Key, fingers: &Fingers) -> Found
     requires { AreCells cells.now.items }
     ensures { IsSearched key.now cells.now.items result.index }
@@ -49,7 +50,8 @@ pub(crate) fn index_of(cells: &PageList<Sighting>, key: &Key, fingers: &Fingers)
     find(cells, key).found
 }
 
-/// Finds the place of a key's cell if it is at the finger of its kind or of its GUID.
+/// Finds the index of a key's cell, or the one where it would be inserted, if that is at the finger of its kind or of
+/// its GUID.
 fn found_by_fingers(cells: &PageList<Sighting>, key: &Key, fingers: &Fingers) -> Option<Found>
     requires { AreCells cells.now.items }
     ensures { IfSome result (λ found. IsSearched key.now cells.now.items found.index) }
@@ -60,7 +62,7 @@ fn found_by_fingers(cells: &PageList<Sighting>, key: &Key, fingers: &Fingers) ->
     }
 }
 
-/// Finds the place of a key's cell if it is at `finger`.
+/// Finds the index of a key's cell, or the one where it would be inserted, if that is at `finger`.
 fn found_at_finger(cells: &PageList<Sighting>, key: &Key, finger: Slot) -> Option<Found>
     requires { AreCells cells.now.items }
     ensures { IfSome result (λ found. IsSearched key.now cells.now.items found.index) }
@@ -72,8 +74,8 @@ fn found_at_finger(cells: &PageList<Sighting>, key: &Key, finger: Slot) -> Optio
     })
 }
 
-/// Returns the place of a key's cell if the key is that of the cell at `finger`, that of the next one, or between the
-/// two. Takes at most two comparisons.
+/// Returns the index of a key's cell, or the one where it would be inserted, if the key is that of the cell at
+/// `finger`, that of the next cell, or between the two. Takes at most two comparisons.
 fn index_at_finger(
     cells: &PageList<Sighting>,
     key: &Key,
@@ -114,7 +116,8 @@ pub(crate) struct SearchResult {
     pub steps: u32,
 }
 
-/// Searches for the place of a key's cell. Compares at most as many keys as the number of cells has binary digits.
+/// Searches for the index of a key's cell, or the one where it would be inserted. Compares at most as many keys as the
+/// number of cells has binary digits.
 pub(crate) fn find(cells: &PageList<Sighting>, key: &Key) -> SearchResult
     requires { AreCells cells.now.items }
     ensures index { IsSearched key.now cells.now.items result.found.index }

@@ -12,7 +12,7 @@ use smp_bytes::{Guid, Lid, PortNum};
 use std::alloc::{AllocError, Global};
 use subnet_view::{EndPort, Wires, is_usable};
 
-/// The place where an end port is attached.
+/// The switch and its port at which an end port is attached.
 #[derive(Clone, Copy)]
 pub(crate) struct Attachment {
     /// The index of the switch among the usable ones, by rising GUID.

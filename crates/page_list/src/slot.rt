@@ -28,8 +28,8 @@ pub(crate) fn page_of(starts: &Starts, at: usize) -> usize
 
 ghost use Rattle.page_list.specs.Pages.{items_of, starts_from, IsSlot};
 
-/// The place of an item in its list. It is a hint: the list looks there first. Insertions move items, so nothing
-/// depends on it.
+/// Where an item lies in its list: its page, and the index in it. It is a hint: the list looks there first. Insertions
+/// move items, so nothing depends on it.
 #[derive(Clone, Copy)]
 pub struct Slot {
     pub(crate) page: usize,

@@ -7,12 +7,12 @@ use std::marker::Model;
 /// The edges of each vertex, all in one list. The vertices are the numbers from 0 on.
 #[derive(Drop)]
 pub struct Adjacency {
-    /// The place of each vertex's edges.
+    /// The part of `edges` that belongs to each vertex.
     spans: Vec<Span>,
     edges: Vec<Edge>,
 }
 
-/// The place of a vertex's edges in the list: from `start` up to, but not including, `end`.
+/// The part of a list that belongs to a vertex: from `start` up to, but not including, `end`.
 #[derive(Clone, Copy)]
 struct Span {
     start: usize,

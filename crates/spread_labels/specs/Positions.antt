@@ -13,6 +13,6 @@ pub record ArePositions (n : ℕ) (vertices positions : List ℕ) : Type 0 where
   pub all : length positions ≡ n
   pub each : (s : ℕ) → Contains vertices s → slice_index positions s ≡ position_of vertices s
 
--- an edge to a vertex, with the vertex's position in its place
+-- an edge to a vertex, as an edge to the position of the vertex
 abbrev pub to_position : List ℕ → Edge → Edge
 to_position positions e = record { port = e.port; to = slice_index positions e.to }

@@ -101,7 +101,7 @@ pub fn is_before(keys: &[VertexKey], one: usize, other: usize) -> bool
     one_key.is_less(&other_key) || (!other_key.is_less(&one_key) && one < other)
 }
 
-/// Places a vertex. The vertices that its edges lead to and that are left are beside a placed one then.
+/// Marks a vertex as placed, and each vertex that its edges lead to, if it is left, as beside a placed one.
 fn add_vertex(edges: &[Edge], vertex: usize, stages: &mut [Stage])
     requires vertex { vertex < length stages.old }
     requires lead { All (λ edge. edge.to < length stages.old) edges.now }

@@ -23,7 +23,7 @@ IsIndexIn numbers number found = MatchOption found (¬ (Contains numbers number)
 abbrev pub switch_at : List SwitchEdges → ℕ → ℕ
 switch_at graph i = slice_index (guids_of graph) i
 
--- an edge to an index, with the GUID at that index in its place
+-- an edge to an index, as an edge to the GUID at that index
 abbrev pub by_guid : List ℕ → Edge → Edge
 by_guid guids e = record { port = e.port; to = slice_index guids e.to }
 

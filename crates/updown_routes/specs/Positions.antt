@@ -11,11 +11,11 @@ use Rattle.updown_routes.specs.Ranks.{slopes_of}
 abbrev pub switch_at_position : List SwitchEdges → List ℕ → ℕ → ℕ
 switch_at_position graph order p = switch_at graph (slice_index order p)
 
--- an edge to a position, with the GUID of the switch there in its place
+-- an edge to a position, as an edge to the GUID of the switch there
 abbrev pub by_position : List SwitchEdges → List ℕ → Edge → Edge
 by_position graph order e = record { port = e.port; to = switch_at_position graph order e.to }
 
--- an edge to an index, with its position in its place
+-- an edge to an index, as an edge to the position of that index
 abbrev pub at_position : List ℕ → Edge → Edge
 at_position positions e = record { port = e.port; to = slice_index positions e.to }
 
