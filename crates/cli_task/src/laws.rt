@@ -1,4 +1,4 @@
-//! The law of what words ask for.
+//! The law of what the words of a command line ask for.
 ghost use Rattle.cli_task.specs.Laws.{WellFormedWordsAsk};
 
 /// Words that the command line takes ask for a task, and name each of its inputs.
