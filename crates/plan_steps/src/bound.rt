@@ -6,14 +6,14 @@ use fact_store::Store;
 use smp_bytes::Lid;
 use subnet_view::usable_guid;
 
-/// One for each number below the first that is no unicast LID.
+/// The count of numbers below the first one that is not a unicast LID.
 const NUMBERS: usize = Lid::UNICAST_END as usize;
 
-/// One for each block of these.
+/// The count of blocks that hold these numbers.
 const BLOCKS: usize = NUMBERS / 64;
 
-/// How many steps a phase of the plan of a store has at most, as far as 64 bits count. Takes no memory, and walks the
-/// cells.
+/// Returns the most steps that a phase of the plan of `store` can have, as far as 64 bits count. Takes no memory, and
+/// walks the cells.
 pub fn most_steps(store: &Store) -> usize
     ensures { result ≡ min (most_steps (cells_of store.now)) (2 ^ 64 - 1) }
 {
