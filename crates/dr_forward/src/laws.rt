@@ -1,4 +1,4 @@
-//! What a step leaves of a packet.
+//! What a step leaves unchanged in a packet.
 ghost use Rattle.dr_forward.specs.StepLaws.{DiscardedIsUnchanged, LeavesByAPort, OtherFieldsStay};
 
 /// A packet that is discarded is as it was.
