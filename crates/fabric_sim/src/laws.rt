@@ -9,13 +9,13 @@ pub fn simulations_are_fabrics()
     ensures { SimulationsAreFabrics }
 {}
 
-/// What a ping tells is so: a packet that reaches a port is delivered there over so many wires, and one that is lost at
-/// a node is lost there.
+/// What a ping says is so: a packet that reaches a port is delivered there over as many wires as it says, and one that
+/// is lost at a node is lost there.
 pub fn pings_tell()
     ensures { PingsTell }
 {}
 
-/// What is so a ping finds: a packet that is delivered reaches that port in a ping, over as many wires.
+/// A ping finds what is so: a packet that is delivered reaches that port in a ping, over as many wires.
 pub fn pings_find()
     ensures { PingsFind }
 {}
