@@ -8,7 +8,7 @@ use crate::flight::Whereabouts;
 use crate::packet::Packet;
 use fabric_model::NodePort;
 
-/// The offset of MgmtClass in a packet.
+/// The offset of MgmtClass in a packet, and its value if switches forward the packet by LIDs.
 const MGMT_CLASS: usize = 1;
 
 const LID_ROUTED: u8 = 0x01;

@@ -20,9 +20,9 @@ pub fn pings_find()
     ensures { PingsFind }
 {}
 
-/// A directed request over a path that has an end is answered there by the delivery after as many as the path has
-/// ports, and its answer is handed to the manager that sent it by the delivery after as many again, whatever else is
-/// called, as long as neither is lost and no cable changes.
+/// A directed request over a path that has an end is answered there, after as many deliveries as the path has ports, by
+/// the next one. Its answer is handed to the manager that sent the request, after as many deliveries again, by the next
+/// one. Both hold whatever else is called, as long as neither packet is lost and no cable changes.
 #[tactic(auto, using(crate::proofs::TripEnds::there_and_back))]
 pub fn there_and_back()
     ensures { ThereAndBack }

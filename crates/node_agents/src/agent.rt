@@ -19,7 +19,7 @@ const NO_PORT: u8 = 255;
 #[derive(Drop)]
 pub struct Agent {
     pub(crate) node: AgentNode,
-    /// The state of each port, from port 0 on; an adapter's port 0 is not used.
+    /// What is held of each port, from port 0 on; an adapter's port 0 is not used.
     pub(crate) ports: Vec<Port>,
     /// The forwarding table in whole blocks: the port for each LID.
     pub(crate) table: Vec<u8>,
@@ -117,7 +117,7 @@ impl Agent {
         }
     }
 
-    /// Returns the state of a port. A port that the node does not have is Down, and nothing is written to it.
+    /// Returns what is held of a port; for a port that the node does not have, a Down one to which nothing was written.
     pub(crate) fn port(&self, port: PortNum) -> Port
         ensures { result ≡ port_at self.now port }
     {
