@@ -44,15 +44,15 @@ lmc_rule = record (option_rule (codes "lmc")) { parser = Some (Signed (pos 0) (p
 abbrev pub routing_rule : Bor (List (Bor Text)) → Rule
 routing_rule words = record (option_rule (codes "routing")) { parser = Some (Names words) }
 
--- the files of facts, from a floor on
+-- the files and the option for a floor
 abbrev pub of_files : List Rule
 of_files = files_rule ∷ floor_rule ∷ []
 
--- the number of a port
+-- the argument for the number of a port
 abbrev pub port_rule : Rule
 port_rule = record (text_rule (codes "PORT")) { parser = Some (Signed (pos 1) (pos 254)) }
 
--- the priority of a manager
+-- the argument for the priority of a manager
 abbrev pub priority_rule : Rule
 priority_rule = record (text_rule (codes "PRIORITY")) { parser = Some (Signed (pos 0) (pos 15)) }
 

@@ -428,7 +428,8 @@ fn has_conflict(matches: &ArgMatches<'_>) -> bool
     }
 }
 
-/// Returns whether the options of the subcommand `name` contradict each other, or its GUID is not a GUID.
+/// Returns whether the options of the subcommand `name` contradict each other, or it serves a manager and its GUID is
+/// not one.
 fn has_conflict_in(name: &str, words: &ArgMatches<'_>) -> bool
     ensures { result ≡ has_conflict name.now (first_value (found_of words.now)) }
 {

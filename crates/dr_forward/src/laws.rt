@@ -7,7 +7,7 @@ pub fn discarded_is_unchanged()
     ensures { DiscardedIsUnchanged }
 {}
 
-/// A packet leaves by a port from 1 to the node's count.
+/// A packet leaves by a port from 1 to the node's port count.
 #[tactic(auto, using(crate::proofs::Steps::leaves_by_a_port))]
 pub fn leaves_by_a_port()
     ensures { LeavesByAPort }

@@ -60,7 +60,8 @@ reason_of off.Course = OffCourse
 reason_of off.Transit = Transit
 reason_of off.OutPort = OutPort
 
--- what becomes of a packet that came to an agent: the agent answers a request, unless it is for the manager
+-- what becomes of a packet that came to an agent: an answer is dropped, a packet for the manager is handed up, and the
+-- agent answers any other
 abbrev pub at_agent : Simulation → NodePort → Packet → Outcome
 at_agent s p packet =
     if is_response packet.bytes then Drops OffCourse

@@ -19,8 +19,7 @@ ping_by f s hops on (Delivers p) = Reached p hops
 ping_by f s hops on (LeavesBy out) = option_map_or on (f.across out) (Lost s.at.node)
 ping_by f s hops on Drops = Lost s.at.node
 
--- where a packet ends after `hops` wires, if it may take as many more as are left; without one left it is lost where it
--- is
+-- where a packet ends after `hops` wires, if it may take `left` more; with none left it is lost where it is
 abbrev pub ping_on : Fabric → ℕ → ℕ → ℕ → Standing → Ping
 ping_on f lid zero hops s = Lost s.at.node
 ping_on f lid (suc left) hops s =

@@ -59,9 +59,9 @@ pub record ComesHome (s : Simulation) (serial : ℕ) (at : NodePort) (path reque
   pub result : (after_deliver s serial).result ≡ Ok (delivered_is.ToManager at packet)
   pub answer : IsAnswerOver path request told packet.bytes
 
--- Whatever else is called, as long as no cable changes and the packet is not lost: after as many deliveries as the path
--- has ports, the next delivery is the one that the agent at the path's end answers; and after as many again, the next
--- one hands the answer up, if it is not lost, at the port that the request was sent from.
+-- Whatever else is called, as long as no cable changes and the packet is not lost: on a path of n ports the request's
+-- delivery n + 1 is the one that the agent at the path's end answers; and the answer's delivery n + 1, if it is not
+-- lost, hands the answer up at the port that the request was sent from.
 abbrev pub ThereAndBack : Type 0
 ThereAndBack =
     (s : Simulation) (origin end : NodePort) (method attribute modifier tid : ℕ) (path payload : List ℕ)

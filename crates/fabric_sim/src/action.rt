@@ -7,7 +7,7 @@ use smp_bytes::Lid;
 pub(crate) enum Action {
     /// It moves to other whereabouts.
     Moves(Whereabouts),
-    /// The agent answers it. The answer has these SLID and DLID.
+    /// The agent answers it, with this SLID and this DLID.
     Asks(Lid, Lid),
     /// It is handed to the subnet manager.
     HandsUp,

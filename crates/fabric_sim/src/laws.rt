@@ -20,9 +20,9 @@ pub fn pings_find()
     ensures { PingsFind }
 {}
 
-/// A directed request over a path that has an end is answered there, after as many deliveries as the path has ports, by
-/// the next one. Its answer is handed to the manager that sent the request, after as many deliveries again, by the next
-/// one. Both hold whatever else is called, as long as neither packet is lost and no cable changes.
+/// A directed request for another attribute than SMInfo, over a path of n ports that has an end, is answered there by
+/// its delivery n + 1, and the answer is handed to the manager that sent the request by its own delivery n + 1,
+/// whatever else is called, if neither is lost, no cable changes and serial numbers are left.
 #[tactic(auto, using(crate::proofs::TripEnds::there_and_back))]
 pub fn there_and_back()
     ensures { ThereAndBack }

@@ -26,7 +26,7 @@ is_switch a = types.is_switch a.node.kind
 abbrev pub port_in : PortState → Port
 port_in state = record { base_lid = 0; lmc = 0; master_sm_lid = 0; state = state; is_sm = false }
 
--- a port; one that the node does not have is down, and nothing is written to it
+-- a port; one that the node does not have is down, and nothing was written to it
 abbrev pub port_at : Agent → ℕ → Port
 port_at a port = slice_index_or a.ports port (port_in Down)
 

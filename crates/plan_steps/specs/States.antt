@@ -36,7 +36,7 @@ is_due Active Initialize = true
 is_due Active Armed = true
 is_due state seen = false
 
--- the vertex of a port on a wire: its switch by port 0, or the adapter's port itself
+-- the port number of the vertex of a port on a wire: 0 for a switch, or the adapter's port itself
 abbrev pub vertex_port : Cells → ℕ × ℕ → ℕ
 vertex_port cells at = if is_usable cells at.0 then 0 else at.1
 

@@ -6,10 +6,10 @@ use fact_store::Store;
 use smp_bytes::Lid;
 use subnet_view::usable_guid;
 
-/// The count of numbers below the first one that is not a unicast LID.
+/// The number of LIDs from 0 up to the last unicast one.
 const NUMBERS: usize = Lid::UNICAST_END as usize;
 
-/// The count of blocks that hold these numbers.
+/// The number of blocks that hold `NUMBERS` entries.
 const BLOCKS: usize = NUMBERS / 64;
 
 /// Returns the most steps that a phase of the plan of `store` can have, as far as 64 bits count. Takes no memory, and

@@ -3,8 +3,8 @@ ghost use Rattle.plan_steps.specs.Bound.{PhaseBoundLaw};
 ghost use Rattle.plan_steps.specs.Lids.{OwnLidLaw};
 ghost use Rattle.plan_steps.specs.States.{WiredPortsLaw};
 
-/// The manager's LID is the LID of the first end port, by node GUID, that has its port GUID and number, and 0 if there
-/// is none, if there is room for the LIDs.
+/// The manager's LID is that of the first end port, by node GUID, with its port GUID and number, or 0 without such a
+/// port, if there is room for the LIDs.
 #[tactic(auto, using(crate::proofs::OwnLid::own_lid_law))]
 pub fn own_lid_is_of_the_first()
     ensures { OwnLidLaw }

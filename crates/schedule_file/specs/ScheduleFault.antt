@@ -8,7 +8,7 @@ abbrev pub IsRefused : {T : Type 0} → ScheduleFault → Result T ScheduleFault
 IsRefused Memory told = Unit {0}
 IsRefused fault told = told ≡ Err fault
 
--- a call returns exactly what is told, a value or the first fault, unless memory was refused
+-- a call returns exactly `told`, a value or the first fault, unless memory was refused
 abbrev pub Reads : {T : Type 0} → Result T ScheduleFault → Result T ScheduleFault → Type 0
 Reads (Ok value) told = told ≡ Ok value
 Reads (Err fault) told = IsRefused fault told

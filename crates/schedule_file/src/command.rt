@@ -1,8 +1,8 @@
 //! The commands of a schedule.
 use smp_bytes::{Generation, Lid};
 
-/// A command over managers `M` and ports `P`. In its line these are names; as it is run, they are the index of a
-/// manager's seat, from 0, and of a port's node.
+/// A command over managers `M` and ports `P`. In a line, `M` and `P` are names; in a command as it is run, `M` is the
+/// index of a manager's seat, from 0, and `P` has the index of a port's node.
 #[derive(Clone, Copy, PartialEq, Eq, Drop)]
 pub enum Command<M, P> {
     /// A manager is added.

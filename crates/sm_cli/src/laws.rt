@@ -30,8 +30,8 @@ pub fn split_store_stands()
     ensures { SplitStoreStands }
 {}
 
-/// An order that was printed, given back, is printed again, and gives the plan, byte for byte, that is printed without
-/// it.
+/// A printed order, given back as the order of a plan, is printed the same again and gives the same plan, byte for
+/// byte, if no switch has the GUID 0.
 pub fn printed_orders_stand()
     ensures { PrintedOrdersStand }
 {}

@@ -1,4 +1,4 @@
--- How a manager is stored as numbers, which a struct's value needs.
+-- The coding of a manager as numbers, by which it can be a struct's value.
 use Rattle.std.specs.Prelude.{ℕ, Bool, List, Option, refl}
 use Rattle.std.specs.Coded.{Coded, code_by, coded×, coded_ℕ, coded_bool, coded_list, coded_option}
 use Rattle.fact_store.specs.View.{Facts}

@@ -128,8 +128,8 @@ impl Manager {
     }
 
     /// Forgets facts older than `floor`, and ignores them whenever they come again. A running sweep goes on: its
-    /// replies are accepted, but say nothing if its generation is older; the next sweep's is not. Takes no memory.
-    /// Walks the store if `floor` is greater than its floor.
+    /// replies are accepted, but their facts are ignored if its generation is below `floor`; the generation of the next
+    /// sweep is not. Takes no memory. Walks the store if `floor` is greater than its floor.
     pub fn raise_floor(&mut self, floor: Generation)
         ensures { self.new ≡ after_raise_floor self.old floor }
     {

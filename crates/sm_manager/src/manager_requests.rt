@@ -30,9 +30,9 @@ use std::marker::Model;
 #[derive(Drop)]
 pub(crate) struct ManagerRequests {
     table: RequestTable<Pending>,
-    /// The number of them that are steps of the last writing.
+    /// The number of waiting requests that are steps of the last writing.
     steps: usize,
-    /// The number of these steps that have to be done for the plan to be written.
+    /// The number of waiting steps that have to be done for the plan to be written.
     counting: usize,
 }
 

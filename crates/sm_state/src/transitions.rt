@@ -34,7 +34,7 @@ pub fn step(state: SmState, event: Event) -> Transition
     }
 }
 
-/// Returns what a manager in `state` does about a control, or about a modifier that is not one's.
+/// Returns what a manager in `state` does about `control`, which is `None` if the modifier is not a control's.
 fn after_control(state: SmState, control: Option<Control>) -> Transition
     ensures { result ≡ after_control state control }
 {

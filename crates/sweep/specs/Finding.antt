@@ -78,7 +78,7 @@ goes_by s path guid port = (is_start path && port == s.origin) || is_way_on s gu
 abbrev pub leads_on : Sweep → List ℕ → ℕ → ℕ → List ℕ → Bool
 leads_on s path guid port info = is_up_state (bits_in port_state info) && goes_by s path guid port
 
--- whether the sweep goes on by a port, as far as a path can be long
+-- whether the sweep goes on by a port, given the greatest length of a path
 abbrev pub onward : Sweep → List ℕ → ℕ → ℕ → List ℕ → Onward
 onward s path guid port info =
     if not (leads_on s path guid port info) then Stays
@@ -129,7 +129,7 @@ finding s r packet = finding_of s r packet r.question
 
 -- what is asked next --------------------------------------------------------------------------------
 
--- as many ports as there are to ask for, from `port` on
+-- questions for PortInfo of consecutive ports, from `port` on
 abbrev pub port_questions : ℕ → ℕ → List ℕ → Context → List Asking
 port_questions port zero path context = []
 port_questions port (suc more) path context =
@@ -206,7 +206,7 @@ with_finding s path found =
       too_far = s.too_far + too_far_by found;
     }
 
--- a path goes on only if it is shorter than a path can be
+-- a path goes on only if it is shorter than the longest one
 abbrev pub IsPathWithinReach : List ℕ → Onward → Type 0
 IsPathWithinReach path onward = onward ≡ Leads → length path < max_hops
 

@@ -156,7 +156,7 @@ fn state_at(seen: &PageList<SeenState>, guid: Guid, port: PortNum) -> Option<Por
 }
 
 impl Discovered {
-    /// Creates a sweep's findings, empty yet. Takes no memory.
+    /// Creates an empty collection. Takes no memory.
     pub(crate) fn new(alloc: Global) -> Self
         ensures reached { result.reached ≡ [] }
         ensures states { result.states ≡ [] }

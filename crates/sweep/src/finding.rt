@@ -40,7 +40,7 @@ pub(crate) enum Onward {
     Stays,
     /// The node behind the port is asked.
     Leads,
-    /// The node behind the port is further away than a path can be long.
+    /// The node behind the port is further away than the longest path.
     TooFar,
 }
 

@@ -50,7 +50,7 @@ with_node number nodes node =
     if is_some (id_of nodes node.name) then Err (Name number)
     else (if nat_lt (length nodes) 1024 then Ok (nodes ++ node ∷ []) else Err (TooManyNodes number))
 
--- `links` with one more, below the last of the nodes counted
+-- the links with one more, below the last of the nodes; a fault if there is no node
 abbrev pub with_link_line : ℕ → ℕ → List LinkAt → LinkLine → Result (List LinkAt) TopoFault
 with_link_line number zero links link = Err (Syntax number)
 with_link_line number (suc last) links link = Ok (links ++ record { line = number; node = last; link = link } ∷ [])

@@ -8,12 +8,12 @@ abbrev pub IsRefused : {T : Type 0} → TopoFault → Result T TopoFault → Typ
 IsRefused Memory told = Unit {0}
 IsRefused fault told = told ≡ Err fault
 
--- a call returns exactly what is told, a value as `seen` shows it or the first fault, unless memory was refused
+-- a call returns exactly `told`, a value as `seen` shows it or the first fault, unless memory was refused
 abbrev pub ReadsAs : {S T : Type 0} → (S → T) → Result S TopoFault → Result T TopoFault → Type 0
 ReadsAs seen (Ok value) told = told ≡ Ok (seen value)
 ReadsAs seen (Err fault) told = IsRefused fault told
 
--- a call returns exactly what is told, a value or the first fault, unless memory was refused
+-- a call returns exactly `told`, a value or the first fault, unless memory was refused
 abbrev pub Reads : {T : Type 0} → Result T TopoFault → Result T TopoFault → Type 0
 Reads result told = ReadsAs (λ value. value) result told
 

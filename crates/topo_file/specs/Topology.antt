@@ -34,8 +34,7 @@ is_switch_with guid node = is_switch node.kind && (node.guid == guid)
 abbrev pub has_switch : List Node → ℕ → Bool
 has_switch nodes guid = list_any (is_switch_with guid) nodes
 
--- the size of the forwarding table and the GUIDs fit the type: a switch's table has a size, an adapter's ports have
--- GUIDs
+-- the size of the forwarding table and the GUIDs of the ports fit the type of the node
 abbrev pub IsOfKind : NodeType → ℕ → ℕ → ℕ → Type 0
 IsOfKind Switch ports guid cap = (1 ≤ cap) × (cap ≤ 0xC000)
 IsOfKind ChannelAdapter ports guid cap = (cap ≡ 0) × (guid + ports < 2 ^ 64)
