@@ -70,8 +70,8 @@ pub fn takeovers_change_nothing()
 {}
 
 /// A manager that held no facts is about to write the plan that its subnet holds, the same LIDs and each block as it
-/// is, if it has swept the subnet with every answer while no port got another LID. Pings arrived before, and arrive
-/// once the manager has written.
+/// is, if that is the plan of some facts that describe the subnet exactly, and the manager has swept it with every
+/// answer while no port got another LID. Pings arrived before, and arrive once the manager has written.
 pub fn takeover_changes_nothing()
     ensures { TakeoverChangesNothing }
 {}
