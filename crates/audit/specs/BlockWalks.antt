@@ -39,7 +39,7 @@ pub record Comes (hops : List NextHop) (target : Option EndPort) (switch : ℕ) 
 abbrev pub lids_at : List LidSet → ℕ → LidSet
 lids_at arrived switch = slice_index_or arrived switch no_lids
 
--- by the hops at each index of the block, packets for the LIDs in `arrived` get from these switches to their end port,
+-- packets for the LIDs in `arrived` get from these switches to their end port by the hops at each index of the block,
 -- and switches forward by `exits`
 pub record AreSeen (count : ℕ) (hops : ℕ → List NextHop) (target : ℕ → Option EndPort) (arrived : List LidSet)
     (exits : List Exit) : Type 0 where

@@ -9,7 +9,7 @@ abbrev pub onward : List NextHop → NextHop → NextHop
 onward steps (To i) = slice_index_or steps i (To i)
 onward steps (Ends e) = Ends e
 
--- the step that is so many steps further
+-- the step that is n steps after the given one
 abbrev pub after : ℕ → List NextHop → NextHop → NextHop
 after zero steps s = s
 after (suc n) steps s = after n steps (onward steps s)
@@ -24,7 +24,7 @@ abbrev pub is_to : NextHop → Bool
 is_to (To i) = true
 is_to (Ends e) = false
 
--- where a walk has ended; None if it has come to a switch, and so goes on for ever
+-- where a walk has ended; None if it has come to a switch, and goes on for ever
 abbrev pub end_of : NextHop → Option End
 end_of (To i) = None
 end_of (Ends e) = Some e

@@ -77,7 +77,7 @@ fn first_root(sites: &[Site]) -> Option<Guid>
     }
 }
 
-/// Facts about all end ports at once.
+/// Properties of all end ports together.
 #[derive(Clone, Copy, Debug, PartialEq, Eq)]
 pub(crate) struct Census {
     /// Whether all end ports lie in one component.

@@ -64,7 +64,7 @@ abbrev pub EachHasTables : Cells → HeldPlan → Type 0
 EachHasTables cells held =
     (e : EndPort) (g : ℕ) → Contains (end_ports cells) e → Contains (switches cells) g → HoldsTables held g
 
--- of each node that the facts name the type is known, and of a switch the table room
+-- the type of each node that the facts name is known, and of a switch the table room
 abbrev pub EachNodeIsKnown : Cells → Type 0
 EachNodeIsKnown cells = (g : ℕ) → IsNamedNode cells g → IsKnownNode cells g
 

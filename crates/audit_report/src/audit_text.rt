@@ -27,7 +27,7 @@ use subnet_view::EndPort;
 /// Writes the text of `audit`, and flushes. Takes no memory. The text has, in order:
 /// - how many packets there are and how many arrive, of all, between adapter ports, and with a switch;
 /// - how many do not arrive, by what becomes of them, the first 20 of each kind by rising LID and then in the order of
-/// end ports, and how many more there are;
+///   end ports, and how many more there are;
 /// - the first 20 differences of each kind between tables and facts, and how many more there are;
 /// - how many facts are disputed, if any;
 /// - how many wires packets between adapter ports take, and the loads of channels;
@@ -242,7 +242,7 @@ fn write_taken<W: Sink>(sink: &mut W, port: &EndPort) -> Result<(), WriteFault>
     write_port(sink, port.node, port.port)
 }
 
-/// Writes the node at which a packet for `lid` is lost, its entry for `lid` if it has one, and the cause.
+/// Writes the node at which a packet for `lid` is lost, its entry for `lid` if it is a usable switch, and the cause.
 fn write_lost<W: Sink>(
     sink: &mut W,
     network: &Network,
@@ -272,7 +272,7 @@ fn write_cause<W: Sink>(sink: &mut W, cause: Cause) -> Result<(), WriteFault>
     }
 }
 
-/// Writes the entry by which a switch drops a packet, or nothing if there is no entry.
+/// Writes the entry by which a packet is lost, or nothing if `entry` is `None`.
 fn write_entry<W: Sink>(sink: &mut W, entry: Option<u8>) -> Result<(), WriteFault>
     ensures { WritesPart W.written W.has_failed result sink.old sink.new (entry_text entry) }
 {

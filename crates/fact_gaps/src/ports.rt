@@ -15,7 +15,7 @@ use std::alloc::{AllocError, Global};
 use subnet_view::{EndPort, Wires, is_end_port};
 
 /// Returns the unjoined ports that facts name, by their keys, as management ports of switches or as far ends of links,
-/// by node and port. A port is unjoined if it is neither known to be down nor has a wire; port 0, if it is not the end
+/// by node and port. A port is unjoined if it neither is known to be down nor has a wire; port 0, if it is not the end
 /// port of a switch. Walks the cells three times. Takes two searches for each link, and one for each port that a cell
 /// names, or three if it has no wire.
 pub fn unjoined_ports(alloc: Global, store: &Store) -> Result<Vec<EndPort>, Refused>

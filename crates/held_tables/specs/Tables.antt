@@ -14,7 +14,7 @@ is_same_end e x = x.node == e.node && x.port == e.port
 abbrev pub is_same_line : HeldLid → HeldLid → Bool
 is_same_line x y = y.lid == x.lid && is_same_end x.port y.port
 
--- of lines that tell the same, only the first is left
+-- the lines without those that tell the same as an earlier one
 abbrev pub told_once : List HeldLid → List HeldLid
 told_once [] = []
 told_once (x ∷ xs) = x ∷ filter (λ y. not (is_same_line x y)) (told_once xs)

@@ -109,7 +109,7 @@ pub record IsAtRest (m : Manager) : Type 0 where
   pub pending : m.pending ≡ []
   -- no packet is to be sent
   pub outgoing : m.outgoing ≡ []
-  -- its keys, generations and values are in range
+  -- what it knows has keys, generations and values in their ranges
   pub facts : AreInRange m.store
   pub floor : IsTrue (is_generation m.store.floor)
 
@@ -121,12 +121,12 @@ pub record Starts (w : Managing) : Type 0 where
   pub distinct : AreGuidsDistinct (fabric_of w.scene.fabric)
   -- the manager sits at a port of an adapter
   pub seat : is_seat_at w.scene.fabric w.seat ≡ true
-  -- it was told this port's number
+  -- the manager was told the port's number
   pub port : w.manager.port ≡ w.seat.port
-  -- its LMC is at most 7
+  -- the manager's LMC is at most 7
   pub lmc : w.manager.planning.lmc < 8
   pub at_rest : IsAtRest w.manager
-  -- it has given no packet out
+  -- the manager has given no packet out
   pub out : w.out ≡ []
 
 -- a new manager is at rest

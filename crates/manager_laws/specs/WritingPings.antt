@@ -24,7 +24,7 @@ AreNoSweeps (event ∷ events) w = BeginsNoSweep w event × AreNoSweeps events (
 -- A manager that held no facts sweeps, and writes the plan of what it was told.
 pub record BringsUp (w : Managing) (before between after : List ManagerEvent) : Type 0 where
   pub run : IsWritingRun w before between after
-  -- it holds no facts when the sweep begins; its floor may have been raised
+  -- the manager holds no facts when the sweep begins; its floor may have been raised
   pub knew_nothing : cells_of (after_manager_events before w).manager.store ≡ []
   -- until the writing it learns from this sweep alone
   pub alone : AreNoSweeps between (after_manager_event (after_manager_events before w) Begin)

@@ -146,7 +146,7 @@ MastersChangeNothing =
     → AllHold facts planning (after_masters_events before t)
     → InUseAlong facts planning after (after_masters_events before t)
 
--- two new managers that write such a subnet at once --------------------------------------------------
+-- two new managers that write one subnet at once ---------------------------------------------------
 
 -- a new manager at its seat, where it has done nothing
 abbrev pub new_at : NodePort → ℕ → Planning → Seated

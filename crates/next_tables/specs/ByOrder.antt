@@ -45,7 +45,7 @@ is_up q i j = not (nat_lt (q i) (q j))
 abbrev pub is_bad : (ℕ → ℕ) → ℕ → ℕ → ℕ → Bool
 is_bad q i j k = is_down q i j && is_up q j k
 
--- by `tables` the switch at index i forwards packets for `lid` to the one at index j
+-- the switch at index i forwards packets for `lid` by `tables` to the one at index j
 pub record Leads (cells : Cells) (tables : HeldPlan) (lid i j : ℕ) : Type 0 where
   pub switch : ℕ
   pub is_there : slice_get (switches cells) i ≡ Some switch

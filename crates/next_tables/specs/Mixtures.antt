@@ -24,7 +24,7 @@ pub record IsMixed (cells : Cells) (held next : HeldPlan) (lid : ℕ) (mixed : H
   pub entries : (g : ℕ) → Contains (switches cells) g → (entry_for mixed lid g ≡ entry_for held lid g)
       ⊎ (entry_for mixed lid g ≡ entry_for next lid g)
 
--- the step that is so many steps further, if the steps change each time
+-- the step that is n steps further, the k-th of them by `steps k`
 abbrev pub after_by : ℕ → (ℕ → List NextHop) → NextHop → NextHop
 after_by zero steps s = s
 after_by (suc n) steps s = after_by n (λ k. steps (suc k)) (onward (steps 0) s)
@@ -54,7 +54,7 @@ NoneIsLost =
     → (source : EndPort) → IsBrought cells held line.lid source (Some (Taken line.port))
     → IsBroughtBy cells mixed line.lid source (Taken line.port)
 
--- by the next tables each switch delivers the packet, or has no entry
+-- each switch delivers the packet by the next tables, or has no entry
 abbrev pub NextDeliverOrDrop : Type 0
 NextDeliverOrDrop =
     (cells : Cells) (held plan next : HeldPlan) (line : HeldLid) → owners_of plan line.lid ≡ owners_of held line.lid
@@ -62,7 +62,7 @@ NextDeliverOrDrop =
     → (i g : ℕ) → slice_get (switches cells) i ≡ Some g
     → (entry_for next line.lid g ≡ 255) ⊎ IsEndOf (next_hops_of cells next line.lid) (To i) (Some (Taken line.port))
 
--- a packet that the held tables do not send round for ever is sent round by no mixtures of the held and the next tables
+-- a packet that does not loop by the held tables loops by no mixtures of the held and the next tables
 abbrev pub NoneGoesRound : Type 0
 NoneGoesRound =
     (cells : Cells) (held plan next : HeldPlan) (line : HeldLid) → owners_of plan line.lid ≡ owners_of held line.lid

@@ -40,7 +40,7 @@ StepsLoseNone =
     → (source : EndPort) → IsBrought cells held line.lid source (Some (Taken line.port))
     → IsBroughtBy cells mixed line.lid source (Taken line.port)
 
--- a packet that the held tables do not send round for ever is sent round by no mixtures of the held and the next tables
+-- a packet that does not loop by the held tables loops by no mixtures of the held and the next tables
 abbrev pub StepsSendNoneRound : Type 0
 StepsSendNoneRound =
     (cells : Cells) (held plan : HeldPlan) (line : HeldLid) → IsKept held plan line
@@ -48,7 +48,7 @@ StepsSendNoneRound =
     → (source : EndPort) (end : End) → IsBrought cells held line.lid source (Some end) → (last : End)
     × IsBroughtBy cells mixed line.lid source last
 
--- the tables after so many steps from `held` towards the plan
+-- the tables after n steps from `held` towards the plan
 abbrev pub stepped : Cells → HeldPlan → HeldPlan → ℕ → HeldPlan
 stepped cells plan held zero = held
 stepped cells plan held (suc n) = next_tables cells settled_first (stepped cells plan held n) plan

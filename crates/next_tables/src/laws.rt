@@ -33,7 +33,7 @@ pub fn heal_in_two()
     ensures law { HealInTwo }
 {}
 
-/// By the next tables each switch delivers the packet or has no entry, so no packet loops and none leaves by a dead
+/// Each switch delivers the packet by the next tables or has no entry, so no packet loops and none leaves by a dead
 /// port.
 pub fn next_deliver_or_drop()
     ensures law { NextDeliverOrDrop }
@@ -62,14 +62,14 @@ pub fn steps_follow_the_rule()
     ensures law { StepsFollowTheRule }
 {}
 
-/// What `next_tables` returns by settled entries loses no packet, in whatever loose mixtures with the held tables, if
-/// these deliver it and one end port alone holds its LID in the held tables and in the plan.
+/// A packet that the held tables deliver is delivered by whatever loose mixtures of these and of what `next_tables`
+/// returns by settled entries, if one end port alone holds its LID in the held tables and in the plan.
 pub fn steps_lose_none()
     ensures law { StepsLoseNone }
 {}
 
-/// What `next_tables` returns by settled entries sends no packet round for ever, in whatever mixtures with the held
-/// tables, if these deliver or drop it and one end port alone holds its LID in the held tables and in the plan.
+/// A packet that the held tables deliver or drop loops for ever by no mixtures of these and of what `next_tables`
+/// returns by settled entries, if one end port alone holds its LID in the held tables and in the plan.
 pub fn steps_send_none_round()
     ensures law { StepsSendNoneRound }
 {}

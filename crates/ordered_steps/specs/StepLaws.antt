@@ -159,7 +159,7 @@ AllEndByOrder =
     → (mixed : ℕ → HeldPlan) → ((k : ℕ) → IsMixed cells held next lid (mixed k))
     → (source : EndPort) → (last : End) × IsBroughtBy cells mixed lid source last
 
--- by the next tables each switch delivers the packet or has no entry
+-- each switch delivers the packet by the next tables or has no entry
 abbrev pub NextDeliverOrDropByOrder : Type 0
 NextDeliverOrDropByOrder =
     (cells : Cells) (q : ℕ → ℕ) (held goal next : HeldPlan) (line : HeldLid)

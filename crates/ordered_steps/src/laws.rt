@@ -70,7 +70,7 @@ pub fn all_end_by_order()
     ensures law { AllEndByOrder }
 {}
 
-/// By the next tables each switch delivers the packet or has no entry.
+/// Each switch delivers the packet by the next tables or has no entry.
 pub fn next_deliver_or_drop_by_order()
     ensures law { NextDeliverOrDropByOrder }
 {}

@@ -43,7 +43,7 @@ PlanOrdersAreOrders =
     → IsOrder (cells_of facts) (plan_position rule (cells_of facts))
     × AreApart (cells_of facts) (plan_position rule (cells_of facts))
 
--- of two usable switches with a wire between them, a plan delivers from both or from neither
+-- a plan delivers from both of two usable switches with a wire between them, or from neither
 abbrev pub PlansCover : Type 0
 PlansCover =
     (rule : RuleValue) (lmc : ℕ) (facts : Facts) → AreInRange facts → ¬ (IsNoRoom lmc (cells_of facts))

@@ -76,7 +76,7 @@ told_by_step w accounts serial = let called =
 abbrev pub told_by_deliver : WorldValue → Accounts → Which → Accounts
 told_by_deliver w accounts which = option_map_or (told_by_step w accounts) (serial_of w.fabric.flights which) accounts
 
--- the packet with the least serial number takes one step, at most so many times
+-- the packet with the least serial number takes one step, at most `most` times
 abbrev pub told_by_drain : WorldValue → Accounts → ℕ → Accounts
 told_by_drain w accounts zero = accounts
 told_by_drain w accounts (suc most) =

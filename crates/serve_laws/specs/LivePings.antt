@@ -72,7 +72,7 @@ pub record BringsUpLive (who : Who) (w : Managing) (before between after : List 
   pub before_can : All (CanLive w.seat) before
   pub between_can : All (CanLive w.seat) between
   pub after_can : All (CanLive w.seat) after
-  -- it holds no facts when `sweep` is told, which is not refused
+  -- the process holds no facts when `sweep` is told, which is not refused
   pub knew_nothing : cells_of (all_live before w).manager.store ≡ []
   pub sweep_begins : begin_fault (all_live before w).manager ≡ None
   -- no other `sweep` and no `floor` is told before `write`

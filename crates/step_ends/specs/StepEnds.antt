@@ -62,7 +62,7 @@ RightTablesMakeNoLoop =
     → ¬ (IsNoRoom lmc (cells_of facts)) → are_right (cells_of facts) (plan_position rule (cells_of facts)) held ≡ true
     → IsFreeOfLoops lmc rule facts held
 
--- what `next` prints after so many steps from the tables of a text, each from what was printed before
+-- what `next` prints after n steps from the tables of a text, each step from what was printed before
 abbrev pub printed : ℕ → RuleValue → Facts → List ℕ → ℕ → List ℕ
 printed lmc rule facts text zero = text
 printed lmc rule facts text (suc n) = step_text lmc rule facts (held_of (printed lmc rule facts text n))

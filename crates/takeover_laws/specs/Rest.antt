@@ -26,8 +26,8 @@ use Rattle.takeover_laws.specs.Takeover.{SweepsAlone, planning_at, plan_by_it}
 abbrev pub FloorsForget : Type 0
 FloorsForget = (facts : Facts) (floor : ℕ) → 1 < floor → newest_held facts < floor → cells_of (raised facts floor) ≡ []
 
--- a manager that is given a floor above 1 and above each generation that it holds has no facts then, and its next sweep
--- is of the greater of its old floor and the given one
+-- a manager that is given a floor above 1 and above each generation that it holds has no facts then, and the generation
+-- of its next sweep is the greater of its old floor and the given one
 abbrev pub RaisedManagersKnowNothing : Type 0
 RaisedManagersKnowNothing = (w : Managing) (floor : ℕ) → 1 < floor → newest_held w.manager.store < floor
     → (cells_of (after_manager_event w (Raise floor)).manager.store ≡ [])

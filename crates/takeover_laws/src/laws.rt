@@ -97,8 +97,8 @@ pub fn floors_forget()
     ensures { FloorsForget }
 {}
 
-/// A manager that is given a floor above 1 and above each generation that it holds has no facts then, and its next
-/// sweep is of the greater of its old floor and the given one.
+/// A manager that is given a floor above 1 and above each generation that it holds has no facts then, and the
+/// generation of its next sweep is the greater of its old floor and the given one.
 pub fn raised_managers_know_nothing()
     ensures { RaisedManagersKnowNothing }
 {}
