@@ -31,7 +31,7 @@ pub struct Ends<'a> {
     arrive: Vec<bool>,
     /// Whether no other end port holds the LID.
     sole: bool,
-    /// Whether these are enough to see that all packets end at the end port.
+    /// Whether the other fields show that all packets end at the end port.
     all: bool,
 }
 

@@ -1,4 +1,4 @@
-//! Counts the packets for all held LIDs.
+//! The counts of the packets for all held LIDs.
 ghost use Rattle.std.specs.Prelude.{◌≡◌, ◌/◌, ◌++◌, [], true, Contains, IfOk, List, OnOk, count_by, map};
 ghost use Rattle.fact_store.specs.View.{cells_of};
 ghost use Rattle.subnet_view.specs.EndPorts.{end_ports};

@@ -3,7 +3,7 @@ ghost use Rattle.std.specs.Prelude.{◌≡◌, ◌+◌, [], OnOk};
 use audit::Cause;
 use std::alloc::AllocError;
 
-/// How many packets are lost for each cause.
+/// The number of packets that are lost for each cause.
 #[derive(Clone, Copy, Debug, PartialEq, Eq)]
 pub struct Causes {
     pub above_top: u64,

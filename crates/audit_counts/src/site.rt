@@ -86,7 +86,7 @@ pub(crate) struct Census {
     pub adapters: usize,
 }
 
-/// Returns the census of the end ports. Takes a step for each.
+/// Returns the census of the end ports. Takes a step for each end port.
 pub(crate) fn census_of(sites: &[Site]) -> Census
     ensures { IsCensus sites.now result }
 {

@@ -31,7 +31,7 @@ pub(crate) struct Findings {
     pub(crate) unmatched: Unmatched,
     /// The number of disputed facts.
     pub(crate) disputed: usize,
-    /// How many wires packets between adapter ports take, and the loads of channels.
+    /// The figures of the wires that packets between adapter ports take, and of the loads of channels.
     pub(crate) ways: WayFigures,
     /// Channels that wait for each other in a credit loop; empty if there is no credit loop.
     pub(crate) cycle: Vec<usize>,

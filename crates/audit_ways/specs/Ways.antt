@@ -45,7 +45,7 @@ way_from edges switch = record {
 abbrev pub one_wire : Way
 one_wire = record { wires = 1; channels = [] }
 
--- the route of a packet whose sender's wire leads to the given place
+-- the route of a packet whose sender's wire leads to the given far end
 abbrev pub way_over : List (Option Edge) → Far → Way
 way_over edges Nothing = one_wire
 way_over edges (Switch index) = way_from edges index

@@ -9,8 +9,8 @@ use port_graph::Edge;
 use std::alloc::AllocError;
 
 /// Follows packets from the switch at index `first` by the edges of the switches, and adds `times` to the load of each
-/// channel that they take. Returns how many channels that is. Takes a step for each. Returns an error if a load does
-/// not fit in 64 bits.
+/// channel that they take. Returns how many channels that is. Takes a step for each channel. Returns an error if a load
+/// does not fit in 64 bits.
 pub(crate) fn load_channels(
     loads: &mut [u64],
     edges: &[Option<Edge>],

@@ -17,9 +17,9 @@ use subnet_view::EndPort;
 /// Packets, grouped by where their senders' wires lead.
 #[derive(Drop)]
 pub(crate) struct Groups {
-    /// For each switch, how many packets reach it first.
+    /// For each switch, the number of packets that reach it first.
     pub(crate) weights: Vec<u64>,
-    /// How many packets reach an adapter over one wire.
+    /// The number of packets that reach an adapter over one wire.
     pub(crate) direct: u64,
 }
 

@@ -13,7 +13,7 @@ use std::alloc::{AllocError, Global};
 pub(crate) struct WayTally {
     /// The number of wires of each route.
     pub(crate) hops: Total,
-    /// How often each channel is taken.
+    /// For each channel, how often it is taken.
     pub(crate) loads: Vec<u64>,
 }
 

@@ -16,7 +16,7 @@ pub struct Chains {
 /// One more than the greatest number.
 const NUMBERS: usize = 0x1_0000;
 
-/// Returns the chains of `numbers`. Takes a step for each.
+/// Returns the chains of `numbers`. Takes a step for each number.
 pub(crate) fn chains_of(alloc: Global, numbers: &[u16]) -> Result<Chains, AllocError>
     ensures { IfOk result (λ chains. AreChains numbers.now chains) }
 {

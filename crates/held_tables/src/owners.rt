@@ -23,7 +23,7 @@ pub enum Owner {
 /// One more than the greatest LID that an end port can hold.
 const LIDS: usize = Lid::UNICAST_END as usize;
 
-/// Returns who holds each LID by `lines`. Takes a step for each.
+/// Returns who holds each LID by `lines`. Takes a step for each line.
 pub fn lid_owners(alloc: Global, lines: &[HeldLid]) -> Result<Vec<Owner>, AllocError>
     ensures { IfOk result (λ owners. AreOwners lines.now owners.items) }
 {

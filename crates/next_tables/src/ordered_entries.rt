@@ -18,11 +18,11 @@ use subnet_view::EndPort;
 /// What is known of each switch before any takes another entry.
 #[derive(Drop)]
 struct SwitchFlags {
-    /// Whether the held tables deliver the packet from the switch.
+    /// For each switch, whether the held tables deliver the packet from there.
     delivered: Vec<bool>,
-    /// Whether the switch sends the packet up by an entry that is not the goal's.
+    /// For each switch, whether it sends the packet up by an entry that is not the goal's.
     going_up: Vec<bool>,
-    /// Whether the packet comes down to the switch by an entry that is not the goal's.
+    /// For each switch, whether the packet comes down to it by an entry that is not the goal's.
     entered: Vec<bool>,
 }
 
