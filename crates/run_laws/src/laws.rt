@@ -43,8 +43,8 @@ pub fn same_taken_in_plans_alike()
     ensures { SameTakenInPlansAlike }
 {}
 
-/// The lines `plan A` and `plan B` print the same bytes after every schedule that ends with `merge A B` and `merge B
-/// A`.
+/// The lines `plan A` and `plan B` print the same bytes after every schedule whose last lines are `merge A B` and
+/// `merge B A`.
 #[tactic(auto, using(crate::proofs::Alike::merged_managers_plan_alike))]
 pub fn merged_managers_plan_alike()
     ensures { MergedManagersPlanAlike }

@@ -18,7 +18,7 @@ pub fn answers_end_once()
     ensures { AnswersEndOnce }
 {}
 
-/// The manager of a process is, after any lines, the one that the calls leave which the lines tell.
+/// After any lines, the manager of a process is the one that the calls of these lines leave.
 #[tactic(auto, using(crate::proofs::Lived::served_lives))]
 pub fn served_lives()
     ensures { ServedLives }
