@@ -14,9 +14,13 @@ use sm_cli::{Fault, read_tables_and_files};
 use smp_bytes::Generation;
 use std::alloc::Global;
 
-/// Reads the text of tables, which is the first input, and then the files in order, and writes how packets fare by
-/// these tables in the subnet that the files describe together; answers whether they pass. The first fault counts.
-/// Where an input is refused, or memory is, nothing is written; how much went out before a write failed is not said.
+/// Reads the tables from the first input, then the files in order, and writes what these tables do with the packets of
+/// the subnet that the files describe together. Returns whether the tables pass.
+///
+/// # Errors
+///
+/// Returns the first fault. If an input is refused or memory runs out, nothing is written. If a write fails, how much
+/// was written before is unspecified.
 pub fn run_audit<S: Source, W: Sink>(
     alloc: Global,
     inputs: &mut [S],
@@ -38,7 +42,7 @@ pub fn run_audit<S: Source, W: Sink>(
     }
 }
 
-/// Writes how packets fare, and flushes; answers whether they pass.
+/// Writes the audit of `held` in the subnet of `store`, and flushes. Returns whether the tables pass.
 fn answer<W: Sink>(alloc: Global, sink: &mut W, store: &Store, held: &Held) -> Result<bool, Fault>
     ensures audited { IfOk result (IsAudited store.now held.now
         (Appends (W.written sink.old) (W.written sink.new))) }
@@ -53,7 +57,7 @@ fn answer<W: Sink>(alloc: Global, sink: &mut W, store: &Store, held: &Held) -> R
     }
 }
 
-/// Writes what an audit found, and flushes; answers whether the tables pass.
+/// Writes the text of `audit`, and flushes. Returns whether the tables pass.
 fn tell<W: Sink>(sink: &mut W, audit: &Audit) -> Result<bool, Fault>
     ensures told { IfOk result (λ passed.
         Appends (W.written sink.old) (W.written sink.new) (audit_text audit.now)
