@@ -1,4 +1,4 @@
--- Where the tables that are held and the facts of the subnet differ, and what the facts do not tell.
+-- Differences between the held tables and the facts of the subnet, and what the facts do not tell.
 use Rattle.std.specs.Prelude.{◌≡◌, ℕ, Bool, not, ◌==◌, List, map}
 use Rattle.std.specs.List.{list_any}
 use Rattle.subnet_view.specs.declared.end_port.EndPort.{EndPort}
@@ -12,7 +12,7 @@ use Rattle.held_tables.specs.Tables.{is_owner, is_same_end, lines_of}
 use Rattle.audit_counts.specs.declared.unmatched.Unmatched.{Unmatched}
 use Rattle.audit_counts.specs.FirstFew.{Listed, all_listed, listed_of}
 
--- of some lines those with ports that are no end ports of the facts
+-- the LIDs of `lines` with ports that are no end ports of the facts
 abbrev pub unowned_among : ℕ → Cells → List HeldLid → Listed HeldLid
 unowned_among most cells lines = listed_of most (λ line. not (is_owner (end_ports cells) line.port)) lines
 
@@ -24,7 +24,7 @@ unowned most cells held = unowned_among most cells (lines_of held)
 abbrev pub is_twice : HeldPlan → HeldLid → Bool
 is_twice held line = is_told_twice (lines_of held) line.lid
 
--- such LIDs, with each of these ports
+-- the LIDs that more than one port holds, with each of these ports
 abbrev pub twice : ℕ → HeldPlan → Listed HeldLid
 twice most held = listed_of most (is_twice held) (lines_of held)
 
@@ -36,7 +36,7 @@ unknown most cells held = listed_of most (λ g. not (is_usable cells g)) (map (�
 abbrev pub is_held : HeldPlan → ℕ → Bool
 is_held held g = list_any (λ s. s.guid == g) held.switches
 
--- those of some switches that have none
+-- the switches of `guids` without tables
 abbrev pub tableless_among : ℕ → List ℕ → HeldPlan → Listed ℕ
 tableless_among most guids held = listed_of most (λ g. not (is_held held g)) guids
 
@@ -48,7 +48,7 @@ tableless most cells held = tableless_among most (switches cells) held
 abbrev pub has_lid : HeldPlan → EndPort → Bool
 has_lid held e = list_any (λ line. is_same_end e line.port) held.lids
 
--- those of some end ports that hold none
+-- the end ports of `ports` without a LID
 abbrev pub lidless_among : ℕ → List EndPort → HeldPlan → Listed EndPort
 lidless_among most ports held = listed_of most (λ e. not (has_lid held e)) ports
 
@@ -56,15 +56,15 @@ lidless_among most ports held = listed_of most (λ e. not (has_lid held e)) port
 abbrev pub lidless : ℕ → Cells → HeldPlan → Listed EndPort
 lidless most cells held = lidless_among most (end_ports cells) held
 
--- nodes that the facts name, and of which they do not tell what they are
+-- nodes that the facts name without telling what they are
 abbrev pub unusable : ℕ → Cells → Listed ℕ
 unusable most cells = all_listed most (unusable_nodes cells)
 
--- ports that the facts name, and of which they do not tell where they lead
+-- ports that the facts name without telling where they lead
 abbrev pub unjoined : ℕ → Cells → Listed EndPort
 unjoined most cells = all_listed most (unjoined_ports cells)
 
--- those of each kind, of which up to `most` are told
+-- `found` has all kinds, with the first `most` elements of each
 pub record IsUnmatched (most : ℕ) (cells : Cells) (held : HeldPlan) (found : Unmatched) : Type 0 where
   pub unowned_are : found.unowned ≡ unowned most cells held
   pub twice_are : found.twice ≡ twice most held

@@ -1,4 +1,4 @@
-//! The packets for all LIDs that are held.
+//! The counts of the packets for all held LIDs.
 ghost use Rattle.std.specs.Prelude.{◌≡◌, ◌/◌, ◌++◌, [], true, Contains, IfOk, List, OnOk, count_by, map};
 ghost use Rattle.fact_store.specs.View.{cells_of};
 ghost use Rattle.subnet_view.specs.EndPorts.{end_ports};
@@ -17,17 +17,17 @@ use audit::{Blocks, Deliveries, Network};
 use plan_file::HeldLid;
 use std::alloc::{AllocError, Global};
 
-/// What is counted of packets, and of which lines all of them are delivered.
+/// The counts of packets, and the lines whose packets are all delivered.
 #[derive(Drop)]
 pub struct PacketSurvey {
     pub tally: PacketTally,
-    /// By the lines' indices: whether it is told of one that all packets for its LID are delivered at its port.
+    /// For each line, by index: whether it is told that all packets for its LID are delivered at its port.
     pub told: Vec<bool>,
 }
 
-/// Counts the packets that end ports send to the LIDs of their components, and tells up to `most` of each kind. Takes what `Network::blocks` and
-/// `Network::deliveries` do for each 64 LIDs; and for each LID whose packets are not seen to arrive by these what
-/// `Network::ends` does, and a step for each end port where they do not.
+/// Counts the packets that end ports send to the LIDs of their components, and keeps the first `most` of each kind that do
+/// not arrive. Takes what `Network::blocks` and `Network::deliveries` do for each 64 LIDs. For each LID whose packets are
+/// not seen to arrive by these it takes what `Network::ends` does, and a step for each end port if they do not arrive.
 pub fn survey(
     alloc: Global,
     most: usize,
@@ -46,8 +46,8 @@ pub fn survey(
     Ok(PacketSurvey { tally, told })
 }
 
-/// Counts those for the LIDs of all lines, where none is counted yet, and tells of each line whether all packets for
-/// its LID are delivered at its port.
+/// Adds the packets for the LIDs of all lines to an empty tally. Appends to `told`, for each line, whether all packets
+/// for its LID are delivered at its port.
 fn add_lines(
     alloc: Global,
     tally: &mut PacketTally,
@@ -90,7 +90,7 @@ fn add_lines(
     Ok(())
 }
 
-/// Counts those for the LID of a line; answers whether all are seen to be delivered at its port.
+/// Adds the packets for the LID of `line` to the tally. Returns whether all are seen to be delivered at its port.
 fn add_packets(
     alloc: Global,
     tally: &mut PacketTally,
@@ -137,7 +137,7 @@ fn add_packets(
     Ok(false)
 }
 
-/// Counts those that the end ports of a component send to one of them, where all arrive.
+/// Adds the packets that the end ports of a component send to `owner`, given that all arrive.
 fn add_arrived(
     tally: &mut PacketTally,
     sites: &[Site],

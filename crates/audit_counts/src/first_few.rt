@@ -1,14 +1,14 @@
-//! The first few of a kind, which are told, and how many there are.
+//! The first items of a kind, which are told, and their number.
 ghost use Rattle.std.specs.Prelude.{◌≡◌, [], IfOk, OnOk};
 ghost use Rattle.audit_counts.specs.FirstFew.{all_listed, listed, more_of, first_few};
 
 use std::alloc::{AllocError, Global};
 use std::marker::Model;
 
-/// How many there are of a kind, and the first of them, which are told.
+/// The number of items of a kind, and the first of them, which are told.
 #[derive(Drop)]
 pub struct FirstFew<T> {
-    /// How many may be told.
+    /// The most elements that are kept.
     most: usize,
     first: Vec<T>,
     count: u64,
@@ -23,7 +23,7 @@ impl<T> Model for FirstFew<T> {
 }
 
 impl<T: Drop> FirstFew<T> {
-    /// Creates an empty list of which up to `most` are told.
+    /// Creates an empty list that keeps the first `most` elements.
     pub(crate) fn new(alloc: Global, most: usize) -> Self
         ensures { result ≡ record { most = most; first = []; count = 0 } }
     {
@@ -34,7 +34,7 @@ impl<T: Drop> FirstFew<T> {
         }
     }
 
-    /// One more.
+    /// Adds an item.
     pub(crate) fn add(&mut self, item: T) -> Result<(), AllocError>
         ensures { OnOk result (self.new ≡ listed self.old item) }
     {
@@ -42,21 +42,21 @@ impl<T: Drop> FirstFew<T> {
         note(&mut self.first, self.most, item)
     }
 
-    /// The first of them.
+    /// Returns the first items, which are told.
     pub fn first(&self) -> &[T]
         ensures { result.now ≡ self.now.first }
     {
         &self.first
     }
 
-    /// How many there are.
+    /// Returns the number of items.
     pub fn count(&self) -> u64
         ensures { result ≡ self.now.count }
     {
         self.count
     }
 
-    /// How many there are beyond those that are told.
+    /// Returns the number of items beyond those that are told.
     pub fn more(&self) -> u64
         ensures { result ≡ more_of self.now }
     {
@@ -65,7 +65,7 @@ impl<T: Drop> FirstFew<T> {
 }
 
 impl<T: Copy + Drop> FirstFew<T> {
-    /// All of them.
+    /// Returns the list of all `items`.
     pub(crate) fn of(alloc: Global, most: usize, items: &[T]) -> Result<Self, AllocError>
         ensures { IfOk result (λ few. few ≡ all_listed most items.now) }
     {
@@ -76,7 +76,7 @@ impl<T: Copy + Drop> FirstFew<T> {
     }
 }
 
-/// Appends `item` to those that are told, as long as these are fewer than `most`.
+/// Appends `item` to `told` if that has fewer than `most` elements.
 pub(crate) fn note<T: Drop>(told: &mut Vec<T>, most: usize, item: T) -> Result<(), AllocError>
     ensures { OnOk result (told.new.items ≡ first_few most told.old.items item) }
 {

@@ -1,4 +1,4 @@
-//! Where the tables that are held and the facts of the subnet differ, and what the facts do not tell.
+//! Differences between the held tables and the facts of the subnet, and what the facts do not tell.
 ghost use Rattle.std.specs.Prelude.{◌≡◌, IfOk};
 ghost use Rattle.fact_store.specs.View.{cells_of};
 ghost use Rattle.audit_counts.specs.Unmatched.{IsUnmatched, has_lid, is_held, lidless, lidless_among, tableless};
@@ -14,7 +14,7 @@ use smp_bytes::Guid;
 use std::alloc::{AllocError, Global};
 use subnet_view::{EndPort, end_ports, is_end_port, is_usable, switches};
 
-/// Where tables and facts differ, and what the facts do not tell.
+/// Differences between tables and facts, and what the facts do not tell.
 #[derive(Drop)]
 pub struct Unmatched {
     /// LIDs with ports that are no end ports of the facts.
@@ -25,18 +25,18 @@ pub struct Unmatched {
     pub unknown: FirstFew<Guid>,
     /// Usable switches without tables.
     pub tableless: FirstFew<Guid>,
-    /// Nodes that the facts name and whose type is not known, and switches whose table room is not.
+    /// Nodes that the facts name and whose type is unknown, and switches whose table room is unknown.
     pub unusable: FirstFew<Guid>,
     /// End ports of the facts without a LID.
     pub lidless: FirstFew<EndPort>,
-    /// Ports that the facts name, and of which it is not known where they lead.
+    /// Ports that the facts name and of which it is unknown where they lead.
     pub unjoined: FirstFew<EndPort>,
 }
 
 impl Unmatched {
-    /// Returns what differs, with up to `most` of each kind. Takes two searches for each LID that is held; a walk over
-    /// the switches that are held for each switch; one over the LIDs for each end port; and what `unusable_nodes` and
-    /// `unjoined_ports` take.
+    /// Compares tables and facts, and keeps the first `most` differences of each kind. Takes two searches for each LID
+    /// that is held; a walk over the held switches for each switch; one over the LIDs for each end port; and what
+    /// `unusable_nodes` and `unjoined_ports` take.
     pub fn of(alloc: Global, most: usize, network: &Network) -> Result<Self, Refused>
         ensures { IfOk result (IsUnmatched most (cells_of network.now.facts) network.now.held) }
     {
@@ -56,7 +56,7 @@ impl Unmatched {
     }
 }
 
-/// LIDs with ports that are no end ports of the facts, and LIDs that more than one port holds.
+/// Returns the LIDs with ports that are no end ports of the facts, and the LIDs that more than one port holds.
 fn unowned_and_twice(
     alloc: Global,
     most: usize,
@@ -70,7 +70,7 @@ fn unowned_and_twice(
     Ok((unowned, twice))
 }
 
-/// Switches with tables that are no usable switches of the facts, and usable switches without tables.
+/// Returns the switches with tables that are no usable switches of the facts, and the usable switches without tables.
 fn unknown_and_tableless(
     alloc: Global,
     most: usize,
@@ -84,7 +84,8 @@ fn unknown_and_tableless(
     Ok((unknown, tableless))
 }
 
-/// Nodes and ports that the facts name, and of which they do not tell what they are, or where they lead.
+/// Returns the nodes that the facts name without telling what they are, and the ports that they name without telling
+/// where they lead.
 fn unusable_and_unjoined(
     alloc: Global,
     most: usize,
@@ -98,7 +99,7 @@ fn unusable_and_unjoined(
     Ok((unusable, unjoined))
 }
 
-/// Nodes that the facts name, and of which they do not tell what they are.
+/// Returns the nodes that the facts name without telling what they are.
 fn unusable_of(alloc: Global, most: usize, store: &Store) -> Result<FirstFew<Guid>, AllocError>
     ensures { IfOk result (λ few. few ≡ unusable most (cells_of store.now)) }
 {
@@ -106,7 +107,7 @@ fn unusable_of(alloc: Global, most: usize, store: &Store) -> Result<FirstFew<Gui
     FirstFew::of(alloc, most, &guids)
 }
 
-/// Ports that the facts name, and of which they do not tell where they lead.
+/// Returns the ports that the facts name without telling where they lead.
 fn unjoined_of(alloc: Global, most: usize, store: &Store) -> Result<FirstFew<EndPort>, Refused>
     ensures { IfOk result (λ few. few ≡ unjoined most (cells_of store.now)) }
 {
@@ -114,7 +115,7 @@ fn unjoined_of(alloc: Global, most: usize, store: &Store) -> Result<FirstFew<End
     Ok(FirstFew::of(alloc, most, &ports)?)
 }
 
-/// Usable switches without tables.
+/// Returns the usable switches without tables.
 fn tableless_of(alloc: Global, most: usize, network: &Network) -> Result<FirstFew<Guid>, Refused>
     ensures { IfOk result (λ few. few ≡ tableless most (cells_of network.now.facts) network.now.held) }
 {
@@ -122,7 +123,7 @@ fn tableless_of(alloc: Global, most: usize, network: &Network) -> Result<FirstFe
     Ok(tableless(alloc, most, network.held(), &guids)?)
 }
 
-/// End ports without a LID.
+/// Returns the end ports without a LID.
 fn lidless_of(alloc: Global, most: usize, network: &Network) -> Result<FirstFew<EndPort>, Refused>
     ensures { IfOk result (λ few. few ≡ lidless most (cells_of network.now.facts) network.now.held) }
 {
@@ -130,7 +131,7 @@ fn lidless_of(alloc: Global, most: usize, network: &Network) -> Result<FirstFew<
     Ok(lidless(alloc, most, network.held(), &ports)?)
 }
 
-/// Returns those of some lines with ports that are no end ports of the facts.
+/// Returns the LIDs of `lines` with ports that are no end ports of the facts.
 fn unowned(
     alloc: Global,
     most: usize,
@@ -148,7 +149,7 @@ fn unowned(
     Ok(few)
 }
 
-/// LIDs that more than one port holds, with each of these.
+/// Returns the LIDs that more than one port holds, with each of these ports.
 fn twice(alloc: Global, most: usize, network: &Network) -> Result<FirstFew<HeldLid>, AllocError>
     ensures { IfOk result (λ few. few ≡ twice most network.now.held) }
 {
@@ -161,7 +162,7 @@ fn twice(alloc: Global, most: usize, network: &Network) -> Result<FirstFew<HeldL
     Ok(few)
 }
 
-/// Switches with tables that are no usable switches of the facts.
+/// Returns the switches with tables that are no usable switches of the facts.
 fn unknown(
     alloc: Global,
     most: usize,
@@ -179,7 +180,7 @@ fn unknown(
     Ok(few)
 }
 
-/// Returns those of some switches that have no tables.
+/// Returns the switches of `guids` that have no tables.
 fn tableless(
     alloc: Global,
     most: usize,
@@ -197,14 +198,14 @@ fn tableless(
     Ok(few)
 }
 
-/// Whether the switch has tables.
+/// Returns whether the switch has tables.
 fn is_held(held: &Held, guid: Guid) -> bool
     ensures { result ≡ is_held held.now guid }
 {
     held.switches().iter().any(|switch| switch.guid == guid)
 }
 
-/// Returns those of some end ports that hold no LID.
+/// Returns the end ports of `ports` that hold no LID.
 fn lidless(
     alloc: Global,
     most: usize,
@@ -222,7 +223,7 @@ fn lidless(
     Ok(few)
 }
 
-/// Whether a line gives the end port a LID.
+/// Returns whether a line gives the end port a LID.
 fn has_lid(held: &Held, port: &EndPort) -> bool
     ensures { result ≡ has_lid held.now port.now }
 {

@@ -14,20 +14,24 @@ use sm_cli::{Fault, read_tables_and_files};
 use smp_bytes::Generation;
 use std::alloc::Global;
 
-/// What an audit is asked for.
+/// The options of an audit.
 #[derive(Clone, Copy, Debug, PartialEq, Eq)]
 pub struct AuditAsked {
-    /// Nothing older counts.
+    /// The floor: older facts are ignored.
     pub floor: Generation,
-    /// Whether all lines of each kind are written, and not the first 20 alone.
+    /// Whether all lines of each kind are written, or only the first 20.
     pub all: bool,
     /// The most pairs of adapter ports that a channel may carry, if there is a bound.
     pub max_load: Option<u64>,
 }
 
-/// Reads the text of tables, which is the first input, and then the files in order, and writes how packets fare by
-/// these tables in the subnet that the files describe together; answers whether they pass. The first fault counts.
-/// Where an input is refused, or memory is, nothing is written; how much went out before a write failed is not said.
+/// Reads the tables from the first input, then the files in order, and writes what these tables do with the packets of
+/// the subnet that the files describe together. Returns whether the tables pass.
+///
+/// # Errors
+///
+/// Returns the first fault. If an input is refused or memory runs out, nothing is written. If a write fails, how much
+/// was written before is unspecified.
 pub fn run_audit<S: Source, W: Sink>(
     alloc: Global,
     inputs: &mut [S],
@@ -49,7 +53,7 @@ pub fn run_audit<S: Source, W: Sink>(
     }
 }
 
-/// Writes how packets fare, and flushes; answers whether they pass.
+/// Writes the audit of `held` in the subnet of `store`, and flushes. Returns whether the tables pass.
 fn answer<W: Sink>(
     alloc: Global,
     sink: &mut W,
@@ -70,14 +74,14 @@ fn answer<W: Sink>(
     }
 }
 
-/// Returns how many lines of each kind are written.
+/// Returns the most lines of each kind that are written.
 fn most_told(all: bool) -> usize
     ensures { result ≡ most_told all }
 {
     if all { usize::MAX } else { 20 }
 }
 
-/// Writes what an audit found, and flushes. Returns whether the tables pass, and no channel carries more pairs than
+/// Writes what an audit found, and flushes. Returns whether the tables pass and no channel carries more pairs than
 /// `max_load`.
 fn tell<W: Sink>(sink: &mut W, max_load: Option<u64>, audit: &Audit) -> Result<bool, Fault>
     ensures told { IfOk result (λ passed.

@@ -31,7 +31,7 @@ const RULES: [&str; 3] = [UPDOWN, SPREAD, BALANCE];
 
 const VERSION: &str = "0.1.0";
 
-/// What stands at the end of a subcommand's help: the statuses that it ends with, and an example.
+/// The end of a subcommand's help: its exit statuses and an example.
 const FACTS_END: &str = "Exit status:\n  0  done\n  2  the command line is wrong\n  \
      3  a file is refused\n  4  a file cannot be opened or read, or the output takes no more\n  \
      5  out of memory\n\nExample:\n  ibsm facts --floor 2 monday.reports tuesday.reports";
@@ -80,9 +80,12 @@ const SERVE_END: &str =
      4  a file or standard input cannot be opened or read, or the output takes no more\n  \
      5  out of memory\n\nExample:\n  ibsm serve 0000000000000101 1 5";
 
-/// What the words of a command line are, the program's name first, or what is wrong with them: a fault by
-/// `command_line`, options that contradict each other, or that memory ran out as they were read. So says an outer `Err`
-/// too.
+/// Parses the words of a command line, the program's name first.
+///
+/// # Errors
+///
+/// Returns `Ok(Err(..))` if `command_line` refuses the words, if options contradict each other, or if memory ran out.
+/// Returns an outer `Err` if memory ran out.
 pub fn matches_of<'a>(
     alloc: Global,
     words: &'a [String],
@@ -103,7 +106,7 @@ pub fn matches_of<'a>(
     Ok(Ok(matches))
 }
 
-/// The subcommands and their arguments, with these words for rules of routing.
+/// Builds the command with all subcommands and their arguments. `routings` are the words for rules of routing.
 fn command_line<'a>(alloc: Global, routings: &'a [&'a str]) -> Result<Command<'a>, AllocError>
     ensures { IfOk result (IsApp (command_line routings.entry)) }
 {
@@ -118,7 +121,7 @@ fn command_line<'a>(alloc: Global, routings: &'a [&'a str]) -> Result<Command<'a
     with(command, serve(alloc, routings))
 }
 
-/// A command with another subcommand.
+/// Adds `subcommand` to `command`.
 fn with<'a>(
     command: Result<Command<'a>, AllocError>,
     subcommand: Result<Command<'a>, AllocError>,
@@ -130,7 +133,7 @@ fn with<'a>(
     command?.subcommand(subcommand)
 }
 
-/// The program, which does nothing without a subcommand.
+/// Builds the program without its subcommands. It requires one.
 fn program<'a>(alloc: Global) -> Command<'a>
     ensures { IsApp program_app result }
 {
@@ -250,7 +253,7 @@ fn serve<'a>(alloc: Global, routings: &'a [&'a str]) -> Result<Command<'a>, Allo
     with_planning(alloc, routings, of_seat(alloc, command)?)
 }
 
-/// A subcommand of a manager at a port.
+/// Adds the arguments of a manager at a port: GUID, port and priority.
 fn of_seat<'a>(alloc: Global, command: Command<'a>) -> Result<Command<'a>, AllocError>
     ensures { IfOk result (AddsRules of_seat command.entry) }
 {
@@ -260,14 +263,14 @@ fn of_seat<'a>(alloc: Global, command: Command<'a>) -> Result<Command<'a>, Alloc
         .arg(priority(alloc))
 }
 
-/// A subcommand of files, from a floor on.
+/// Adds the files and the option for a floor.
 fn of_files<'a>(alloc: Global, command: Command<'a>) -> Result<Command<'a>, AllocError>
     ensures { IfOk result (AddsRules of_files command.entry) }
 {
     command.arg(files(alloc))?.arg(floor(alloc))
 }
 
-/// A subcommand of tables and files.
+/// Adds the text of tables, the files and the option for a floor.
 fn of_tables<'a>(alloc: Global, command: Command<'a>) -> Result<Command<'a>, AllocError>
     ensures { IfOk result (AddsRules (text_rule (codes "TABLES") ∷ of_files) command.entry) }
 {
@@ -279,14 +282,14 @@ fn of_tables<'a>(alloc: Global, command: Command<'a>) -> Result<Command<'a>, All
     of_files(alloc, command)
 }
 
-/// With how much an audit prints, and which load it lets pass.
+/// Adds the options of an audit: how much it prints, and which load passes.
 fn with_report<'a>(alloc: Global, command: Command<'a>) -> Result<Command<'a>, AllocError>
     ensures { IfOk result (AddsRules of_report command.entry) }
 {
     command.arg(all(alloc))?.arg(max_load(alloc))
 }
 
-/// With how plans are made: their LMC, their rule of routing, and its roots or its order.
+/// Adds the options of a plan: its LMC, its rule of routing, and the roots or the order.
 fn with_planning<'a>(
     alloc: Global,
     routings: &'a [&'a str],
@@ -298,7 +301,7 @@ fn with_planning<'a>(
     with_routing(alloc, routings, command)
 }
 
-/// With a rule of routing, and its roots or its order.
+/// Adds the options for a rule of routing, and for its roots or its order.
 fn with_routing<'a>(
     alloc: Global,
     routings: &'a [&'a str],
@@ -310,14 +313,14 @@ fn with_routing<'a>(
     with_order(alloc, command)
 }
 
-/// With how switches are ordered: by their roots, or by an order.
+/// Adds the options for how switches are ordered: from roots, or by an order.
 fn with_order<'a>(alloc: Global, command: Command<'a>) -> Result<Command<'a>, AllocError>
     ensures { IfOk result (AddsRules of_order command.entry) }
 {
     command.arg(roots(alloc))?.arg(order_file(alloc))
 }
 
-/// A file of its own.
+/// Builds a required argument that takes one word.
 fn text<'a>(alloc: Global, name: &'a str, help: &'a str) -> Arg<'a>
     ensures rule { rule_of result ≡ text_rule name.now }
     ensures own { result.global ≡ false }
@@ -328,7 +331,7 @@ fn text<'a>(alloc: Global, name: &'a str, help: &'a str) -> Arg<'a>
         .action(ArgAction::Set)
 }
 
-/// The number of a port.
+/// Builds the argument for the number of a port.
 fn port<'a>(alloc: Global) -> Arg<'a>
     ensures rule { rule_of result ≡ port_rule }
     ensures own { result.global ≡ false }
@@ -340,7 +343,7 @@ fn port<'a>(alloc: Global) -> Arg<'a>
         .action(ArgAction::Set)
 }
 
-/// The priority of a manager.
+/// Builds the argument for the priority of a manager.
 fn priority<'a>(alloc: Global) -> Arg<'a>
     ensures rule { rule_of result ≡ priority_rule }
     ensures own { result.global ≡ false }
@@ -352,7 +355,7 @@ fn priority<'a>(alloc: Global) -> Arg<'a>
         .action(ArgAction::Set)
 }
 
-/// A generation.
+/// Builds the option for the floor.
 fn floor<'a>(alloc: Global) -> Arg<'a>
     ensures rule { rule_of result ≡ floor_rule }
     ensures own { result.global ≡ false }
@@ -365,7 +368,7 @@ fn floor<'a>(alloc: Global) -> Arg<'a>
         .action(ArgAction::Set)
 }
 
-/// All lines of each kind.
+/// Returns the flag for all lines of each kind.
 fn all<'a>(alloc: Global) -> Arg<'a>
     ensures rule { rule_of result ≡ all_rule }
     ensures own { result.global ≡ false }
@@ -376,7 +379,7 @@ fn all<'a>(alloc: Global) -> Arg<'a>
         .action(ArgAction::SetTrue)
 }
 
-/// The most pairs of a channel.
+/// Returns the option for the greatest load that passes.
 fn max_load<'a>(alloc: Global) -> Arg<'a>
     ensures rule { rule_of result ≡ max_load_rule }
     ensures own { result.global ≡ false }
@@ -392,7 +395,7 @@ fn max_load<'a>(alloc: Global) -> Arg<'a>
         .action(ArgAction::Set)
 }
 
-/// An LMC.
+/// Builds the option for the LMC.
 fn lmc<'a>(alloc: Global) -> Arg<'a>
     ensures rule { rule_of result ≡ lmc_rule }
     ensures own { result.global ≡ false }
@@ -405,7 +408,7 @@ fn lmc<'a>(alloc: Global) -> Arg<'a>
         .action(ArgAction::Set)
 }
 
-/// A rule of routing, by one of these words.
+/// Builds the option for the rule of routing, which takes a word of `routings`.
 fn routing<'a>(alloc: Global, routings: &'a [&'a str]) -> Arg<'a>
     ensures rule { rule_of result ≡ routing_rule routings.entry }
     ensures own { result.global ≡ false }
@@ -422,7 +425,7 @@ fn routing<'a>(alloc: Global, routings: &'a [&'a str]) -> Arg<'a>
         .action(ArgAction::Set)
 }
 
-/// A file of roots.
+/// Builds the option for the file of roots.
 fn roots<'a>(alloc: Global) -> Arg<'a>
     ensures rule { rule_of result ≡ option_rule (codes "roots") }
     ensures own { result.global ≡ false }
@@ -436,7 +439,7 @@ fn roots<'a>(alloc: Global) -> Arg<'a>
         .action(ArgAction::Set)
 }
 
-/// A file of an order of switches.
+/// Builds the option for the file of an order of switches.
 fn order_file<'a>(alloc: Global) -> Arg<'a>
     ensures rule { rule_of result ≡ option_rule (codes "order") }
     ensures own { result.global ≡ false }
@@ -450,8 +453,8 @@ fn order_file<'a>(alloc: Global) -> Arg<'a>
         .action(ArgAction::Set)
 }
 
-/// Whether options contradict each other: roots and an order are named, or one of them with another rule of routing than
-/// the one that takes them, or with none; or a word stands for a GUID that is none.
+/// Returns whether options contradict each other: if roots and an order are both named, or if one of them is named
+/// without the rule of routing that takes it. Also returns true if the word for a manager's GUID is not a GUID.
 fn has_conflict(matches: &ArgMatches<'_>) -> bool
     ensures { result ≡ has_conflict_behind (subcommand_rows_of matches.now) }
 {
@@ -461,7 +464,8 @@ fn has_conflict(matches: &ArgMatches<'_>) -> bool
     }
 }
 
-/// Whether options behind the subcommand with a name do so.
+/// Returns whether the options of the subcommand `name` contradict each other, or it serves a manager and its GUID is
+/// not one.
 fn has_conflict_in(name: &str, words: &ArgMatches<'_>) -> bool
     ensures { result ≡ has_conflict name.now (first_value (found_of words.now)) }
 {
@@ -490,22 +494,22 @@ fn has_guid(words: &ArgMatches<'_>) -> bool
     }
 }
 
-/// Returns whether these bytes are 1 to 16 hex digits.
+/// Returns whether `word` is 1 to 16 hex digits.
 fn is_guid_word(word: &[u8]) -> bool
     ensures { result ≡ is_guid_word word.now }
 {
     !word.is_empty() && word.len() <= 16 && are_hex_digits(word)
 }
 
-/// Returns whether all are hex digits.
+/// Returns whether all of `bytes` are hex digits.
 fn are_hex_digits(bytes: &[u8]) -> bool
     ensures { result ≡ list_all is_ascii_hexdigit bytes.now }
 {
     bytes.iter().all(|byte| byte.is_ascii_hexdigit())
 }
 
-/// Whether the rule lacks that takes roots or an order, where one of them is named; behind the subcommand that prints an
-/// order the rule is that one if none is named.
+/// Returns whether roots or an order are `named`, but not the rule that takes them. For the subcommand that prints an
+/// order, that rule need not be named.
 fn lacks_rule(name: &str, words: &ArgMatches<'_>, named: bool) -> bool
     ensures { result ≡ lacks_rule (if bytes_eq name.now (codes "order")
         then order_rule (first_value (found_of words.now) (codes "routing"))
@@ -517,14 +521,14 @@ fn lacks_rule(name: &str, words: &ArgMatches<'_>, named: bool) -> bool
     }
 }
 
-/// Whether an option has a word.
+/// Returns whether the option `name` has a word.
 fn is_named(words: &ArgMatches<'_>, name: &str) -> bool
     ensures { result ≡ is_some (first_value (found_of words.now) name.now) }
 {
     words.get_str(name).is_some()
 }
 
-/// What is wrong where options behind the subcommand contradict each other.
+/// Returns the error for options that contradict each other.
 fn conflict(alloc: Global, matches: &ArgMatches<'_>) -> Result<Error, AllocError>
     ensures { IfOk result (λ error. kind_of error ≡ ErrorKind.ArgumentConflict) }
 {
@@ -532,7 +536,7 @@ fn conflict(alloc: Global, matches: &ArgMatches<'_>) -> Result<Error, AllocError
     command.error(ErrorKind::ArgumentConflict, conflict_text(matches))
 }
 
-/// What is said of it.
+/// Returns the text of the error for options that contradict each other, or for a GUID that is not one.
 fn conflict_text(matches: &ArgMatches<'_>) -> &'static str {
     let Some((_, words)) = matches.subcommand() else {
         return "";
@@ -547,7 +551,7 @@ fn conflict_text(matches: &ArgMatches<'_>) -> &'static str {
     }
 }
 
-/// The subcommand with a name, of those that make plans or print an order.
+/// Builds the subcommand `name`, one of those that make plans, print an order or serve a manager.
 fn subcommand<'a>(alloc: Global, name: Option<&str>) -> Result<Command<'a>, AllocError> {
     match name {
         Some(NEXT) => next(alloc, RULES.as_slice())?.bin_name("ibsm next"),
@@ -558,7 +562,7 @@ fn subcommand<'a>(alloc: Global, name: Option<&str>) -> Result<Command<'a>, Allo
     }
 }
 
-/// At least one file. They may stand on both sides of an option.
+/// Builds the argument for the files, at least one. They may stand on both sides of an option.
 fn files<'a>(alloc: Global) -> Arg<'a>
     ensures rule { rule_of result ≡ files_rule }
     ensures own { result.global ≡ false }

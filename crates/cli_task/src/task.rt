@@ -25,27 +25,27 @@ use std::alloc::{AllocError, Global};
 /// What the program is asked to do.
 #[derive(Clone, Copy, Debug, PartialEq, Eq)]
 pub enum Task {
-    /// To write what files say.
+    /// Writing what files say.
     Answer(Invocation),
     /// To audit tables in the subnet of files.
     Audit(AuditAsked),
-    /// To write the order of switches that tables tell in the subnet of files, where nothing older than the generation
-    /// counts.
+    /// Writing the order of switches that tables tell in the subnet of the files' facts, ignoring what is older than
+    /// the generation.
     OrderOf(Generation),
-    /// To write the tables to write next.
+    /// Writing the tables to write next.
     Next(StepAsked),
-    /// To run a schedule in the fabric of a topology, with managers that plan 2^LMC LIDs for each adapter port, by a
+    /// Running a schedule in the fabric of a topology, with managers that plan 2^LMC LIDs for each adapter port by the
     /// rule.
     Run(Lmc, RuleAsked),
-    /// To serve a manager by lines.
+    /// Serving a manager by lines.
     Serve(Serving),
 }
 
-/// Where lines are read from.
+/// The file that lines are read from.
 const LINES: &str = "/dev/stdin";
 
 impl Task {
-    /// By which rule it plans; where it does not, by one that takes no text.
+    /// Returns the rule that the task plans by; `UpDown`, which takes no text, if it does not plan.
     fn rule(&self) -> RuleAsked
         ensures { result ≡ rule_of_task self.now }
     {
@@ -58,7 +58,7 @@ impl Task {
         }
     }
 
-    /// Whether it takes files.
+    /// Returns whether the task takes files.
     fn takes_files(&self) -> bool
         ensures { result ≡ takes_files self.now }
     {
@@ -69,7 +69,7 @@ impl Task {
     }
 }
 
-/// The task that the words ask for, by the subcommand and the words behind it.
+/// Returns the task that the words ask for, by the subcommand and the words behind it.
 pub fn task_of(matches: &ArgMatches<'_>) -> Option<Task>
     ensures { result ≡ task_asked matches.now }
 {
@@ -77,7 +77,7 @@ pub fn task_of(matches: &ArgMatches<'_>) -> Option<Task>
     task_behind(command, words)
 }
 
-/// The task that a subcommand asks for, by the words behind it.
+/// Returns the task that the subcommand `command` asks for with `words`.
 fn task_behind(command: &str, words: &ArgMatches<'_>) -> Option<Task>
     ensures { result ≡ task_behind (first_value (found_of words.now)) command.now }
 {
@@ -121,8 +121,8 @@ fn is_set(words: &ArgMatches<'_>, name: &str) -> bool
     }
 }
 
-/// Returns the greatest load that the words behind a subcommand let pass, if they name one; `None` if what they name is
-/// none.
+/// Returns the greatest load that the words behind a subcommand let pass, if they name one. Returns `None` if the word is
+/// no number of 32 bits.
 fn max_load_of(words: &ArgMatches<'_>) -> Option<Option<u64>>
     ensures { result ≡ max_load_asked (first_value (found_of words.now) (codes "max-load")) }
 {
@@ -132,7 +132,7 @@ fn max_load_of(words: &ArgMatches<'_>) -> Option<Option<u64>>
     }
 }
 
-/// The step that the words behind a subcommand ask for.
+/// Returns the step that `words`, behind a subcommand, ask for.
 fn step_of(words: &ArgMatches<'_>) -> Option<StepAsked>
     ensures { result ≡ step_asked (first_value (found_of words.now)) }
 {
@@ -141,7 +141,7 @@ fn step_of(words: &ArgMatches<'_>) -> Option<StepAsked>
     Some(StepAsked { lmc, rule, floor })
 }
 
-/// Returns the manager that the words behind a subcommand ask for.
+/// Returns the manager that `words`, behind a subcommand, ask for.
 fn serving_of(words: &ArgMatches<'_>) -> Option<Serving>
     ensures { result ≡ serving_asked (first_value (found_of words.now)) }
 {
@@ -158,14 +158,14 @@ fn serving_of(words: &ArgMatches<'_>) -> Option<Serving>
     })
 }
 
-/// Returns the GUID that the words behind a subcommand tell: up to 16 hex digits.
+/// Returns the GUID that `words` name, of up to 16 hex digits.
 fn guid_of(words: &ArgMatches<'_>) -> Option<Guid>
     ensures { result ≡ guid_asked (first_value (found_of words.now) (codes "GUID")) }
 {
     Some(Guid::new(hex_number(words.get_str(GUID)?.as_bytes())?))
 }
 
-/// Returns the number of a port that the words behind a subcommand tell.
+/// Returns the port number that `words` name, or `None` if it is not from 1 to 254.
 fn port_of(words: &ArgMatches<'_>) -> Option<PortNum>
     ensures { result ≡ port_asked (first_value (found_of words.now) (codes "PORT")) }
 {
@@ -176,7 +176,7 @@ fn port_of(words: &ArgMatches<'_>) -> Option<PortNum>
     Some(PortNum::new(port as u8))
 }
 
-/// Returns the priority that the words behind a subcommand tell.
+/// Returns the priority that `words` name, or `None` if it is over 15.
 fn priority_of(words: &ArgMatches<'_>) -> Option<Priority>
     ensures { result ≡ priority_asked (first_value (found_of words.now) (codes "PRIORITY")) }
 {
@@ -187,7 +187,7 @@ fn priority_of(words: &ArgMatches<'_>) -> Option<Priority>
     Priority::new(priority as u8)
 }
 
-/// What a subcommand is to write of files, by the words behind it.
+/// Returns what the subcommand `command` writes of files.
 fn output_of(command: &str, words: &ArgMatches<'_>) -> Option<Output>
     ensures { result ≡ output_asked (first_value (found_of words.now)) command.now }
 {
@@ -203,7 +203,7 @@ fn output_of(command: &str, words: &ArgMatches<'_>) -> Option<Output>
     }
 }
 
-/// The LMC of plans and their rule of routing that the words behind a subcommand ask for.
+/// Returns the LMC and the rule of routing that `words` ask for.
 fn planning_of(words: &ArgMatches<'_>) -> Option<(Lmc, RuleAsked)>
     ensures { result ≡ planning_asked (first_value (found_of words.now)) }
 {
@@ -212,7 +212,7 @@ fn planning_of(words: &ArgMatches<'_>) -> Option<(Lmc, RuleAsked)>
     Some((lmc, rule))
 }
 
-/// What the order goes by that the words behind a subcommand ask for, the rule that spreads where they ask for none.
+/// Returns the rule of the order that `words` ask for, the one that spreads if they name none.
 fn order_of(words: &ArgMatches<'_>) -> Option<RuleAsked>
     ensures { result ≡ order_asked (first_value (found_of words.now)) }
 {
@@ -225,21 +225,21 @@ fn order_of(words: &ArgMatches<'_>) -> Option<RuleAsked>
     }
 }
 
-/// Returns the floor that the words behind a subcommand ask for, 1 if they ask for none.
+/// Returns the floor that `words` ask for, 1 if they ask for none.
 fn floor_of(words: &ArgMatches<'_>) -> Option<Generation>
     ensures { result ≡ floor_asked (first_value (found_of words.now) (codes "floor")) }
 {
     Generation::new(number_or(words, FLOOR, 1)?)
 }
 
-/// Returns the LMC that the words behind a subcommand ask for, 0 if they ask for none.
+/// Returns the LMC that `words` ask for, 0 if they ask for none.
 fn lmc_of(words: &ArgMatches<'_>) -> Option<Lmc>
     ensures { result ≡ lmc_asked (first_value (found_of words.now) (codes "lmc")) }
 {
     Lmc::new(u8::try_from(number_or(words, LMC, 0)?).ok()?)
 }
 
-/// Returns the number behind the option `name`, or `otherwise` if it is not there.
+/// Returns the number behind the option `name`, or `otherwise` if the option is not given.
 fn number_or(words: &ArgMatches<'_>, name: &str, otherwise: u32) -> Option<u32>
     ensures { result ≡ number_or otherwise (first_value (found_of words.now) name.now) }
 {
@@ -249,15 +249,16 @@ fn number_or(words: &ArgMatches<'_>, name: &str, otherwise: u32) -> Option<u32>
     }
 }
 
-/// Returns the number that `text` writes in decimal, behind a sign or without one, as the parser of words reads it;
-/// `None` if it writes none of 32 bits.
+/// Returns the number that `text` writes in decimal, with or without a sign, as the parser of words reads it. Returns
+/// `None` if it is not a number of 32 bits.
 fn number_in(text: &str) -> Option<u32>
     ensures { result ≡ option_and_then (within 0 4294967295) (number_in text.now) }
 {
     u32::try_from(text.parse::<i64>().ok()?).ok()
 }
 
-/// The rule of routing that the words behind a subcommand ask for, up and down where they ask for none.
+/// Returns the rule of routing that `words` ask for, `UpDown` if they name none. Returns `None` if roots or an order
+/// are named with a rule that does not take them.
 fn rule_of(words: &ArgMatches<'_>) -> Option<RuleAsked>
     ensures { result ≡ rule_asked (first_value (found_of words.now) (codes "routing"))
         (is_some (first_value (found_of words.now) (codes "roots")))
@@ -273,7 +274,7 @@ fn rule_of(words: &ArgMatches<'_>) -> Option<RuleAsked>
     }
 }
 
-/// The rule that spreads, where roots or an order are named, but not both.
+/// Returns the rule that spreads, from roots if `rooted`, in a named order if `ordered`, or `None` if both.
 fn spread_by(rooted: bool, ordered: bool) -> Option<RuleAsked>
     ensures { result ≡ spread_asked rooted ordered }
 {
@@ -285,8 +286,8 @@ fn spread_by(rooted: bool, ordered: bool) -> Option<RuleAsked>
     }
 }
 
-/// The names of the inputs of a task, in the order in which they are read: the texts of its rule, its own, files. None
-/// where one is not named.
+/// Returns the names of the task's inputs in the order in which they are read: the texts of its rule, its own texts,
+/// its files. Returns `None` if one of them is not named.
 pub fn names_of<'a>(
     alloc: Global,
     matches: &ArgMatches<'a>,
@@ -301,7 +302,7 @@ pub fn names_of<'a>(
     }
 }
 
-/// The same of the words behind a subcommand.
+/// Returns the names of the task's inputs, given the words behind the subcommand.
 fn names_behind<'a>(
     alloc: Global,
     words: &ArgMatches<'a>,
@@ -328,7 +329,7 @@ fn names_behind<'a>(
     Ok(Some(names))
 }
 
-/// The texts that a rule takes: that of the roots or of the order, where it is named.
+/// Returns the name of the text of roots or of the order, if `rule` takes one; `None` if it is not named.
 fn texts_of_rule<'a>(words: &ArgMatches<'a>, rule: RuleAsked) -> Option<ArrayVec<&'a str, 1>>
     ensures { option_map (λ found. map (λ name. name.now) found.items) result
         ≡ texts_of_rule (first_value (found_of words.now)) rule }
@@ -342,7 +343,7 @@ fn texts_of_rule<'a>(words: &ArgMatches<'a>, rule: RuleAsked) -> Option<ArrayVec
     Some(texts)
 }
 
-/// The other texts of a task.
+/// Returns the names of the other texts of the task, or `None` if one is not named.
 fn texts_of<'a>(words: &ArgMatches<'a>, task: &Task) -> Option<ArrayVec<&'a str, 2>>
     ensures { option_map (λ found. map (λ name. name.now) found.items) result
         ≡ texts_asked (first_value (found_of words.now)) task.now }

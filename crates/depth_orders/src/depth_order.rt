@@ -11,11 +11,11 @@ use port_graph::{Adjacency, Edge};
 use spread_labels::VertexKey;
 use std::alloc::{AllocError, Global};
 
-/// Returns the vertices in their order by depth from `root`. Next comes a neighbor of the vertex that was placed last,
-/// as long as one of its neighbors is left, else of the last one before it that has such a neighbor: the neighbor that
-/// most edges lead from to placed vertices. Of equals `direction` says which. If no placed vertex has a neighbor left,
-/// the first of all that are left comes next. Takes for each vertex a step for each edge of those that are asked before
-/// one with such a neighbor is found.
+/// Returns the vertices in their order by depth from `root`. Next comes a neighbour of the vertex that was placed last,
+/// as long as one of its neighbours is left; else of the last one before it that has such a neighbour. Among these
+/// neighbours, the one comes that most edges lead from to placed vertices, and `direction` decides between equals. If
+/// no placed vertex has a neighbour left, the first of all that are left comes next. For each vertex, takes one step
+/// for each edge that is looked at before a neighbour is found.
 pub fn order_by_depth(
     alloc: Global,
     edges: &Adjacency,
@@ -62,7 +62,7 @@ fn next_by_depth(
     }
 }
 
-/// Returns the best neighbor that is left of the last of some vertices that has one.
+/// Returns the best neighbour that is left of the last vertex in `vertices` that has one.
 fn deepest(
     edges: &Adjacency,
     keys: &[VertexKey],
@@ -87,7 +87,7 @@ fn deepest(
     None
 }
 
-/// Returns the neighbor of a vertex that is left and that most edges lead from to placed vertices.
+/// Returns the neighbour of a vertex that is left and that most edges lead from to placed vertices.
 fn best_beside(
     edges: &Adjacency,
     keys: &[VertexKey],
@@ -110,7 +110,7 @@ fn best_beside(
     found
 }
 
-/// Returns a vertex, or the one that was found before it if that goes first.
+/// Returns the better of `vertex` and the vertex found so far, if there is one.
 fn better(
     edges: &Adjacency,
     keys: &[VertexKey],
@@ -131,8 +131,8 @@ fn better(
     }
 }
 
-/// Whether one vertex goes before another: more of its edges lead to placed vertices, or as many do and `direction`
-/// takes it.
+/// Returns whether one vertex goes before another: more of its edges lead to placed vertices, or as many do and
+/// `direction` takes it.
 fn goes_before(
     edges: &Adjacency,
     keys: &[VertexKey],
@@ -162,7 +162,7 @@ fn count_placed(edges: &[Edge], placed: &[bool]) -> usize
         .count()
 }
 
-/// Returns the first of all vertices that are left.
+/// Returns the first of all vertices that are left, by `direction`.
 fn first_left(keys: &[VertexKey], direction: Direction, placed: &[bool]) -> Option<usize>
     ensures first { result ≡ first_left (turned direction (before_by keys.now)) (flag_at placed.now)
         (length keys.now) }
@@ -177,7 +177,7 @@ fn first_left(keys: &[VertexKey], direction: Direction, placed: &[bool]) -> Opti
     found
 }
 
-/// Returns a vertex, or the one that was found before it if `direction` takes that.
+/// Returns the vertex that `direction` takes of `vertex` and the one found so far, if there is one.
 fn earlier(keys: &[VertexKey], direction: Direction, found: Option<usize>, vertex: usize) -> usize
     requires vertex { vertex < length keys.now }
     requires found { MatchOption found (Unit {0}) (λ other. other < length keys.now) }
@@ -189,7 +189,7 @@ fn earlier(keys: &[VertexKey], direction: Direction, found: Option<usize>, verte
     }
 }
 
-/// Whether a vertex is placed.
+/// Returns whether a vertex is placed.
 fn is_placed(placed: &[bool], vertex: usize) -> bool
     ensures { result ≡ flag_at placed.now vertex }
 {

@@ -4,17 +4,17 @@ ghost use Rattle.depth_orders.specs.DepthOrders.{turned};
 
 use spread_labels::{VertexKey, is_before};
 
-/// Which of two vertices is taken where nothing else tells them apart.
+/// Which of two vertices is taken if nothing else distinguishes them.
 #[derive(Clone, Copy, Debug, PartialEq, Eq)]
 pub enum Direction {
-    /// The one of the earlier key.
+    /// The vertex of the earlier key.
     Forwards,
-    /// The one of the later key.
+    /// The vertex of the later key.
     Backwards,
 }
 
 impl Direction {
-    /// Whether one vertex is taken and not the other.
+    /// Returns whether `one` is taken rather than `other`.
     pub(crate) fn takes(self, keys: &[VertexKey], one: usize, other: usize) -> bool
         requires one { one < length keys.now }
         requires other { other < length keys.now }

@@ -9,7 +9,7 @@ pub record Planning : Type 0 where
   pub lmc : ℕ
   pub rule : RuleValue
 
--- an order is stored by its GUIDs, where it has some, and by whether they are named in its order
+-- an order is stored by its GUIDs, if it has some, and by whether they are named in its order
 abbrev guids_in : OrderValue → Option (Bool × List ℕ)
 guids_in (from_roots roots) = Some (false, roots)
 guids_in (as_named switches) = Some (true, switches)
@@ -30,7 +30,7 @@ order_code =
     code_by (Option (Bool × List ℕ)) (coded_option (coded× coded_bool (coded_list coded_ℕ))) guids_in order_by
     same_order
 
--- a rule is stored by its order, of which up and down has none
+-- a rule is stored by its order; up and down has none
 abbrev order_in : RuleValue → Option OrderValue
 order_in up_and_down = None
 order_in (spread_in order) = Some order
@@ -46,7 +46,7 @@ same_rule (spread_in order) = refl
 abbrev rule_code : Coded RuleValue
 rule_code = code_by (Option OrderValue) (coded_option order_code) order_in rule_by same_rule
 
--- and both as a pair
+-- a planning is stored as the pair of its LMC and its rule
 abbrev pub planning_code : Coded Planning
 planning_code =
     code_by (ℕ × RuleValue) (coded× coded_ℕ rule_code)

@@ -1,4 +1,4 @@
--- What telling the order of tables from files does: it reads all of them, and writes the order, or says which one it
+-- What telling the order of tables from files does: it reads all files and writes the order, or says which file it
 -- refuses.
 use Rattle.std.specs.Prelude.{◌≡◌, ◌↔◌, ◌⊎◌, ℕ, Bool, List, [], Option, None, Some, IsTrue, is_some, length, map, reverse}
 use Rattle.std.specs.List.{range_with_len}
@@ -14,13 +14,13 @@ use Rattle.sm_cli.specs.declared.fault.Fault.{Fault}
 use Rattle.sm_cli.specs.declared.input_tables.TablesAndFacts.{TablesAndFacts}
 use Rattle.audit_report.specs.RunAudit.{IsAnswerFault}
 
--- the switches of an order that is told, the last one first, from the first one on; none where none is told
+-- the switches of a told order from the first one on, none if no order is told; `taken` has the last switch first
 abbrev pub told_switches : Cells → Option (List ℕ) → List ℕ
 told_switches cells None = []
 told_switches cells (Some taken) = map (switch_at cells) (reverse taken)
 
--- the order that tables tell was written, of several switches that might be taken the one of the greatest GUID first;
--- whether they tell one is told
+-- the order that the tables tell was written; if several switches may be taken, the one with the greatest GUID is;
+-- `has_order` is whether an order is told
 pub record IsTelling (facts : Facts) (held : HeldPlan) (prints : List ℕ → Type 0) (has_order : Bool) : Type 0 where
   pub order : Option (List ℕ)
   pub told : IsTold (cells_of facts) held (range_with_len 0 (length (switches (cells_of facts)))) order
@@ -34,14 +34,14 @@ pub record HasTold {S : Type 0} (state : S → SourceState) (floor : ℕ) (olds 
   pub read : AreTablesAndFiles state floor olds news read_are
   pub telling : IsTelling read_are.store read_are.held prints has_order
 
--- they were read, and their order is not written
+-- the inputs were read, and their order was not written
 pub record FailsToTell {S : Type 0} (state : S → SourceState) (floor : ℕ) (olds news : List S)
     (sink_failed : Bool) (fault : Fault) : Type 0 where
   pub read_are : TablesAndFacts
   pub read : AreTablesAndFiles state floor olds news read_are
   pub why : IsAnswerFault sink_failed fault
 
--- why it ends early over open inputs: they are not read, or the order is not written
+-- why a run over open inputs ends early: the inputs are not read, or the order is not written
 abbrev pub IsOrderFault : {S : Type 0} → (S → SourceState) → ℕ → List S → List S → Bool → Fault → Type 0
 IsOrderFault state floor olds news sink_failed fault =
     AreNoTablesAndFiles state 0 olds news fault ⊎ FailsToTell state floor olds news sink_failed fault

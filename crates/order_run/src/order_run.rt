@@ -19,10 +19,14 @@ use smp_bytes::{Generation, Guid};
 use std::alloc::{AllocError, Global};
 use told_order::told_order;
 
-/// Reads the text of tables, which is the first input, and then the files in order, and writes the usable switches in an
-/// order by which packets for no LID go down and then up again by these tables: a line for each, its GUID behind `0x`.
-/// Writes nothing if there is none. Returns whether there is one. The first fault counts. If an input or memory is
-/// refused, nothing is written; how much went out before a write failed is not said.
+/// Reads the tables from the first input, then the files in order. Writes the usable switches in an order by which
+/// these tables send no packet, for whatever LID, down and then up again: a line for each switch, its GUID with `0x`
+/// before it. Writes nothing if there is no such order. Returns whether there is one.
+///
+/// # Errors
+///
+/// Returns the first fault. If an input is refused or memory runs out, nothing is written. If a write fails, how much
+/// was written before is unspecified.
 pub fn run_order_of<S: Source, W: Sink>(
     alloc: Global,
     inputs: &mut [S],
@@ -66,8 +70,8 @@ fn answer<W: Sink>(alloc: Global, sink: &mut W, store: &Store, held: &Held) -> R
     Ok(order.is_some())
 }
 
-/// Returns the order that the tables of a network tell, the last switch first. Of several switches that may be taken it
-/// takes the one of the greatest GUID.
+/// Returns the order that the network's tables tell, as indices of switches, the last switch first. If several switches
+/// may be taken, the one with the greatest GUID is.
 fn order_of(alloc: Global, network: &Network) -> Result<Option<Vec<usize>>, AllocError>
     ensures { IfOk result (λ order. IsTold (cells_of network.now.facts) network.now.held
         (range_with_len 0 (length (switches (cells_of network.now.facts)))) (option_map (λ taken. taken.items) order)) }
@@ -76,14 +80,15 @@ fn order_of(alloc: Global, network: &Network) -> Result<Option<Vec<usize>>, Allo
     told_order(alloc, network, &indices)
 }
 
-/// Returns the numbers from 0 on.
+/// Returns the numbers from 0 to `count` - 1.
 fn indices(alloc: Global, count: usize) -> Result<Vec<usize>, AllocError>
     ensures { IfOk result (λ indices. indices.items ≡ range_with_len 0 count) }
 {
     (0..count).collect(alloc)
 }
 
-/// Returns the switches of an order that is told, the first one first, and none if there is no order.
+/// Returns the switches of a told order from the first one on, or none if there is no order. `order` has the last
+/// switch first.
 fn told_switches(
     alloc: Global,
     network: &Network,
@@ -98,7 +103,7 @@ fn told_switches(
     }
 }
 
-/// Returns the switches of indices, the last one first.
+/// Returns the switches at the indices `taken`, the last one first.
 fn switches_at(alloc: Global, network: &Network, taken: &[usize]) -> Result<Vec<Guid>, AllocError>
     ensures { IfOk result (λ switches. switches.items
         ≡ map (switch_at (cells_of network.now.facts)) (reverse taken.now)) }
@@ -110,7 +115,7 @@ fn switches_at(alloc: Global, network: &Network, taken: &[usize]) -> Result<Vec<
         .collect(alloc)
 }
 
-/// Returns the GUID of the usable switch at an index, and 0 if there is none.
+/// Returns the GUID of the usable switch at `index`, or 0 if there is none.
 fn switch_at(network: &Network, index: usize) -> Guid
     ensures { result ≡ switch_at (cells_of network.now.facts) index }
 {

@@ -1,4 +1,4 @@
--- What a line says: nothing, a new manager, or a command with the names that it tells.
+-- What a line says: nothing, a new manager, or a command with its names.
 use Rattle.std.specs.Prelude.{ℕ, ◌-◌, ◌^◌, List, [], ◌∷◌, Option, None, Some, option_map, option_and_then, codes, decimal, if◌then◌else◌}
 use Rattle.std.specs.Option.{option_map_or}
 use Rattle.std.specs.Str.{bytes_eq}
@@ -24,16 +24,16 @@ use Rattle.schedule_file.specs.declared.named.PortName.{PortName}
 use Rattle.schedule_file.specs.ManagerName.{manager_name_in}
 use Rattle.schedule_file.specs.ManagerWords.{asked_by, generation_of, lid_of, number_up_to, shown_by}
 
--- a command as its line tells it: managers and nodes by their names
+-- a command as in its line: managers and nodes by their names
 abbrev pub NamedCommand : Type 0
 NamedCommand = Command (List ℕ) PortName
 
--- both of two words
+-- the two words of a list of two
 abbrev pub pair : List (List ℕ) → Option (List ℕ × List ℕ)
 pair (one ∷ other ∷ []) = Some (one, other)
 pair _ = None
 
--- a packet in flight: the last, or one by its serial number
+-- a packet in flight: the last, or the one with a serial number
 abbrev pub which_of : List ℕ → Option Which
 which_of word = if bytes_eq word (codes "last") then Some Last else option_map Serial (number_up_to (2 ^ 64 - 1) word)
 
@@ -41,7 +41,7 @@ which_of word = if bytes_eq word (codes "last") then Some Last else option_map S
 abbrev pub bracketed_number : List ℕ → Option ℕ
 bracketed_number word = option_and_then (number_up_to 255) (option_and_then alone (enclosed 91 93 word))
 
--- a node's name in quotes, and at once behind it a port in brackets
+-- a node's name in quotes, directly followed by a port in brackets
 abbrev pub port_name : List ℕ → Option PortName
 port_name word =
     option_and_then (λ x. option_and_then
@@ -64,27 +64,27 @@ bare_of word =
     else if bytes_eq word (codes "flight") then Some command.Flight
     else None
 
--- commands with one word behind their own --------------------------------------------------------
+-- commands of two words --------------------------------------------------------------------------
 
--- the manager of a name is asked for something, or something of it is shown
+-- the manager `name` is asked for something
 abbrev pub ask : Ask → List ℕ → Option NamedCommand
 ask what name = option_map (λ manager. command.Ask manager what) (manager_name_in name)
 
 abbrev pub show : Shown → List ℕ → Option NamedCommand
 show what name = option_map (λ manager. command.Show manager what) (manager_name_in name)
 
--- a command to one manager, by its word
+-- a command to one manager, by its first word
 abbrev pub to_manager : List ℕ → List ℕ → Option NamedCommand
 to_manager word name =
     option_map_or (λ what. ask what name) (asked_by word)
     (if bytes_eq word (codes "timeout") then option_map command.Timeout (manager_name_in name)
     else option_and_then (λ what. show what name) (shown_by word))
 
--- what becomes of a packet in flight
+-- a packet in flight meets its fate
 abbrev pub packet : Fate → List ℕ → Option NamedCommand
 packet fate which = option_map (λ w. command.Packet w fate) (which_of which)
 
--- any other command
+-- any command of two words
 abbrev pub of_one : List ℕ → List ℕ → Option NamedCommand
 of_one word arg =
     if bytes_eq word (codes "deliver") then packet Deliver arg
@@ -94,7 +94,7 @@ of_one word arg =
     else if bytes_eq word (codes "cut") then option_map command.Cut (port_name arg)
     else to_manager word arg
 
--- commands with two words behind their own -------------------------------------------------------
+-- commands of three words ------------------------------------------------------------------------
 
 abbrev pub merge : List ℕ → List ℕ → Option NamedCommand
 merge one other = option_and_then (λ m. option_map (command.Merge m) (manager_name_in other)) (manager_name_in one)
@@ -151,7 +151,7 @@ ask_words Write name = codes "write" ∷ name ∷ []
 ask_words Handover name = codes "handover" ∷ name ∷ []
 ask_words (Poll lid) name = codes "poll" ∷ name ∷ decimal lid ∷ []
 
--- the words of a command; those of a new manager say more of it
+-- the words of a command; a new manager's line has more words
 abbrev pub named_words : NamedCommand → List (List ℕ)
 named_words (command.Manager name) = []
 named_words (command.Ask name what) = ask_words what name
@@ -169,14 +169,14 @@ named_words command.Flight = codes "flight" ∷ []
 
 -- lines ----------------------------------------------------------------------------------------
 
--- the command that a word and those behind it are
+-- the command with these words
 abbrev pub command_in : List ℕ → List (List ℕ) → Option NamedCommand
 command_in word [] = bare_of word
 command_in word (arg ∷ []) = of_one word arg
 command_in word (one ∷ other ∷ []) = of_two word one other
 command_in word _ = None
 
--- the line that the words are
+-- what a line with these words says
 abbrev pub line_in : List (List ℕ) → Option ScheduleLine
 line_in [] = Some line.Empty
 line_in (word ∷ args) =

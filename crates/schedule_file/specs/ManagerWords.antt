@@ -1,4 +1,4 @@
--- Words that are said of one manager: what it is asked for, what is shown of it, and the numbers behind these.
+-- Words about one manager: what it is asked for, what is shown of it, and the numbers behind these.
 use Rattle.std.specs.Prelude.{ℕ, List, Option, None, Some, option_and_then, codes, nat_le, ◌==◌, if◌then◌else◌}
 use Rattle.std.specs.Str.{bytes_eq}
 use Rattle.text_words.specs.Number.{number_of}
@@ -7,7 +7,7 @@ use Rattle.schedule_file.specs.declared.command.Ask.TheVariants.{Sweep, Write, H
 use Rattle.schedule_file.specs.declared.command.Shown.{Shown}
 use Rattle.schedule_file.specs.declared.command.Shown.TheVariants.{Facts, Plan, Progress, Silent, State, Written}
 
--- what a manager is asked for by a word alone
+-- the request that `word` alone makes to a manager
 abbrev pub asked_by : List ℕ → Option Ask
 asked_by word =
     if bytes_eq word (codes "sweep") then Some Sweep
@@ -15,7 +15,7 @@ asked_by word =
     else if bytes_eq word (codes "handover") then Some Handover
     else None
 
--- what is shown of a manager by a word
+-- what of a manager `word` shows
 abbrev pub shown_by : List ℕ → Option Shown
 shown_by word =
     if bytes_eq word (codes "facts") then Some Facts
@@ -26,7 +26,7 @@ shown_by word =
     else if bytes_eq word (codes "state") then Some State
     else None
 
--- a number in decimal, up to the most
+-- a number in decimal, up to `most`
 abbrev pub number_up_to : ℕ → List ℕ → Option ℕ
 number_up_to most word = option_and_then (λ n. if nat_le n most then Some n else None) (number_of 10 word)
 

@@ -1,4 +1,4 @@
-//! Words that are said of one manager: what it is asked for, what is shown of it, and the numbers behind these.
+//! Words about one manager: what it is asked for, what is shown of it, and the numbers behind these.
 ghost use Rattle.std.specs.Prelude.{◌≡◌};
 ghost use Rattle.schedule_file.specs.ManagerWords.{asked_by, generation_of, lid_of, shown_by};
 
@@ -7,7 +7,7 @@ use crate::numbers::number_up_to;
 use smp_bytes::{Generation, Lid};
 use text_words::is_word;
 
-/// Returns what a manager is asked for by `word` alone.
+/// Returns the request that `word` alone makes to a manager.
 pub fn asked_by(word: &[u8]) -> Option<Ask>
     ensures { result ≡ asked_by word.now }
 {
@@ -22,7 +22,7 @@ pub fn asked_by(word: &[u8]) -> Option<Ask>
     }
 }
 
-/// Returns what is shown of a manager by `word`.
+/// Returns what of a manager `word` shows.
 pub fn shown_by(word: &[u8]) -> Option<Shown>
     ensures { result ≡ shown_by word.now }
 {
@@ -43,14 +43,14 @@ pub fn shown_by(word: &[u8]) -> Option<Shown>
     }
 }
 
-/// Returns the LID, up to 65,535, that `word` writes in decimal.
+/// Parses a LID up to 65,535, in decimal.
 pub fn lid_of(word: &[u8]) -> Option<Lid>
     ensures { result ≡ lid_of word.now }
 {
     Some(Lid::new(number_up_to(word, 0xFFFF)? as u16))
 }
 
-/// Returns the generation, from 1 to 4,294,967,295, that `word` writes in decimal.
+/// Parses a generation from 1 to 4,294,967,295, in decimal.
 pub fn generation_of(word: &[u8]) -> Option<Generation>
     ensures { result ≡ generation_of word.now }
 {

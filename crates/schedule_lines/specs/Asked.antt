@@ -1,4 +1,4 @@
--- What a manager is asked for, and what is shown of it.
+-- Requests to a manager, and what is shown of it.
 use Rattle.std.specs.Prelude.{ℕ, List, [], Option, None, Some}
 use Rattle.fact_store.specs.View.{cells_of}
 use Rattle.lft_blocks.specs.Plan.{plan_of}
@@ -19,25 +19,25 @@ use Rattle.sm_manager.specs.declared.fault.ManagerFault.{ManagerFault}
 use Rattle.schedule_lines.specs.Lines.{progress_line, silent_line, state_line, written_line}
 use Rattle.schedule_lines.specs.Refusals.{refusal_line}
 
--- why a manager refuses what it is asked for, by `sweep`, `write`, `handover` or `poll`
+-- why a manager refuses a request, made by `sweep`, `write`, `handover` or `poll`
 abbrev pub asked_fault : Ask → Manager → Option ManagerFault
 asked_fault Sweep m = begin_fault m
 asked_fault Write m = writing_fault m
 asked_fault Handover m = handover_fault m
 asked_fault (Poll lid) m = poll_fault m
 
--- the manager that does what it is asked for
+-- the manager after a request that it does not refuse
 abbrev pub after_asked : Ask → Manager → Manager
 after_asked Sweep m = after_begin_sweep m
 after_asked Write m = after_write_steps m
 after_asked Handover m = after_handover m
 after_asked (Poll lid) m = after_poll m lid
 
--- nothing is left to be sent
+-- the manager with nothing left to be sent
 abbrev pub emptied : Manager → Manager
 emptied m = record m { outgoing = [] }
 
--- a refusal is told by its line
+-- the line of a manager's refusal
 abbrev pub manager_line : ManagerFault → List ℕ
 manager_line fault = refusal_line (manager_fault_name fault)
 
@@ -46,7 +46,7 @@ abbrev pub plan_or_refusal : Planning → Cells → Option ManagerFault → List
 plan_or_refusal planning cells None = plan_text (plan_of planning.rule planning.lmc cells)
 plan_or_refusal planning cells (Some fault) = manager_line fault
 
--- what `facts`, `plan`, `progress`, `silent`, `written` or `state` show of a manager, with its name where it has one
+-- what `facts`, `plan`, `progress`, `silent`, `written` or `state` show of a manager, with its name if there is one
 abbrev pub text_of : Shown → Option (List ℕ) → Manager → List ℕ
 text_of Facts name m = facts_text m.store
 text_of Plan name m =

@@ -12,7 +12,7 @@ use Rattle.sm_state.specs.States.{state_word}
 use Rattle.sm_manager.specs.declared.progress.Progress.{Progress}
 use Rattle.sm_manager.specs.declared.progress.Progress.TheVariants.{Never, Running, Done}
 
--- words, and how many
+-- words, and a number
 abbrev pub count_text : List ℕ → ℕ → List ℕ
 count_text words count = words ++ decimal count
 
@@ -25,11 +25,11 @@ stage_text Never = codes " never"
 stage_text (Running unanswered too_far) = codes " running" ++ counts_text unanswered too_far
 stage_text (Done unanswered too_far) = codes " done" ++ counts_text unanswered too_far
 
--- a manager's name, where lines tell one
+-- the name of a manager, if lines have one
 abbrev pub name_of : Option (Bor (List ℕ)) → Option (List ℕ)
 name_of name = option_map (λ n. n.now) name
 
--- a word, and behind it a manager's name, where lines tell one
+-- a word, and behind it a manager's name, if lines have one
 abbrev pub head_text : List ℕ → Option (List ℕ) → List ℕ
 head_text word None = word
 head_text word (Some manager) = word ++ codes " " ++ manager
@@ -38,7 +38,7 @@ head_text word (Some manager) = word ++ codes " " ++ manager
 abbrev pub end_word : List ℕ → List ℕ
 end_word word = codes " " ++ word ++ codes "\n"
 
--- how far a manager is with its sweep
+-- the progress of a manager's sweep
 abbrev pub progress_line : Option (List ℕ) → Progress → List ℕ
 progress_line manager progress = head_text (codes "progress") manager ++ stage_text progress ++ codes "\n"
 
@@ -59,7 +59,7 @@ answer_word false = codes "no"
 abbrev pub written_line : Option (List ℕ) → Bool → List ℕ
 written_line manager written = head_text (codes "written") manager ++ end_word (answer_word written)
 
--- a manager is in this state
+-- the state of a manager
 abbrev pub state_line : Option (List ℕ) → SmState → List ℕ
 state_line manager state = head_text (codes "state") manager ++ end_word (state_word state)
 
@@ -67,16 +67,16 @@ state_line manager state = head_text (codes "state") manager ++ end_word (state_
 abbrev pub port_text : List Node → NodePort → List ℕ
 port_text nodes p = quoted_text (name_at nodes p.node) ++ bracketed_text p.port
 
--- from where a packet is sent, and to which LID
+-- the port that a packet is sent from, and its LID
 unfoldable pub start_text : List Node → NodePort → ℕ → List ℕ
 start_text nodes source lid = codes "ping " ++ port_text nodes source ++ codes " " ++ decimal lid
 
--- where it comes to
+-- where a packet ends
 unfoldable pub end_text : List Node → Ping → List ℕ
 end_text nodes (Reached p hops) = codes " reached " ++ port_text nodes p ++ codes " hops " ++ decimal hops
 end_text nodes (Lost number) = codes " lost " ++ quoted_text (name_at nodes number)
 
--- both
+-- the port that a packet is sent from, its LID, and where it ends
 abbrev pub ping_line : List Node → NodePort → ℕ → Ping → List ℕ
 ping_line nodes source lid ping = start_text nodes source lid ++ end_text nodes ping ++ codes "\n"
 

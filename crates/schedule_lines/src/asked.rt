@@ -1,4 +1,4 @@
-//! What managers are asked for.
+//! Requests to managers.
 ghost use Rattle.std.specs.Prelude.{◌≡◌, IfOk, OnErr, OnOk};
 ghost use Rattle.sm_manager.specs.Fault.{is_memory};
 ghost use Rattle.sm_manager.specs.Manager.{outstanding};
@@ -9,7 +9,7 @@ use schedule_file::Ask;
 use sm_manager::{Manager, ManagerFault};
 use std::alloc::{AllocError, Global};
 
-/// Asks a manager for something.
+/// Asks `manager` for `what`.
 pub fn ask_manager(manager: &mut Manager, what: Ask) -> Result<(), ManagerFault>
     ensures judged { JudgesButFor is_memory result (asked_fault what manager.old) }
     ensures ok { OnOk result (manager.new ≡ after_asked what manager.old) }
@@ -23,7 +23,7 @@ pub fn ask_manager(manager: &mut Manager, what: Ask) -> Result<(), ManagerFault>
     }
 }
 
-/// Returns the TransactionIDs of the requests for whose answers a manager waits, rising.
+/// Returns the TransactionIDs of the requests whose answers a manager waits for, rising.
 pub fn waiting(alloc: Global, manager: &Manager) -> Result<Vec<u64>, AllocError>
     ensures { IfOk result (λ waiting. waiting.items ≡ outstanding manager.now) }
 {

@@ -16,7 +16,7 @@ use sm_state::SmState;
 use smp_bytes::Lid;
 use topo_file::Topology;
 
-/// The name of a node, and nothing where there is no such node.
+/// Returns the name of a node, empty if there is no such node.
 fn name_at(topology: &Topology, node: NodeId) -> &str
     ensures { result.now ≡ name_at topology.now.nodes node }
 {
@@ -26,7 +26,7 @@ fn name_at(topology: &Topology, node: NodeId) -> &str
     }
 }
 
-/// Prints how far a manager is with its sweep, with its name where it has one.
+/// Prints the progress of a manager's sweep, with the manager's name if there is one.
 pub fn write_progress<W: Sink>(
     sink: &mut W,
     manager: Option<&str>,
@@ -40,7 +40,7 @@ pub fn write_progress<W: Sink>(
     sink.write(b"\n")
 }
 
-/// Prints a word, and behind it the name of a manager where it has one.
+/// Prints `word`, and behind it the name of a manager if there is one.
 fn write_head<W: Sink>(sink: &mut W, word: &[u8], manager: Option<&str>) -> Result<(), WriteFault>
     ensures writes { Writes W.written W.has_failed result sink.old sink.new
         (head_text word.now (name_of manager.entry)) }
@@ -109,7 +109,7 @@ pub fn write_written<W: Sink>(
     write_end_word(sink, answer_word(written))
 }
 
-/// Prints a blank, a word and the end of the line.
+/// Prints a blank, `word` and a line feed.
 fn write_end_word<W: Sink>(sink: &mut W, word: &str) -> Result<(), WriteFault>
     ensures writes { Writes W.written W.has_failed result sink.old sink.new (end_word word.now) }
 {
@@ -145,7 +145,7 @@ fn write_counts<W: Sink>(sink: &mut W, unanswered: u64, too_far: u64) -> Result<
     write_count(sink, b" toofar ", too_far)
 }
 
-/// Prints words, and a number.
+/// Prints `words` and then `count`.
 fn write_count<W: Sink>(sink: &mut W, words: &[u8], count: u64) -> Result<(), WriteFault>
     ensures writes { Writes W.written W.has_failed result sink.old sink.new
         (count_text words.now count) }
@@ -154,7 +154,7 @@ fn write_count<W: Sink>(sink: &mut W, words: &[u8], count: u64) -> Result<(), Wr
     write_number(sink, count)
 }
 
-/// Prints where a packet comes to that is sent from a port to a LID.
+/// Prints where a packet ends that is sent from the port `from` to `lid`.
 pub fn write_ping<W: Sink>(
     sink: &mut W,
     topology: &Topology,
@@ -170,7 +170,7 @@ pub fn write_ping<W: Sink>(
     sink.write(b"\n")
 }
 
-/// Prints from where the packet is sent, and to which LID.
+/// Prints the port that the packet is sent from, and its LID.
 fn write_start<W: Sink>(
     sink: &mut W,
     topology: &Topology,
@@ -185,7 +185,7 @@ fn write_start<W: Sink>(
     write_count(sink, b" ", u64::from(lid.number()))
 }
 
-/// Prints where the packet comes to.
+/// Prints where the packet ends.
 fn write_end<W: Sink>(sink: &mut W, topology: &Topology, ping: &Ping) -> Result<(), WriteFault>
     ensures writes { Writes W.written W.has_failed result sink.old sink.new
         (end_text topology.now.nodes ping.now) }
@@ -236,7 +236,7 @@ pub fn write_flight<W: Sink>(
     sink.write(b"\n")
 }
 
-/// Prints a text between two others.
+/// Prints `text` between `front` and `back`.
 pub(crate) fn write_between<W: Sink>(
     sink: &mut W,
     front: &[u8],
@@ -250,7 +250,7 @@ pub(crate) fn write_between<W: Sink>(
     sink.write(back)
 }
 
-/// Prints one text and then another.
+/// Prints `front` and then `back`.
 fn write_pair<W: Sink>(sink: &mut W, front: &[u8], back: &[u8]) -> Result<(), WriteFault>
     ensures writes { Writes W.written W.has_failed result sink.old sink.new
         (front.now ++ back.now) }

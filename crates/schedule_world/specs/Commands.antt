@@ -1,4 +1,4 @@
--- What each line of a schedule does, and what it prints; and so what a run prints.
+-- What each line of a schedule does, what it prints, and what a run prints.
 use Rattle.std.specs.Prelude.{ℕ, zero, suc, ◌+◌, List, [], ◌∷◌, map, position, slice_get, if◌then◌else◌, Option, None, Some, Result, Ok, Err}
 use Rattle.std.specs.List.{flat_map}
 use Rattle.std.specs.Option.{option_map_or}
@@ -42,36 +42,36 @@ use Rattle.schedule_world.specs.World.{SeatedValue, WorldValue, after_ask, at_se
 
 -- managers -----------------------------------------------------------------------------------------
 
--- `manager M "n"[p] P`: the manager comes to sit at its port
+-- `manager M "n"[p] P`: the manager is seated at its port
 unfoldable pub after_manager_line : WorldValue → ℕ → Outcome WorldValue
 after_manager_line w seat = at_seat w seat (λ s. after_fabric_call w (after_seat w.fabric s.at))
 
--- such a line: the manager of a seat does it, and then it sends what it has queued
+-- `sweep`, `write`, `handover` or `poll`: the manager of a seat does it, and then sends what it has queued
 unfoldable pub after_ask_line : WorldValue → ℕ → Ask → Outcome WorldValue
 after_ask_line w seat what = after_ask (λ now. after_send now seat) w seat (asked_fault what) (after_asked what)
 
--- `merge M N`: the first takes in all that the second knows
+-- `merge M N`: the first manager takes in all that the second knows
 unfoldable pub after_merge_line : WorldValue → ℕ → ℕ → Outcome WorldValue
 after_merge_line w seat other =
     at_seat w seat (λ s. at_seat w other (λ o. quiet (with_manager w seat s (after_merge s.manager o.manager.store))))
 
--- `floor M G`: the manager forgets what is older
+-- `floor M G`: the manager forgets what is older than G
 unfoldable pub after_floor_line : WorldValue → ℕ → ℕ → Outcome WorldValue
 after_floor_line w seat floor = at_seat w seat (λ s. quiet (with_manager w seat s (after_raise_floor s.manager floor)))
 
--- `timeout M`: the manager gives up a request
+-- the manager gives up a request
 unfoldable pub after_give_up : WorldValue → ℕ → ℕ → Outcome WorldValue
 after_give_up w seat transaction =
     after_ask quiet w seat (λ m. (manager.after_timeout m transaction).fault)
     (λ m. (manager.after_timeout m transaction).manager)
 
--- one after the other
+-- the manager gives up requests, one after the other
 abbrev pub after_giving_up : WorldValue → ℕ → List ℕ → Outcome WorldValue
 after_giving_up w seat [] = quiet w
 after_giving_up w seat (transaction ∷ later) =
     and_then (after_give_up w seat transaction) (λ now. after_giving_up now seat later)
 
--- all that wait as the line begins, and then it sends what it has queued
+-- `timeout M`: the manager gives up all requests that wait as the line begins, and then sends what it has queued
 unfoldable pub after_timeout_line : WorldValue → ℕ → Outcome WorldValue
 after_timeout_line w seat =
     at_seat w seat (λ s. and_then (after_giving_up w seat (outstanding s.manager)) (λ now. after_send now seat))
@@ -84,15 +84,15 @@ after_take w seat packet =
     after_ask quiet w seat (λ m. (manager.after_packet m packet.bytes (Some packet.slid)).fault)
     (λ m. (manager.after_packet m packet.bytes (Some packet.slid)).manager)
 
--- and sends what it has queued
+-- the manager of a seat takes in a packet, or refuses it, and then sends what it has queued
 unfoldable pub after_take_and_send : WorldValue → ℕ → Packet → Outcome WorldValue
 after_take_and_send w seat packet = and_then (after_take w seat packet) (λ now. after_send now seat)
 
--- the seat at a port, where a manager sits by now
+-- the seat at a port, if a manager sits there by now
 abbrev pub seat_at : WorldValue → NodePort → Option ℕ
 seat_at w p = if is_seat_at w.fabric p then position (λ s. is_same_port s.at p) w.managers else None
 
--- a packet that comes to a port goes to the manager there; where none sits it is dropped
+-- a packet that comes to a port goes to the manager there; if none sits there it is dropped
 unfoldable pub after_hand_up : WorldValue → NodePort → Packet → Outcome WorldValue
 after_hand_up w p packet = option_map_or (λ seat. after_take_and_send w seat packet) (seat_at w p) (quiet w)
 
@@ -103,35 +103,35 @@ after_arrival w (Ok (delivered_is.Answered serial)) = quiet w
 after_arrival w (Ok (delivered_is.Discarded reason)) = quiet w
 after_arrival w (Err fault) = quiet w
 
--- the packet of a serial number takes one step
+-- the packet with this serial number takes one step
 unfoldable pub after_step : WorldValue → ℕ → Outcome WorldValue
 after_step w serial = let called =
     after_deliver w.fabric serial in and_then (after_fabric_call w called) (λ now. after_arrival now called.result)
 
--- the packet of a serial number meets its fate, by `deliver`, `lose` or `repeat`
+-- the packet with this serial number meets its fate, by `deliver`, `lose` or `repeat`
 abbrev pub after_fate : WorldValue → Fate → ℕ → Outcome WorldValue
 after_fate w Deliver serial = after_step w serial
 after_fate w Lose serial = after_fabric_call w (after_lose w.fabric serial)
 after_fate w Repeat serial = after_fabric_call w (after_repeat w.fabric serial)
 
--- such a line: the packet that is meant does; there is no last one where none is in flight
+-- `deliver`, `lose` or `repeat`: the packet that is meant meets its fate; there is no last one if none is in flight
 unfoldable pub after_packet_line : WorldValue → Which → Fate → Outcome WorldValue
 after_packet_line w which fate =
     option_map_or (after_fate w fate) (serial_of w.fabric.flights which)
     (shows (refusal_line (fabric_fault_name NoSuchPacket)) w)
 
--- `drain N`: the packet of the least serial number takes one step, at most so many times
+-- `drain N`: the packet with the least serial number takes one step, at most N times
 abbrev pub after_drain_line : WorldValue → ℕ → Outcome WorldValue
 after_drain_line w zero = quiet w
 after_drain_line w (suc most) =
     option_map_or (λ flight. and_then (after_step w flight.serial) (λ now. after_drain_line now most))
     (slice_get w.fabric.flights 0) (quiet w)
 
--- `flight`: a packet, and where it waits
+-- a packet in flight, and where it waits
 abbrev pub flight_shown : List Node → Flight → List ℕ
 flight_shown nodes flight = flight_line nodes flight.serial (port_of flight.whereabouts).node
 
--- all of them
+-- `flight`: all packets in flight
 abbrev pub flights_text : List Node → List Flight → List ℕ
 flights_text nodes flights = flat_map (flight_shown nodes) flights
 
@@ -145,7 +145,7 @@ after_cut_line w p = after_fabric_call w (after_cut w.fabric p)
 unfoldable pub after_plug_line : WorldValue → NodePort → NodePort → Outcome WorldValue
 after_plug_line w p q = after_fabric_call w (after_plug w.fabric p q)
 
--- `ping "n"[p] L`: where the packet comes to, or why it cannot be sent
+-- `ping "n"[p] L`: where the packet ends, or why it cannot be sent
 abbrev pub ping_text : List Node → Simulation → NodePort → ℕ → Option FabricFault → List ℕ
 ping_text nodes fabric source lid None = ping_line nodes source lid (ping (fabric_of fabric) lid source)
 ping_text nodes fabric source lid (Some fault) = refusal_line (fabric_fault_name fault)
@@ -159,13 +159,13 @@ ping_shown nodes w source lid = ping_text nodes w.fabric source lid (ping_fault 
 abbrev pub shown_at : Shown → SeatedValue → List ℕ
 shown_at what s = text_of what (Some s.name) s.manager
 
--- of the manager of a seat
+-- what is shown of the manager of a seat
 unfoldable pub shown_of : WorldValue → ℕ → Shown → List ℕ
 shown_of w seat what = option_map_or (shown_at what) (slice_get w.managers seat) []
 
--- all of them ------------------------------------------------------------------------------------------
+-- all commands -----------------------------------------------------------------------------------------
 
--- a line, in the fabric of these nodes
+-- what a line does and prints, in a fabric with `nodes`
 abbrev pub after_command : List Node → WorldValue → SeatCommand → Outcome WorldValue
 after_command nodes w (command.Manager seat) = after_manager_line w seat
 after_command nodes w (command.Ask seat what) = after_ask_line w seat what
@@ -181,13 +181,13 @@ after_command nodes w (command.Ping p lid) = shows (ping_shown nodes w p lid) w
 after_command nodes w command.Tables = shows (tables_text w.fabric) w
 after_command nodes w command.Flight = shows (flights_text nodes w.fabric.flights) w
 
--- line by line
+-- what lines do and print, one after the other
 abbrev pub after_commands : List Node → WorldValue → List SeatCommand → Outcome WorldValue
 after_commands nodes w [] = quiet w
 after_commands nodes w (command ∷ later) =
     and_then (after_command nodes w command) (λ now. after_commands nodes now later)
 
--- the manager of a seat, and how it plans: an adapter's port has the GUID that lies so far above its node's
+-- the manager of a seat, and how it plans: an adapter's port has its node's GUID plus the port's number
 abbrev pub new_seated : Planning → List Node → Seat → SeatedValue
 new_seated planning nodes seat =
     let guid = option_map_or (λ node. node.guid + seat.at.port) (slice_get nodes seat.at.node) 0 in
@@ -198,7 +198,7 @@ abbrev pub world_of : Planning → Layout → List Seat → WorldValue
 world_of planning topology seats =
     record { fabric = simulation_of topology 1; managers = map (new_seated planning topology.nodes) seats }
 
--- what the run of a schedule prints, and how its managers plan
+-- what the run of a schedule prints, with managers that plan by `planning`
 unfoldable pub script_text : Planning → Layout → Script → List ℕ
 script_text planning topology script =
     (after_commands topology.nodes (world_of planning topology script.seats) script.commands).text
@@ -211,6 +211,6 @@ abbrev pub topology_text : Planning → Result Layout TopoFault → List ℕ →
 topology_text planning (Ok topology) schedule = schedule_text planning topology (schedule_of topology.nodes schedule)
 topology_text planning (Err fault) schedule = []
 
--- what a run of these two texts prints, by how managers plan; nothing where one of them is refused
+-- what a run of the two texts prints, with managers that plan by `planning`; nothing if one of the texts is refused
 abbrev pub run_text : Planning → List ℕ → List ℕ → List ℕ
 run_text planning topology schedule = topology_text planning (topology_of topology) schedule

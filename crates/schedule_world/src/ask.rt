@@ -12,7 +12,7 @@ use smp_bytes::Generation;
 use std::alloc::Global;
 
 impl World<'_> {
-    /// A manager comes to sit at its port.
+    /// Seats a manager at its port.
     pub(crate) fn seat<W: Sink>(&mut self, seat: usize, sink: &mut W) -> Result<(), RunFault>
         requires { seat < length self.old.managers.items }
         ensures does { Does W.written W.has_failed self.old self.new result sink.old sink.new
@@ -24,7 +24,7 @@ impl World<'_> {
         }
     }
 
-    /// A manager is asked for something. What it queues then goes out.
+    /// Asks a manager for `what`, and sends the packets that it then has queued.
     pub(crate) fn ask<W: Sink>(
         &mut self,
         seat: usize,
@@ -41,7 +41,7 @@ impl World<'_> {
         self.send(seat, sink)
     }
 
-    /// A manager forgets what is older than a generation.
+    /// Lets a manager forget what is older than `floor`.
     pub(crate) fn raise_floor(&mut self, seat: usize, floor: Generation)
         requires { seat < length self.old.managers.items }
         ensures managers { length self.new.managers.items ≡ length self.old.managers.items }
@@ -50,7 +50,8 @@ impl World<'_> {
         self.managers[seat].manager.raise_floor(floor);
     }
 
-    /// A manager waits no more for the answers that it waits for now. What that brings up goes out.
+    /// Times out all answers that a manager waits for when the call begins, and sends the packets that it then has
+    /// queued.
     pub(crate) fn time_out<W: Sink>(
         &mut self,
         alloc: Global,
@@ -68,7 +69,7 @@ impl World<'_> {
         self.send(seat, sink)
     }
 
-    /// A manager waits no more for an answer.
+    /// Times out one answer that a manager waits for.
     fn give_up<W: Sink>(
         &mut self,
         seat: usize,

@@ -27,7 +27,7 @@ impl World<'_> {
         show_manager(sink, Some(seated.seat.name.as_str()), &seated.manager, what)
     }
 
-    /// Prints where a packet comes to that is sent from a port to a LID.
+    /// Prints where a packet ends that is sent from the port `from` to `lid`.
     #[tactic(auto, using(schedule_lines::proofs::Printing::wrote), unfolding(crate::specs::Commands::ping_shown))]
     pub(crate) fn show_ping<W: Sink>(
         &self,

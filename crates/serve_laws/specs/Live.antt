@@ -1,4 +1,4 @@
--- A process that is told by lines, at its seat on a fabric on which other managers work too.
+-- A process that is told by lines, at its seat on a fabric where other managers work too.
 use Rattle.std.specs.Prelude.{◌≡◌, ℕ, List, [], ◌∷◌, ◌++◌, All, map, slice_get, if◌then◌else◌, Option, Some, None, IsTrue}
 use Rattle.fabric_model.specs.declared.cable.NodePort.{NodePort}
 use Rattle.fabric_model.specs.Cables.{is_same_port}
@@ -16,16 +16,16 @@ use Rattle.serve_run.specs.Served.{served, served_all}
 use Rattle.serve_laws.specs.Told.{given_by}
 
 -- Something happens on the fabric; the process is told a line that is no packet; a packet that was handed up at its
--- seat is told to it, and may be again; a packet that it printed is sent from its seat, and may be again.
+-- seat is told to it, and may be told again; a packet that it printed is sent from its seat, and may be sent again.
 pub data LiveEvent : Type 0 where
   Around : (event : Event) → LiveEvent
   Tell : (line : ServeLine) → LiveEvent
   Hear : (which : ℕ) → LiveEvent
   Send : (which : ℕ) → LiveEvent
 
--- which of these there are -----------------------------------------------------------------------
+-- which events there are -----------------------------------------------------------------------------
 
--- packets are heard, and floors are generations
+-- a line that is told is no packet, since packets are heard, and a floor is a generation
 abbrev pub IsOrder : ServeLine → Type 0
 IsOrder (Packet bytes from) = ⊥
 IsOrder (Floor floor) = IsTrue (is_generation floor)
@@ -49,7 +49,7 @@ lines_by w (Tell line) = line ∷ []
 lines_by w (Hear which) = lines_heard w (slice_get w.scene.handed which)
 lines_by w (Send which) = []
 
--- what happens -----------------------------------------------------------------------------------
+-- what events do -------------------------------------------------------------------------------------
 
 abbrev pub event_asked : Asking → ManagerEvent
 event_asked ask.Sweep = managing.Begin
@@ -64,7 +64,7 @@ events_told m (Timeout transaction) = managing.TimeOut transaction ∷ []
 events_told m GiveUp = map managing.TimeOut (outstanding m)
 events_told m line = []
 
--- each packet that is printed is taken
+-- a call that takes the packet, for each packet that is printed
 abbrev pub takes_of : List Outgoing → List ManagerEvent
 takes_of [] = []
 takes_of (out ∷ later) = managing.Take ∷ takes_of later
@@ -80,7 +80,7 @@ events_by w (Tell line) = events_told w.manager line ++ takes_of (given_by w.man
 events_by w (Hear which) = managing.Hear which ∷ takes_of (given_heard w (slice_get w.scene.handed which))
 events_by w (Send which) = managing.Send which ∷ []
 
--- all of them ------------------------------------------------------------------------------------
+-- all events -----------------------------------------------------------------------------------------
 
 abbrev pub after_live : Managing → LiveEvent → Managing
 after_live w event = after_manager_events (events_by w event) w
@@ -93,17 +93,18 @@ abbrev pub lines_of : List LiveEvent → Managing → List ServeLine
 lines_of [] w = []
 lines_of (event ∷ events) w = lines_by w event ++ lines_of events (after_live w event)
 
--- the packets that a process prints for these lines, in their order
+-- the packets that a process prints for these lines, in order
 abbrev pub given_all : List ServeLine → Manager → List Outgoing
 given_all [] m = []
 given_all (line ∷ later) m = given_by m line ++ given_all later (served m line).now
 
--- the manager of the process is the one at the seat, and what it printed is what this gave out
+-- the manager of the process is the one at the seat, and the packets that the process printed are those that the
+-- manager gave out
 pub record IsServed (w : Managing) (events : List LiveEvent) : Type 0 where
   pub manager :
       (after_manager_events (events_of events w) w).manager ≡ (served_all w.manager (lines_of events w)).now
   pub out : (after_manager_events (events_of events w) w).out ≡ w.out ++ given_all (lines_of events w) w.manager
-  -- these are things that can be
+  -- the events are ones that can be
   pub can_be : All (CanBe w.seat) (events_of events w)
 
 abbrev pub ServedIsManaging : Type 0

@@ -34,7 +34,7 @@ abbrev pub TellsNoSweep : LiveEvent → Type 0
 TellsNoSweep (Tell line) = IsNoSweepLine line
 TellsNoSweep event = Unit {0}
 
--- no `write` is told, and each Set that an agent takes is one of the own, or carries the plan's values
+-- no `write` is told, and each Set that an agent takes is one of the writing's own or carries the plan's values
 abbrev pub IsNoWriteLine : ServeLine → Type 0
 IsNoWriteLine (Ask ask.Write) = ⊥
 IsNoWriteLine line = Unit {0}
@@ -49,15 +49,15 @@ AllKeepLive plan own [] w = Unit {0}
 AllKeepLive plan own (event ∷ events) w =
     KeepsLive plan own w event × AllKeepLive plan own events (after_live w event)
 
--- after live events
+-- the manager after live events
 abbrev pub all_live : List LiveEvent → Managing → Managing
 all_live events w = after_manager_events (events_of events w) w
 
--- after `sweep` was told, and more
+-- the manager when `write` is told: after `sweep` was told, and more events
 abbrev pub live_at_writing : Managing → List LiveEvent → List LiveEvent → Managing
 live_at_writing w before between = all_live between (after_live (all_live before w) sweep_line)
 
--- and `write`, and more
+-- the manager after `write` was told, and after more events
 abbrev pub live_after_write : Managing → List LiveEvent → List LiveEvent → Managing
 live_after_write w before between = after_live (live_at_writing w before between) write_line
 
@@ -72,16 +72,16 @@ pub record BringsUpLive (who : Who) (w : Managing) (before between after : List 
   pub before_can : All (CanLive w.seat) before
   pub between_can : All (CanLive w.seat) between
   pub after_can : All (CanLive w.seat) after
-  -- it holds no facts when `sweep` is told, which is not refused
+  -- the process holds no facts when `sweep` is told, which is not refused
   pub knew_nothing : cells_of (all_live before w).manager.store ≡ []
   pub sweep_begins : begin_fault (all_live before w).manager ≡ None
-  -- no other sweep and no floor is told until `write` is
+  -- no other `sweep` and no `floor` is told before `write`
   pub alone : All TellsNoSweep between
-  -- the sweep has every answer then, and nothing was out of its reach
+  -- the sweep has every answer at `write`, and nothing was out of its reach
   pub sweep : Sweep
   pub is_last : (live_at_writing w before between).manager.sweep ≡ Some sweep
   pub whole : IsWhole sweep
-  -- `write` is not refused, and no other one is told
+  -- `write` is not refused, and no other `write` is told
   pub writing_begins : writing_fault (live_at_writing w before between).manager ≡ None
   -- each Set that an agent takes from then on, unless it is one of the writing's own, carries the plan's values
   pub keep : AllKeepLive (plan_at (live_at_writing w before between)) (own_sets w (live_at_writing w before between)) after
@@ -89,7 +89,8 @@ pub record BringsUpLive (who : Who) (w : Managing) (before between after : List 
   -- the plan is written in the end
   pub written : is_written (live_at_end w before between after).manager ≡ true
 
--- then each ping from an end port of what the seat is joined to, for each LID of the plan, reaches its owner
+-- each ping from an end port of what the seat is joined to, for each LID of the plan, reaches its owner, if a process
+-- brings the subnet up
 abbrev pub LivePingsArrive : Type 0
 LivePingsArrive =
     (who : Who) (w : Managing) (before between after : List LiveEvent) → BringsUpLive who w before between after
@@ -97,7 +98,7 @@ LivePingsArrive =
     (cells_of (live_at_writing w before between).manager.store) (plan_at (live_at_writing w before between))
     (live_at_end w before between after).scene.fabric w.seat
 
--- there is such a process, with what happens at its seat
+-- a process that brings a subnet up, and what happens at its seat
 pub record SomeProcessServes : Type 0 where
   pub who : Who
   pub managing : Managing

@@ -1,4 +1,4 @@
--- Lines as calls of the manager.
+-- Lines as calls of a manager.
 use Rattle.std.specs.Prelude.{ℕ, List, [], ◌∷◌, ◌++◌, map, Some}
 use Rattle.schedule_file.specs.declared.command.Ask.{Ask as Asking}
 use Rattle.schedule_file.specs.declared.command.Ask.TheVariants.{Sweep, Write, Handover, Poll}
@@ -12,14 +12,14 @@ use Rattle.serve_lines.specs.declared.line.ServeLine.TheVariants.{Ask, Floor, Pa
 use Rattle.lft_blocks.specs.Planning.{Planning}
 use Rattle.serve_run.specs.Served.{after_line, served}
 
--- what a manager is asked for
+-- the call for what a manager is asked
 abbrev pub call_asked : Asking → Call
 call_asked Sweep = calls.BeginSweep
 call_asked Write = calls.WriteSteps
 call_asked Handover = calls.Handover
 call_asked (Poll lid) = calls.Poll lid
 
--- what a line tells
+-- the calls that a line tells
 abbrev pub calls_told : Manager → ServeLine → List Call
 calls_told m (Ask what) = call_asked what ∷ []
 calls_told m (Floor floor) = calls.Raise floor ∷ []
@@ -28,20 +28,20 @@ calls_told m (Timeout transaction) = calls.Timeout transaction ∷ []
 calls_told m GiveUp = map calls.Timeout (outstanding m)
 calls_told m _ = []
 
--- each packet that goes out is taken
+-- a call that takes the packet, for each packet that goes out
 abbrev pub takes_for : List Outgoing → List Call
 takes_for [] = []
 takes_for (out ∷ later) = calls.Take ∷ takes_for later
 
--- the packets that go out as a line is answered
+-- the packets that go out when a line is answered
 abbrev pub given_by : Manager → ServeLine → List Outgoing
 given_by m line = (after_line m line).now.outgoing
 
--- all calls of a line
+-- all calls of a line: those that it tells, and those that take packets
 abbrev pub calls_of_line : Manager → ServeLine → List Call
 calls_of_line m line = calls_told m line ++ takes_for (given_by m line)
 
--- and of one line after the other
+-- the calls of one line after the other
 abbrev pub calls_of : List ServeLine → Manager → List Call
 calls_of [] m = []
 calls_of (line ∷ later) m = calls_of_line m line ++ calls_of later (served m line).now
@@ -53,7 +53,7 @@ pub record Who : Type 0 where
   pub priority : ℕ
   pub planning : Planning
 
--- as it begins
+-- the new manager
 abbrev pub new_by : Who → Manager
 new_by who = new_manager who.port_guid who.port who.priority who.planning
 

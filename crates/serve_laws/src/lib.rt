@@ -1,4 +1,4 @@
-//! What is so of a manager that is told and asked by lines, and of what it prints.
+//! Laws of a manager that is told and asked by lines, and of what it prints.
 #![tactic(auto)]
 
 pub mod laws;

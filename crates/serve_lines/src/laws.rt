@@ -1,4 +1,4 @@
-//! What is so of lines that are read.
+//! What is so of every line that is read.
 ghost use Rattle.serve_lines.specs.Read.{ReadLinesAreInRange};
 
 /// Whatever bytes are read, a floor is a generation, and a packet has 256 bytes.

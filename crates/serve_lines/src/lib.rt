@@ -1,4 +1,4 @@
-//! The lines by which a manager is told and asked: what each says.
+//! The lines by which a manager is controlled, and what each says.
 #![tactic(auto)]
 
 pub mod laws;

@@ -4,22 +4,22 @@ use smp_bytes::{Generation, Lid};
 /// What a line says to a manager.
 #[derive(Clone, Copy)]
 pub enum ServeLine {
-    /// It is asked for something, and may refuse it.
+    /// A request to the manager, which it may refuse.
     Ask(Ask),
-    /// It forgets what is older than a generation.
+    /// The manager forgets what is older than the generation.
     Floor(Generation),
-    /// A packet came to its port, from whoever has the LID.
+    /// A packet came to the manager's port from the LID.
     Packet([u8; 256], Lid),
-    /// It waits no longer for the answer of this TransactionID.
+    /// The manager stops waiting for the answer to this TransactionID.
     Timeout(u64),
-    /// It waits no longer for the answers that it waits for.
+    /// The manager stops waiting for all answers.
     GiveUp,
-    /// Something of it is shown.
+    /// Something of the manager is shown.
     Show(Shown),
-    /// The managers that its last sweep saw are shown.
+    /// The managers that the last sweep saw are shown.
     Managers,
-    /// Nothing.
+    /// The line has no word.
     Empty,
-    /// Nothing that is a line of the grammar.
+    /// The line is none of the grammar's.
     Wrong,
 }

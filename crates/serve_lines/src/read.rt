@@ -1,4 +1,4 @@
-//! Lines as they are read.
+//! Parsing of lines.
 ghost use Rattle.std.specs.Prelude.{◌≡◌, ◌∷◌};
 ghost use Rattle.text_words.specs.Text.{words};
 ghost use Rattle.serve_lines.specs.ServeLine.{bare_of, line_in, line_of, most_bytes, of_one, packet_in, packet_of};
@@ -8,10 +8,10 @@ use crate::line::ServeLine;
 use schedule_file::{Ask, asked_by, generation_of, lid_of, shown_by};
 use text_words::{is_word, number, split_word};
 
-/// The most bytes that a line has, its end left out.
+/// The most bytes that a line has without its line feed.
 pub const MOST_BYTES: usize = 600;
 
-/// Returns what `line` says, which is without its end. One of more than `MOST_BYTES` is none of the grammar's.
+/// Parses `line`, which is without its line feed. A line of more than `MOST_BYTES` is `Wrong`.
 #[tactic(auto, unfolding(crate::specs::ServeLine::line_of))]
 pub fn read_line(line: &[u8]) -> ServeLine
     ensures { result ≡ line_of line.now }
@@ -25,7 +25,7 @@ pub fn read_line(line: &[u8]) -> ServeLine
     }
 }
 
-/// Returns what the words of `line` say; `None` if they are none of the grammar's.
+/// Parses the words of `line`. Returns `None` if the grammar has no such line.
 fn said_by(line: &[u8]) -> Option<ServeLine>
     ensures { result ≡ line_in (words line.now) }
 {
@@ -41,7 +41,7 @@ fn said_by(line: &[u8]) -> Option<ServeLine>
     behind_three(word, one, other, rest)
 }
 
-/// Returns what three words and those of `rest` say.
+/// Parses a line of three words and those of `rest`.
 fn behind_three(word: &[u8], one: &[u8], other: &[u8], rest: &[u8]) -> Option<ServeLine>
     ensures { result ≡ line_in (word.now ∷ one.now ∷ other.now ∷ words rest.now) }
 {
@@ -52,7 +52,7 @@ fn behind_three(word: &[u8], one: &[u8], other: &[u8], rest: &[u8]) -> Option<Se
     packet_in(word, one, other, last)
 }
 
-/// Returns what a line of one word says.
+/// Parses a line of one word.
 fn bare(word: &[u8]) -> Option<ServeLine>
     ensures { result ≡ bare_of word.now }
 {
@@ -67,7 +67,7 @@ fn bare(word: &[u8]) -> Option<ServeLine>
     }
 }
 
-/// Returns what a line of a word and one behind it says.
+/// Parses a line of two words.
 fn of_one(word: &[u8], arg: &[u8]) -> Option<ServeLine>
     ensures { result ≡ of_one word.now arg.now }
 {
@@ -82,7 +82,7 @@ fn of_one(word: &[u8], arg: &[u8]) -> Option<ServeLine>
     }
 }
 
-/// Returns what a line of four words says: a packet, and the LID that it came from.
+/// Parses a line of four words: a packet, and the LID that it came from.
 fn packet_in(word: &[u8], hex: &[u8], between: &[u8], lid: &[u8]) -> Option<ServeLine>
     ensures { result ≡ packet_in word.now hex.now between.now lid.now }
 {
@@ -93,7 +93,7 @@ fn packet_in(word: &[u8], hex: &[u8], between: &[u8], lid: &[u8]) -> Option<Serv
     Some(ServeLine::Packet(bytes, lid_of(lid)?))
 }
 
-/// Returns the 256 bytes of a packet, each by two hex digits of either case.
+/// Parses the 256 bytes of a packet, each written by two hex digits of either case.
 fn packet_of(word: &[u8]) -> Option<[u8; 256]>
     ensures { result ≡ packet_of word.now }
 {
@@ -104,7 +104,7 @@ fn packet_of(word: &[u8]) -> Option<[u8; 256]>
     }
 }
 
-/// Returns the TransactionID that 16 hex digits of either case write.
+/// Parses a TransactionID, written by 16 hex digits of either case.
 fn transaction_of(word: &[u8]) -> Option<u64>
     ensures { result ≡ transaction_of word.now }
 {
@@ -114,7 +114,7 @@ fn transaction_of(word: &[u8]) -> Option<u64>
     hex_number(word)
 }
 
-/// Returns the number that `word` writes by 1 to 16 hex digits of either case.
+/// Parses a number, written by 1 to 16 hex digits of either case.
 pub fn hex_number(word: &[u8]) -> Option<u64>
     ensures { result ≡ hex_number word.now }
 {

@@ -1,4 +1,4 @@
--- A manager that is told by lines: what each does, and what is printed.
+-- A manager that is controlled by lines: what each line does, and what is printed.
 use Rattle.std.specs.Prelude.{ℕ, List, [], ◌∷◌, ◌++◌, Option, None, Some, codes, decimal}
 use Rattle.std.specs.List.{flat_map}
 use Rattle.std.specs.Option.{option_map_or}
@@ -20,47 +20,47 @@ use Rattle.sm_manager.specs.declared.outgoing.Outgoing.{Outgoing}
 
 -- texts ------------------------------------------------------------------------------------------
 
--- to a LID, or by the path that it carries
+-- the LID that a packet goes to; empty if it goes by the path that it carries
 abbrev pub to_text : Option ℕ → List ℕ
 to_text None = []
 to_text (Some lid) = codes " to " ++ decimal lid
 
--- a packet goes out
+-- the line of a packet that goes out
 unfoldable pub send_line : Outgoing → List ℕ
 send_line out = codes "send " ++ encode_lower out.packet ++ to_text out.to ++ codes "\n"
 
--- the line behind an answer
+-- the line that ends an answer
 abbrev pub end_line : List ℕ
 end_line = codes ".\n"
 
--- the state that a manager told
+-- the state that a manager reported
 abbrev pub told_state : ℕ → List ℕ
 told_state number = option_map_or state_word (state_of_number number) (decimal number)
 
--- where a manager was seen, and the GUID of the port that it told
+-- the port at which a manager was seen, and the port GUID that it reported
 abbrev pub where_text : SeenManager → List ℕ
 where_text s = codes "manager " ++ port_text s.guid s.port ++ codes " guid " ++ guid_text s.info.guid
 
--- the priority and the state that it told
+-- the priority and the state that a manager reported
 abbrev pub told_text : SmInfo → List ℕ
 told_text info = codes " priority " ++ decimal info.priority ++ codes " state " ++ told_state info.state ++ codes "\n"
 
--- a manager that the last sweep saw
+-- the line of a manager that the last sweep saw
 unfoldable pub seen_line : SeenManager → List ℕ
 seen_line s = where_text s ++ told_text s.info
 
--- a refusal is told by its line
+-- the line of a refusal, empty if there is none
 abbrev pub fault_text : Option ManagerFault → List ℕ
 fault_text None = []
 fault_text (Some fault) = manager_line fault
 
 -- lines ------------------------------------------------------------------------------------------
 
--- a call leaves a manager, and may be refused
+-- what a call leaves and prints: the manager then, and the line of its refusal
 abbrev pub after_called : Called → Outcome Manager
 after_called c = record { now = c.manager; text = fault_text c.fault }
 
--- a manager is asked for something
+-- a manager is asked, and refuses with the fault, if any
 abbrev pub asked_with : Manager → Option ManagerFault → Manager → Called
 asked_with m None after = done after
 asked_with m (Some fault) after = refused m fault
@@ -68,13 +68,13 @@ asked_with m (Some fault) after = refused m fault
 abbrev pub asked : Manager → Asking → Called
 asked m what = asked_with m (asked_fault what m) (after_asked what m)
 
--- these requests are given up, one after the other
+-- each request of a list is given up in turn
 abbrev pub after_giving_up : Manager → List ℕ → Outcome Manager
 after_giving_up m [] = quiet m
 after_giving_up m (transaction ∷ later) =
     and_then (after_called (after_timeout m transaction)) (λ now. after_giving_up now later)
 
--- what a line does, before anything goes out
+-- what a line does, before any packet goes out
 abbrev pub after_line : Manager → ServeLine → Outcome Manager
 after_line m (Ask what) = after_called (asked m what)
 after_line m (Floor floor) = quiet (after_raise_floor m floor)
@@ -94,11 +94,11 @@ given_out o = record { now = emptied o.now; text = o.text ++ flat_map send_line 
 unfoldable pub served : Manager → ServeLine → Outcome Manager
 served m line = and_then (given_out (after_line m line)) (shows end_line)
 
--- line by line
+-- each line is served in turn
 abbrev pub served_all : Manager → List ServeLine → Outcome Manager
 served_all m [] = quiet m
 served_all m (line ∷ later) = and_then (served m line) (λ now. served_all now later)
 
--- what is printed where a manager is told by these bytes: a function of both
+-- what is printed if the manager `m` is told `bytes`
 abbrev pub served_by : Manager → List ℕ → List ℕ
 served_by m bytes = (served_all m (lines_told [] bytes)).text

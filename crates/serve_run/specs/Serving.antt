@@ -1,4 +1,4 @@
--- A manager is served by what is read: how that ends.
+-- Serving a manager by what is read: how that ends.
 use Rattle.std.specs.Prelude.{◌≡◌, ◌⊎◌, ◌≤◌, ◌<◌, ◌+◌, ◌^◌, ◌-◌, ℕ, Bool, true, false, List, [], length, Option, Result, Ok, Err, IsTrue}
 use Rattle.std.specs.Io.KnownBytes.{Consumes, IsAtEnd, Keeps}
 use Rattle.byte_io.specs.Source.{SourceState}
@@ -16,24 +16,24 @@ use Rattle.serve_run.specs.Served.{served_by}
 abbrev pub value_of : Server → ServerValue
 value_of s = record { manager = s.manager; begun = s.begun.items }
 
--- the fault of a line that was not dealt with, as that of the server
+-- the fault of handling a line, as a fault of serving
 abbrev pub fault_of_run : RunFault → ServeFault
 fault_of_run runs.Write = Write
 fault_of_run runs.Memory = Memory
 
--- these bytes were read, and no more are left
+-- `bytes` were read, and no more are left
 pub record IsReadToEnd {S : Type 0} (state : S → SourceState) (old new : S) (bytes : List ℕ) : Type 0 where
   pub read : Consumes (state old).left (state new).left bytes
   pub at_end : IsAtEnd (state new).left
 
--- all was read, and this holds of what the manager prints where it is told by that
+-- all was read, and `prints` holds of what the manager prints for it
 pub record HasServed {S : Type 0} (state : S → SourceState) (old new : S) (m : Manager)
     (prints : List ℕ → Type 0) : Type 0 where
   pub bytes : List ℕ
   pub read : IsReadToEnd state old new bytes
   pub printed : prints (served_by m bytes)
 
--- some bytes were read, and this holds of what the manager prints where it is told by them
+-- some bytes were read, and `prints` holds of what the manager prints for them
 pub record HasServedSome {S : Type 0} (state : S → SourceState) (old new : S) (m : Manager)
     (prints : List ℕ → Type 0) : Type 0 where
   pub bytes : List ℕ
@@ -51,8 +51,7 @@ pub record FailsToRead {S : Type 0} (state : S → SourceState) (old new : S) (m
   pub served : HasServedSome state old new m prints
   pub why : CannotBeRead (state old) (state new) (length served.bytes)
 
--- why a manager is served no more: this holds of what is printed where memory is refused, and this where no more can be
--- read
+-- why serving stops: `some` holds of what is printed if memory is refused, `whole` if no more can be read
 abbrev pub StopsServing : {S : Type 0} → (S → SourceState) → S → S → Manager → (List ℕ → Type 0) → (List ℕ → Type 0)
     → Bool → ServeFault → Type 0
 StopsServing state old new m some whole sink_failed Read = FailsToRead state old new m whole
@@ -65,7 +64,7 @@ stopped fault = Err fault
 
 -- pieces -----------------------------------------------------------------------------------------
 
--- what one reading comes to: the end, or some bytes or none, or a fault
+-- how one read ends: bytes that may be none, the end, or a fault
 pub record GoesOn {S W : Type 0} (state : S → SourceState) (written : W → Option (List ℕ)) (has_failed : W → Bool)
     (old new : S) (server server' : ServerValue) (sink sink' : W) : Type 0 where
   pub bytes : List ℕ

@@ -1,4 +1,4 @@
-//! A manager that is told and asked by lines: what each does, and what is printed.
+//! A manager that is controlled by lines: what each line does, and what is printed.
 #![tactic(auto)]
 
 mod managers;

@@ -20,7 +20,7 @@ pub(crate) fn show_managers<W: Sink>(sink: &mut W, managers: &[SeenManager]) -> 
     Ok(())
 }
 
-/// Writes the line of a manager that was seen.
+/// Writes the line of a manager that a sweep saw.
 #[tactic(auto, unfolding(crate::specs::Served::seen_line))]
 fn write_seen<W: Sink>(sink: &mut W, seen: &SeenManager) -> Result<(), WriteFault>
     ensures writes { Writes W.written W.has_failed result sink.old sink.new (seen_line seen.now) }
@@ -29,7 +29,7 @@ fn write_seen<W: Sink>(sink: &mut W, seen: &SeenManager) -> Result<(), WriteFaul
     write_told(sink, &seen.info)
 }
 
-/// Writes where it was seen, and the GUID of the port that it told.
+/// Writes the port at which the manager was seen, and the port GUID that it reported.
 fn write_where<W: Sink>(sink: &mut W, seen: &SeenManager) -> Result<(), WriteFault>
     ensures writes { Writes W.written W.has_failed result sink.old sink.new (where_text seen.now) }
 {
@@ -39,7 +39,7 @@ fn write_where<W: Sink>(sink: &mut W, seen: &SeenManager) -> Result<(), WriteFau
     write_guid(sink, seen.info.guid)
 }
 
-/// Writes the priority and the state that it told, and the end of the line.
+/// Writes the priority and the state that the manager reported, and ends the line.
 fn write_told<W: Sink>(sink: &mut W, info: &SmInfo) -> Result<(), WriteFault>
     ensures writes { Writes W.written W.has_failed result sink.old sink.new (told_text info.now) }
 {
@@ -50,7 +50,7 @@ fn write_told<W: Sink>(sink: &mut W, info: &SmInfo) -> Result<(), WriteFault>
     sink.write(b"\n")
 }
 
-/// Writes the state of a number, and of one that is none's the number.
+/// Writes the word of a state, or `number` itself if it is not that of a state.
 fn write_told_state<W: Sink>(sink: &mut W, number: SmStateNumber) -> Result<(), WriteFault>
     ensures writes { Writes W.written W.has_failed result sink.old sink.new (told_state number) }
 {

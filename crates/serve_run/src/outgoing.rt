@@ -12,7 +12,7 @@ use schedule_lines::RunFault;
 use sm_manager::{Manager, Outgoing};
 use smp_bytes::Lid;
 
-/// Prints a line for each packet that `manager` has queued, in their order. None is queued then.
+/// Prints a line for each packet that `manager` has queued, in their order. Empties the queue.
 pub(crate) fn send_all<W: Sink>(manager: &mut Manager, sink: &mut W) -> Result<(), RunFault>
     ensures manager { OnOk result (manager.new ≡ emptied manager.old) }
     ensures prints { PrintsUnless W.written W.has_failed result sink.old sink.new
@@ -35,7 +35,7 @@ fn write_outgoing<W: Sink>(sink: &mut W, outgoing: &Outgoing) -> Result<(), Writ
     sink.write(b"\n")
 }
 
-/// Writes a packet by two hex digits for each byte.
+/// Writes the bytes of `packet`, two hex digits each.
 fn write_hex<W: Sink>(sink: &mut W, packet: &[u8; 256]) -> Result<(), WriteFault>
     ensures writes { Writes W.written W.has_failed result sink.old sink.new (encode_lower packet.now) }
 {
@@ -44,7 +44,7 @@ fn write_hex<W: Sink>(sink: &mut W, packet: &[u8; 256]) -> Result<(), WriteFault
     sink.write(&digits)
 }
 
-/// Writes the LID that a packet goes to; nothing if it goes by the path that it carries.
+/// Writes the LID that a packet goes to; writes nothing if the packet goes by the path that it carries.
 fn write_to<W: Sink>(sink: &mut W, to: Option<Lid>) -> Result<(), WriteFault>
     ensures writes { Writes W.written W.has_failed result sink.old sink.new (to_text to) }
 {

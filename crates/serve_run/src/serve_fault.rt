@@ -1,12 +1,12 @@
 use byte_io::WriteFault;
 use schedule_lines::RunFault;
 
-/// Why a manager is served no more before its lines end.
+/// Why serving stopped before the lines ended.
 #[derive(Clone, Copy, Debug, PartialEq, Eq)]
 pub enum ServeFault {
-    /// The lines can't be read.
+    /// The lines cannot be read.
     Read,
-    /// The output took no more.
+    /// A write to the output failed.
     Write,
     /// Memory was refused.
     Memory,

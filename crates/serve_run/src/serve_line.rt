@@ -1,4 +1,4 @@
-//! A line is dealt with: it is answered, what is queued goes out, and the answer ends.
+//! Handling one line: it is answered, what is queued goes out, and the answer ends.
 ghost use Rattle.std.specs.Prelude.{◌≡◌, OnOk, IsTrue, Some};
 ghost use Rattle.sm_manager.specs.Packets.{after_packet, after_timeout};
 ghost use Rattle.sm_manager.specs.Manager.{outstanding};
@@ -16,7 +16,7 @@ use sm_manager::Manager;
 use smp_bytes::Lid;
 use std::alloc::Global;
 
-/// Deals with a line: answers it, writes all that is queued, ends the answer, and flushes.
+/// Handles a line: answers it, writes all that is queued, ends the answer, and flushes.
 pub(crate) fn serve_line<W: Sink>(
     alloc: Global,
     manager: &mut Manager,
@@ -32,7 +32,7 @@ pub(crate) fn serve_line<W: Sink>(
     end_answer(sink)
 }
 
-/// Prints the line that ends an answer, and passes all on.
+/// Prints the line that ends an answer, and flushes.
 #[tactic(auto, using(schedule_lines::proofs::Printing::wrote))]
 fn end_answer<W: Sink>(sink: &mut W) -> Result<(), RunFault>
     ensures prints { PrintsUnless W.written W.has_failed result sink.old sink.new end_line }
@@ -43,7 +43,7 @@ fn end_answer<W: Sink>(sink: &mut W) -> Result<(), RunFault>
     Ok(())
 }
 
-/// Prints a text.
+/// Prints `text`.
 #[tactic(auto, using(schedule_lines::proofs::Printing::wrote))]
 fn print<W: Sink>(sink: &mut W, text: &[u8]) -> Result<(), RunFault>
     ensures prints { PrintsUnless W.written W.has_failed result sink.old sink.new text.now }
@@ -52,7 +52,7 @@ fn print<W: Sink>(sink: &mut W, text: &[u8]) -> Result<(), RunFault>
     Ok(())
 }
 
-/// Does what a line says, and prints what it tells. What is queued then stays.
+/// Does what `line` says, and prints the result. Packets that are then queued stay queued.
 fn do_line<W: Sink>(
     alloc: Global,
     manager: &mut Manager,
@@ -78,7 +78,7 @@ fn do_line<W: Sink>(
     }
 }
 
-/// Asks a manager for something; tells why it refuses.
+/// Asks `manager` for `what`; prints why if it refuses.
 fn ask<W: Sink>(manager: &mut Manager, what: Ask, sink: &mut W) -> Result<(), RunFault>
     ensures does { Lives W.written W.has_failed manager.new result sink.old sink.new
         (after_called (asked manager.old what)) }
@@ -89,7 +89,7 @@ fn ask<W: Sink>(manager: &mut Manager, what: Ask, sink: &mut W) -> Result<(), Ru
     }
 }
 
-/// Has a manager take in a packet that came to its port from a LID; tells why it refuses it.
+/// Passes `manager` a packet that came to its port from the LID `from`; prints why if it is refused.
 fn take_in<W: Sink>(
     manager: &mut Manager,
     bytes: &[u8; 256],
@@ -105,7 +105,7 @@ fn take_in<W: Sink>(
     }
 }
 
-/// Has a manager wait no more for an answer; tells why it refuses to.
+/// Tells `manager` that the answer to `transaction` timed out; prints why if that is refused.
 fn time_out<W: Sink>(manager: &mut Manager, transaction: u64, sink: &mut W) -> Result<(), RunFault>
     ensures does { Lives W.written W.has_failed manager.new result sink.old sink.new
         (after_called (after_timeout manager.old transaction)) }
@@ -116,7 +116,7 @@ fn time_out<W: Sink>(manager: &mut Manager, transaction: u64, sink: &mut W) -> R
     }
 }
 
-/// Has a manager wait no more for the answers that it waits for as this begins, by rising TransactionID.
+/// Times out all answers that `manager` waits for when the call begins, by rising TransactionID.
 fn give_up<W: Sink>(alloc: Global, manager: &mut Manager, sink: &mut W) -> Result<(), RunFault>
     ensures does { Lives W.written W.has_failed manager.new result sink.old sink.new
         (after_giving_up manager.old (outstanding manager.old)) }

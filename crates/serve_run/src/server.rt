@@ -1,4 +1,4 @@
-//! A manager is served: lines are read, and each is dealt with before the next one is read.
+//! Serving a manager: lines are read, and each is handled before the next one is read.
 ghost use Rattle.std.specs.Prelude.{◌≡◌, ◌<◌, IfErr, OnOk, IsTrue, false, length};
 ghost use Rattle.std.specs.Io.KnownBytes.{Appends};
 ghost use Rattle.schedule_lines.specs.Prints.{PrintsSome};
@@ -14,25 +14,25 @@ use serve_lines::{MOST_BYTES, read_line};
 use sm_manager::Manager;
 use std::alloc::{AllocError, Global};
 
-/// How many bytes are read at once, at most.
+/// The most bytes that one read asks for.
 const PIECE: usize = 4096;
 
-/// A manager, and the line that is begun: its first bytes, up to one more than a line may have.
+/// A manager, and the line that has begun: its first bytes, up to one more than a line may have.
 #[derive(Drop)]
 pub(crate) struct Server {
     manager: Manager,
     begun: Vec<u8>,
 }
 
-/// Serves a manager by lines until they end. Each line is answered, and the answer passed on, before more is read.
+/// Serves a manager by lines until they end. Answers each line, and flushes the answer, before it reads more.
 ///
-/// What is written is `served_by` of all that was read; bytes behind the last line feed are no line. Takes the memory of
-/// the manager, and 601 bytes for the line that is begun.
+/// Writes `served_by` of all that was read; bytes behind the last line feed are not a line. Takes the memory of the
+/// manager, and 601 bytes for the line that has begun.
 ///
 /// # Errors
 ///
-/// `Read`: the lines can't be read, and all that were read have been answered. `Memory`: a beginning of the answers was
-/// written. `Write`: how much was written isn't said.
+/// `Read`: the lines cannot be read, and all that were read have been answered. `Memory`: a beginning of the answers
+/// was written. `Write`: how much was written is unspecified.
 pub fn serve<S: Source, W: Sink>(
     alloc: Global,
     manager: Manager,
@@ -61,7 +61,7 @@ pub fn serve<S: Source, W: Sink>(
 }
 
 impl Server {
-    /// Reads some bytes, and deals with the lines that end in them. Nothing is held back as it reads. Answers whether
+    /// Reads some bytes, and handles the lines that end in them. Holds back no output while it reads. Returns whether
     /// more may come.
     fn serve_piece<S: Source, W: Sink>(
         &mut self,
@@ -86,7 +86,7 @@ impl Server {
         }
     }
 
-    /// Deals with the lines that end in these bytes.
+    /// Handles the lines that end in `bytes`.
     fn serve_bytes<W: Sink>(
         &mut self,
         alloc: Global,
@@ -104,7 +104,7 @@ impl Server {
         Ok(())
     }
 
-    /// Deals with the line that is begun if the byte ends it; else the line goes on.
+    /// Handles the line that has begun if `byte` ends it; otherwise adds `byte` to the line.
     fn serve_byte<W: Sink>(&mut self, alloc: Global, byte: u8, sink: &mut W) -> Result<(), RunFault>
         requires { IsTrue (W.is_flushed sink.old) }
         ensures serves { Lives W.written W.has_failed (value_of self.new) result sink.old sink.new
@@ -121,7 +121,7 @@ impl Server {
     }
 }
 
-/// Puts a byte behind those of a line, unless these are too many for a line already.
+/// Appends `byte` to those of a line, unless they are already too many for a line.
 fn keep(begun: &mut Vec<u8>, byte: u8) -> Result<(), AllocError>
     ensures { OnOk result (begun.new.items ≡ kept_with begun.old.items byte) }
 {

@@ -1,4 +1,4 @@
-//! A manager that is asked for is served by lines, once the text that its rule of routing takes is read.
+//! The task of serving a manager by lines: the text that its rule of routing takes is read first.
 #![tactic(auto)]
 
 mod no_files;

@@ -3,7 +3,7 @@ use sm_cli::{Fault, InputReader};
 use smp_bytes::Guid;
 use std::alloc::Global;
 
-/// What reads no file. As nothing is known, any switch may be there.
+/// A reader of no files. Since nothing is known, any GUID may be that of a switch.
 #[derive(Clone, Copy, Debug, PartialEq, Eq)]
 pub(crate) struct NoFiles;
 

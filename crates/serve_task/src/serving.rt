@@ -22,19 +22,19 @@ use std::alloc::Global;
 pub struct Serving {
     /// The GUID of the port that it sits at.
     pub guid: Guid,
-    /// The number of that port.
+    /// The number of the port that it sits at.
     pub port: PortNum,
     pub priority: Priority,
-    /// It plans 2^LMC LIDs for each adapter port.
+    /// The LMC of its plans: 2^LMC LIDs for each adapter port.
     pub lmc: Lmc,
     pub rule: RuleAsked,
 }
 
-/// Serves a manager that knows nothing yet by lines, as `serve` does. The inputs are the text that its rule takes, which
-/// is read first, and the lines.
+/// Serves a manager that has no facts yet by lines, as `serve` does. The inputs are the text that its rule takes, if
+/// any, which is read first, and the lines.
 ///
-/// What is written is `served_by` of that manager and the lines. Where the rule's text is refused nothing is written. Roots
-/// may be any GUIDs, since no switch is known yet.
+/// Writes `served_by` of that manager and the lines; writes nothing if the rule's text is refused. Roots may be any
+/// GUIDs, since no switch is known yet.
 pub fn run_serve<S: Source, W: Sink>(
     alloc: Global,
     inputs: &mut [S],
@@ -66,7 +66,7 @@ pub fn run_serve<S: Source, W: Sink>(
     }
 }
 
-/// Returns the fault of a server as one of the program, whose lines are the input `lines`.
+/// Returns the fault of serving as one of the program; `lines` is the input that the lines come from.
 fn fault_of_serving(lines: usize, fault: ServeFault) -> Fault
     ensures { result ≡ fault_of_serving lines fault }
 {

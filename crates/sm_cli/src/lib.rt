@@ -1,4 +1,4 @@
-//! What the program does with files of records: it reads them, and writes what they say as text.
+//! A run over files of records: it reads them, and writes what they say as text.
 #![tactic(auto)]
 
 mod asked;

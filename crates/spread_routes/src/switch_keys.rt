@@ -16,17 +16,17 @@ use std::alloc::{AllocError, Global};
 use subnet_view::SwitchGraph;
 use trial_loads::least_loaded_keys;
 
-/// What switches are ordered and led by.
+/// The keys and levels of switches, by which they are ordered and led.
 #[derive(Drop)]
 pub(crate) struct SwitchKeys {
     /// The key of each switch, by rising GUID.
     pub(crate) keys: Vec<VertexKey>,
-    /// The level of each.
+    /// The level of each switch, by rising GUID.
     pub(crate) levels: Vec<usize>,
 }
 
-/// The switches of a graph in the order by which the rule goes, as the leaf switches and `order` give it. Takes what
-/// `Spread::of` takes, but for the edges.
+/// Returns the switches of a graph in the order by which the rule goes, given the leaf switches and `order`. Takes what
+/// `Spread::of` takes, except for the edges.
 pub fn switches_in_order(
     alloc: Global,
     graph: &SwitchGraph,
@@ -41,7 +41,7 @@ pub fn switches_in_order(
     switches_at(alloc, graph.switches(), &vertices)
 }
 
-/// The switches at these indices.
+/// Returns the switches at these indices.
 fn switches_at(alloc: Global, guids: &[Guid], indices: &[usize]) -> Result<Vec<Guid>, AllocError>
     requires { All (λ i. i < length guids.now) indices.now }
     ensures { IfOk result (λ found. found.items ≡ map (at_position guids.now) indices.now) }
@@ -53,7 +53,7 @@ fn switches_at(alloc: Global, guids: &[Guid], indices: &[usize]) -> Result<Vec<G
     Ok(found)
 }
 
-/// The keys and the levels of switches.
+/// Returns the keys and the levels of switches.
 pub(crate) fn switch_keys(
     alloc: Global,
     graph: &SwitchGraph,
@@ -71,7 +71,7 @@ pub(crate) fn switch_keys(
     }
 }
 
-/// The same from roots.
+/// Returns the keys by distances from roots, and the levels of switches.
 fn from_roots(
     alloc: Global,
     graph: &SwitchGraph,
@@ -93,7 +93,7 @@ fn from_roots(
     Ok(SwitchKeys { keys, levels })
 }
 
-/// The same as a list names switches.
+/// Returns the keys by a list that names switches, and the levels of switches.
 fn as_named(
     alloc: Global,
     graph: &SwitchGraph,
@@ -114,7 +114,7 @@ fn as_named(
     Ok(SwitchKeys { keys, levels })
 }
 
-/// The same by the order of the least trial load.
+/// Returns the keys by the order of the least trial load, and the levels of switches.
 fn least_loaded(
     alloc: Global,
     graph: &SwitchGraph,
@@ -131,7 +131,7 @@ fn least_loaded(
     Ok(SwitchKeys { keys, levels })
 }
 
-/// The keys of switches by a list that names some. Takes a search for each of these.
+/// Returns the keys of switches by a list that names some. Takes a search for each switch of the list.
 fn keys_as_named(
     alloc: Global,
     graph: &SwitchGraph,
@@ -151,7 +151,7 @@ fn keys_as_named(
     Ok(keys)
 }
 
-/// The key of a switch before which so many are named.
+/// Returns the key of a switch before which `number` are named.
 fn key_at(number: usize) -> VertexKey
     ensures { result ≡ record { distance_class = 0; distance = number } }
 {

@@ -1,14 +1,14 @@
--- Which switch may be the last of those that are left, by lists of turns.
+-- Which switch may be the last of those left, by lists of turns.
 use Rattle.std.specs.Prelude.{◌≡◌, ◌<◌, ◌+◌, ◌&&◌, ℕ, Bool, true, false, not, List, [], Option, None, Some, slice_get, slice_index_or}
 use Rattle.std.specs.List.{list_any}
 use Rattle.told_order.specs.declared.turns.SwitchTurn.{SwitchTurn}
 use Rattle.told_order.specs.ToldOrder.{is_left}
 
--- a turn leads from one that is left to one that is
+-- one of the turns leads from a switch that is left to one that is left
 abbrev pub turns_in : List Bool → List SwitchTurn → Bool
 turns_in left turns = list_any (λ turn. is_left left turn.from && is_left left turn.to) turns
 
--- a switch is left, and none of its turns does
+-- switch j is left, and none of its turns leads from a switch that is left to one that is left
 abbrev pub may_be_last : List (List SwitchTurn) → List Bool → ℕ → Bool
 may_be_last turns left j = is_left left j && not (turns_in left (slice_index_or turns j []))
 
@@ -22,7 +22,7 @@ pub record IsLastBy (turns : List (List SwitchTurn)) (preferred : List ℕ) (lef
   pub stands : slice_get preferred index ≡ Some x
   pub none_behind : NoneFromBy turns preferred left (index + 1)
 
--- the one that may be the last, or that none may be
+-- the last of `preferred` that may be the last switch, or None if none may be
 abbrev pub IsNextBy : List (List SwitchTurn) → List ℕ → List Bool → Option ℕ → Type 0
 IsNextBy turns preferred left None = NoneFromBy turns preferred left 0
 IsNextBy turns preferred left (Some x) = IsLastBy turns preferred left x

@@ -5,14 +5,14 @@ use Rattle.plan_file.specs.Held.{HeldPlan}
 use Rattle.next_tables.specs.ByOrder.{AreApart, AreRight, IsOrder}
 use Rattle.told_order.specs.ToldOrder.{IsTold, position_in}
 
--- by the positions of switches that were taken so tables are right for every LID
+-- tables are right for every LID by the positions of switches in the order that they tell
 abbrev pub ToldOrdersAreRight : Type 0
 ToldOrdersAreRight =
     (cells : Cells) (tables : HeldPlan) (preferred taken : List ℕ) → IsTold cells tables preferred (Some taken)
     → IsOrder cells (position_in taken) × AreApart cells (position_in taken)
     × ((lid : ℕ) → 1 ≤ lid → AreRight cells (position_in taken) tables lid)
 
--- where tables are right by some order, one is told
+-- an order is told if tables are right by some order
 abbrev pub SomeOrderIsTold : Type 0
 SomeOrderIsTold =
     (cells : Cells) (tables : HeldPlan) (preferred : List ℕ) (q : ℕ → ℕ)

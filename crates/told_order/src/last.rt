@@ -1,4 +1,4 @@
-//! The switch that may be the last of those that are left.
+//! The switch that may be the last of those left.
 ghost use Rattle.std.specs.Prelude.{◌≡◌};
 ghost use Rattle.told_order.specs.Last.{IsNextBy, may_be_last, turns_in};
 ghost use Rattle.told_order.specs.ToldOrder.{is_left};
@@ -6,9 +6,9 @@ ghost use Rattle.told_order.specs.Turns.{lists_of};
 
 use crate::turns::SwitchTurn;
 
-/// Returns the switch that may be the last of those that are left, by the turns of each: of several the one that stands
-/// last in a list. Takes a step for each switch of the list, and one for each turn of those that are left until it
-/// finds one.
+/// Returns the switch that may be the last of those left, by the turns at each switch. If there are several, returns
+/// the one that stands last in `preferred`. Takes a step for each switch of that list, and one for each turn at those
+/// left, until it finds one.
 pub(crate) fn last_of(
     turns: &[Vec<SwitchTurn>],
     preferred: &[usize],
@@ -25,7 +25,7 @@ pub(crate) fn last_of(
     None
 }
 
-/// Whether a switch is left, and packets from none that is left turn there to one that is.
+/// Returns whether the switch is left, and no packets from a switch that is left turn there to one that is left.
 fn may_be_last(turns: &[Vec<SwitchTurn>], left: &[bool], switch: usize) -> bool
     ensures { result ≡ may_be_last (lists_of turns.now) left.now switch }
 {
@@ -36,7 +36,7 @@ fn may_be_last(turns: &[Vec<SwitchTurn>], left: &[bool], switch: usize) -> bool
         }
 }
 
-/// Whether a turn leads from a switch that is left to one that is.
+/// Returns whether one of the turns leads from a switch that is left to one that is left.
 fn turns_in(turns: &[SwitchTurn], left: &[bool]) -> bool
     ensures { result ≡ turns_in left.now turns.now }
 {
@@ -45,7 +45,7 @@ fn turns_in(turns: &[SwitchTurn], left: &[bool]) -> bool
         .any(|turn| is_left(left, turn.from) && is_left(left, turn.to))
 }
 
-/// Whether the switch at an index is left.
+/// Returns whether the switch at `index` is left.
 pub(crate) fn is_left(left: &[bool], index: usize) -> bool
     ensures { result ≡ is_left left.now index }
 {

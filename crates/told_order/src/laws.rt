@@ -1,7 +1,8 @@
 //! The laws of the order that tables tell.
 ghost use Rattle.told_order.specs.ToldLaws.{SomeOrderIsTold, ToldOrdersAreRight};
 
-/// By the order that tables tell they are right for every LID, and no two switches have a position in common.
+/// Tables are right for every LID by the order that they tell, and no two switches that a wire joins have the same
+/// position.
 pub fn told_orders_are_right()
     ensures law { ToldOrdersAreRight }
 {}

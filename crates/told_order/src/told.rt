@@ -10,10 +10,10 @@ use crate::turns::turns;
 use audit::Network;
 use std::alloc::{AllocError, Global};
 
-/// Returns the indices of all usable switches, by rising GUID, in an order by which packets for no LID go down and then
-/// up again by the tables of a network, the last one first; None if there is none. Each switch that is taken is the last
-/// of a list of preferences that may be taken then. Takes what `channel_waits` does, and for each switch a step for each
-/// switch of the list, and for each turn of those that are looked at.
+/// Returns the indices (by rising GUID) of all usable switches, in an order by which no packet, for whatever LID, goes
+/// down and then up again by the tables of `network`. The last switch comes first. Returns `None` if there is no such
+/// order. Each switch is the last one in `preferred` that may be taken then. Costs what `channel_waits` takes, and for
+/// each switch a step for each switch in `preferred` and each turn that is looked at.
 pub fn told_order(
     alloc: Global,
     network: &Network,
@@ -44,7 +44,7 @@ fn all_left(alloc: Global, count: usize) -> Result<Vec<bool>, AllocError>
     vec![in alloc; true; count]
 }
 
-/// Whether a flag is set.
+/// Returns whether a flag is set.
 fn is_any(left: &[bool]) -> bool
     ensures { result ≡ list_any (λ flag. flag) left.now }
 {

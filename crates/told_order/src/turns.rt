@@ -10,17 +10,17 @@ use audit_channels::{Waits, channel_waits};
 use held_tables::Far;
 use std::alloc::{AllocError, Global};
 
-/// A turn at a switch: packets for some LID come from one switch, and leave for another.
+/// A turn at a switch: packets for some LID come from one switch and leave for another.
 #[derive(Clone, Copy, Debug, PartialEq, Eq)]
 pub(crate) struct SwitchTurn {
-    /// The index of the switch from which they come.
+    /// The index of the switch that they come from.
     pub from: usize,
-    /// The index of the switch to which they leave.
+    /// The index of the switch that they leave for.
     pub to: usize,
 }
 
-/// Returns the turns that packets make at each usable switch, by rising GUID, by the tables of a network. Takes what
-/// `channel_waits` does, and a step for each channel and each that follows it.
+/// Returns the turns that packets make at each usable switch, by rising GUID, by the tables of `network`. Costs what
+/// `channel_waits` takes, and a step for each channel and each that follows it.
 pub(crate) fn turns(alloc: Global, network: &Network) -> Result<Vec<Vec<SwitchTurn>>, AllocError>
     ensures { IfOk result (λ turns.
         AreTurns (cells_of network.now.facts) network.now.held (lists_of turns.items)) }
@@ -29,7 +29,7 @@ pub(crate) fn turns(alloc: Global, network: &Network) -> Result<Vec<Vec<SwitchTu
     turns_over(alloc, network, &waits)
 }
 
-/// Returns the turns from each channel into those that follow it.
+/// Returns the turns from each channel into the channels that follow it.
 fn turns_over(
     alloc: Global,
     network: &Network,
@@ -46,7 +46,7 @@ fn turns_over(
     Ok(turns)
 }
 
-/// Returns `count` lists without a turn.
+/// Returns `count` empty lists of turns.
 fn no_turns(alloc: Global, count: usize) -> Result<Vec<Vec<SwitchTurn>>, AllocError>
     ensures { IfOk result (λ turns. lists_of turns.items ≡ replicate count []) }
 {
@@ -57,7 +57,7 @@ fn no_turns(alloc: Global, count: usize) -> Result<Vec<Vec<SwitchTurn>>, AllocEr
     Ok(turns)
 }
 
-/// Adds the turns from a channel into those that follow it.
+/// Adds the turns from `channel` into the channels that follow it.
 fn add_turns(
     turns: &mut [Vec<SwitchTurn>],
     network: &Network,
@@ -74,7 +74,7 @@ fn add_turns(
     Ok(())
 }
 
-/// Adds the turn from a channel into one that follows it.
+/// Adds the turn from `channel` into `next`, which follows it.
 fn add_turn(
     turns: &mut [Vec<SwitchTurn>],
     network: &Network,

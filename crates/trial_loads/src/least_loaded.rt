@@ -12,7 +12,7 @@ use port_graph::Adjacency;
 use spread_labels::VertexKey;
 use std::alloc::{AllocError, Global};
 
-/// Orders by depth are tried from so many vertices at most.
+/// The greatest number of vertices from which orders by depth are tried.
 const TRIED: usize = 8;
 
 /// Keys, and the trial load of the order that grows by them.
@@ -22,9 +22,9 @@ struct Trial {
     load: usize,
 }
 
-/// Returns the keys of the order whose trial load between some vertices is least: `keys` themselves, or those by an order
-/// by depth from one of the first eight vertices, forwards or backwards. Of equals the first counts. Takes 17 trials at
-/// most.
+/// Returns the keys of the order whose trial load between the vertices `bearing` is least: `keys` themselves, or those
+/// by an order by depth from one of the first eight vertices, forwards or backwards. Of equals the first counts. Takes
+/// 17 trials at most.
 pub fn least_loaded_keys(
     alloc: Global,
     edges: &Adjacency,
@@ -43,7 +43,7 @@ pub fn least_loaded_keys(
     Ok(best.keys)
 }
 
-/// Tries the orders by depth of a direction against the best one so far.
+/// Tries the orders by depth in one direction. Returns the best trial of these and `first`.
 fn try_by_depth(
     alloc: Global,
     edges: &Adjacency,
@@ -88,14 +88,14 @@ fn trial_of(
     Ok(Trial { keys, load })
 }
 
-/// Returns the one of the lesser load, and of equals the first.
+/// Returns the trial with the lesser load; `best` if they are equal.
 fn lesser(best: Trial, other: Trial) -> Trial
     ensures { result ≡ if nat_lt other.load best.load then other else best }
 {
     if other.load < best.load { other } else { best }
 }
 
-/// Returns the keys by the order by depth from a vertex.
+/// Returns keys by the order by depth from `root`.
 fn keys_by_depth(
     alloc: Global,
     edges: &Adjacency,
@@ -112,7 +112,7 @@ fn keys_by_depth(
     keys_in(alloc, &vertices, edges.len())
 }
 
-/// Returns the keys of so many vertices by a list: how many stand before each there.
+/// Returns the keys of `count` vertices by a list: how many vertices stand before each there.
 fn keys_in(alloc: Global, vertices: &[usize], count: usize) -> Result<Vec<VertexKey>, AllocError>
     ensures { IfOk result (λ keys. keys.items ≡ keys_in vertices.now count) }
 {
@@ -126,7 +126,7 @@ fn keys_in(alloc: Global, vertices: &[usize], count: usize) -> Result<Vec<Vertex
     Ok(keys)
 }
 
-/// Returns the position of a vertex in a list, and the length of the list if it lacks the vertex.
+/// Returns the position of a vertex in a list, or the length of the list if it lacks the vertex.
 fn position_of(vertices: &[usize], vertex: usize) -> usize
     ensures { result ≡ position_of vertices.now vertex }
 {

@@ -1,4 +1,4 @@
-//! How many packets channels carry.
+//! The number of packets on each channel.
 ghost use Rattle.std.specs.Prelude.{◌≡◌, ◌<◌, ◌*◌, IfOk, IfSome, length, replicate};
 ghost use Rattle.std.specs.List.{flat_map};
 ghost use Rattle.spread_labels.specs.Levels.{greatest};
@@ -7,10 +7,10 @@ ghost use Rattle.trial_loads.specs.TrialLoads.{edge_in, way, with_packets};
 use port_graph::Edge;
 use std::alloc::{AllocError, Global};
 
-/// So many channels a vertex has, one for each port number.
+/// The number of channels of a vertex, one for each port number.
 const PORTS: usize = 256;
 
-/// Returns for each channel of so many vertices that it carries no packet.
+/// Returns a load of 0 for each channel of `vertices` vertices.
 pub(crate) fn no_loads(alloc: Global, vertices: usize) -> Result<Vec<usize>, AllocError>
     ensures { IfOk result (λ loads. loads.items ≡ replicate (256 * vertices) 0) }
 {
@@ -22,7 +22,7 @@ pub(crate) fn no_loads(alloc: Global, vertices: usize) -> Result<Vec<usize>, All
     Ok(loads)
 }
 
-/// Adds for each source a packet to the channels of its way, by the edge that is taken at each vertex.
+/// Adds a packet from each source to the channels of its way. `taken` has the edge that is taken at each vertex.
 pub(crate) fn add_ways(taken: &[Option<Edge>], sources: &[usize], loads: &mut [usize])
     requires { length loads.old ≡ 256 * length taken.now }
     ensures { loads.new ≡ with_packets loads.old
@@ -33,7 +33,7 @@ pub(crate) fn add_ways(taken: &[Option<Edge>], sources: &[usize], loads: &mut [u
     }
 }
 
-/// Adds a packet to the channels of the way from a vertex.
+/// Adds a packet to the channels of the way from `source`.
 fn add_way(taken: &[Option<Edge>], source: usize, loads: &mut [usize])
     requires { length loads.old ≡ 256 * length taken.now }
     ensures { loads.new ≡ with_packets loads.old (way (edge_in taken.now) (length taken.now) source) }

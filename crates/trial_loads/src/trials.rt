@@ -11,10 +11,11 @@ use port_graph::Adjacency;
 use spread_labels::{TARGETS, VertexKey, by_positions, grown_order, positions};
 use std::alloc::{AllocError, Global};
 
-/// Returns how many ways take the channel that most take, where each of some vertices sends a packet to each of them by
-/// the order that grows by `keys`: a vertex takes of its candidates the one with the sum of the target's number and its
-/// own, counted round. Takes what that order takes, and for each 64 of the vertices a step or two for each edge in each
-/// of as many rounds as the greatest cost; for each of them two steps for each edge, and one for each edge of the ways.
+/// Returns how many ways take the channel that most take, if each vertex of `bearing` sends a packet to each of them by
+/// the order that grows by `keys`. A vertex takes the candidate with the number that is the sum of the target's number
+/// and its own, counted round. Takes what growing the order takes; for each 64 vertices of `bearing` a step or two for
+/// each edge in each of as many rounds as the greatest cost; and for each vertex of `bearing` two steps for each edge,
+/// and one for each edge of the ways.
 pub fn trial_load(
     alloc: Global,
     edges: &Adjacency,
@@ -34,7 +35,7 @@ pub fn trial_load(
     load_between(alloc, &graph, &vertices, &sources)
 }
 
-/// Returns the positions of some vertices.
+/// Returns the positions of the vertices `bearing`.
 fn at_positions(
     alloc: Global,
     positions: &[usize],
@@ -50,7 +51,7 @@ fn at_positions(
     Ok(found)
 }
 
-/// Returns the same by positions.
+/// Returns the load of the channel that most ways between `sources` take, by positions in the order `vertices`.
 fn load_between(
     alloc: Global,
     graph: &Adjacency,
@@ -67,7 +68,7 @@ fn load_between(
     Ok(greatest_of(&loads))
 }
 
-/// Returns how many ways take each channel, 64 targets after the other.
+/// Returns how many ways take each channel. Finds the ways to 64 targets at a time.
 fn loads_between(
     alloc: Global,
     graph: &Adjacency,

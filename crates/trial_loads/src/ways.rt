@@ -12,8 +12,7 @@ use port_graph::{Adjacency, Edge};
 use spread_labels::{CandidateSets, TargetSet};
 use std::alloc::{AllocError, Global};
 
-/// Adds for each two of some positions a packet to the channels of the way from one to the other, where that is one of
-/// the targets, of which there are at most 64.
+/// Adds a packet to the channels of the way from each source to each target. There are at most 64 targets.
 pub(crate) fn add_ways_between(
     alloc: Global,
     graph: &Adjacency,
@@ -39,8 +38,8 @@ pub(crate) fn add_ways_between(
     Ok(())
 }
 
-/// Returns the edge that is taken at each position towards a target of some sets, by the number of the target's vertex
-/// and its own.
+/// Returns the edge that is taken at each position towards target `k` of the sets, by the sum of the target's `number`
+/// and that of the position's vertex.
 fn edges_taken(
     alloc: Global,
     graph: &Adjacency,
@@ -66,7 +65,7 @@ fn edges_taken(
     Ok(taken)
 }
 
-/// Returns of the edges whose set has a target the one with a number, counted round.
+/// Returns the edge with this number, counted round, among those whose set has the target.
 fn choose(edges: &[Edge], sets: &[TargetSet], target: usize, number: usize) -> Option<Edge>
     requires target { target < 64 }
     requires all { length sets.now ≡ length edges.now }
@@ -79,7 +78,7 @@ fn choose(edges: &[Edge], sets: &[TargetSet], target: usize, number: usize) -> O
     nth_having(edges, sets, target, number % count)
 }
 
-/// Counts the sets that have a target.
+/// Counts the sets that have the target.
 fn count_having(sets: &[TargetSet], target: usize) -> usize
     requires { target < 64 }
     ensures { result ≡ count_by (λ set. has set target) sets.now }
@@ -93,7 +92,7 @@ fn count_having(sets: &[TargetSet], target: usize) -> usize
     count
 }
 
-/// Returns of the edges whose set has a target the one before which so many of them stand.
+/// Returns the edge at index `before` among those whose set has the target.
 fn nth_having(edges: &[Edge], sets: &[TargetSet], target: usize, before: usize) -> Option<Edge>
     requires target { target < 64 }
     requires all { length sets.now ≡ length edges.now }
