@@ -7,8 +7,8 @@ use Rattle.audit_counts.specs.Packets.{arrives, goes_round, is_between, is_lost,
 use Rattle.audit_counts.specs.Pairs.{ArePairs, ArePairsIf, ArePairsWithArrived}
 use Rattle.audit_counts.specs.FirstFew.{listed, listed_of}
 
--- the tally of `packets`: how many there are and how many arrive, of all and between adapter ports; how many are lost for
--- each cause; and how many of each kind do not arrive, with the first `most` of them
+-- the tally of `packets`: how many there are and how many arrive, of all and between adapter ports; how many are lost
+-- for each cause; and how many of each kind do not arrive, with the first `most` of them
 pub record IsTally (most : ℕ) (packets : List SentPacket) (tally : PacketTally) : Type 0 where
   pub all : ArePairs packets tally.all
   pub between : ArePairs (filter is_between packets) tally.between

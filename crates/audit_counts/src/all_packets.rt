@@ -25,9 +25,10 @@ pub struct PacketSurvey {
     pub told: Vec<bool>,
 }
 
-/// Counts the packets that end ports send to the LIDs of their components, and keeps the first `most` of each kind that do
-/// not arrive. Takes what `Network::blocks` and `Network::deliveries` do for each 64 LIDs. For each LID whose packets are
-/// not seen to arrive by these it takes what `Network::ends` does, and a step for each end port if they do not arrive.
+/// Counts the packets that end ports send to the LIDs of their components, and keeps the first `most` of each kind that
+/// do not arrive. Takes what `Network::blocks` and `Network::deliveries` do for each 64 LIDs. For each LID whose packets
+/// are not seen to arrive by these it takes what `Network::ends` does, and a step for each end port if they do not
+/// arrive.
 pub fn survey(
     alloc: Global,
     most: usize,

@@ -17,8 +17,8 @@ use Rattle.sm_cli.specs.declared.input_tables.TablesAndFacts.{TablesAndFacts}
 abbrev pub most_told : Bool → ℕ
 most_told all = if all then 18446744073709551615 else 20
 
--- `prints` holds of what was written: how packets fare, with a shortest credit loop if there is one. `passed` says whether
--- the tables pass, and no channel carries more than `asked` allows
+-- `prints` holds of what was written: how packets fare, with a shortest credit loop if there is one. `passed` says
+-- whether the tables pass, and no channel carries more than `asked` allows
 pub record IsAudited (asked : AuditAsked) (facts : Facts) (held : HeldPlan) (prints : List ℕ → Type 0) (passed : Bool)
     : Type 0 where
   pub cycle : List ℕ

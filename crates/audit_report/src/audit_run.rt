@@ -14,6 +14,9 @@ use sm_cli::{Fault, read_tables_and_files};
 use smp_bytes::Generation;
 use std::alloc::Global;
 
+/// The most lines of each kind, unless all are asked for.
+const MOST_TOLD: usize = 20;
+
 /// The options of an audit.
 #[derive(Clone, Copy, Debug, PartialEq, Eq)]
 pub struct AuditAsked {
@@ -78,7 +81,7 @@ fn answer<W: Sink>(
 fn most_told(all: bool) -> usize
     ensures { result ≡ most_told all }
 {
-    if all { usize::MAX } else { 20 }
+    if all { usize::MAX } else { MOST_TOLD }
 }
 
 /// Writes what an audit found, and flushes. Returns whether the tables pass and no channel carries more pairs than

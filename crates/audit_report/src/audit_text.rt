@@ -24,10 +24,17 @@ use plan_file::HeldLid;
 use smp_bytes::{Guid, Lid, PortNum};
 use subnet_view::EndPort;
 
-/// Writes how many packets there are and how many arrive, of all, between adapter ports, and with a switch; for what
-/// the others do not; of these the first of each kind, by rising LID and then by the order of end ports, and how many
-/// more there are; the first of each kind in which tables and facts differ, and how many more there are; how many facts are disputed, if some are; the wires that packets between adapter ports take, and the loads of channels;
-/// and a cycle of channels, if there is one; and flushes. It takes no memory.
+/// Writes an audit, and flushes:
+///
+/// - how many packets there are and how many arrive, of all, between adapter ports, and with a switch, and how many are
+///   lost for each cause;
+/// - the first of each kind that do not arrive, by rising LID and then by the order of end ports, and how many more;
+/// - the first of each kind in which tables and facts differ, and how many more;
+/// - how many facts are disputed, if any are;
+/// - the wires that packets between adapter ports take, and the loads of channels;
+/// - a cycle of channels, if there is one.
+///
+/// Takes no memory.
 pub fn write_audit<W: Sink>(sink: &mut W, audit: &Audit) -> Result<(), WriteFault>
     ensures writes { Writes W.written W.has_failed result sink.old sink.new (audit_text audit.now) }
     ensures flushed { OnOk result (IsTrue (W.is_flushed sink.new)) }

@@ -82,7 +82,8 @@ impl<'a> Audit<'a> {
         })
     }
 
-    /// Returns whether the tables pass and no channel carries more pairs of adapter ports than `bound`, if there is one.
+    /// Returns whether the tables pass and no channel carries more pairs of adapter ports than `bound`, if there is a
+    /// bound.
     pub fn passes_within(&self, bound: Option<u64>) -> bool
         ensures { IsTrue result ↔ PassesWithin bound (cells_of self.now.facts) self.now.held }
     {

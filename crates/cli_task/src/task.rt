@@ -121,8 +121,8 @@ fn is_set(words: &ArgMatches<'_>, name: &str) -> bool
     }
 }
 
-/// Returns the greatest load that the words behind a subcommand let pass, if they name one. Returns `None` if the word is
-/// no number of 32 bits.
+/// Returns the greatest load that the words behind a subcommand let pass, if they name one; `None` if the word is no
+/// number of 32 bits.
 fn max_load_of(words: &ArgMatches<'_>) -> Option<Option<u64>>
     ensures { result ≡ max_load_asked (first_value (found_of words.now) (codes "max-load")) }
 {
