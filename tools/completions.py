@@ -10,7 +10,7 @@ COMMANDS = {
     "join": FLOOR,
     "plan": f"{FLOOR} {PLANS}",
     "order": f"{FLOOR} {ORDERS}",
-    "audit": FLOOR,
+    "audit": f"{FLOOR} --all --max-load",
     "order-of": FLOOR,
     "next": f"{FLOOR} {PLANS}",
     "run": PLANS,
