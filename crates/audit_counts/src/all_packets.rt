@@ -1,5 +1,5 @@
 //! The counts of the packets for all held LIDs.
-ghost use Rattle.std.specs.Prelude.{◌≡◌, ◌/◌, ◌++◌, [], true, Contains, IfOk, List, OnOk, count_by, map};
+ghost use Rattle.std.specs.Prelude.{◌≡◌, ◌/◌, ◌++◌, ℕ, [], true, Contains, IfOk, List, OnOk, count_by, map};
 ghost use Rattle.fact_store.specs.View.{cells_of};
 ghost use Rattle.subnet_view.specs.EndPorts.{end_ports};
 ghost use Rattle.audit.specs.Deliveries.{AreDeliveries};

@@ -27,6 +27,9 @@ add_packets-requires-clause-listed c =
     let port = c.line-item.result.port in
     (subst (λ (o : Option Site). IsSiteOf sites port o) (sym c.site_in.ensures ∙ c.in-Some.is) c.index_of-index.ensures).0
 
+pub blocks_for-requires : goal.blocks_for-requires
+blocks_for-requires c = c.loop-line.invariant.blocks_are
+
 pub loop-line-preserved : goal.loop-line-preserved
 loop-line-preserved c =
     let cells = cells_of c.args.network.now.facts in
@@ -45,6 +48,7 @@ loop-line-preserved c =
       | in-None w ↦ λ e. (let no = w.all-is in absurd (cc))
     ] in
     record {
+      blocks_are = c.in_ok-blocks-2.ensures.0;
       surveyed = λ most begun. elim c.match-site_in.branch [
         | in-Some+in_ok-all-in-Some w ↦
             subst (Surveyed most) (sym w.tally-is)
@@ -77,6 +81,7 @@ loop-line-init c =
     let lines = c.lids-line-items.result.now in
     let blocks = c.in_ok-blocks.blocks in
     record {
+      blocks_are = c.in_ok-blocks.ensures.0;
       surveyed = λ most. none_surveyed most cells held lines blocks.number blocks.rows.items c.args.tally.now c.in_ok-blocks.ensures.0;
       deliveries_are = c.in_ok-deliveries.ensures;
       told = subst (λ (ts : List Bool). ToldSoFar cells held lines 0 ts) (sym c.requires.told) (none_told cells held lines);
