@@ -9,7 +9,7 @@ TRIED = 8
 
 
 def by_depth(graph, keys, root, backwards=False):
-    """The switches in their order by depth from a root."""
+    """Returns the switches in order of depth from `root`."""
     found, placed = [root], {root}
 
     def first(switches, test):
@@ -40,7 +40,7 @@ def by_depth(graph, keys, root, backwards=False):
 
 
 def trial_load(graph, keys, bearing):
-    """How many ways between switches that bear adapters take the channel that most take, in the order that grows by these keys."""
+    """Returns how many ways between leaf switches take the busiest channel, in the order that grows by `keys`."""
     places = spread_rule.places_of(graph, keys)
     numbers = {switch: number for number, switch in enumerate(sorted(graph))}
     loads = collections.Counter()
@@ -61,7 +61,7 @@ def trial_load(graph, keys, bearing):
 
 
 def keys_of(graph, bearing):
-    """The keys that the rule goes by: of those that are tried the first whose trial load is least."""
+    """Returns the keys that the rule goes by: of those tried, the first with the least trial load."""
     keys = spread_rule.keys_of(graph, bearing, ())
     tried = [keys]
     for backwards in False, True:
@@ -71,11 +71,11 @@ def keys_of(graph, bearing):
 
 
 def order_of(graph, bearing):
-    """The switches in the order that the rule goes by."""
+    """Returns the switches in the rule's order."""
     places = spread_rule.places_of(graph, keys_of(graph, bearing))
     return sorted(graph, key=places.get)
 
 
 def tables(graph, bearing, homes):
-    """The port by which packets for each LID leave each switch, as spread_rule.tables has them."""
+    """Returns the port by which packets for each LID leave each switch, in the form of spread_rule.tables."""
     return spread_rule.tables(graph, bearing, homes, named=order_of(graph, bearing))

@@ -6,7 +6,8 @@ from ibsm_texts import end_in
 
 
 def after(ways):
-    """For each channel, a switch and a port of it, those that packets for any LID up to the greatest top take next."""
+    """Returns for each channel, a switch and its port, the channels that packets take next, for any LID up to the
+    greatest top."""
     ends, found = ways.ends(), collections.defaultdict(set)
     last = max(*ways.owners, *ways.plan.tops.values())
     unowned = {column for _, column in ways.columns(lid for lid in range(1, last + 1) if lid not in ways.owners)}
@@ -19,7 +20,8 @@ def after(ways):
 
 
 def count_round(after, first):
-    """How many channels the shortest way from a channel back to itself has, by a search in breadth; 0 where there is none."""
+    """Returns the number of channels in the shortest cycle through `first`, by breadth-first search; 0 if there is
+    none."""
     counts, reached = {first: 1}, [first]
     for near in reached:
         for channel in after.get(near, ()):
@@ -32,7 +34,8 @@ def count_round(after, first):
 
 
 def check_told(line, after, channel_of, what):
-    """The loop that a line tells is one, and none has fewer channels; how many it has. `channel_of` an end tells its channel."""
+    """Checks that `line` tells a loop, with the fewest channels of all, and returns its length. `channel_of` maps an
+    end to its channel."""
     least = min(filter(None, (count_round(after, first) for first in list(after))), default=0)
     told = line.split(" ")
     head = ["credit", "loop", "on", "one", "lane"] if least else ["credit", "loop", "none"]

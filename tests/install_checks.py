@@ -23,7 +23,7 @@ def run(words, **how):
 
 
 def installed(room, program):
-    """The tree is laid out, installed, run, completed, and taken off."""
+    """Lays out the tree, installs it, runs it, completes commands, and uninstalls it."""
     made = room.path / "made"
     made.mkdir()
     for name, script in (("ibsm", PROGRAM), *((name, IN_C) for name in ("record", "send", "seat"))):
@@ -48,7 +48,8 @@ def installed(room, program):
 
 
 def runs(room, to, tools):
-    """Each runs from anywhere, by its installed name; the program's version tells what it was built from."""
+    """Checks that each tool runs from anywhere under its installed name, and that the version tells how the program was
+    built."""
     for tool in tools[1:]:
         done = run([to / "bin" / tool, "--help"], cwd="/", env={"PATH": os.environ["PATH"]})
         name = tool if tool not in TOOLS_IN_C else tool[5:]
@@ -68,7 +69,7 @@ def runs(room, to, tools):
 
 
 def pages(room, to, tools):
-    """Each has a page in which `man` finds no fault and every option stands."""
+    """Checks that each tool has a page that `man` accepts and that lists every option."""
     for tool in tools:
         page = to / f"share/man/man1/{tool}.1"
         room.check(page.exists(), f"{tool} has a page")
@@ -84,7 +85,7 @@ def pages(room, to, tools):
 
 
 def completed(room, to, program):
-    """What bash completes, and that the options are those of the program."""
+    """Checks what bash completes, and that the options are those of the program."""
     script = to / "share/bash-completion/completions/ibsm"
     for words, wanted in (
         ("ibsm pl", "plan"),
@@ -108,7 +109,8 @@ def completed(room, to, program):
 
 
 def taken_off(room, to, told):
-    """What was installed goes, and nothing else; files that are not as they were are not installed."""
+    """Checks that uninstalling removes what was installed and nothing else, and that changed files are not
+    installed."""
     (to / "bin/other").write_text("")
     done = run([paths.TOOLS / "install.sh", "--uninstall", to])
     left = sorted(str(path.relative_to(to)) for path in to.rglob("*") if not path.is_dir())

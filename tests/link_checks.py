@@ -2,14 +2,14 @@
 import record_files
 import sample_fabrics
 
-# By name the bits of widths, and of speeds with whether they are those of the extended field.
+# By name: the bits of widths, and the bits of speeds with whether they are in the extended field.
 WIDTHS = {"1x": 1, "2x": 16, "4x": 2, "8x": 4, "12x": 8}
 SPEEDS = {"SDR": (1, 0), "DDR": (2, 0), "QDR": (4, 0), "FDR": (1, 1), "EDR": (2, 1), "HDR": (4, 1), "NDR": (8, 1)}
 RATES = {"SDR": 2.5, "DDR": 5, "QDR": 10, "FDR": 14, "EDR": 25, "HDR": 50, "NDR": 100}
 
 
 def info(state, active=None, supported=()):
-    """PortInfo of a port in a state, with its width and speed, and those that it can have."""
+    """Returns the PortInfo of a port in a state, with its active width and speed and the supported ones."""
     value = bytearray(64)
     value[32] = state
     for width, speed in supported:
@@ -24,7 +24,8 @@ def info(state, active=None, supported=()):
 
 
 def recording(fabric, said, generation=1):
-    """A recording of a fabric's links: what each port says of its link, the same for all that `said` lacks."""
+    """Returns a recording of a fabric's links. `said` has the PortInfo of each port, and under None that of all
+    others."""
     records = []
     for (name, port), (far, back) in sorted(fabric.peers.items()):
         kind = record_files.SWITCH if fabric.is_switch(far) else record_files.ADAPTER
@@ -69,7 +70,7 @@ def links(room):
 
 
 def odd_links(room, fabric, edr):
-    """Links that are gone, down, told by one end or by none, and files that are none."""
+    """Checks links that are gone, down, or told by one end or by none, and files that are no recordings."""
     end, far = ("S1", 1), fabric.peers["S1", 1]
     for said, status, last in (
         ({end: info(1)}, 0, "4 links: 4 of 4x EDR 100 Gb/s; below what both ends can, or not told: 0\n"),
@@ -97,7 +98,7 @@ def odd_links(room, fabric, edr):
 
 
 def every_rate(room, fabric):
-    """Each width with each speed."""
+    """Checks each width with each speed."""
     for width in WIDTHS:
         for speed, gigabits in RATES.items():
             (room.path / "odd").write_bytes(recording(fabric, {None: info(4, (width, speed), [(width, speed)])}))

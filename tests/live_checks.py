@@ -10,7 +10,7 @@ import paths
 import record_files
 import sample_fabrics
 
-# Of PortInfo, bytes that a Set of LIDs changes: the LID, the manager's LID, and the LMC with what stands beside it.
+# The bytes of PortInfo that a Set of LIDs changes: the LID, the manager's LID, and the byte that holds the LMC.
 CHANGED = {16, 17, 18, 19, 34}
 PORT_INFO = record_files.PORT_INFO
 
@@ -20,14 +20,14 @@ def send(bench, *words, **how):
 
 
 def one_round(bench, *words):
-    """A round in the folder that OpenSM reads, and what status.json has of it."""
+    """Runs a round in the folder that OpenSM reads. Returns its exit status and what status.json says."""
     programs = ["--ibsm", bench.program, "--record", bench.room / "out/record", "--send", bench.room / "out/send"]
     status = bench.run(sys.executable, paths.TOOLS / "round", "d", *programs, *words, simulated=True)
     return status, json.loads((bench.path / "d/status.json").read_text())
 
 
 def port_infos(path):
-    """Of a recording, each PortInfo by its node and port."""
+    """Returns each PortInfo in a recording, by node and port."""
     data, found = path.read_bytes(), {}
     for at in range(8, len(data), 272):
         record = data[at : at + 272]
@@ -37,7 +37,8 @@ def port_infos(path):
 
 
 def from_nothing(bench):
-    """Into a subnet without LIDs and tables `send` writes a plan, and changes nothing of ports but their LIDs."""
+    """Checks that `send` writes a plan into a subnet without LIDs and tables, and changes nothing in ports but their
+    LIDs."""
     bench.record("-q", "-g", 1, "-T", "none", "none.reports")
     bench.texts("none")
     before = port_infos(bench.path / "none.reports")
@@ -55,7 +56,7 @@ def from_nothing(bench):
 
 
 def widths(bench):
-    """What ibsim's ports say of their links."""
+    """Checks what ibsim's ports say of their links."""
     status = bench.run(sys.executable, paths.TOOLS / "links", "sent.reports")
     count = len(bench.fabric.peers) // 2
     bench.check(status in (0, 1) and bench.printed.count("\nlink ") == count - 1 and f"{count} links: " in bench.printed, f"links: {bench.printed.splitlines()[-1]}")
@@ -64,7 +65,8 @@ def widths(bench):
 
 
 def first_round(bench):
-    """A subnet without LIDs and tables, brought to a plan by rounds, of which the second has nothing to do."""
+    """Checks that rounds bring a subnet without LIDs and tables to a plan, and that the second one has nothing to
+    do."""
     for _ in range(2):
         status, told = one_round(bench, "--direct", "--settle", 0)
         bench.check(status == 0 and told["step"] == "audit", f"from nothing: {told['line']}, {told['steps']}")
@@ -80,7 +82,7 @@ def first_round(bench):
 
 
 def refusals(bench):
-    """What `send` does not write."""
+    """Checks what `send` refuses to write."""
     plan = (bench.path / "none.plan").read_text()
     texts = {
         "cut": (plan[: plan.rindex("block")], "is it cut?"),
@@ -112,7 +114,7 @@ def refusals(bench):
 
 
 def seen_on_a_terminal(bench):
-    """Who waits at a terminal for longer than two seconds sees how far `record` is, in a line that is gone at the end."""
+    """Checks that a terminal shows the progress of `record` after two seconds, in a line that is gone at the end."""
     for bend, is_seen in (("slow", True), (None, False)):
         ours, its = os.openpty()
         preload = f"{bench.room}/out/bent_replies.so:{bench.library}"
@@ -133,7 +135,7 @@ def seen_on_a_terminal(bench):
 
 
 def healed(bench):
-    """With --watch a cable that goes is healed without anybody, and so is one that comes back."""
+    """Checks that --watch heals the loss of a cable without help, and also its return."""
     send(bench, "-q", "min.plan")
     programs = ["--ibsm", bench.program, "--record", bench.room / "out/record", "--send", bench.room / "out/send"]
     words = [sys.executable, paths.TOOLS / "round", "d", *programs, "--direct", "--busier", "--settle", "0.1", "--watch", "0.2"]
@@ -143,7 +145,7 @@ def healed(bench):
     try:
         bench.check(" status 0 audit: the subnet holds the plan" in next_round(process), "rounds go on")
         name, port = next(end for end, far in bench.fabric.peers.items() if bench.fabric.is_switch(end[0]) and bench.fabric.is_switch(far[0]))
-        # A cable that comes back heals nothing: where a step towards it has a credit loop, somebody is asked.
+        # A cable that comes back heals nothing: if a step towards it has a credit loop, the operator decides.
         ends = {"Unlink": (" status 0 audit: ",), "ReLink": (" status 0 audit: ", " status 1 next: step 1 is not written")}
         for command, word in (("Unlink", "gone cable"), ("ReLink", "come cable")):
             bench.tell(f'{command} "{name}"[{port}]')
@@ -159,14 +161,15 @@ def healed(bench):
 
 
 def next_round(process):
-    """The line of the next round, without those of its steps."""
+    """Returns the line of the next round, without the lines of its steps."""
     while re.match(r"\S+ step \d+: ", line := process.stdout.readline()):
         pass
     return line
 
 
 def interrupted(bench):
-    """From the plan to minhop's tables: ended half-way, `send` leaves each block old or new, and goes on from there."""
+    """Checks going from the plan to minhop's tables: `send`, if ended half-way, leaves each block old or new, and can
+    go on from there."""
     plan, minhop = ((bench.path / name).read_text().splitlines() for name in ("min.plan", "min.held"))
     told = {
         "stop": (130, "send: stopped: 5 of", "each of a whole block, LID or top"),
@@ -187,7 +190,7 @@ def interrupted(bench):
 
 
 def to_a_plan(bench):
-    """From OpenSM's minhop to a plan by Sets, while OpenSM runs; and what both at once do."""
+    """Checks going from OpenSM's minhop to a plan by Sets while OpenSM runs, and what both do at once."""
     with bench.opensm("minhop") as opensm:
         bench.record("-q", "-g", 1, "-T", "min.held", "min.reports")
         bench.texts("min")
@@ -199,7 +202,7 @@ def to_a_plan(bench):
         before = bench.sweeps()
         status, told = one_round(bench, "--direct")
         bench.check(status == 0 and told["steps"] == [] and bench.sweeps() == before, "again there is nothing to do, and OpenSM was not asked")
-        # OpenSM writes what is otherwise than it wrote itself, and so nothing now.
+        # OpenSM writes only what differs from what it wrote itself, so it writes nothing.
         bench.check(bench.sweep_again(opensm), "OpenSM sweeps again")
         bench.record("-q", "-g", 1, "-T", "sweep.held", "sweep.reports")
         bench.check(bench.same("sweep.held", "min.plan"), "and leaves the tables")
@@ -215,7 +218,8 @@ def to_a_plan(bench):
 
 
 def silent_cable(bench):
-    """A cable that loses packets, some or all, and an adapter that is silent: with --silent a round goes on without."""
+    """Checks a cable that loses some or all packets, and a silent adapter: with --silent a round goes on without
+    them."""
     send(bench, "-q", "min.plan")
     words = ["--direct", "--loops", "--busier", "--settle", 0]
     status, told = one_round(bench, *words)
@@ -247,7 +251,7 @@ def silent_cable(bench):
     bench.tell(f'Error "{near[0]}"[{near[1]}] 0')
 
 
-# Fabrics on which it is tried, and what.
+# The fabrics and the checks tried on each.
 ROUTED = to_a_plan, interrupted, silent_cable, healed
 SENT = (
     ("triangle", sample_fabrics.triangle, (from_nothing, widths, refusals, seen_on_a_terminal)),

@@ -14,7 +14,7 @@ NOWHERE = LOST, None
 
 
 class Tables:
-    """What is said in the form of a plan: the LIDs of ends, and tops and blocks of switches."""
+    """The contents of a text in the form of a plan: the LIDs of ends, and the tops and blocks of switches."""
 
     def __init__(self, text=""):
         self.ranges = []  # first LID, end, LMC
@@ -31,7 +31,7 @@ class Tables:
                 self.blocks[at][int(first)] = bytes.fromhex(rest[0])
 
     def owners(self):
-        """The ends that hold each LID, each once."""
+        """Returns for each LID the ends that hold it, without repetition."""
         found = collections.defaultdict(list)
         for first, end, lmc in self.ranges:
             for lid in range(first, first + 2**lmc):
@@ -40,7 +40,7 @@ class Tables:
         return found
 
     def entry(self, guid, lid):
-        """The entry that counts."""
+        """Returns the switch's entry for a LID, as the switch applies it."""
         block = self.blocks.get(guid, {}).get(lid // ENTRIES)
         return NO_WAY if block is None or lid == 0 or lid > self.tops[guid] else block[lid % ENTRIES]
 
@@ -56,7 +56,7 @@ class Tables:
 
 
 class Subnet:
-    """What counts of facts: the usable switches, the end ports, and where the wires in ports lead."""
+    """What counts among facts: the usable switches, the end ports, and where the wires in ports lead."""
 
     def __init__(self, facts):
         self.switches = sorted(guid for guid in facts.caps if facts.is_switch(guid))
@@ -65,7 +65,7 @@ class Subnet:
         self.wires = {end: far for end in wired if (far := facts.wire(end)) in wired}
 
     def graph(self):
-        """For each switch the ports whose wires lead to switches, and these, by rising port."""
+        """Returns for each switch its ports with a wire to a switch, and that switch, by rising port."""
         found = {guid: [] for guid in self.switches}
         for (guid, port), (far, _) in sorted(self.wires.items()):
             if guid in found and far in found:
@@ -73,11 +73,11 @@ class Subnet:
         return found
 
     def leaves(self):
-        """The switches to which adapters are wired."""
+        """Returns the switches that have a wire to an adapter."""
         return sorted({far[0] for end, far in self.wires.items() if end[0] not in self.switches and far[0] in self.switches})
 
     def over(self, end, owners):
-        """The hop over the wire in a port."""
+        """Returns the hop over the wire in a port."""
         far = self.wires.get(end)
         if far is None:
             return NOWHERE
@@ -86,21 +86,21 @@ class Subnet:
         return (TAKEN, far) if far in owners else NOWHERE
 
     def hop(self, guid, entry, owners):
-        """What a switch does with a packet for a LID that these ends own."""
+        """Returns what a switch does with a packet for a LID that `owners` own."""
         return (TAKEN, (guid, 0)) if entry == 0 else self.over((guid, entry), owners)
 
     def hops(self, column, owners):
         return {guid: self.hop(guid, entry, owners) for guid, entry in column.items()}
 
     def sent(self, end, owners):
-        """The first hop of a packet of an end port."""
+        """Returns the first hop of a packet from an end port."""
         if end[0] in self.switches:
             return ON, end[0]
         return (TAKEN, end) if end in owners else self.over(end, owners)
 
 
 def walk(hops, hop):
-    """The switches that a packet meets from a hop on, and its last hop; None where it goes round."""
+    """Returns the switches that a packet meets from a hop on, and its last hop, or None if it goes round."""
     met = []
     while hop[0] == ON:
         if hop[1] in met:
@@ -111,8 +111,8 @@ def walk(hops, hop):
 
 
 def ways(tables, hop):
-    """How a packet may end that meets at each switch any of its hops in these tables, the switches that it may meet, and whether
-    it may go round."""
+    """Returns how a packet may end if each switch takes any of its hops in `tables`, the switches that it may meet, and
+    whether it may go round."""
     met, ends, waiting = set(), set(), [hop]
     while waiting:
         kind, at = waiting.pop()
@@ -123,14 +123,15 @@ def ways(tables, hop):
             waiting += [hops[at] for hops in tables]
     after = {guid: {hops[guid][1] for hops in tables if hops[guid][0] == ON} for guid in met}
     over = set()
-    # Those from which every way ends, by and by.
+    # Finds the switches from which every way ends, by and by.
     while more := {guid for guid in met - over if after[guid] <= over}:
         over |= more
     return ends, met, over != met
 
 
 def turns(subnet, tables):
-    """For each switch the pairs of switches of which packets for some LID come from the one to it and leave it for the other."""
+    """Returns for each switch the pairs of switches between which it forwards packets: for some LID they come from the
+    first and leave for the second."""
     found = {guid: set() for guid in subnet.switches}
     for lid in range(1, max(tables.tops.values(), default=0) + 1):
         hops = subnet.hops(tables.column(subnet.switches, lid), [])
@@ -141,8 +142,8 @@ def turns(subnet, tables):
 
 
 def told_order(subnet, tables):
-    """The switches in an order by which these tables lead packets up and then down, or None: from the last one on, each time the one
-    of the greatest GUID at which no packet turns between two that are left."""
+    """Returns an order of the switches by which the tables lead packets up and then down, or None. It is built from the
+    last switch on: each time the one of the greatest GUID at which no packet turns between two that are left."""
     found, left, taken = turns(subnet, tables), set(subnet.switches), []
     while left:
         free = [guid for guid in left if not any(one in left and other in left for one, other in found[guid])]
@@ -154,7 +155,7 @@ def told_order(subnet, tables):
 
 
 def next_column(subnet, held, planned, end):
-    """The next entries for a LID that the end alone holds, by the entries that are held and those of the plan."""
+    """Returns the next entries for a LID that `end` alone holds, from the held entries and those of the plan."""
     by_held, by_plan, there = subnet.hops(held, [end]), subnet.hops(planned, [end]), (TAKEN, end)
     agreed = {guid: by_plan[guid] if held[guid] == planned[guid] else NOWHERE for guid in held}
     delivers = {guid for guid in held if walk(by_held, (ON, guid))[1] == there}
@@ -184,7 +185,7 @@ class Order:
         return self.places[one] <= self.places[other]
 
     def is_right(self, subnet, tables):
-        """Whether packets for no LID go down and then up again."""
+        """Returns whether no packet goes down and then up again, for any LID."""
         for lid in range(1, max((tables.tops.get(guid, 0) for guid in subnet.switches), default=0) + 1):
             to = {guid: hop[1] for guid, hop in subnet.hops(tables.column(subnet.switches, lid), []).items() if hop[0] == ON}
             if any(self.is_down(guid, far) and far in to and self.is_up(far, to[far]) for guid, far in to.items()):
@@ -192,12 +193,14 @@ class Order:
         return True
 
     def next_column(self, subnet, held, owners, planned, end):
-        """The next entries for a LID of the plan that these ends hold, by the entries that are held and those of the plan."""
+        """Returns the next entries for a LID of the plan that `owners` hold, from the held entries and those of the
+        plan."""
         by_held, by_plan, there = subnet.hops(held, owners), subnet.hops(planned, [end]), (TAKEN, end)
         delivers = {guid for guid in held if walk(by_held, (ON, guid))[1] == there}
         differs = {guid for guid in held if held[guid] != planned[guid]}
         onward = {guid: hop[1] for guid, hop in by_held.items() if hop[0] == ON}
-        # Switches to which packets come down, and switches that send them up, by an entry that is not the plan's.
+        # The switches to which packets come down by an entry that is not the plan's, and the switches that send them up
+        # by one.
         entered = {far for guid, far in onward.items() if guid in differs and self.is_down(guid, far)}
         going_up = {guid for guid, far in onward.items() if guid in differs and self.is_up(guid, far)}
 
@@ -215,7 +218,7 @@ class Order:
 
 
 def by_rank(subnet):
-    """The order by which the rule that goes up and down plans: by the distance from the least GUID of the component, and GUID."""
+    """Returns the order of up/down routing: by distance from the least GUID of the component, and then by GUID."""
     graph = subnet.graph()
     far = {}
     for guid in subnet.switches:
@@ -225,25 +228,25 @@ def by_rank(subnet):
 
 
 def by_spread(subnet, roots):
-    """The order by which the rule that spreads plans."""
+    """Returns the order of the rule that spreads."""
     graph = subnet.graph()
     return Order(spread_rule.places_of(graph, spread_rule.keys_of(graph, subnet.leaves(), roots)))
 
 
 def as_named(subnet, named):
-    """The order by which that rule plans if switches are named."""
+    """Returns the order of the rule that spreads, if `named` switches are given."""
     graph = subnet.graph()
     return Order(spread_rule.places_of(graph, spread_rule.keys_as_named(graph, named)))
 
 
 def first_moved(held, plan):
-    """The least LID that the plan gives to an end and that another one holds."""
+    """Returns the least LID that the plan gives to an end and that another end holds, or None."""
     owners = held.owners()
     return next((lid for lid, ends in sorted(plan.owners().items()) if set(owners[lid]) - set(ends)), None)
 
 
 def next_tables(subnet, held, plan, order):
-    """The next tables: by the order of the plan, if the held tables are right by that."""
+    """Returns the next tables. They follow the plan's order if the held tables are right by that order."""
     made, before, after, is_right = Tables(), held.owners(), plan.owners(), order.is_right(subnet, held)
     made.ranges = plan.ranges
     made.tops = {guid: max(held.tops.get(guid, 0), plan.tops[guid]) for guid in subnet.switches}
@@ -261,8 +264,9 @@ def next_tables(subnet, held, plan, order):
 
 
 def waits(subnet, tables):
-    """The channels that packets for whichever LID may take after each channel, by an entry of any of these tables and then one of any,
-    with the least such LID: each channel is a switch and a port of it with a wire to a switch."""
+    """Returns for each channel the channels that packets may take after it, each with the least LID of a packet that
+    may: first by an entry of any of `tables`, then by one of any. A channel is a switch and its port with a wire to a
+    switch."""
     found = collections.defaultdict(dict)
     for lid in range(1, max((max(them.tops.values(), default=0) for them in tables), default=0) + 1):
         taken = {guid: set() for guid in subnet.switches}  # its ports with the switches there

@@ -9,16 +9,16 @@ from scale import check
 PATH = pathlib.Path(__file__).resolve().parent / "costs.table"
 HEAD = "# What runs cost, by which tests/at-scale bounds them; it writes them with --write, of the program as it is.\n"
 INSTRUCTIONS, ALLOCATIONS, MEMORY = "millions of instructions", "allocations", "megabytes"
-# How much more than noted a run may take, by what is counted or by what counts it.
+# How many times the noted cost a run may take, by what is counted or by what counts it.
 MORE = {"valgrind": 1.1, "perf": 4 / 3, ALLOCATIONS: 1, MEMORY: 1.25}
-# So many megabytes an empty run takes on some machines, with what starts it.
+# The megabytes that an empty run takes on some machines, with what starts it.
 LEAST = 16
-# Below so much of what was noted the note is too old to bound anything.
+# A cost below this part of the noted one shows that the note is too old to bound anything.
 LESS = 0.8
 
 
 def told(number):
-    """A number with at most two digits behind the point."""
+    """Returns a number with at most two decimals."""
     return f"{number:.2f}".rstrip("0").rstrip(".")
 
 
@@ -34,11 +34,12 @@ class Noted:
                 kind = line
 
     def find(self, kind, title, number):
-        """What a run took; the most, where there are more of its title."""
+        """Keeps the cost of a run; of several runs with one title, the greatest."""
         self.found[kind][title] = max(round(number, 2), self.found[kind].get(title, LEAST if kind == MEMORY else 0))
 
     def check_all(self, counter):
-        """Holds what was found against what is noted; `counter` is what counted instructions, or took times instead."""
+        """Compares the costs that were found with the noted ones. `counter` is what counted instructions, or timed runs
+        instead."""
         for kind, found in self.found.items():
             more = MORE.get(counter if kind == INSTRUCTIONS else kind)
             if more is None:
@@ -55,7 +56,7 @@ class Noted:
                 check(False, f"{title}: {kind} are noted of a run that is none")
 
     def write(self, counter):
-        """Notes what was found; instructions stay as they were noted where it was not valgrind that counted them."""
+        """Notes the costs that were found. Instructions stay as noted unless valgrind counted them."""
         if counter != "valgrind":
             self.found[INSTRUCTIONS] = self.noted[INSTRUCTIONS]
         lines = [HEAD]

@@ -6,7 +6,7 @@ import subprocess
 
 import sample_fabrics
 
-# Stands in for `ibsm`: audits and plans by files beside it.
+# Stands in for `ibsm`: takes audits and plans from files beside it.
 FAKE = """#!/bin/sh
 case $1 in
 audit) cat audit.text; grep -q passes audit.ends ;;
@@ -48,7 +48,7 @@ class Balanced(html.parser.HTMLParser):
 
 
 def in_a_browser(room, path):
-    """What the page's script made of it: whether its count of the busiest channels is the table's."""
+    """Checks the page's script in a browser: its count of the busiest channels is that of the table."""
     browser = next((name for name in ("chromium", "chromium-browser", "google-chrome") if shutil.which(name)), None)
     if not browser:
         print("test-files: there is no chromium here, so no page is tried in a browser")
@@ -59,7 +59,7 @@ def in_a_browser(room, path):
 
 
 def checked(room, name):
-    """A page that needs nothing else."""
+    """Checks that a page needs no other file, and returns its text."""
     text = room.text(name)
     page = Balanced(text)
     room.check(page.fault is None and page.open == [], f"{name}: elements close: {page.fault} {page.open}")
@@ -119,7 +119,8 @@ def pages(room):
 
 
 def large(room):
-    """Up to 300 switches are drawn, in less than 2 MB; above, what is around the busiest channel."""
+    """Checks that up to 300 switches are drawn, in less than 2 MB, and of more only the surroundings of the busiest
+    channel."""
     for count, is_part in ((300, False), (301, True)):
         fabric = sample_fabrics.random_fabric(count, 4, 300)
         plan = fabric.plan(fabric.shortest())

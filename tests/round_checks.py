@@ -15,7 +15,7 @@ import paths
 import record_files
 import tool_checks
 
-# Stand in for a subnet: what it says and holds is in the folder fab. A recording is there the text of its facts.
+# These scripts stand in for a subnet. The folder fab has what it says and holds; a recording is the text of its facts.
 FAKE_RECORD = """#!/bin/sh
 for word; do tables=$file; file=$word; done
 echo "$*" >>fab/asked
@@ -64,12 +64,12 @@ while :; do sleep 0.02; done
 
 @contextlib.contextmanager
 def fake_opensm(room, *words):
-    """A process that is called opensm and writes what it is told at HUP; it is ended by its id."""
+    """Runs a process named opensm that writes what it is told at HUP, and yields its id."""
     process = subprocess.Popen(
         [room.path / "opensm", *words],
         cwd=room.path,
         stdin=subprocess.DEVNULL,
-        # A shell can't trap what it was started to ignore, as HUP is under nohup.
+        # A shell can't trap a signal that was ignored when it was started, as HUP is under nohup.
         preexec_fn=lambda: signal.signal(signal.SIGHUP, signal.SIG_DFL),
     )
     try:
@@ -85,7 +85,7 @@ def fake_opensm(room, *words):
 
 
 def rounds(room):
-    """Rounds of a subnet that scripts stand in for: how each ends, and what was written by then."""
+    """Checks rounds of a subnet that scripts stand in for: how each ends, and what it has written by then."""
     for name, script in (("record", FAKE_RECORD), ("ibsm", FAKE_IBSM), ("opensm", FAKE_OPENSM), ("send", FAKE_SEND)):
         (room.path / name).write_text(script)
         (room.path / name).chmod(0o755)
@@ -98,7 +98,7 @@ def rounds(room):
             (room.path / "fab" / name).write_text(text)
 
     def ends(words, status, step, verdict, settle=0):
-        """A round ends so, and says so in status.json too."""
+        """Checks how a round ends, by its output and in status.json, and returns the latter."""
         printed = room.run(f"round rd --ibsm ./ibsm --record ./record --send ./send --log fab/log --settle {settle} {words}", status)
         told = json.loads(room.text("rd/status.json"))
         steps = [
@@ -232,7 +232,7 @@ def rounds(room):
 
 
 def by_steps(room, fab, ends, process):
-    """Rounds whose plan is two steps away."""
+    """Checks rounds whose plan is two steps away."""
     facts, plan, held = (room.text(name) for name in ("t.facts", "t.plan", "round.plan"))
     fab(held=held, obeys="", stepped="", log="ready\n", **{"step.1": room.text("hole.plan")})
     told = ends(f"--opensm {process} --lmc 0", 0, "audit", "the subnet holds the plan", settle=0.3)
@@ -269,7 +269,7 @@ def by_steps(room, fab, ends, process):
     fab(plan=room.text("hole.plan"))
     ends(f"--opensm {process}", 3, "write", "opensm-files: nothing is written")
     room.check(room.text("fab/held") == held, "nor is a step to a plan that may not be written")
-    # What is held stays as it is, and a table's size is another at each look.
+    # The held tables never change, and the size of a table differs at each look.
     fab(plan=plan, written=held, flaps=facts.replace("cap 0000000000000010 1024", "cap 0000000000000010 1025"))
     told = ends(f"--opensm {process}", 1, "read-back", "after 14 steps another one is left")
     fab(facts=facts, written=plan)
@@ -278,7 +278,7 @@ def by_steps(room, fab, ends, process):
 
 
 def directly(room, fab, ends):
-    """Rounds that send tables themselves, and leave OpenSM its files."""
+    """Checks rounds that send tables themselves and leave OpenSM its files."""
     plan, held = room.text("t.plan"), room.text("round.plan")
     fab(held=held, sent="", log="ready\n", **{"step.1": room.text("hole.plan")})
     (room.path / "rd/plan.lfts").unlink()
@@ -302,7 +302,7 @@ def directly(room, fab, ends):
 
 
 def told_beside(room, fab, ends):
-    """What changed, how many pairs were lost, and how busy channels are."""
+    """Checks what is told of changes, of the number of lost pairs, and of how busy channels are."""
     facts, plan, held = (room.text(name) for name in ("t.facts", "t.plan", "round.plan"))
     more = facts.replace("link 0000000000000020/1 ", "link 0000000000000010/3 0000000000000010/4 @1\nlink 0000000000000010/4 0000000000000010/3 @1\nlink 0000000000000020/1 ")
     more = more.replace("port 0000000000000010/3 down", "port 0000000000000010/3 up").replace("port 0000000000000010/4 down", "port 0000000000000010/4 up")
@@ -340,7 +340,7 @@ def told_beside(room, fab, ends):
 
 
 def silence(room, fab, ends):
-    """What is silent is left out, and an adapter that was known stays."""
+    """Checks that silent nodes are left out, and that a known adapter stays."""
     facts, plan = room.text("t.facts"), room.text("t.plan")
     claimed = facts.replace("claim 0000000000000200/1 0", "claim 0000000000000200/1 5")
     quiet = "".join(line for line in claimed.splitlines(True) if "0000000000000200" not in line)
@@ -361,13 +361,13 @@ def silence(room, fab, ends):
     told = ends("--silent --look", 0, "compare", "looked only")
     room.check(told["silent"]["ports"] == ["0000000000000020/2", "0000000000000030/2"] and not told["silent"]["kept"], f"{told['silent']}")
     room.check(not (room.path / "rd/now.store").exists(), "and what was recorded is planned")
-    # A switch without the size of its table is left out, and the adapter that it alone is wired to.
+    # A switch without a known table size is left out, and so is the adapter that has a wire to it alone.
     left = "".join(line for line in facts.splitlines(True) if "0000000000000030" not in line and "0000000000000200" not in line)
     fab(facts=facts.replace("cap 0000000000000030 1024 @1\n", ""), stored=left, held=plan)
     told = ends("--silent --look", 0, "compare", "looked only")
     room.check((room.path / "rd/now.store").read_bytes() == record_files.store_of(left), "a switch without its size is left out")
     room.check(told["silent"]["left_out"] == ["0000000000000030", "0000000000000200"], f"with what it joins: {told['silent']}")
-    # A port must not get the LID that a silent one has.
+    # No port may get the LID of a silent one.
     fab(facts=claimed.replace("claim 0000000000000200/1 5", "claim 0000000000000200/1 0").replace("claim 0000000000000030/0 0", "claim 0000000000000030/0 5"), held=plan, status="0")
     ends("--look --move-lids", 0, "compare", "looked only")
     fab(facts=facts.replace("cap 0000000000000030 1024 @1\n", ""), stored=left, plan=plan.replace("lid 3 0000000000000030/0\n", ""), status="1")
@@ -378,7 +378,7 @@ def silence(room, fab, ends):
 
 
 def other_files(room, fab, ends):
-    """An OpenSM that reads other files is told before anything is asked."""
+    """Checks that an OpenSM that reads other files is reported before anything is asked."""
     fab(held=room.text("t.plan"), log="", facts=room.text("t.facts"))
     for words, is_other in ((("-U", "other.lfts"), 1), (("--lfts_file=x/plan.lfts",), 1), (("-U", "rd/plan.lfts"), 0), (("-Urd/../rd/plan.lfts",), 0)):
         with fake_opensm(room, *words) as process:
@@ -391,7 +391,7 @@ def other_files(room, fab, ends):
 
 
 def by_a_file(room, fab, ends):
-    """Options in a file, which those of the command line count before."""
+    """Checks options in a file. Those of the command line take precedence."""
     room.put(round_conf="# where\ndir rd\nrouting spread  # a rule\nlmc=0\nlook\n\n", bad_conf="dir rd\nsing\n")
     fab(planned="")
     words = "--ibsm ./ibsm --record ./record"
@@ -405,13 +405,13 @@ def by_a_file(room, fab, ends):
 
 
 def started(room, *words):
-    """Rounds that go on, with their lines to read."""
+    """Starts rounds that go on, and returns the process, whose lines can be read."""
     words = [sys.executable, paths.TOOLS / "round", "rd", "--ibsm", "./ibsm", "--record", "./record", "--send", "./send", *words]
     return subprocess.Popen(words, cwd=room.path, stdout=subprocess.PIPE, text=True, stdin=subprocess.DEVNULL)
 
 
 def healed(room, fab):
-    """With --watch a step with a credit loop is written while packets are lost, and no other one is."""
+    """Checks that --watch writes a step with a credit loop only while packets are lost."""
     held, loop = room.text("round.plan"), "credit loop on one lane 0000000000000010/1\nlids 5\n"
     for arrive, step, end in (
         (20, "; status 1; written all the same, since 5 pairs are lost", "status 0 audit: the subnet holds the plan; "),
@@ -428,7 +428,7 @@ def healed(room, fab):
 
 
 def watched_by_log(room, fab):
-    """Where OpenSM's log is named, a round goes once it tells of a sweep."""
+    """Checks that a round starts only once OpenSM's log, if given, tells of a sweep."""
     fab(log="SUBNET UP\n")
     process = started(room, "--look", "--watch", "0.05", "--log", "fab/log")
     first = process.stdout.readline()
@@ -444,7 +444,7 @@ def watched_by_log(room, fab):
 
 
 def watched(room):
-    """Rounds go on until a signal, one line for each."""
+    """Checks that rounds go on until a signal, with one line each."""
     words = [
         sys.executable,
         paths.TOOLS / "round",

@@ -3,18 +3,18 @@ import collections
 import random
 
 ADAPTER, SWITCH = "ca", "switch"
-# How many entries a forwarding table has: as many as there are LIDs of one port.
+# The number of entries in a forwarding table: LIDs 0 to 0xBFFF.
 ROOM = 49152
 
 
 class Fabric:
     def __init__(self):
         self.nodes = {}  # name: type, GUID, ports
-        self.peers = {}  # (name, port): the same of the other end
+        self.peers = {}  # (name, port): name and port of the other end
         self.used = collections.Counter()  # name: ports with a cable
 
     def add(self, kind, name, guid, ports=0):
-        """A node; without a number of ports it gets one for each cable, and a switch one more."""
+        """Adds a node and returns its name. Without `ports` it gets a port for each cable, and a switch one more."""
         self.nodes[name] = kind, guid, ports
         return name
 
@@ -22,7 +22,7 @@ class Fabric:
         return [self.add(SWITCH, f"S{i}", 16 * i, ports) for i in range(1, count + 1)]
 
     def hosts(self, switches):
-        """An adapter of one port at each of the switches named."""
+        """Adds an adapter of one port at each of the switches named."""
         for i, switch in enumerate(switches, 1):
             self.join(self.add(ADAPTER, f"H{i}", 0x1000000 + 16 * i, 1), switch)
 
@@ -45,13 +45,13 @@ class Fabric:
         return self.nodes[name][0] == SWITCH
 
     def ends(self):
-        """The end ports, switches first, in the order in which the texts give them LIDs."""
+        """Returns the end ports, switches first, in the order in which the texts give them LIDs."""
         adapters = [name for name in self.nodes if not self.is_switch(name)]
         ports = [(name, port) for name in adapters for port in range(1, self.ports(name) + 1)]
         return [(name, 0) for name in self.nodes if self.is_switch(name)] + [end for end in ports if end in self.peers]
 
     def ibsim(self):
-        """The topology in the form of ibsim, the seat H1 first."""
+        """Returns the topology in the form of ibsim, with the seat H1 first."""
         texts = []
         for name in sorted(self.nodes, key=lambda name: name != "H1"):
             head = "switchguid" if self.is_switch(name) else "hcaguids"
@@ -65,7 +65,7 @@ class Fabric:
         return "\n".join(texts)
 
     def topology(self):
-        """The same for `ibsm run`."""
+        """Returns the topology in the form of `ibsm run`."""
         lines = []
         for name, (kind, guid, _) in self.nodes.items():
             head = f'{self.ports(name)} "{name}" guid 0x{guid:x}'
@@ -77,7 +77,7 @@ class Fabric:
         return "\n".join(lines) + "\n"
 
     def facts(self):
-        """What `ibsm facts` prints of a first sweep, where there are no LIDs and tables have room for 1,024."""
+        """Returns what `ibsm facts` prints of a first sweep, without LIDs and with tables that have room for 1,024."""
         found = collections.defaultdict(list)
         for name, (kind, guid, _) in self.nodes.items():
             least = 0 if kind == SWITCH else 1
@@ -98,7 +98,7 @@ class Fabric:
         return "".join(f"{kind} {text} @1\n" for kind in kinds for _, _, text in sorted(found[kind]))
 
     def shortest(self):
-        """Tables by which each packet takes a shortest way: where there are rings, packets can wait."""
+        """Returns tables by which each packet takes a shortest way. In rings, packets can wait for each other."""
         tables = {name: [255] * (len(self.ends()) // 64 + 1) * 64 for name in self.nodes if self.is_switch(name)}
         for lid, (name, port) in enumerate(self.ends(), 1):
             at, out = (name, 0) if port == 0 else self.peers[name, port]
@@ -114,12 +114,12 @@ class Fabric:
         return tables
 
     def exits(self, name):
-        """The ports of a switch with a cable to a switch, each with that."""
+        """Returns the ports of a switch with a cable to a switch, each with that switch."""
         ends = ((port, self.peers.get((name, port), ("", 0))[0]) for port in range(1, self.ports(name) + 1))
         return [(port, far) for port, far in ends if far and self.is_switch(far)]
 
     def some_shortest(self, chance):
-        """The same, and where several ports lead nearer it is left to chance by which of them packets leave."""
+        """Returns tables of shortest ways. If several ports lead nearer, `chance` chooses one."""
         exits = {name: self.exits(name) for name in self.nodes if self.is_switch(name)}
         tables = {name: [255] * (len(self.ends()) // 64 + 1) * 64 for name in exits}
         for lid, (name, port) in enumerate(self.ends(), 1):
@@ -136,7 +136,7 @@ class Fabric:
         return tables
 
     def plan(self, tables):
-        """What a fabric with these tables holds, in the form of a plan."""
+        """Returns what the fabric holds with these tables, in the form of a plan."""
         ends = self.ends()
         lines = [f"lid {lid} {self.guid(name):016x}/{port}" for lid, (name, port) in enumerate(ends, 1)]
         for name in sorted(tables, key=self.guid):
@@ -158,7 +158,7 @@ def triangle():
 
 
 def random_fabric(count, degree, hosts, seed=7):
-    """A random tree, further cables up to the mean degree, and adapters at random switches."""
+    """Returns a random tree with more cables up to the mean degree, and adapters at random switches."""
     fabric, chance = Fabric(), random.Random(seed)
     switches = fabric.switches(count)
     for i in range(1, count):
@@ -170,7 +170,7 @@ def random_fabric(count, degree, hosts, seed=7):
 
 
 def fat_tree(k, hosts):
-    """Three levels of switches with k ports, and as many adapters as said below each of the lowest."""
+    """Returns a fat tree: three levels of switches with `k` ports, and `hosts` adapters at each of the lowest."""
     fabric, half = Fabric(), k // 2
     switches = fabric.switches(5 * half * half)
     low, middle, top = switches[: k * half], switches[k * half : 2 * k * half], switches[2 * k * half :]
@@ -185,7 +185,7 @@ def fat_tree(k, hosts):
 
 
 def line(count):
-    """Switches in a row, and an adapter at the first."""
+    """Returns a row of switches, with an adapter at the first."""
     fabric = Fabric()
     switches = fabric.switches(count)
     fabric.hosts(switches[:1])
@@ -204,7 +204,7 @@ def ring(count):
 
 
 def two_ports(count):
-    """Two rows of switches, joined at one end, and adapters with a port in each."""
+    """Returns two rows of switches, joined at one end, and adapters with a port in each."""
     fabric = Fabric()
     switches = fabric.switches(2 * count)
     for row in (switches[:count], switches[count:]):
@@ -219,7 +219,7 @@ def two_ports(count):
 
 
 def half_linked(count):
-    """A ring whose adapters have two ports, one of them without a cable."""
+    """Returns a ring whose adapters have two ports, one of them without a cable."""
     fabric = Fabric()
     switches = fabric.switches(count)
     for i, switch in enumerate(switches):
@@ -230,7 +230,7 @@ def half_linked(count):
 
 
 def torus(rows, columns):
-    """Switches in rows and columns that close to rings, with an adapter at each."""
+    """Returns switches in rows and columns that close to rings, with an adapter at each."""
     fabric = Fabric()
     switches = fabric.switches(rows * columns)
     fabric.hosts(switches)
@@ -242,7 +242,8 @@ def torus(rows, columns):
 
 
 def dragonfly(groups, size, hosts):
-    """Groups of switches that are all wired to each other, a cable between any two groups, and adapters at each switch."""
+    """Returns groups of switches, all wired to each other within a group, with a cable between any two groups, and
+    adapters at each switch."""
     fabric = Fabric()
     for i in range(1, groups * size + 1):
         fabric.add(SWITCH, f"G{(i - 1) // size + 1}S{(i - 1) % size + 1}", 16 * i)
@@ -259,7 +260,7 @@ def dragonfly(groups, size, hosts):
 
 
 def two_levels(low, high, hosts):
-    """Each switch of the lower level wired to each of the higher, and so many adapters at each of the lower."""
+    """Returns two levels, each lower switch wired to each higher one, and `hosts` adapters at each lower one."""
     fabric = Fabric()
     switches = fabric.switches(low + high)
     fabric.hosts([switch for switch in switches[:low] for _ in range(hosts)])
@@ -270,7 +271,8 @@ def two_levels(low, high, hosts):
 
 
 def apart():
-    """A ring of five and a ladder of two rings, with no wire between them, and an adapter at every second switch."""
+    """Returns a ring of five and a ladder of two rings, with no wire between them, and an adapter at every second
+    switch."""
     fabric = Fabric()
     switches = fabric.switches(15)
     fabric.hosts(switches[::2])
@@ -286,7 +288,7 @@ def apart():
 
 
 def without_adapters(count):
-    """Switches in a ring, and further wires between those that stand apart by three."""
+    """Returns a ring of switches, with more wires between those three apart."""
     fabric = Fabric()
     switches = fabric.switches(count)
     for step in (1, 3):
@@ -296,7 +298,7 @@ def without_adapters(count):
 
 
 def with_double_wires():
-    """A tree of two levels, each wire of it twice, and a switch with a wire to itself."""
+    """Returns a tree of two levels with each wire doubled, and a switch with a wire to itself."""
     fabric = Fabric()
     switches = fabric.switches(6)
     fabric.hosts([switch for switch in switches[:4] for _ in range(3)])

@@ -10,14 +10,14 @@ import record_files as make
 import sample_audits as audits
 from built_program import DIGITS, ENTRIES, NO_WAY
 
-# Processor time below which a run tells nothing of how cost grows: that of starting.
+# Processor time below which a run says nothing about growth: that of starting.
 LEAST_SECONDS = 0.02
-# How often a command is run again where it took too long: the machine may have been busy.
+# How often a slow command is run again, since the machine may have been busy.
 TRIES = 4
 MOST_LIDS = 49151
 
-# Runs a command for each line of words, and tells its exit status, processor time and peak of memory. What starts a process counts to the
-# peak of its memory, so it is a process of its own that stays small.
+# Runs a command for each line of words, and writes its exit status, processor time and peak memory. A new process
+# inherits the peak memory of its parent, so a small process of its own starts them.
 STARTER = """
 import json, os, sys
 for line in sys.stdin:
@@ -39,7 +39,7 @@ def check(holds, text):
 
 
 def started(command, folder, stdout, stderr):
-    """The exit status of a command, its processor time and the peak of its memory."""
+    """Runs a command, and returns its exit status, its processor time and its peak memory."""
     if not starters:
         starters.append(subprocess.Popen([sys.executable, "-S", "-E", "-c", STARTER], stdin=subprocess.PIPE, stdout=subprocess.PIPE, text=True))
     written = os.O_WRONLY | os.O_CREAT | os.O_TRUNC
@@ -61,13 +61,13 @@ class Run:
         self.size = self.path.stat().st_size
 
     def cost(self):
-        """Runs the command, and tells its processor time and the peak of its memory."""
+        """Runs the command, and returns its processor time and its peak memory."""
         said = self.path.with_suffix(".said")
         status, seconds, memory = started(self.command, self.path.parent, self.path, said)
         text = said.read_text(errors="replace").strip()
         is_right = status == self.wanted
         check(is_right, f"{self.what}: exit status {status}; {text[:200]}")
-        # Of the steps here none can make a credit loop.
+        # No step here can make a credit loop.
         said = "credit loop none" if self.command[1] == "next" else ""
         check(not is_right or text == said, f"{self.what}: says on standard error: {text[:200]}")
         return seconds, memory
@@ -79,7 +79,7 @@ class Run:
         return self.path.read_bytes()
 
     def counts(self):
-        """How many lines begin with each word."""
+        """Returns how many lines begin with each word."""
         found = {}
         with open(self.path, "rb") as lines:
             for line in lines:
@@ -89,14 +89,14 @@ class Run:
 
 
 class Fabric:
-    """Switches in two levels, each of the lower ones cabled to two of the upper ones, and adapters of one port below."""
+    """Switches in two levels, each lower one cabled to two upper ones, with adapters of one port below."""
 
     def __init__(self, tops, leaves, ports, adapters):
         self.ports = ports
         self.switches = [0x1000 + i for i in range(tops + leaves)]
         self.adapters = [0x100000 + 16 * i for i in range(adapters)]
         used = dict.fromkeys(self.switches, 0)
-        # Each cable as two ends, the second farther from the first adapter's switch or as far.
+        # Each cable is a pair of ends; the second is at least as far from the first adapter's switch.
         self.cables = []
 
         def take(guid):
@@ -114,7 +114,7 @@ class Fabric:
         self.peers = {a: b for a, b in self.cables} | {b: a for a, b in self.cables}
 
     def facts(self):
-        """How many lines of each kind the facts have."""
+        """Returns the number of lines of each kind in the facts."""
         switches, adapters = len(self.switches), len(self.adapters)
         ends = switches * (self.ports + 1) + adapters
         return {
@@ -127,13 +127,13 @@ class Fabric:
         }
 
     def plan(self):
-        """The same of the plan."""
+        """Returns the number of lines of each kind in the plan."""
         lids = len(self.switches) + len(self.adapters)
         blocks = len(self.switches) * (lids // 64 + 1)
         return {"lid": lids, "switch": len(self.switches), "block": blocks}
 
     def reports(self, path):
-        """Writes the replies of a sweep, and says how many there are."""
+        """Writes the replies of a sweep, and returns their number."""
         start = self.adapters[0]
         with open(path, "wb") as file:
             file.write(make.NO_REPORTS)
@@ -170,25 +170,25 @@ class Fabric:
 
 
 def node_info(context, guid, port, ports=1):
-    """A switch has the number of ports that is given, an adapter one."""
+    """Makes NodeInfo: a switch has `ports` ports, an adapter one."""
     if guid < 0x100000:
         return make.node_info(context, make.SWITCH, ports, guid, guid, port)
     return make.node_info(context, make.ADAPTER, 1, guid, guid + port, port)
 
 
 class Tree:
-    """Switches in a tree, and adapters below some of them, numbered switch by switch. Between any two there is one way, so that
-    every rule plans the same, and what a plan and its audit are is known."""
+    """Switches in a tree, and adapters below some of them, numbered switch by switch. There is one way between any two,
+    so every rule plans the same, and the plan and its audit are known."""
 
     def __init__(self, parents, hosts, ports_of_adapters=1):
-        """The index of each switch's parent but the first's, which has none, and how many wires to adapters each has. An adapter of
-        several ports has them at switches in turn."""
+        """Takes the index of the parent of each switch but the first, and the number of wires from each to adapters. An
+        adapter of several ports has them at different switches in turn."""
         self.count = len(hosts)
         self.switches = [0x10 + i for i in range(self.count)]
         self.wires, used = [], [0] * self.count
         for child, parent in enumerate(parents, 1):
             self.wires.append(((parent, self.next(used, parent)), (child, self.next(used, child))))
-        # The adapters' ports, each with its switch and the port of that.
+        # The adapters' ports, each with its switch and the port there.
         seats = [switch for switch, count in enumerate(hosts) for _ in range(count)]
         width = len(seats) // ports_of_adapters
         self.ends = []
@@ -210,7 +210,7 @@ class Tree:
         return used[switch]
 
     def ways(self):
-        """For each switch its port towards each switch, and how many wires away that is."""
+        """Returns for each switch its port towards each switch, and the number of wires to it."""
         near = [[] for _ in range(self.count)]
         for (one, port), (other, back) in self.wires:
             near[one].append((port, other))
@@ -230,13 +230,13 @@ class Tree:
         return exits, steps
 
     def links(self):
-        """Each wire from both ends, by GUID and port."""
+        """Returns each wire from both ends, by GUID and port."""
         wires = [((self.switches[a], p), (self.switches[b], q)) for (a, p), (b, q) in self.wires]
         wires += [((self.switches[switch], out), (guid, port)) for guid, port, switch, out in self.ends]
         return sorted(wires + [(b, a) for a, b in wires])
 
     def cells(self, generation=lambda _: 1):
-        """The records of a store file of its facts; `generation` gives that of the cell at each place."""
+        """Returns the records of a store file of its facts. `generation` maps a cell's index to its generation."""
         links = self.links()
         keys = [(make.NODE, guid, 0, bytes([make.SWITCH, self.ports])) for guid in self.switches]
         keys += [(make.NODE, guid, 0, bytes([make.ADAPTER, self.ports_of_adapters])) for guid in self.adapters]
@@ -258,20 +258,20 @@ class Tree:
         return "".join(f"{line}\n" for its in lines for line in its)
 
     def lids(self, lmc=0):
-        """The LIDs of switches, and those at which the ranges of adapters' ports begin."""
+        """Returns the LIDs of the switches, and the first LIDs of the adapters' ranges."""
         width = 2**lmc
         first = (self.count // width + 1) * width
         return range(1, self.count + 1), range(first, first + width * len(self.ends), width)
 
     def plan(self, lmc=0):
-        """The text of its plan."""
+        """Returns the text of its plan."""
         switches, ranges = self.lids(lmc)
         width = 2**lmc
         top = ranges[-1] + width - 1
         lines = [f"lid {lid} {guid:016x}/0" for lid, guid in zip(switches, self.switches)]
         told = f" lmc {lmc}" if lmc else ""
         lines += [f"lid {lid} {guid:016x}/{port}{told}" for lid, (guid, port, _, _) in zip(ranges, self.ends)]
-        # Adapters' ports in a row below one switch, with the first one's LID.
+        # The adapters' ports in a row below one switch, with the first one's LID.
         rows = []
         for home, ends in itertools.groupby(zip(ranges, self.ends), key=lambda it: it[1][2]):
             ends = list(ends)
@@ -291,7 +291,7 @@ class Tree:
         return "".join(f"{line}\n" for line in lines).encode()
 
     def audit(self):
-        """What an audit of its plan prints, of adapters of one port under LMC 0."""
+        """Returns what an audit of its plan prints, for adapters of one port under LMC 0."""
         count, adapters = self.count + len(self.ends), len(self.ends)
         sums, most = 0, 0
         for one in range(self.count):
@@ -300,7 +300,7 @@ class Tree:
                     pairs = self.hosts[one] * (self.hosts[other] - (one == other))
                     sums += pairs * (2 + self.steps[one][other])
                     most = max(most, 2 + self.steps[one][other])
-        # Below each switch but the first, and beyond it.
+        # Below each switch but the first, and on the other side.
         below = list(self.hosts)
         for child in range(self.count - 1, 0, -1):
             below[self.parents[child - 1]] += below[child]
@@ -316,11 +316,11 @@ def hundredths(number):
 
 
 def levels(first, second, hosts):
-    """A switch above some, each above some more, and adapters below these."""
+    """Returns a tree: a switch above `first` others, each above `second` others, and adapters below these."""
     parents = [0] * first + [1 + i // second for i in range(first * second)]
     return Tree(parents, [0] * (1 + first) + [hosts] * (first * second))
 
 
 def chain(count, hosts):
-    """Switches in a row, and adapters at each."""
+    """Returns a row of switches with adapters at each."""
     return Tree(list(range(count - 1)), [hosts] * count)

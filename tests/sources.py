@@ -10,12 +10,12 @@ CLAUSE = re.compile(r"\b(?:ensures|requires)\b[^{]*(?=\{)")
 GHOST = re.compile(r"\bghost\b")
 WORDS = re.compile(r'\s+|//[^\n]*|b?r(#*)".*?"\1|b?"(?:[^"\\]|\\.)*"|b?\'(?:[^\'\\]|\\[^\']*)\'|\w+|::|=>|->|[=!<>]=|&&|\|\||\.\.=?|.', re.S)
 OPENS, CLOSES = "([{", ")]}"
-# What a statement or an arm of a match ends before or behind.
+# What ends a statement or an arm of a match, before or behind it.
 ENDS = {";", ",", "{", "}"}
 
 
 def past_group(text, at):
-    """The end of the group that opens here."""
+    """Returns the index behind the group that opens at `at`."""
     depth = 0
     while True:
         depth += (text[at] in OPENS) - (text[at] in CLOSES)
@@ -25,14 +25,15 @@ def past_group(text, at):
 
 
 def past_ghost(text, at):
-    """The end of a ghost item, or of a ghost field: its semicolon or comma, outside of all groups."""
+    """Returns the index behind a ghost item or ghost field, which ends with the first semicolon or comma outside of all
+    groups."""
     while text[at] not in ";,":
         at = past_group(text, at) if text[at] in OPENS else at + 1
     return at + 1
 
 
 def words_of(text):
-    """The words of the code of a text, each with where it begins."""
+    """Returns the words of code in a text, each with the index where it begins."""
     found, at = [], 0
     while at < len(text):
         clause = CLAUSE.match(text, at)
@@ -51,7 +52,8 @@ def words_of(text):
 
 
 class Function:
-    """A function of the code: its name with that of its type, what it takes and gives, and the first and last word of its body."""
+    """A function of the code: its name with that of its type, its head, what it returns, and the first and last word of
+    its body."""
 
     def __init__(self, name, head, first, last):
         self.name, self.head, self.first, self.last = name, head, first, last
@@ -59,7 +61,7 @@ class Function:
 
 
 class Code:
-    """A file of sources, word by word, and which group each word stands in."""
+    """A source file, word by word, and the group around each word."""
 
     def __init__(self, path, text):
         self.path = path
@@ -84,7 +86,7 @@ class Code:
         return bisect.bisect(self.lines, self.begins[at]) + 1
 
     def said(self, first, last):
-        """The words from one to another, as they are written, with one space where there is any."""
+        """Returns the words from `first` to `last` as written, with any gap as one space."""
         out = []
         for at in range(first, last + 1):
             word = self.words[at]
@@ -94,7 +96,7 @@ class Code:
         return re.sub(r",? ([)\]])", r"\1", re.sub(r"([(\[]) ", r"\1", "".join(out))).replace(" .", ".").replace(" ?", "?")
 
     def begin(self, at):
-        """Where the statement or arm begins that this word stands in, within the braces around it."""
+        """Returns the first word of the statement or arm around the word, within the braces around it."""
         while True:
             before = at - 1
             if before < 0:
@@ -104,7 +106,7 @@ class Code:
                 if word == "{":
                     return at
             elif word in CLOSES:
-                # A block before: another statement, unless this goes on with it.
+                # The brace ends a block before: another statement, unless this word continues it.
                 if word == "}" and self.words[at] not in ("else", ".", "?", ",", ")", "=>", "|"):
                     return at
                 before = self.partner[before]
@@ -113,7 +115,7 @@ class Code:
             at = before
 
     def end(self, at):
-        """The last word of that statement or arm."""
+        """Returns the last word of that statement or arm."""
         while at + 1 < len(self.words):
             word = self.words[at]
             if word in OPENS:
@@ -128,7 +130,7 @@ class Code:
         return at is None or self.words[at] == "{"
 
     def heads(self, at, first):
-        """What stands before each brace around a word, from the outermost to the innermost, within a function's body."""
+        """Returns what stands before each brace around a word, from the outermost in, within a function's body."""
         found = []
         while True:
             around = self.parent[at]
@@ -152,7 +154,7 @@ class Code:
                 yield Function(self.owner(at) + self.words[at + 1], self.said(at, brace - 1), brace, self.partner[brace])
 
     def owner(self, at):
-        """The type whose method stands here, with `::`, or nothing."""
+        """Returns the type whose method stands here, with `::`, or an empty text."""
         around = self.parent[at]
         if around is None or self.words[around] != "{":
             return ""
@@ -167,7 +169,7 @@ class Code:
 
 
 def codes():
-    """Each file of sources below crates/, tests aside."""
+    """Yields each source file below crates/, without tests."""
     for path in sorted(CRATES.glob("*/src/**/*.rt")):
         if not {"tests", "tests.rt"} & set(path.parts):
             yield Code(path.relative_to(CRATES), path.read_text())

@@ -10,7 +10,7 @@ NO_WAY = 255
 
 
 def distances(graph, starts):
-    """How many wires each switch that they reach is from the nearest of these."""
+    """Returns the number of wires from each switch that is reached to the nearest of `starts`."""
     far = dict.fromkeys(starts, 0)
     waiting = collections.deque(far)
     while waiting:
@@ -23,7 +23,7 @@ def distances(graph, starts):
 
 
 def class_of(far, bearing, roots):
-    """The class of a switch, by the distances from it."""
+    """Returns the distance class of a switch, given the distances from it."""
     to_roots = [far[root] for root in roots if root in far]
     if to_roots:
         return min(to_roots)
@@ -32,7 +32,7 @@ def class_of(far, bearing, roots):
 
 
 def keys_of(graph, bearing, roots):
-    """By class, distance from the first of the component, and GUID."""
+    """Returns the key of each switch: class, distance from the first of the component, and GUID."""
     far = {switch: distances(graph, [switch]) for switch in graph}
     classes = {switch: class_of(far[switch], bearing, roots) for switch in graph}
     keys = {}
@@ -43,13 +43,13 @@ def keys_of(graph, bearing, roots):
 
 
 def keys_as_named(graph, named):
-    """By where a switch stands among those that are named, which comes before all others, and GUID."""
+    """Returns the key of each switch: its index in `named`, with others behind, and GUID."""
     numbers = {switch: number for number, switch in enumerate(named)}
     return {switch: (numbers.get(switch, len(named)), switch) for switch in graph}
 
 
 def places_of(graph, keys):
-    """The place of each switch in the order that grows by these keys."""
+    """Returns the place of each switch in the order that grows by `keys`."""
     places, left, beside = {}, sorted(graph, key=keys.get, reverse=True), []
     while left:
         switch = heapq.heappop(beside)[1] if beside else left.pop()
@@ -63,7 +63,7 @@ def places_of(graph, keys):
 
 
 def rounds(graph, places, target):
-    """The round in which each switch that has a way to the target is labelled, and those that are labelled Down."""
+    """Returns the round in which each switch with a way to the target is labelled, and the switches labelled Down."""
     cost, down, last = {target: 0}, {target}, [target]
     while last:
         found = collections.defaultdict(bool)
@@ -71,7 +71,7 @@ def rounds(graph, places, target):
             for _, before in graph[switch]:
                 if before in cost:
                     continue
-                # From there the wire leads up, or else down to this switch.
+                # From `before` the wire leads up, or down to a switch labelled Down.
                 if places[before] > places[switch]:
                     found[before] = True
                 elif places[before] < places[switch] and switch in down:
@@ -85,7 +85,7 @@ def rounds(graph, places, target):
 
 
 def candidates(graph, places, cost, down, switch):
-    """The edges that gave a switch its label, by rising port."""
+    """Returns the edges that gave a switch its label, by rising port."""
     return [
         (port, to) for port, to in graph[switch]
         if to in cost and cost[to] < cost[switch] and (places[to] < places[switch] or places[to] > places[switch] and to in down)
@@ -93,7 +93,7 @@ def candidates(graph, places, cost, down, switch):
 
 
 def units_of(graph, heights):
-    """The unit of each height."""
+    """Returns the digit weight of each level."""
     widths = collections.defaultdict(lambda: 1)
     for switch, exits in graph.items():
         taller = sum(heights[to] > heights[switch] for _, to in exits)
@@ -105,8 +105,8 @@ def units_of(graph, heights):
 
 
 def tables(graph, bearing, homes, roots=(), named=None):
-    """The port by which packets for each LID leave each switch. `homes` has the switch of each LID's owner and the port by which
-    packets leave that one. The order grows from roots, or as switches are named."""
+    """Returns the port by which packets for each LID leave each switch. `homes` has for each LID its owner's switch and
+    the port there. The order grows from `roots`, or as switches are `named`."""
     places = places_of(graph, keys_of(graph, bearing, roots) if named is None else keys_as_named(graph, named))
     heights = dict.fromkeys(graph, 0) | distances(graph, bearing)
     units = units_of(graph, heights)

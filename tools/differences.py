@@ -3,7 +3,7 @@ from ibsm_texts import ENTRIES, NONE, name_of
 
 
 def names_differ(plan, held, called=("plan", "fabric")):
-    """The LIDs and tops that differ, where the two are called so."""
+    """Yields the LIDs and tops that differ. `called` has the names of the two texts."""
     first, second = called
     for lid in sorted(set(plan.owners) | set(held.owners)):
         one, other = (text.owners.get(lid) for text in (plan, held))
@@ -18,14 +18,15 @@ def names_differ(plan, held, called=("plan", "fabric")):
 
 
 def apart(one, other):
-    """A byte for each entry of the longer of two rows: 0 where the two are equal, or one ends and the other has none."""
+    """Returns a byte for each entry of the longer of two rows: 0 if the two are equal, or one row has ended and the
+    other has none."""
     length = max(len(one), len(other))
     one, other = (int.from_bytes(row.ljust(length, NONE), "big") for row in (one, other))
     return (one ^ other).to_bytes(length, "big")
 
 
 def blocks_to_write(old, new):
-    """How many blocks of a new table are otherwise than in the old one, as far as its own top."""
+    """Returns how many blocks of a new table differ from those of the old one, up to the new top."""
     if old == new:
         return 0
     return sum(new[i : i + ENTRIES] != old[i : i + ENTRIES] for i in range(0, len(new), ENTRIES))
@@ -45,7 +46,7 @@ def cables_of(facts):
 
 
 def facts_apart(old, new):
-    """The lines that tell how facts differ."""
+    """Yields the lines that tell how facts differ."""
     before, after = cables_of(old), cables_of(new)
     yield from nodes_apart(old, new)
     for word, cables in (("gone", before - after), ("come", after - before)):
@@ -69,7 +70,7 @@ def facts_apart(old, new):
 
 
 def plans_apart(old, new):
-    """The lines that tell how plans differ, and how many blocks a manager has to write."""
+    """Returns the lines that tell how plans differ, and how many blocks a manager has to write."""
     lines = list(names_differ(old, new, ("old", "new")))
     entries, switches, blocks = 0, 0, 0
     for guid in sorted(set(old.tables) | set(new.tables)):

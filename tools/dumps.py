@@ -19,15 +19,15 @@ OWNER = re.compile(r"portguid 0x([0-9a-f]+)")
 COUNT = re.compile(r"\d+ (?:valid )?lids dumped")
 FDBS_HEAD = re.compile(r"(?:osm_ucast_mgr_)?dump_ucast_routes: Switch 0x([0-9a-fA-F]{1,16})\s*")
 FDBS_LINE = re.compile(r"0x([0-9a-fA-F]{1,4}) : (?:(\d+) *: \d+ *: .*|UNREACHABLE)\s*")
-# What else stands there: the heads of columns, the warning of dump_lfts, and comments of ibdiagnet.
+# Other lines of dumps: the heads of columns, the warning of dump_lfts, and comments of ibdiagnet.
 BETWEEN = re.compile(r"|#.*|Lid\s+Out\s+Destination\s*|Port\s+Info\s*|LID\s*: Port\s*: Hops\s*: Optimal\s*|\*\*\*.*")
-# Rows of entries have room for so many LIDs more each time.
+# By how many LIDs a row of entries grows at a time.
 ROOM = 4096
 LIDS = 65536
 
 
 class LineRefused(Refused):
-    """A line is none of a dump."""
+    """A line does not belong to a dump."""
 
 
 def is_head(line):
@@ -39,13 +39,13 @@ def is_dump(lines):
 
 
 class Entries:
-    """The ports of a switch by LID: a byte each, NO_WAY where none is told, and what a byte doesn't hold by itself."""
+    """The ports of a switch by LID: a byte each, NO_WAY if unknown. `others` has what a byte alone cannot tell."""
 
     def __init__(self):
         self.row, self.others = bytearray(), {}
 
     def get(self, lid):
-        """The port, None where none is told."""
+        """Returns the port, or None if it is unknown."""
         port = self.row[lid] if lid < len(self.row) else NO_WAY
         return self.others.get(lid) if port == NO_WAY else port
 
@@ -58,7 +58,7 @@ class Entries:
         self.row[lid] = port
 
     def lacks(self, lids, top):
-        """Those of some LIDs up to a top of which no port is told."""
+        """Returns those of `lids`, up to a top, whose port is unknown."""
         row = self.row
         return [
             lid
@@ -67,12 +67,12 @@ class Entries:
         ]
 
     def led(self):
-        """The LIDs for which packets leave by a port."""
+        """Yields the LIDs for which packets leave by a port."""
         yield from (lid for lid, port in enumerate(self.row) if port != NO_WAY)
         yield from (lid for lid, port in self.others.items() if port != NO_WAY)
 
     def greatest(self):
-        """The greatest LID of which a port is told, 0 where there is none."""
+        """Returns the greatest LID with a known port, or 0."""
         return max(len(self.row.rstrip(NONE)) - 1, 0, *self.others)
 
 
@@ -93,8 +93,8 @@ class Dump:
         self.path, self.at, self.is_fdbs, self.is_dump, self.fault = path, None, False, False, None
 
     def read(self, path):
-        """Takes in a file, and tells whether it is a dump; the lines of a switch that is there already are added to it.
-        What is no line of a dump is passed over, as OpenSM does."""
+        """Takes in a file, and returns whether it is a dump. Adds lines of a known switch to it, and skips lines of no
+        dump, as OpenSM does."""
         self.begin(path)
         each_line(path, self.take_loosely, "replace")
         if self.is_dump and self.fault:
@@ -102,7 +102,7 @@ class Dump:
         return self.is_dump
 
     def take_loosely(self, number, line):
-        """Takes in a line of a file that may be no dump; the first fault is kept."""
+        """Takes in a line of a file that may be no dump, and keeps the first fault."""
         if self.is_like_one(line):
             return
         line = line.lstrip()
@@ -114,7 +114,7 @@ class Dump:
                 self.fault, self.at = fault, None
 
     def is_like_one(self, line):
-        """Takes in a line if it is like one that was read, but for the port, and tells whether it is."""
+        """Takes in a line that differs from one read before only in the port, and returns whether it did."""
         lid = self.lids.get(line[:6])
         port = self.ports.get(line[6:10])
         if lid is None or port is None or self.at is None or self.tails.get(lid) != line[10:]:
@@ -126,7 +126,7 @@ class Dump:
         return is_taken
 
     def read_strictly(self, path, lines):
-        """Takes in the lines of a file, each of which has to be a dump's."""
+        """Takes in the lines of a file, each of which has to belong to a dump."""
         self.begin(path)
         for number, line in enumerate(lines, 1):
             line = line.lstrip()
@@ -134,7 +134,7 @@ class Dump:
                 raise LineRefused(f"line {number} is no line of a dump of tables: {line[:60]}")
 
     def take(self, number, line):
-        """Takes in a line, and tells whether it is a dump's."""
+        """Takes in a line, and returns whether it belongs to a dump."""
         if len(line) > LONGEST_LINE:
             raise LineRefused(f"line {number} is longer than OpenSM reads")
         if is_head(line):
@@ -162,7 +162,7 @@ class Dump:
             self.tops[self.at] = max(self.tops.get(self.at, 0), int(last[1], 16 if last[1].startswith("0x") else 10))
 
     def elsewhere(self, *key):
-        """Where else it is told."""
+        """Returns the words for where else it is told."""
         return "further up" if self.sources[key] == self.path else f"in {self.sources[key]}"
 
     def put(self, number, lid, port):
@@ -209,8 +209,7 @@ class Dump:
 
 
 def lids_of(facts, dump, lmcs=None):
-    """The first and the last LID of each end port by facts, dumps and the LMCs that are known, and where these do not
-    go together."""
+    """Returns the first and the last LID of each end port, by facts, dumps and known LMCs, and where these disagree."""
     by_guid, ranges, found = {}, {}, []
     for lid, guid in sorted(dump.named.items()):
         by_guid.setdefault(guid, []).append(lid)
@@ -237,7 +236,7 @@ def lids_of(facts, dump, lmcs=None):
 
 
 def lacks(facts, dump, ranges):
-    """What is missing in dumps: the kind, and a line that tells it."""
+    """Yields what dumps lack: the kind, and a line that tells it."""
     owned = sorted(lid for first, last in ranges.values() for lid in range(first, last + 1))
     for guid in sorted(set(facts.nodes) | set(dump.tables)):
         if guid not in dump.tables:

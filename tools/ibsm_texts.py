@@ -15,7 +15,7 @@ import version
 GUID = "([0-9a-f]{16})"
 NUMBER = "([0-9]{1,10})"
 END = f"{GUID}/{NUMBER}"
-# By kind of fact, what it is about and its value.
+# By kind of fact: what it is about, and its value.
 FACTS = {
     "node": (GUID, f"(ca|switch|router) {NUMBER}"),
     "portguid": (END, GUID),
@@ -25,7 +25,7 @@ FACTS = {
     "cap": (GUID, NUMBER),
 }
 FORMS = {kind: re.compile(f"{kind} {about} (?:(disputed)|{value}) @{NUMBER}") for kind, (about, value) in FACTS.items()}
-# The first line, where there is a floor over 1: what is older was forgotten.
+# The first line if the floor is over 1: older facts are forgotten.
 FLOOR = re.compile(f"floor {NUMBER}")
 LID_LINE = re.compile(f"lid {NUMBER} {END}(?: lmc ([1-7]))?")
 SWITCH_LINE = re.compile(f"switch {GUID} top {NUMBER}")
@@ -34,17 +34,18 @@ NO_WAY = 255
 NONE = bytes([NO_WAY])
 ENTRIES = 64
 GREATEST_LID = 0xBFFF
-# A port of a node by GUID and number, and the names of nodes by GUID, for who says what type something has.
+# A node's port by GUID and number, and the names of nodes by GUID, for type hints.
 End, Names = tuple[int, int], dict[int, str]
 
 
 class Refused(Exception):
-    """What a tool was given is not what it takes, or must not be done."""
+    """The input of a tool is not what it takes, or its task must not be done."""
 
 
 def ends(tool, doc, work):
-    """Runs a tool and gives its exit status: work takes the words behind its name. What ends it short is said in one line."""
-    # What stands behind -- is another program's.
+    """Runs a tool, and returns its exit status. `work` takes the words behind its name. A failure is said in one
+    line."""
+    # Words behind -- are for another program.
     own = set(sys.argv[1 : sys.argv.index("--")] if "--" in sys.argv else sys.argv[1:])
     try:
         if {"-h", "--help"} & own:
@@ -58,7 +59,7 @@ def ends(tool, doc, work):
             sys.stdout.flush()
         return status
     except BrokenPipeError:
-        # Who read it has seen enough, and Python would say so once more at its end.
+        # The reader has seen enough. Python would report the closed pipe again at exit.
         os.dup2(os.open(os.devnull, os.O_WRONLY), sys.stdout.fileno())
         return 4
     except Refused as fault:
@@ -72,14 +73,14 @@ def ends(tool, doc, work):
 
 
 def told(fault):
-    """A fault of the operating system with the file's name once; without one it is standard output's."""
+    """Returns the text of an OSError, with the file's name once. Without a name it is standard output's."""
     if fault.strerror is None:
         return str(fault)
     return f"{fault.filename or 'standard output'}: {fault.strerror}"
 
 
 def as_called(doc):
-    """A tool's help, with the name by which it was installed and called in place of its own."""
+    """Returns a tool's help, with the name by which it was installed and called."""
     called = pathlib.Path(sys.argv[0])
     return (
         doc if called.resolve().parent.name == "tools" else doc.replace(f"tools/{called.resolve().name}", called.name)
@@ -87,7 +88,7 @@ def as_called(doc):
 
 
 def usage_of(doc):
-    """How a tool is used, for its parser."""
+    """Returns a tool's usage, for its parser."""
     return as_called(doc).split("usage: ")[1].split("\n\n")[0]
 
 
@@ -96,7 +97,7 @@ def name_of(end):
 
 
 def end_in(word):
-    """The end that a text `G/p` names, with or without 0x before its hex digits; None where it names none."""
+    """Returns the end that a text `G/p` names, with or without 0x before its hex digits, or None."""
     form = re.fullmatch(r"(?:0x)?([0-9a-fA-F]{1,16})/([0-9]{1,3})", word)
     return (int(form[1], 16), int(form[2])) if form else None
 
@@ -105,7 +106,7 @@ _input = []
 
 
 def opened(path, **how):
-    """A text to read; `-` is standard input, which is read once, however often it is opened."""
+    """Opens a text; `-` is standard input, which is read once, however often it is opened."""
     if path != "-":
         return open(path, **how)
     if not _input:
@@ -114,7 +115,7 @@ def opened(path, **how):
 
 
 def opened_bytes(path, most=-1):
-    """The bytes of a file, or of standard input; no more than so many."""
+    """Returns the bytes of a file or of standard input, at most `most` of them."""
     if path == "-":
         return sys.stdin.buffer.read(most)
     with open(path, "rb") as file:
@@ -122,9 +123,10 @@ def opened_bytes(path, most=-1):
 
 
 def each_line(path, take, errors="strict", encoding="ascii"):
-    """Hands a text's lines with their numbers to take, one after the other, so that no text is held.
+    """Passes each line of a text with its number to `take`, so that the text is never held as a whole.
 
-    What take refuses first holds once all is known to be a text whose last line has an end.
+    The first refusal of `take` is raised at the end, once the whole text is known to be well-formed, with an end to its
+    last line.
     """
     refused, line = None, "\n"
     with opened(path, encoding=encoding, errors=errors) as file:
@@ -146,14 +148,14 @@ def each_line(path, take, errors="strict", encoding="ascii"):
 
 
 def lines_of(path, errors="strict", encoding="ascii"):
-    """The lines of a text, which has to end with one."""
+    """Returns the lines of a text. The last one must have an end."""
     lines = []
     each_line(path, lambda _, line: lines.append(line), errors, encoding)
     return lines
 
 
 def names_in(path):
-    """The names of a node name map, by GUID."""
+    """Returns the names of a node name map, by GUID."""
     found = {}
     with opened(path, encoding="utf-8", errors="replace") as file:
         for line in file:
@@ -166,7 +168,7 @@ NAMED = re.compile(r"\b(?:0x)?([0-9a-f]{16})(?:/[0-9]{1,3})?(?![0-9A-Za-z_])")
 
 
 def with_names(line, names):
-    """A line with names behind its GUIDs and ends."""
+    """Returns a line with names behind its GUIDs and ends."""
 
     def told(found):
         name = names.get(int(found[1], 16))
@@ -177,7 +179,7 @@ def with_names(line, names):
 
 @contextlib.contextmanager
 def whole(path):
-    """A file to write bytes to, under another name until all is there, so that it is whole or as it was."""
+    """Opens a file for writing bytes under another name until all is there, so that the file is whole or unchanged."""
     if os.path.exists(path) and not os.path.isfile(path):
         raise OSError(f"{path}: it is no regular file")
     temporary = f"{path}.{os.getpid()}"
@@ -196,13 +198,14 @@ def whole(path):
 
 
 def put(path, text):
-    """Writes a file whole, or leaves it as it was."""
+    """Writes a file whole, or leaves it unchanged."""
     with whole(path) as file:
         file.write(text.encode())
 
 
 def plan_lines(ranges, tops, tables):
-    """The lines of a plan: of each end its first and last LID, of each switch's GUID the top and the entries from LID 0 on."""
+    """Yields the lines of a plan from the first and last LID of each end, and the top and the entries from LID 0 of
+    each switch's GUID."""
     for end, (first, last) in sorted(ranges.items(), key=lambda item: (item[1], item[0])):
         lmc = (last - first + 1).bit_length() - 1
         yield f"lid {first} {name_of(end)}" + (f" lmc {lmc}" if lmc else "")
@@ -213,7 +216,7 @@ def plan_lines(ranges, tops, tables):
 
 
 class Facts:
-    """The text of `ibsm facts`, in a file or in lines; a file's lines are kept where they are wanted."""
+    """The text of `ibsm facts`, from a file or from lines. A file's lines are kept on demand."""
 
     def __init__(self, path, keeps_lines=False, lines=None):
         self.nodes = {}  # GUID: type, ports
@@ -273,14 +276,14 @@ class Facts:
         return self.type_of(guid) == "switch"
 
     def wire(self, end):
-        """The far end of the cable in a port, where both ends tell of it and are up, and else None."""
+        """Returns the far end of the cable in a port if both ends tell of it and are up, or else None."""
         far = self.links.get(end)
         if far is None or far == end or self.links.get(far) != end or not (self.up.get(end) and self.up.get(far)):
             return None
         return far
 
     def cables(self):
-        """Each cable once: its ends, and whether it is `up`, `down`, or told by `one` end."""
+        """Returns each cable once: its ends, and whether it is `up`, `down`, or told by `one` end."""
         found = {}
         for end, far in sorted(self.links.items()):
             if (far, end) not in found:
@@ -289,7 +292,7 @@ class Facts:
 
 
 class Plan:
-    """The text of `ibsm plan`, or what a fabric holds in the same form: LIDs, and each switch's top and entries."""
+    """The text of `ibsm plan`, or what a fabric holds in that form: LIDs, and each switch's top and entries."""
 
     def __init__(self, path):
         self.owners = {}  # LID: end, with each LID of a range
@@ -297,7 +300,7 @@ class Plan:
         self.shared = []  # LIDs that a second end has, with that end
         self.tops = {}
         self.tables = {}  # GUID: entries from LID 0 on, in whole blocks
-        self.last, self.blocks = None, []  # the switch that is read, and its blocks
+        self.last, self.blocks = None, []  # the current switch, and its blocks
         self.path = path
         each_line(path, self.take_line)
         self.close()
@@ -337,13 +340,13 @@ class Plan:
         return True
 
     def take_block(self, line):
-        """Takes the next block of the switch that is read."""
+        """Takes in the next block of the current switch, and returns whether it is well-formed."""
         number, _, digits = line[6:].partition(" ")
         try:
             entries = bytes.fromhex(digits)
         except ValueError:
             return False
-        # Nothing but lower-case digits is spelled as it was read.
+        # Only lower-case digits are spelled as they were read.
         if self.last is None or len(entries) != ENTRIES or entries.hex() != digits:
             return False
         if number != str(len(self.blocks)) and not (BLOCK_NUMBER.fullmatch(number) and int(number) == len(self.blocks)):
@@ -352,14 +355,15 @@ class Plan:
         return True
 
     def close(self):
-        """Keeps the table of the switch that was read."""
+        """Keeps the table of the current switch."""
         if self.last is not None:
             self.tables[self.last], self.blocks = b"".join(self.blocks), []
 
     def entry(self, guid, lid):
-        """By which port a switch sends packets for a LID; NO_WAY above its top, and where there is no such switch."""
+        """Returns the port by which a switch sends packets for a LID; NO_WAY above its top, and for an unknown
+        switch."""
         return self.tables[guid][lid] if lid <= self.tops.get(guid, -1) else NO_WAY
 
     def row(self, guid):
-        """The entries of a switch from LID 0 up to its top."""
+        """Returns the entries of a switch from LID 0 up to its top."""
         return self.tables[guid][: self.tops[guid] + 1]

@@ -10,7 +10,7 @@ PLACE = "([0-9a-f]{16}/[0-9]{1,3})"
 RATE = r"\d+x [A-Z]+ [0-9.]+ Gb/s"
 KINDS = ("lost", "misdelivered", "round", "unowned", "twice", "unknown", "tableless", "unusable", "lidless", "unjoined")
 MISSED = ("above-top", "no-entry", "no-port", "no-link", "foreign", "misdelivered", "round")
-# A name that is put behind a GUID or an end.
+# A name behind a GUID or an end.
 NAMED = re.compile(r'(?<![0-9A-Za-z_"])(([0-9a-f]{16})(?:/[0-9]{1,3})?) "([^"]*)"')
 
 
@@ -21,12 +21,12 @@ def typed(words):
 
 
 def fault_of_lines(reader, lines):
-    """Reads a text; the number of the first line that is none of its form, or 0."""
+    """Reads a text, and returns the number of the first line that is not of its form, or 0."""
     return next((number for number, line in enumerate(lines, 1) if not reader.take(line)), 0)
 
 
 class Rules:
-    """A reader by a table of patterns, each for a whole line, with the method that takes what they caught."""
+    """A reader by a table of patterns, each for a whole line, with the method that takes the groups."""
 
     rules = ()
 
@@ -37,7 +37,7 @@ class Rules:
         return False
 
     def lacks(self):
-        """Whether the text ends too early."""
+        """Returns whether the text ends too early."""
         return False
 
 
@@ -153,7 +153,8 @@ class AuditRead(Rules):
         return self.circle is None or set(self.told) != parts or set(self.spreads) != {"hops", "load"}
 
     def passes(self):
-        """Whether `ibsm audit` ends with 0. Without end ports there are neither pairs nor ports without a LID."""
+        """Returns whether `ibsm audit` ends with 0. Without end ports there are neither pairs nor ports without a
+        LID."""
         all_pairs, found = self.told[""], self.found
         arrive = all_pairs["pairs"] == all_pairs["arrive"] and not self.circle
         have_tables = not found["tableless"] or not all_pairs["pairs"]
@@ -307,7 +308,7 @@ class WhatIfRead(Rules):
         return {self.kind: self.rows, "count": count, "harmless": harmless, "uncut": uncut}
 
 
-# By the name of a form its reader, and how the first line of such a text begins.
+# By the name of a form: its reader, and how the first line of a text of that form begins.
 READERS = {
     "facts": (FactsRead, r"(floor \d|node |portguid .*@|link |port .*@|claim |cap .*@)"),
     "tables": (TablesRead, r"(lid \d{1,10} [0-9a-f]{16}/|switch [0-9a-f]{16} top )"),
@@ -323,12 +324,12 @@ READERS = {
 
 
 def form_of(line):
-    """The name of the form of a text by its first line; None where it begins none."""
+    """Returns the name of a text's form by its first line, or None."""
     return next((name for name, (_, begins) in READERS.items() if re.match(begins, line)), None)
 
 
 def without_names(lines):
-    """The lines without the names behind GUIDs and ends, and these names by GUID."""
+    """Returns the lines without the names behind GUIDs and ends, and these names by GUID."""
     names = {}
 
     def taken(found):

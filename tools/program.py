@@ -7,13 +7,13 @@ import subprocess
 from ibsm_texts import Refused
 
 HERE = pathlib.Path(__file__).resolve().parent
-# Where it is built, where it is compiled without its proofs, and where it is installed: beside these tools.
+# Beside these tools: the built program, the one compiled without its proofs, and the installed one.
 BUILT = HERE.parent / "crates/ibsm/out"
 BESIDE = BUILT / "ibsm", BUILT / "unproved/ibsm", HERE / "ibsm"
 
 
 def the_program(named=None):
-    """The program that is named, or was built or installed beside these tools, or is on the path."""
+    """Returns the program that is named, or was built or installed beside these tools, or is on the path."""
     beside = [os.fspath(path) for path in BESIDE if os.access(path, os.X_OK)]
     found = shutil.which(named) if named else beside[0] if beside else shutil.which("ibsm")
     if not found:
@@ -22,7 +22,7 @@ def the_program(named=None):
 
 
 def printed_by(program, *words, statuses=(0,)):
-    """What a run of the program prints; a run with another exit status is refused, with what it said."""
+    """Returns what a run of the program prints. Refuses a run with another exit status, with what it said."""
     run = subprocess.run([program, *map(str, words)], capture_output=True, text=True, stdin=subprocess.DEVNULL)
     if run.returncode not in statuses:
         raise Refused(
@@ -32,7 +32,8 @@ def printed_by(program, *words, statuses=(0,)):
 
 
 def made_in_c(name, named=None):
-    """The program `record` or `send`: the one that is named, or was made or installed beside these tools, or is on the path."""
+    """Returns the program `record` or `send`: the one that is named, or was made or installed beside these tools, or is
+    on the path."""
     beside = [HERE / "record/out" / name, HERE.parent.parent / f"bin/ibsm-{name}"]
     found = shutil.which(named or next((path for path in beside if os.access(path, os.X_OK)), f"ibsm-{name}"))
     if not found:

@@ -9,12 +9,12 @@ FIRST, THEN = 2, 0.5
 WIDEST = 100
 
 _lock = threading.Lock()
-_now = [None]  # what is done now: a text, or a function that gives one
+_now = [None]  # what is done now: a text, or a function that returns one
 _is_shown = [False]
 
 
 def at(what):
-    """Notes what is done now, and gives what was done before; None where there is nothing to say of it."""
+    """Notes what is done now, None for nothing to say, and returns what was done before."""
     with _lock:
         before, _now[0] = _now[0], what
         if what is None:
@@ -33,18 +33,18 @@ def doing(what):
 
 
 def reading(path, file):
-    """Notes meanwhile that a file is read, and of a regular one how far."""
+    """Notes meanwhile that a file is read, and how far if it is a regular one."""
     try:
         number = file.fileno()
     except OSError:
-        # It is in memory already.
+        # The file is in memory already.
         return doing(f"reads {path}")
     size = os.fstat(number).st_size
     return doing(lambda: f"reads {path}" + (f", {100 * os.lseek(number, 0, os.SEEK_CUR) // size} %" if size else ""))
 
 
 def counted(what, things, count):
-    """So many things one after the other, with a note of how many are behind."""
+    """Yields `count` things, and notes meanwhile how many are done."""
     behind = 0
     with doing(lambda: f"{what}, {behind} of {count}"):
         for thing in things:
@@ -69,13 +69,13 @@ def _tell(tool, ended):
                     print(f"\r\033[K{tool}: {what}"[:WIDEST], end="", file=sys.stderr, flush=True)
                     _is_shown[0] = True
             except OSError:
-                # The file is closed by now, or the terminal is gone.
+                # The file is closed, or the terminal is gone.
                 pass
 
 
 @contextlib.contextmanager
 def hidden():
-    """What is printed meanwhile stands in lines of its own."""
+    """Hides the progress meanwhile, so that other output has lines of its own."""
     with _lock:
         _clear()
         yield
@@ -83,7 +83,7 @@ def hidden():
 
 @contextlib.contextmanager
 def told(tool):
-    """Says meanwhile how far the tool is, where standard error is a terminal."""
+    """Shows meanwhile how far the tool is, if standard error is a terminal."""
     if not sys.stderr.isatty():
         yield
         return

@@ -11,7 +11,7 @@ KINDS = {"node": NODE, "portguid": PORT_GUID, "link": LINK, "port": PORT, "claim
 TYPES = {"ca": ADAPTER, "switch": SWITCH, "router": ROUTER}
 KNOWN, DISPUTED = 1, 2
 
-# What is known of a reply beside its bytes: the number of the context, its port and its GUID.
+# The context of a reply: its kind, port and GUID.
 START = 0, 0, 0
 
 
@@ -24,7 +24,7 @@ def about(guid):
 
 
 def report(context, attribute, modifier, value, generation=1, hops=None):
-    """The record of a reply with status 0 that is back at who asked, over no hop or one."""
+    """Returns the record of a reply with status 0 that is back at its sender, over one hop or none."""
     kind, port, guid = context
     if hops is None:
         hops = 0 if context == START else 1
@@ -38,18 +38,18 @@ def report(context, attribute, modifier, value, generation=1, hops=None):
 
 
 def node_info(context, kind, ports, guid, port_guid, local_port, generation=1, hops=None):
-    """What a node says of itself to a request that came by its local port."""
+    """Returns what a node says of itself to a request that came by its local port."""
     value = struct.pack(">BBBBQQQHHIB", 1, 1, kind, ports, guid, guid, port_guid, 1, 0, 0, local_port)
     return report(context, NODE_INFO, 0, value, generation, hops)
 
 
 def switch_info(guid, room, generation=1):
-    """How many LIDs a switch's table has room for."""
+    """Returns the record that tells how many LIDs a switch's table has room for."""
     return report(about(guid), SWITCH_INFO, 0, struct.pack(">H", room), generation)
 
 
 def port_info(guid, port, state, lid=0, generation=1):
-    """A port's state and the LID that it claims."""
+    """Returns the record of a port's state and of the LID that it claims."""
     value = bytearray(64)
     value[16:18] = struct.pack(">H", lid)
     value[32] = state
@@ -61,12 +61,12 @@ def reports(*records):
 
 
 def cell(kind, guid, port, value, generation=1, state=KNOWN):
-    """The record of what is held of one key."""
+    """Returns the record of what is held of one key."""
     return struct.pack(">BBBBIQ16s", kind, state, port, 0, generation, guid, value)
 
 
 def cell_of(line):
-    """The record of a line of facts."""
+    """Returns the record of a line of facts."""
     word, place, *value, at = line.split()
     guid, _, port = place.partition("/")
     key = KINDS[word], int(guid, 16), int(port or 0)
@@ -74,7 +74,7 @@ def cell_of(line):
 
 
 def spelled(word, first, second=None):
-    """The bytes of a value: the words that stand for it in a line of facts."""
+    """Returns the bytes of a value from its words in a line of facts."""
     if word == "node":
         return struct.pack(">BB", TYPES[first], int(second))
     if word == "portguid":
@@ -88,17 +88,17 @@ def spelled(word, first, second=None):
 
 
 def store(*cells, floor=1):
-    """A store file of these cells, which have to stand in order."""
+    """Returns a store file of these cells, which must be in order."""
     return b"IBSMSTO2" + struct.pack(">II", floor, 0) + b"".join(cells)
 
 
 def store_of(facts):
-    """The store file of what a text of facts says."""
+    """Returns the store file of a text of facts."""
     lines = facts.splitlines()
     floor = int(lines.pop(0).split()[1]) if facts.startswith("floor ") else 1
     return store(*map(cell_of, lines), floor=floor)
 
 
 def older(stored):
-    """The same cells in a file that tells no floor."""
+    """Returns the store file in the older form, which tells no floor."""
     return NO_CELLS + stored[16:]

@@ -10,7 +10,7 @@ from collections.abc import Container, Iterable, Sequence
 from report_picture import Picture
 
 HERE = pathlib.Path(__file__).resolve().parent
-# What the lines of an audit mean, by their first words.
+# The meaning of an audit's lines, by their first words.
 FINDINGS = {
     "lost": "packets that are lost on their way",
     "misdelivered": "packets that come to another port",
@@ -31,7 +31,7 @@ def escaped(text: object) -> str:
 
 
 def table(head: Sequence[str], rows: Iterable[Sequence], numbers: Container[int] = ()) -> str:
-    """A table, whose columns with these places hold numbers."""
+    """Returns a table. `numbers` are the indices of columns that hold numbers."""
 
     def cell(tag: str, i: int, value: object) -> str:
         text = value if isinstance(value, Raw) else escaped(value)
@@ -62,7 +62,7 @@ def verdict(parts: dict) -> str:
 
 
 def audit(parts: dict) -> str:
-    """The lines of the audit: its counts, and findings by kind."""
+    """Returns the lines of the audit: its counts, and findings by kind."""
     counts, found = [], {}
     for line in parts["audit"]:
         kind = line.split(" ", 1)[0]
@@ -107,30 +107,30 @@ def channel_name(picture: Picture, channel: tuple[int, int]) -> str:
 
 
 def share(picture: Picture, channel: tuple[int, int]) -> float:
-    """How busy a channel is, from 0 to 1."""
+    """Returns how busy a channel is, from 0 to 1."""
     most = max(picture.loads.values(), default=0)
     return picture.loads[channel] / most if most else 0
 
 
 def color(part: float) -> str:
-    """From blue, which is quiet, over yellow to red."""
+    """Returns a colour from blue, for quiet, over yellow to red."""
     return f"hsl({215 - 215 * part:.0f} 75% {52 - 4 * part:.0f}%)"
 
 
 def box(kind: str, x: float, y: float, width: float, height: float) -> str:
-    """A rectangle around a middle."""
+    """Returns a rectangle around a middle."""
     place = f'x="{x - width / 2:.1f}" y="{y - height / 2:.1f}"'
     return f'<rect class={kind} {place} width="{width:.1f}" height="{height:.1f}" rx=6 />'
 
 
 def svg(picture: Picture) -> str:
-    """The picture: frames, channels, switches."""
+    """Returns the picture: frames, channels, switches."""
     if not picture.places:
         return paragraph("There is no switch.")
     boxes = [(x, y, picture.width(i), 48) for i, (x, y) in picture.places.items()] + list(picture.frames.values())
     left, right = min(x - width / 2 for x, _, width, _ in boxes) - 12, max(x + width / 2 for x, _, width, _ in boxes) + 12
     top, low = min(y - high / 2 for _, y, _, high in boxes) - 12, max(y + high / 2 for _, y, _, high in boxes) + 12
-    # So wide that names can be read; what does not fit is scrolled.
+    # Wide enough for names to be read; wider pictures scroll.
     style = f'style="min-width:{max(600, 0.6 * (right - left)):.0f}px"'
     lines = [f'<svg id=net viewBox="{left:.0f} {top:.0f} {right - left:.0f} {low - top:.0f}" {style} role=img>']
     for name, (x, y, width, height) in picture.frames.items():
@@ -181,7 +181,7 @@ def picture_section(parts: dict) -> str:
 
 
 def as_script(value: object) -> str:
-    """JSON that no end of a script stands in."""
+    """Returns JSON in which no end of a script can stand."""
     return json.dumps(value, separators=(",", ":")).replace("<", "\\u003c")
 
 

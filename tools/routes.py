@@ -11,7 +11,7 @@ import operator
 import progress
 from ibsm_texts import ENTRIES, NO_WAY, NONE, name_of
 
-# Of what is wrong, no more than this is said.
+# The most faults that are said.
 MOST_SAID = 20
 
 
@@ -31,7 +31,8 @@ class Routes:
                     self.home[end] = i, port
 
     def columns(self, lids):
-        """Each of some rising LIDs with its column. No more than a block of each switch is put together at a time."""
+        """Yields each of some rising LIDs with its column. Puts together no more than a block of each switch at a
+        time."""
         for number, those in itertools.groupby(lids, lambda lid: lid // ENTRIES):
             start = number * ENTRIES
             stripe = b"".join(
@@ -42,10 +43,9 @@ class Routes:
                 yield lid, stripe[lid - start :: ENTRIES]
 
     def owned(self):
-        """Each LID that somebody owns, rising, with its owner's switch and the column.
+        """Yields each owned LID, rising, with its owner's switch and the column.
 
-        At the owner's switch the column has 0 where packets leave it for the owner; the switch is None where they do
-        not.
+        At the owner's switch the column has 0 if packets leave it for the owner; if they do not, the switch is None.
         """
         for lid, entries in self.columns(sorted(self.owners)):
             owner, column = self.owners[lid], bytearray(entries)
@@ -58,14 +58,14 @@ class Routes:
 
     @functools.cached_property
     def groups(self):
-        """The LIDs of each switch of owners and column."""
+        """Returns the LIDs of each pair of the owners' switch and column."""
         found = collections.defaultdict(list)
         for lid, at, column in self.owned():
             found[at, column].append(lid)
         return found
 
     def step(self, at, home, column):
-        """Where a packet goes on from a switch: the next switch, or how it ends and what is wrong with that."""
+        """Returns where a packet goes on from a switch: the next switch, or how it ends and what is wrong with that."""
         port = column[at]
         if at == home:
             return None, True, None
@@ -82,7 +82,7 @@ class Routes:
         return self.place[end[0]], None, None
 
     def arrivals(self, home, column):
-        """Whether packets arrive from each switch, and what is wrong, by one column."""
+        """Returns whether packets arrive from each switch by one column, and what is wrong."""
         arrives, wrong = {}, []
         for start in range(len(self.guids)):
             at, passed = start, []
@@ -105,9 +105,9 @@ class Routes:
         return arrives, wrong
 
     def faults(self):
-        """What is wrong with the ways of LIDs, and how many pairs of a switch and a LID have no way.
+        """Returns what is wrong with the ways of LIDs, and how many pairs of a switch and a LID have no way.
 
-        Where nothing is wrong with a column no switch is looked at alone. A LID whose column is that of the LID before it at
+        Looks at single switches only if something is wrong with a column. A LID with the column of the LID before it at
         the same switch is not followed again.
         """
         nexts, last, odd, without = self.nexts(), {}, collections.defaultdict(list), 0
@@ -128,7 +128,8 @@ class Routes:
         return found, without
 
     def nexts(self):
-        """For each switch and entry the next switch; behind the switches stand an arrival, no way, and a fault."""
+        """Returns for each switch and entry the next switch. Numbers above the switches stand for an arrival, no way,
+        and a fault."""
         count = len(self.guids)
         found = []
         for ports in self.far:
@@ -141,9 +142,10 @@ class Routes:
         return found
 
     def lost(self, nexts, home, column):
-        """From how many switches packets have no way by a column; None where one goes round or ends with a fault.
+        """Returns from how many switches packets have no way by a column, or None if one goes round or ends with a
+        fault.
 
-        All packets go on at once, each round twice as far as before, until none does so any more.
+        All packets advance at once, each round twice as far as before, until none does any more.
         """
         count = len(self.guids)
         at = [*map(operator.getitem, nexts, column), count, count + 1, count + 2]
@@ -157,12 +159,13 @@ class Routes:
         return without if not without or at.count(count + 1) - 1 == without else None
 
     def ends(self):
-        """The channels, each a switch and a port of it with a cable to another switch, with that switch."""
+        """Returns the channels, each a switch and its port with a cable to another switch, with that switch."""
         return {(i, port): self.place[end[0]] for i, ports in enumerate(self.far) for port, end in ports.items()
                 if end[0] in self.place}
 
     def carried(self):
-        """For each channel how many routes it carries, of each adapter port's packets to each LID of each other one."""
+        """Returns for each channel the number of routes that it carries: one for each adapter port and each LID of
+        another one."""
         ends = self.ends()
         carried = dict.fromkeys(ends, 0)
         sources = collections.Counter(self.home[end][0] for end in set(self.owners.values()) if end in self.home)
@@ -173,7 +176,7 @@ class Routes:
         return carried
 
     def carry(self, home, column, ends, sources, count, carried):
-        """Adds the routes of one column, from the switches that no other one sends to on."""
+        """Adds the routes of one column to `carried`, beginning with the switches that no other one sends to."""
         ahead = [ends.get((at, port)) if at != home else None for at, port in enumerate(column)]
         waits = collections.Counter(ahead)
         routes = [sources[at] for at in range(len(column))]

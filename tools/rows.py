@@ -1,12 +1,12 @@
 """Switches and adapters in rows, from the top switches down, each row in an order in which few cables cross."""
 import collections
 
-# How often rows are ordered by their neighbours, from above and from below.
+# How often neighbours determine the order of rows, from above and from below.
 SWEEPS = 6
 
 
 def distances(beside, starts):
-    """How many cables each node that can be reached is away from the nearest of these."""
+    """Returns how many cables each reachable node is away from the nearest of `starts`."""
     found = dict.fromkeys(starts, 0)
     waiting = collections.deque(found)
     while waiting:
@@ -19,7 +19,7 @@ def distances(beside, starts):
 
 
 def components(beside, nodes):
-    """The parts of some nodes that cables join, each sorted, by their least nodes."""
+    """Returns the parts of some nodes that cables join, each sorted, in order of their least nodes."""
     left, found = set(nodes), []
     for node in sorted(nodes):
         if node in left:
@@ -34,8 +34,8 @@ def components(beside, nodes):
 
 
 def tops(beside, bearing, roots=()):
-    """Of each component the switches at its top: the roots that are named, else those furthest from switches with adapters,
-    else the switch with the least way to the furthest."""
+    """Yields the top switches of each component: the named roots, or those furthest from switches with adapters, or the
+    switch with the shortest way to the furthest."""
     heights = distances(beside, sorted(bearing))
     for part in components(beside, beside):
         named = [switch for switch in part if switch in roots]
@@ -49,7 +49,7 @@ def tops(beside, bearing, roots=()):
 
 
 def ranks(beside, bearing, roots=()):
-    """The row of each switch: how many cables it is below the top of its component."""
+    """Returns the row of each switch: how many cables it is below the top of its component."""
     return distances(beside, [switch for part in tops(beside, bearing, roots) for switch in part])
 
 
@@ -61,7 +61,7 @@ def nested(beside, rank, nodes, row, order):
 
 
 def crossings(rows, beside, place):
-    """How many pairs of cables between neighbouring rows cross."""
+    """Counts the pairs of cables between neighbouring rows that cross."""
     count = 0
     for upper, lower in zip(rows, rows[1:]):
         there = set(lower)
@@ -74,12 +74,12 @@ def crossings(rows, beside, place):
 
 
 def places(rows):
-    """How far to the right each node stands: the nodes of a row are spread over the whole width."""
+    """Returns how far to the right each node stands. The nodes of a row are spread over the whole width."""
     return {node: (i + 0.5) / len(row) for row in rows for i, node in enumerate(row)}
 
 
 def by_neighbours(rows, beside, is_down):
-    """Each row, from the top or from the bottom, in the order of the middle of its neighbours in the row before."""
+    """Orders each row, from the top or from the bottom, by the mean position of its neighbours in the row before."""
     found = [list(row) for row in rows]
     steps = range(1, len(found)) if is_down else range(len(found) - 2, -1, -1)
     for i in steps:
@@ -95,7 +95,7 @@ def by_neighbours(rows, beside, is_down):
 
 
 def ordered(beside, rank):
-    """The rows of nodes, each in its order."""
+    """Returns the rows of nodes, each in its order."""
     order, best = [], None
     for part in components(beside, rank):
         nested(beside, rank, part, min(rank[node] for node in part), order)
@@ -113,8 +113,8 @@ def ordered(beside, rank):
 
 
 def sags(rows, beside):
-    """How far each node stands below its row, from 0 to 1. Where a component has cables between nodes of a row that are not
-    neighbours there, its part of the row is an arc, so that they do not run behind others."""
+    """Returns how far each node stands below its row, from 0 to 1. If cables of a component join nodes of a row that
+    are not neighbours there, its part of the row is an arc, so that the cables do not run behind others."""
     part_of = {node: i for i, part in enumerate(components(beside, beside)) for node in part}
     found = {}
     for row in rows:

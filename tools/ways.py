@@ -9,7 +9,7 @@ def hundredths(total, count):
 
 
 def hops_of(ways):
-    """How many packets between adapter ports take so many wires."""
+    """Counts the packets between adapter ports by the number of wires that they take."""
     hops = collections.Counter()
     sources = collections.Counter(ways.home[end][0] for end in set(ways.owners.values()) if end in ways.home)
     for (home, column), lids in ways.groups.items():
@@ -25,7 +25,7 @@ def hops_of(ways):
 
 
 def told_of_ways(ways):
-    """The lines `hops` and `load` of an audit."""
+    """Returns the lines `hops` and `load` of an audit."""
     hops, loads = hops_of(ways), ways.carried().values()
     pairs, wires = sum(hops.values()), sum(number * count for number, count in hops.items())
     told = f"max {max(hops)} mean {hundredths(wires, pairs)}" if pairs else "none"
@@ -34,6 +34,6 @@ def told_of_ways(ways):
 
 
 def told_of_unused(ways):
-    """How many channels carry no route."""
+    """Returns the line that counts channels without a route."""
     loads = ways.carried().values()
     return f"unused {sum(not load for load in loads)} of {len(loads)}\n"

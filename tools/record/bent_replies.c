@@ -24,7 +24,7 @@
 enum { SET = 2, FIFTH = 5, PACKET = 256 };
 
 static int sets;
-static uint64_t fifth;	/* its number */
+static uint64_t fifth;	/* its TransactionID */
 
 static void keep_packet(const char *word, const uint8_t *packet)
 {

@@ -92,7 +92,7 @@ static void parse(int count, char **texts)
 		end(USAGE, "--after and --generation both number the sweep");
 }
 
-/* What is given counts, then what comes after a file, then the clock. */
+/* Numbers the sweep: by the option, above a file's generation, or by the clock. */
 static void number_sweep(void)
 {
 	uint32_t clock = time(NULL), newest;
@@ -135,7 +135,7 @@ static int record(struct whole_file *tables, struct whole_file *names)
 	if (options.tables)
 		has_tables = read_tables() || options.partial;
 	if (options.names)
-		read_names();	/* last, since what has no name is no gap in the tables */
+		read_names();	/* last: a missing name is no gap in the tables */
 	if (has_tables)
 		print_tables(tables->file);
 	if (options.names)

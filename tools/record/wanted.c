@@ -14,7 +14,7 @@ static void refuse(const char *line)
 	end(REFUSED, "%s: line %lu is no line of a plan: %.60s", name, line_number, line);
 }
 
-/* A decimal number up to most at *text, which then stands behind it. */
+/* Reads a decimal number of at most `most` at *text, and moves *text behind it. */
 static int number_at(const char **text, unsigned long most, unsigned long *value)
 {
 	const char *first = *text;
