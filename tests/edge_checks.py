@@ -41,7 +41,7 @@ def greatest_lid(room):
 
 def several_blocks(room):
     """Checks that the blocks to write are those that differ: the first, one in between, and the last."""
-    lids, tables, plan = triangle_plan(4, GREATEST)
+    lids, tables, _ = triangle_plan(4, GREATEST)
     for entries, blocks in (({GREATEST: 1}, 1), ({1: 3, GREATEST: 1}, 2), ({1: 3, 2: 3, 20000: 3, GREATEST - 63: 3, GREATEST: 1}, 3)):
         room.put(near_plan="\n".join(plan_lines(lids, tables | {0x10: tables[0x10] | entries})) + "\n")
         told = f"entries {len(entries)} blocks {blocks}\n{len(entries)} entries differ on 1 switches, blocks to write: {blocks}\n"

@@ -271,7 +271,7 @@ def remarked(costs, count):
     return costs.put(f"remarked{count}", lambda: ("#" * 63 + "\n").encode() * count + tree_of(8, 10).plan())
 
 
-def scheduled(costs, hosts, line, times, ending=""):
+def scheduled(costs, hosts, line, times):
     """Makes a run in a tree of four switches with `hosts` adapters each: manager A, which writes, standby B, and then
     `line` repeated `times` times."""
     tree = tree_of(4, hosts)

@@ -213,7 +213,7 @@ def rounds(room):
     told_beside(room, fab, ends)
     silence(room, fab, ends)
     other_files(room, fab, ends)
-    by_a_file(room, fab, ends)
+    by_a_file(room, fab)
     watched(room)
     healed(room, fab)
     watched_by_log(room, fab)
@@ -390,7 +390,7 @@ def other_files(room, fab, ends):
         fab(log="")
 
 
-def by_a_file(room, fab, ends):
+def by_a_file(room, fab):
     """Checks options in a file. Those of the command line take precedence."""
     room.put(round_conf="# where\ndir rd\nrouting spread  # a rule\nlmc=0\nlook\n\n", bad_conf="dir rd\nsing\n")
     fab(planned="")

@@ -10,8 +10,6 @@ CLAUSE = re.compile(r"\b(?:ensures|requires)\b[^{]*(?=\{)")
 GHOST = re.compile(r"\bghost\b")
 WORDS = re.compile(r'\s+|//[^\n]*|b?r(#*)".*?"\1|b?"(?:[^"\\]|\\.)*"|b?\'(?:[^\'\\]|\\[^\']*)\'|\w+|::|=>|->|[=!<>]=|&&|\|\||\.\.=?|.', re.S)
 OPENS, CLOSES = "([{", ")]}"
-# What ends a statement or an arm of a match, before or behind it.
-ENDS = {";", ",", "{", "}"}
 
 
 def past_group(text, at):
