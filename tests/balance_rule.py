@@ -1,5 +1,6 @@
-"""The rule of routing that spreads in the order of the least trial load, worked out from its definitions in docs/MODEL.md, apart from
-the program. Graphs are those of spread_rule, and so are labels, candidates and the ports that LIDs take.
+"""The rule of routing that spreads in the order of the least trial load, worked out from its definitions in
+docs/MODEL.md, apart from the program. Graphs are those of spread_rule, and so are labels, candidates and the ports that
+LIDs take.
 """
 import collections
 

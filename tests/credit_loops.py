@@ -39,7 +39,10 @@ def check_told(line, after, channel_of, what):
     least = min(filter(None, (count_round(after, first) for first in list(after))), default=0)
     told = line.split(" ")
     head = ["credit", "loop", "on", "one", "lane"] if least else ["credit", "loop", "none"]
-    check(told[: len(head)] == head and (least or told == head), f"{what}: the shortest loop has {least} channels, and it tells {told}")
+    check(
+        told[: len(head)] == head and (least or told == head),
+        f"{what}: the shortest loop has {least} channels, and it tells {told}",
+    )
     loop = [channel_of(end_in(word)) for word in told[len(head) :]]
     check(len(loop) == least, f"{what}: a loop of {len(loop)} channels, by the search one of {least}")
     for channel, following in zip(loop, loop[1:] + loop[:1]):

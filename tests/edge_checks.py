@@ -30,22 +30,33 @@ def greatest_lid(room):
     os.mkdir(room.path / "far")
     said = "3 switches, 5 LIDs, top 49151: 5 ports get their first LID, 0 another\n"
     room.prints("opensm-files write wide.facts far.plan far", 0, said)
-    room.check("\n0xbfff 002 # portguid 0x0000000000000201\n" in room.text("far/plan.lfts"), "the entry of the greatest LID")
+    room.check(
+        "\n0xbfff 002 # portguid 0x0000000000000201\n" in room.text("far/plan.lfts"), "the entry of the greatest LID"
+    )
     room.refused("opensm-files write wide.facts over.plan far", "LID 49152 is no unicast LID")
     lines = room.text("far/plan.lfts").splitlines(True)
     room.check(lines[0].startswith("Unicast lids [0-49151] of switch "), "the range of a table")
     room.put(far_dump="".join(lines), over_dump="".join(lines).replace("[0-49151]", "[0-49152]"))
-    room.check(room.run("opensm-files tables wide.facts far.dump", 0) == room.text("far.plan"), "a dump up to the greatest LID")
+    room.check(
+        room.run("opensm-files tables wide.facts far.dump", 0) == room.text("far.plan"), "a dump up to the greatest LID"
+    )
     room.refused("opensm-files tables wide.facts over.dump", "has no range of LIDs in its head")
 
 
 def several_blocks(room):
     """Checks that the blocks to write are those that differ: the first, one in between, and the last."""
     lids, tables, _ = triangle_plan(4, GREATEST)
-    for entries, blocks in (({GREATEST: 1}, 1), ({1: 3, GREATEST: 1}, 2), ({1: 3, 2: 3, 20000: 3, GREATEST - 63: 3, GREATEST: 1}, 3)):
+    for entries, blocks in (
+        ({GREATEST: 1}, 1), ({1: 3, GREATEST: 1}, 2), ({1: 3, 2: 3, 20000: 3, GREATEST - 63: 3, GREATEST: 1}, 3)
+    ):
         room.put(near_plan="\n".join(plan_lines(lids, tables | {0x10: tables[0x10] | entries})) + "\n")
-        told = f"entries {len(entries)} blocks {blocks}\n{len(entries)} entries differ on 1 switches, blocks to write: {blocks}\n"
-        room.check(room.run("compare far.plan near.plan", 1) == f"switch 0000000000000010 {told}", f"{blocks} blocks of many")
+        told = (
+            f"entries {len(entries)} blocks {blocks}\n{len(entries)} entries differ on 1 switches, blocks to write: "
+            f"{blocks}\n"
+        )
+        room.check(
+            room.run("compare far.plan near.plan", 1) == f"switch 0000000000000010 {told}", f"{blocks} blocks of many"
+        )
     room.put(less_plan=triangle_plan(4, 65)[2], more_plan=triangle_plan(4, 64)[2].replace("top 64", "top 65"))
     printed = room.run("compare less.plan more.plan", 1).splitlines()
     room.check(printed[-1] == "6 entries differ on 3 switches, blocks to write: 3", "the second of two blocks")

@@ -1,6 +1,6 @@
-"""How the cost of commands grows, for `tests/at-scale`: each at a size and at twice the size, by counted instructions. `valgrind` counts
-them where the machine has it, else `perf`. Where neither does, processor time is taken, the least of some runs, and twice as
-much is allowed; the bounds on instructions are left out then."""
+"""How the cost of commands grows, for `tests/at-scale`: each at a size and at twice the size, by counted instructions.
+`valgrind` counts them where the machine has it, else `perf`. Where neither does, processor time is taken, the least of
+some runs, and twice as much is allowed; the bounds on instructions are left out then."""
 import collections
 import concurrent.futures
 import itertools
@@ -63,7 +63,9 @@ class Valgrind:
         subprocess.run(["strip", "-o", self.program, program], check=True)
 
     def cost(self, words, log):
-        tool = ["valgrind", "--tool=cachegrind", "--cache-sim=no", "--cachegrind-out-file=/dev/null", f"--log-file={log}"]
+        tool = [
+            "valgrind", "--tool=cachegrind", "--cache-sim=no", "--cachegrind-out-file=/dev/null", f"--log-file={log}"
+        ]
         status = ran([*tool, self.program, *words], self.folder)
         found = re.search(r"I\s+refs:\s+([\d,]+)", log.read_text()) if log.exists() else None
         return status, int(found[1].replace(",", "")) if found else None
@@ -174,7 +176,9 @@ def known(costs, switches, hosts):
 def strangers(costs, count):
     """Makes links from `count` nodes to as many others that nothing else describes: the first leads to the last."""
     def made():
-        return make.store_of("".join(f"link {it:016x}/1 {2 * count + 1 - it:016x}/2 @1\n" for it in range(1, count + 1)))
+        return make.store_of(
+            "".join(f"link {it:016x}/1 {2 * count + 1 - it:016x}/2 @1\n" for it in range(1, count + 1))
+        )
 
     return costs.put(f"strangers{count}", made)
 
@@ -198,7 +202,12 @@ def holed(costs, switches, hosts, without=1):
     """Makes the tables of a tree. The last `without` switches lead nowhere."""
     def made():
         parts = tree_of(switches, hosts).plan().split(b"switch ")
-        return b"switch ".join([*parts[:-without], *(re.sub(rb"(block \d+ ).*", lambda it: it[1] + b"ff" * ENTRIES, it) for it in parts[-without:])])
+        return b"switch ".join(
+            [
+                *parts[:-without],
+                *(re.sub(rb"(block \d+ ).*", lambda it: it[1] + b"ff" * ENTRIES, it) for it in parts[-without:]),
+            ]
+        )
 
     return costs.put(f"holes{without}of{switches}by{hosts}", made)
 
@@ -207,7 +216,10 @@ def claimed(costs, hosts):
     """Makes the facts of a tree whose adapters' ports claim LIDs from 16,384 on."""
     def made():
         tree = tree_of(8, hosts)
-        claims = [make.cell(make.CLAIM, guid, port, (16384 + at).to_bytes(2, "big")) for at, (guid, port, _, _) in enumerate(tree.ends)]
+        claims = [
+            make.cell(make.CLAIM, guid, port, (16384 + at).to_bytes(2, "big"))
+            for at, (guid, port, _, _) in enumerate(tree.ends)
+        ]
         cells = tree.cells()
         first = next(at for at, it in enumerate(cells) if it[0] == make.CAP)
         return make.store(*cells[:first], *claims, *cells[first:])
@@ -218,7 +230,11 @@ def claimed(costs, hosts):
 def apart(costs, switches, hosts):
     """Makes the facts of a tree, and of a switch without wires."""
     def made():
-        more = (make.NODE, bytes([make.SWITCH, 1])), (make.PORT_GUID, LONE.to_bytes(8, "big")), (make.CAP, (49152).to_bytes(2, "big"))
+        more = (
+            (make.NODE, bytes([make.SWITCH, 1])),
+            (make.PORT_GUID, LONE.to_bytes(8, "big")),
+            (make.CAP, (49152).to_bytes(2, "big")),
+        )
         cells = [*tree_of(switches, hosts).cells(), *(make.cell(kind, LONE, 0, value) for kind, value in more)]
         return make.store(*sorted(cells, key=lambda it: (it[0], it[8:16], it[2])))
 
@@ -227,7 +243,9 @@ def apart(costs, switches, hosts):
 
 def printed(costs, *words):
     """Makes the file of what the program prints."""
-    return costs.put("".join(words), lambda: subprocess.run([costs.program, *words], cwd=costs.folder, capture_output=True).stdout)
+    return costs.put(
+        "".join(words), lambda: subprocess.run([costs.program, *words], cwd=costs.folder, capture_output=True).stdout
+    )
 
 
 def swept(costs, adapters):
@@ -354,7 +372,10 @@ def check_all(program, folder, noted):
     at the larger size."""
     costs = Costs(program, folder)
     growing = [(row, row.words(costs, row.size), row.words(costs, 2 * row.size)) for row in GROWING]
-    costs.take([words for _, *both in growing for words in both], {words: row.status for row, *both in growing for words in both})
+    costs.take(
+        [words for _, *both in growing for words in both],
+        {words: row.status for row, *both in growing for words in both},
+    )
     for (row, one, two), count in zip(growing, costs.allocations([two for _, _, two in growing])):
         costs.at_most(costs.known[two], costs.known[one], row.limit, f"{row.title}, of twice the size")
         noted.find(INSTRUCTIONS, row.title, costs.known[two] / 10**6)
@@ -374,7 +395,10 @@ def check_apart(costs):
 
 def check_steady(costs):
     few, many, hosts = (250, 500, 25) if costs.counter.is_exact else (1000, 8000, 25)
-    steady = [(title, [[scheduled(costs, size, line, times) for times in (few, many)] for size in (hosts, 4 * hosts)]) for title, line in STEADY]
+    steady = [
+        (title, [[scheduled(costs, size, line, times) for times in (few, many)] for size in (hosts, 4 * hosts)])
+        for title, line in STEADY
+    ]
     costs.take(words for _, rows in steady for row in rows for words in row)
     for title, rows in steady:
         one, two = (costs.known[more] - costs.known[less] for less, more in rows)

@@ -174,9 +174,15 @@ CUTS_VALUE = {
     ],
     **{"count": 5, "harmless": 1, "uncut": {"entries": 7, "switches": 6}, "names": {TWO: "leaf"}},
 }
-BOTH = CUTS.replace("cable\n", "cables\n").replace(f"{THREE}/2", f"{THREE}/2, {ONE}/1 - {TWO}/3").replace("5 cables", "5 pairs of cables")
-BOTH_VALUE = CUTS_VALUE | {"cables": [CUTS_VALUE["cables"][0] | {"ends": [f"{TWO}/2", f"{THREE}/2", f"{ONE}/1", f"{TWO}/3"]}]}
-AWAY = CUTS.replace("cable\n", "switch\n").replace(f'{TWO}/2 "leaf" - {THREE}/2', f'{TWO} "leaf"').replace("5 cables", "5 switches")
+BOTH = CUTS.replace("cable\n", "cables\n").replace(f"{THREE}/2", f"{THREE}/2, {ONE}/1 - {TWO}/3").replace(
+    "5 cables", "5 pairs of cables"
+)
+BOTH_VALUE = CUTS_VALUE | {
+    "cables": [CUTS_VALUE["cables"][0] | {"ends": [f"{TWO}/2", f"{THREE}/2", f"{ONE}/1", f"{TWO}/3"]}]
+}
+AWAY = CUTS.replace("cable\n", "switch\n").replace(f'{TWO}/2 "leaf" - {THREE}/2', f'{TWO} "leaf"').replace(
+    "5 cables", "5 switches"
+)
 AWAY_VALUE = {
     "form": "what-if",
     "switches": [{"guid": TWO} | {word: value for word, value in CUTS_VALUE["cables"][0].items() if word != "ends"}],

@@ -30,10 +30,16 @@ def recording(fabric, said, generation=1):
     for (name, port), (far, back) in sorted(fabric.peers.items()):
         kind = record_files.SWITCH if fabric.is_switch(far) else record_files.ADAPTER
         via = record_files.via(fabric.guid(name), port)
-        records.append(record_files.node_info(via, kind, fabric.ports(far), fabric.guid(far), fabric.guid(far), back, generation))
+        records.append(
+            record_files.node_info(via, kind, fabric.ports(far), fabric.guid(far), fabric.guid(far), back, generation)
+        )
         value = said.get((name, port), said[None])
         if value is not None:
-            records.append(record_files.report(record_files.about(fabric.guid(name)), record_files.PORT_INFO, port, value, generation))
+            records.append(
+                record_files.report(
+                    record_files.about(fabric.guid(name)), record_files.PORT_INFO, port, value, generation
+                )
+            )
     return record_files.reports(*records)
 
 
@@ -43,7 +49,9 @@ def links(room):
     edr = info(4, ("4x", "EDR"), can)
     (room.path / "golden").write_bytes(recording(fabric, {None: edr}))
     printed = room.run("links golden --names all.names", 0)
-    room.check(printed.count(" 4x EDR 100 Gb/s\n") == 5 and " below 4x" not in printed, f"all links as they can be: {printed}")
+    room.check(
+        printed.count(" 4x EDR 100 Gb/s\n") == 5 and " below 4x" not in printed, f"all links as they can be: {printed}"
+    )
     room.check(printed.endswith("5 links: 5 of 4x EDR 100 Gb/s; below what both ends can, or not told: 0\n"), "counted")
     room.check('link 0000000000000010/1 "S1" 0000000000000020/1 "S2" 4x EDR' in printed, "names")
     room.check(room.run("links golden --slow", 0).count("\n") == 1, "none is slow")
@@ -54,17 +62,31 @@ def links(room):
     said = {None: edr, slow: one, far: one, adapter: old, fabric.peers[adapter]: info(4, ("4x", "QDR"), can)}
     (room.path / "now").write_bytes(recording(fabric, said, 7))
     printed = room.run("links now --slow", 1)
-    room.check(printed.startswith("link 0000000000000020/2 0000000000000030/2 1x QDR 10 Gb/s below 4x EDR 100 Gb/s\n5 links: "), f"a slow link: {printed}")
+    room.check(
+        printed.startswith(
+            "link 0000000000000020/2 0000000000000030/2 1x QDR 10 Gb/s below 4x EDR 100 Gb/s\n5 links: "
+        ),
+        f"a slow link: {printed}",
+    )
     printed = room.run("links now", 1)
-    room.check("0000000000000020/3 0000000000000100/1 4x QDR 40 Gb/s\n" in printed, "an adapter that can no more is not below")
+    room.check(
+        "0000000000000020/3 0000000000000100/1 4x QDR 40 Gb/s\n" in printed, "an adapter that can no more is not below"
+    )
     printed = room.run("compare golden now --names all.names", 1)
     lines = ['slow cable 0000000000000020/2 "S2" 0000000000000030/2 "S3" 4x EDR 100 Gb/s > 1x QDR 10 Gb/s']
     lines.append('slow cable 0000000000000020/3 "S2" 0000000000000100/1 "H1" 4x EDR 100 Gb/s > 4x QDR 40 Gb/s')
     room.check(printed.splitlines() == [*lines, "slow cable 2"], f"slow cables by a golden recording: {printed}")
     room.put(it=printed)
     told = room.run("json it", 0)
-    room.check('"change": "slow", "what": "cable", "ends": ["0000000000000020/2", ' in told and '"new": "1x QDR 10 Gb/s"' in told, f"as JSON: {told}")
-    room.check(room.run("compare now golden", 1).endswith("fast cable 2\n") and room.run("compare now now", 0) == "equal\n", "and faster, and equal")
+    room.check(
+        '"change": "slow", "what": "cable", "ends": ["0000000000000020/2", ' in told
+        and '"new": "1x QDR 10 Gb/s"' in told,
+        f"as JSON: {told}",
+    )
+    room.check(
+        room.run("compare now golden", 1).endswith("fast cable 2\n") and room.run("compare now now", 0) == "equal\n",
+        "and faster, and equal",
+    )
     odd_links(room, fabric, edr)
     every_rate(room, fabric)
 

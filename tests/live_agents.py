@@ -1,4 +1,5 @@
-"""Agents of a fabric, written for the tests of `serve`: what each answers to a directed request, and what it holds then."""
+"""Agents of a fabric, written for the tests of `serve`: what each answers to a directed request, and what it holds
+then."""
 import struct
 
 from sample_fabrics import ROOM
@@ -55,7 +56,10 @@ class Agents:
         guid, ports = self.fabric.guid(name), self.fabric.ports(name)
         is_switch = self.fabric.is_switch(name)
         if attribute == NODE_INFO:
-            head = struct.pack(">BBBBQQQHHI", 1, 1, 2 if is_switch else 1, ports, guid, guid, guid + (0 if is_switch else came_by), 1, 0, 0)
+            head = struct.pack(
+                ">BBBBQQQHHI", 1, 1, 2 if is_switch else 1, ports, guid, guid, guid + (0 if is_switch else came_by), 1,
+                0, 0,
+            )
             data[: len(head)] = head
             data[36] = came_by
         elif attribute == SWITCH_INFO and is_switch:

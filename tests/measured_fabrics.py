@@ -1,4 +1,5 @@
-"""The made-up fabrics that `tests/measure` measures with: k-ary fat trees and random fabrics, their recordings and topologies."""
+"""The made-up fabrics that `tests/measure` measures with: k-ary fat trees and random fabrics, their recordings and
+topologies."""
 import itertools
 import random
 

@@ -1,5 +1,6 @@
-"""The tables to write next, worked out from docs/MODEL.md, "From the tables that switches hold to a plan", apart from the program;
-and what becomes of packets that meet, at each switch and whenever they come there, an entry of one of several tables.
+"""The tables to write next, worked out from docs/MODEL.md, "From the tables that switches hold to a plan", apart from
+the program; and what becomes of packets that meet, at each switch and whenever they come there, an entry of one of
+several tables.
 
 A hop of a packet is a pair: ON and a switch, TAKEN and the end that took it, or LOST and None.
 """
@@ -74,7 +75,9 @@ class Subnet:
 
     def leaves(self):
         """Returns the switches that have a wire to an adapter."""
-        return sorted({far[0] for end, far in self.wires.items() if end[0] not in self.switches and far[0] in self.switches})
+        return sorted(
+            {far[0] for end, far in self.wires.items() if end[0] not in self.switches and far[0] in self.switches}
+        )
 
     def over(self, end, owners):
         """Returns the hop over the wire in a port."""
@@ -187,7 +190,11 @@ class Order:
     def is_right(self, subnet, tables):
         """Returns whether no packet goes down and then up again, for any LID."""
         for lid in range(1, max((tables.tops.get(guid, 0) for guid in subnet.switches), default=0) + 1):
-            to = {guid: hop[1] for guid, hop in subnet.hops(tables.column(subnet.switches, lid), []).items() if hop[0] == ON}
+            to = {
+                guid: hop[1]
+                for guid, hop in subnet.hops(tables.column(subnet.switches, lid), []).items()
+                if hop[0] == ON
+            }
             if any(self.is_down(guid, far) and far in to and self.is_up(far, to[far]) for guid, far in to.items()):
                 return False
         return True
@@ -213,7 +220,8 @@ class Order:
         takes = {guid for guid in held if may_change(guid)}
         tried = {guid: by_plan[guid] if guid in takes else by_held[guid] for guid in held}
         return {
-            guid: NO_WAY if walk(tried, (ON, guid))[1] != there else planned[guid] if guid in takes else held[guid] for guid in held
+            guid: NO_WAY if walk(tried, (ON, guid))[1] != there else planned[guid] if guid in takes else held[guid]
+            for guid in held
         }
 
 
@@ -224,7 +232,9 @@ def by_rank(subnet):
     for guid in subnet.switches:
         if guid not in far:
             far.update(spread_rule.distances(graph, [guid]))
-    return Order({guid: place for place, guid in enumerate(sorted(subnet.switches, key=lambda guid: (far[guid], guid)))})
+    return Order(
+        {guid: place for place, guid in enumerate(sorted(subnet.switches, key=lambda guid: (far[guid], guid)))}
+    )
 
 
 def by_spread(subnet, roots):
@@ -258,7 +268,9 @@ def next_tables(subnet, held, plan, order):
         else:
             columns[lid] = next_column(subnet, entries, planned, end) if before[lid] == [end] else planned
     for guid, top in made.tops.items():
-        entries = bytes(columns[lid][guid] if lid in columns else NO_WAY for lid in range((top // ENTRIES + 1) * ENTRIES))
+        entries = bytes(
+            columns[lid][guid] if lid in columns else NO_WAY for lid in range((top // ENTRIES + 1) * ENTRIES)
+        )
         made.blocks[guid] = {at // ENTRIES: entries[at : at + ENTRIES] for at in range(0, len(entries), ENTRIES)}
     return made
 

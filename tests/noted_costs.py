@@ -1,7 +1,8 @@
-"""What runs cost, as `tests/costs.table` notes it, for `tests/at-scale`: instructions and allocations of those in growth.py, and memory of
-those in past_sizes.py. A run asks for memory no more often than noted. Valgrind counts instructions alike on each run, and on all machines
-but for what the C library chooses by the processor, so a run may take a tenth more than noted. The processor's own counter counts some
-besides, and memory goes by pages: there it may be more."""
+"""What runs cost, as `tests/costs.table` notes it, for `tests/at-scale`: instructions and allocations of those in
+growth.py, and memory of those in past_sizes.py. A run asks for memory no more often than noted. Valgrind counts
+instructions alike on each run, and on all machines but for what the C library chooses by the processor, so a run may
+take a tenth more than noted. The processor's own counter counts some besides, and memory goes by pages: there it may be
+more."""
 import pathlib
 
 from scale import check
@@ -51,7 +52,10 @@ class Noted:
                 else:
                     check(number <= more * noted, f"{title}: {told(number)} {kind} in place of {told(noted)}")
                     if number < LESS * noted:
-                        print(f"at-scale: {title}: {told(number)} {kind} in place of {told(noted)}: at-scale --write notes that")
+                        print(
+                            f"at-scale: {title}: {told(number)} {kind} in place of {told(noted)}: at-scale --write "
+                            "notes that"
+                        )
             for title in self.noted[kind].keys() - found.keys():
                 check(False, f"{title}: {kind} are noted of a run that is none")
 

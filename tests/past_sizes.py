@@ -1,5 +1,6 @@
-"""Inputs past each size at which a program could stop for want of room in what it counts by, for `tests/at-scale`. What is printed is
-compared as a whole: with what is known of a tree, with the same by another way, or with what has to come of it."""
+"""Inputs past each size at which a program could stop for want of room in what it counts by, for `tests/at-scale`. What
+is printed is compared as a whole: with what is known of a tree, with the same by another way, or with what has to come
+of it."""
 import itertools
 
 import paths  # noqa: F401
@@ -128,7 +129,10 @@ def check_managers(room):
     seats = [f'manager {name} "H{guid:x}"[1] {15 if name == "M0" else 1}\n' for name, guid in zip(names, tree.adapters)]
     sweeps = [f"sweep {name}\ndrain 1000000\nprogress {name}\nstate {name}\n" for name in [*names, "M0"]]
     room.put("sweeps", "".join([*seats, *sweeps, "handover M0\nplan M65\n"]))
-    text = "".join(f"progress {name} done unanswered 0 toofar 0\nstate {name} {'master' if name == 'M0' else 'standby'}\n" for name in [*names, "M0"])
+    text = "".join(
+        f"progress {name} done unanswered 0 toofar 0\nstate {name} {'master' if name == 'M0' else 'standby'}\n"
+        for name in [*names, "M0"]
+    )
     room.prints(text.encode() + b"refused Nobody\n" + tree.plan(), "run", "crowd", "sweeps")
 
 
@@ -136,7 +140,10 @@ def check_writing(room):
     """Checks a writing on 2,009 end ports, with two LIDs for each port of an adapter."""
     tree = Tree([0] * 8, [0] + [250] * 8, 2)
     room.put("wide", tree.topology())
-    room.put("written", f'manager A "H{tree.adapters[0]:x}"[1] 1\nsweep A\ndrain 1000000\nwrite A\ndrain 1000000\ntables\nplan A\n')
+    room.put(
+        "written",
+        f'manager A "H{tree.adapters[0]:x}"[1] 1\nsweep A\ndrain 1000000\nwrite A\ndrain 1000000\ntables\nplan A\n',
+    )
     for lmc in 0, 1:
         room.prints(2 * tree.plan(lmc), "run", "--lmc", str(lmc), "wide", "written")
 
@@ -156,7 +163,11 @@ def check_rooted_run(room):
 def polled(times):
     """Returns a schedule in which a standby polls a master `times` times, and once more: each poll is a line of 64
     bytes."""
-    lines = ['manager A "H1"[1] 2', 'manager B "H2"[1] 1', *("sweep A", "drain 1000", "write A", "drain 1000", "sweep B", "drain 1000")]
+    lines = [
+        'manager A "H1"[1] 2',
+        'manager B "H2"[1] 1',
+        *("sweep A", "drain 1000", "write A", "drain 1000", "sweep B", "drain 1000"),
+    ]
     for number in range(times):
         lines.append("poll B 2".ljust(PADDED - 1, "#"))
         if number % 500 == 499:
@@ -185,5 +196,8 @@ def padded(text, count):
 
 def check_all(program, folder, noted):
     room = Room(program, folder, noted)
-    for part in check_tree, check_ranges, check_cells, check_switches, check_managers, check_writing, check_rooted_run, check_lines:
+    for part in (
+        check_tree, check_ranges, check_cells, check_switches, check_managers, check_writing, check_rooted_run,
+        check_lines,
+    ):
         part(room)

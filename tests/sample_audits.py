@@ -1,4 +1,5 @@
-"""Tables of two switches and of a ring of five, and how an audit of them ends. Worked out by hand from docs/FORMATS.md."""
+"""Tables of two switches and of a ring of five, and how an audit of them ends. Worked out by hand from
+docs/FORMATS.md."""
 from built_program import Ended, prints, refused, says
 
 # Adapters 100 at port 2 of switch 10 and 200 at port 2 of switch 20. A wire joins the switches' ports 1.
@@ -87,12 +88,20 @@ def tables(plan):
     edges.insert(4, f"lid 49151 {0x200:016x}/1")
     yield "with the greatest LID", "\n".join(edges), found(
         counted(20, 6, above_top=3, apart=1) + lost(f"{AT_10} by 255: above top", "10/0 49151")
-        + lost(f"{AT_20} by 255: above top", "20/0 49151") + lost(f"{AT_10} by 255: above top", "100/1 49151") + BOTH + "credit loop none\n"
+        + lost(f"{AT_20} by 255: above top", "20/0 49151")
+        + lost(f"{AT_10} by 255: above top", "100/1 49151")
+        + BOTH
+        + "credit loop none\n"
     )
     yield (
         "an entry to a port without a wire",
         plan(LIDS, "10 0 1 2 3", GOOD[1]).printed.decode(),
-        found(counted(16, 4, no_link=2, apart=1) + lost(f"{AT_10} by 3: no link", "10/0 4", "100/1 4") + ONE + "credit loop none\n"),
+        found(
+            counted(16, 4, no_link=2, apart=1)
+            + lost(f"{AT_10} by 3: no link", "10/0 4", "100/1 4")
+            + ONE
+            + "credit loop none\n"
+        ),
     )
     yield (
         "an entry to the last port, and to one that the switch lacks",
@@ -105,23 +114,48 @@ def tables(plan):
     yield (
         "an entry to the wrong neighbour",
         plan(LIDS, "10 0 2 2 1", GOOD[1]).printed.decode(),
-        found(counted(16, 4, foreign=2) + lost(f"{AT_100}: foreign port", "10/0 2", "100/1 2") + BOTH + "credit loop none\n"),
+        found(
+            counted(16, 4, foreign=2)
+            + lost(f"{AT_100}: foreign port", "10/0 2", "100/1 2")
+            + BOTH
+            + "credit loop none\n"
+        ),
     )
     yield (
         "round between two switches",
         plan(LIDS, GOOD[0], "20 1 0 1 1").printed.decode(),
-        found(counted(16, 4, round=3, apart=1) + "round 10/0 4\nround 20/0 4\nround 100/1 4\n" + ONE + "credit loop on one lane 10/1 20/1\n"),
+        found(
+            counted(16, 4, round=3, apart=1)
+            + "round 10/0 4\nround 20/0 4\nround 100/1 4\n"
+            + ONE
+            + "credit loop on one lane 10/1 20/1\n"
+        ),
     )
-    all_lost = "20/0 1", "200/1 1", "10/0 2", "20/0 2", "100/1 2", "200/1 2", "20/0 3", "200/1 3", "10/0 4", "20/0 4", "100/1 4"
-    without = counted(16, 4, no_entry=11, apart=2) + lost(f"{AT_20} by 255: no entry", *all_lost) + NEITHER + "credit loop none\n"
+    all_lost = (
+        "20/0 1", "200/1 1", "10/0 2", "20/0 2", "100/1 2", "200/1 2", "20/0 3", "200/1 3", "10/0 4", "20/0 4",
+        "100/1 4",
+    )
+    without = (
+        counted(16, 4, no_entry=11, apart=2)
+        + lost(f"{AT_20} by 255: no entry", *all_lost)
+        + NEITHER
+        + "credit loop none\n"
+    )
     yield "a switch without its block", "\n".join(lines[:-1]) + "\n", found(without)
     # A switch without tables has a top of 0.
-    tableless = counted(16, 4, above_top=11, apart=2) + lost(f"{AT_20} by 255: above top", *all_lost) + f"tableless {AT_20}\n"
+    tableless = (
+        counted(16, 4, above_top=11, apart=2) + lost(f"{AT_20} by 255: above top", *all_lost) + f"tableless {AT_20}\n"
+    )
     yield "a switch without tables", "\n".join(lines[:-2]) + "\n", found(tableless + NEITHER + "credit loop none\n")
     yield (
         "a top too low",
         good.replace(f"switch {AT_10} top 4", f"switch {AT_10} top 3"),
-        found(counted(16, 4, above_top=2, apart=1) + lost(f"{AT_10} by 255: above top", "10/0 4", "100/1 4") + ONE + "credit loop none\n"),
+        found(
+            counted(16, 4, above_top=2, apart=1)
+            + lost(f"{AT_10} by 255: above top", "10/0 4", "100/1 4")
+            + ONE
+            + "credit loop none\n"
+        ),
     )
     twice = good.replace("lid 4 ", "lid 3 ")
     misdelivered = "200/1 3 at 200/1", "10/0 3 at 100/1", "20/0 3 at 100/1", "100/1 3 at 100/1"
@@ -148,9 +182,19 @@ def tables(plan):
         found(counted(12, 2) + "lidless 200/1\n" + ONE + "credit loop none\n"),
     )
     # The two switches send each other packets for LID 5, which nobody holds.
-    unheld = plan(f"{LIDS} 5 300/1", *(f"{row} 1" for row in GOOD)).printed.decode().replace(f"lid 5 {0x300:016x}/1\n", "")
-    yield "a loop for a LID that nobody holds", unheld, found(counted(16, 4) + BOTH + "credit loop on one lane 10/1 20/1\n")
-    yield "the same, above the top of one switch", unheld.replace(f"switch {AT_20} top 5", f"switch {AT_20} top 4"), all_arrive
+    unheld = plan(f"{LIDS} 5 300/1", *(f"{row} 1" for row in GOOD)).printed.decode().replace(
+        f"lid 5 {0x300:016x}/1\n", ""
+    )
+    yield (
+        "a loop for a LID that nobody holds",
+        unheld,
+        found(counted(16, 4) + BOTH + "credit loop on one lane 10/1 20/1\n"),
+    )
+    yield (
+        "the same, above the top of one switch",
+        unheld.replace(f"switch {AT_20} top 5", f"switch {AT_20} top 4"),
+        all_arrive,
+    )
 
 
 def ranges(plan):
@@ -174,13 +218,18 @@ def ranges(plan):
     in_common = found(
         counted(24, 8, misdelivered=4, apart=2)
         + "misdelivered 200/1 5 at 200/1\nmisdelivered 10/0 5 at 100/1\nmisdelivered 20/0 5 at 100/1\n"
-        "misdelivered 100/1 5 at 100/1\ntwice 5 100/1\ntwice 5 200/1\nhops max 3 mean 3.00\nload max 1 mean 1.00\ncredit loop none\n"
+        "misdelivered 100/1 5 at 100/1\ntwice 5 100/1\ntwice 5 200/1\nhops max 3 mean 3.00\nload max 1 mean 1.00\n"
+        "credit loop none\n"
     )
     shared = good.replace("lid 6 ", "lid 5 ")
     yield "ranges that have a LID in common", shared, in_common
     # A second line for a LID of a range counts once.
     again = f"lid 5 {0x100:016x}/1\n"
-    yield "a LID of a range that is told once more", told_again(good, again), prints(counted(24, 8) + all_four + "credit loop none\n")
+    yield (
+        "a LID of a range that is told once more",
+        told_again(good, again),
+        prints(counted(24, 8) + all_four + "credit loop none\n"),
+    )
     yield "ranges that have a LID in common, which is told once more", told_again(shared, again), in_common
     strange = f"lid 8 {0x300:016x}/1 lmc 1\nlid 9 {0x300:016x}/1\n"
     yield (
@@ -202,9 +251,13 @@ def unclear():
     disputed, nothing is known of 200, or too little of the wire between the switches, of 20, or of other nodes."""
     ports = "unjoined 20/1\nunjoined 20/2\nunjoined 200/1\n"
     # Counted are the packets of each port to itself, and those between 10 and 100.
-    yield "no room", found(f"{counted(6, 2)}unknown {AT_20}\nunusable {AT_20}\nunjoined 10/1\n{ports}hops none\nload none\ncredit loop none\n")
+    yield "no room", found(
+        f"{counted(6, 2)}unknown {AT_20}\nunusable {AT_20}\nunjoined 10/1\n{ports}hops none\nload none\n"
+        "credit loop none\n"
+    )
     yield "disputed type", found(
-        f"{counted(5, 2)}unowned 2 20/0\nunknown {AT_20}\nunusable {AT_20}\nunjoined 10/1\nunjoined 20/0\n{ports}disputed 1\nhops none\nload none\ncredit loop none\n"
+        f"{counted(5, 2)}unowned 2 20/0\nunknown {AT_20}\nunusable {AT_20}\nunjoined 10/1\nunjoined 20/0\n"
+        f"{ports}disputed 1\nhops none\nload none\ncredit loop none\n"
     )
     yield "silent adapter", prints(
         spelled(f"{counted(9, 1)}unowned 4 200/1\nunjoined 20/2\nhops none\nload max 0 mean 0.00\ncredit loop none\n")
@@ -263,8 +316,14 @@ def rings(plan):
     beside = ring("0 1 - - 2", "2 0 1 - -", "- 2 0 1 -", "- - 2 0 1", "1 - - 2 0")
     far = (0x30, 1), (0x40, 1), (0x40, 2), (0x50, 2), (0x10, 3), (0x50, 3), (0x10, 4), (0x20, 4), (0x20, 5), (0x30, 5)
     missing = "".join(f"lost {guid:x}/0 {lid} at {guid:016x} by 255: no entry\n" for guid, lid in far)
-    yield "one wire far", plan(RING_LIDS, *beside).printed.decode(), found(counted(25, 0, no_entry=10) + missing + NEITHER + "credit loop none\n")
-    yield "not across one wire", plan(RING_LIDS, *cut).printed.decode(), prints(counted(25, 0) + NEITHER + "credit loop none\n")
+    yield "one wire far", plan(RING_LIDS, *beside).printed.decode(), found(
+        counted(25, 0, no_entry=10) + missing + NEITHER + "credit loop none\n"
+    )
+    yield (
+        "not across one wire",
+        plan(RING_LIDS, *cut).printed.decode(),
+        prints(counted(25, 0) + NEITHER + "credit loop none\n"),
+    )
     # Of 25 packets of one kind, 20 are listed.
     first = [f"{guid:x}/0 {lid}" for lid in range(1, 5) for guid in RING]
     nowhere = "".join(lost(f"{int(packet.split('/')[0], 16):016x} by 9: no such port", packet) for packet in first)
@@ -277,7 +336,12 @@ def rings(plan):
     )
     yield "each to itself", plan(RING_LIDS, *ring(*["0 0 0 0 0"] * 5)).printed.decode(), found(
         counted(25, 0, misdelivered=20)
-        + "".join(f"misdelivered {guid:x}/0 {lid} at {guid:x}/0\n" for lid, own in enumerate(RING, 1) for guid in RING if guid != own)
+        + "".join(
+            f"misdelivered {guid:x}/0 {lid} at {guid:x}/0\n"
+            for lid, own in enumerate(RING, 1)
+            for guid in RING
+            if guid != own
+        )
         + NEITHER + "credit loop none\n"
     )
 
@@ -295,7 +359,11 @@ def ring_and_two(plan):
     tables = plan(lids, *short, "60 1 - - - - 0 1", "70 1 - - - - 1 0").printed.decode()
     yield "a ring beside a loop of two", tables, found(counted(29, 0) + NEITHER + "credit loop on one lane 60/1 70/1\n")
     apart = plan(lids, *short, "60 - - - - - 0 1", "70 - - - - - 1 0").printed.decode()
-    yield "a ring beside two", apart, found(counted(29, 0) + NEITHER + "credit loop on one lane 10/1 20/1 30/1 40/1 50/1\n")
+    yield (
+        "a ring beside two",
+        apart,
+        found(counted(29, 0) + NEITHER + "credit loop on one lane 10/1 20/1 30/1 40/1 50/1\n"),
+    )
 
 
 # Two adapters with a wire between them, and no switch.
@@ -304,7 +372,11 @@ PAIR_WIRES = "100/1-200/1"
 
 def pairs(plan):
     lids = f"lid 3 {0x100:016x}/1\nlid 4 {0x200:016x}/1\n"
-    yield "two adapters and no switch", lids, prints(counted(4, 4) + "hops max 1 mean 1.00\nload none\ncredit loop none\n")
+    yield (
+        "two adapters and no switch",
+        lids,
+        prints(counted(4, 4) + "hops max 1 mean 1.00\nload none\ncredit loop none\n"),
+    )
 
 
 # Switches 10, 20 and 30 in a row, with the adapters 100 and 300 at 10 and 200 at 30: six pairs of adapters, of which
@@ -317,7 +389,11 @@ ROW_WIRES = "10/1-20/2 20/1-30/2 10/3-100/1 10/4-300/1 30/3-200/1"
 def rows(plan):
     lids = "1 100/1 2 200/1 3 300/1 4 10/0 5 20/0 6 30/0"
     all_arrive = plan(lids, "10 3 1 4 0 1 1", "20 2 1 2 2 0 1", "30 2 3 2 2 2 0").printed.decode()
-    yield "three in a row", all_arrive, prints(counted(36, 9) + "hops max 4 mean 3.33\nload max 2 mean 2.00\ncredit loop none\n")
+    yield (
+        "three in a row",
+        all_arrive,
+        prints(counted(36, 9) + "hops max 4 mean 3.33\nload max 2 mean 2.00\ncredit loop none\n"),
+    )
     # Packets for 200 are lost at 20 and count nowhere.
     cut = plan(lids, "10 3 1 4 0 1 1", "20 2 9 2 2 0 1", "30 2 3 2 2 2 0").printed.decode()
     there = lost(f"{AT_20} by 9: no such port", "10/0 2", "20/0 2", "100/1 2", "300/1 2")

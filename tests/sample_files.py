@@ -310,7 +310,9 @@ def node_facts(word="switch", ports=4, port_guid=0, local=3, via="00000000000001
     """Returns the facts that NodeInfo of the switch 0x20 tells."""
     end = f"0000000000000020/{local}"
     links = [f"link {end} {via} @1", f"link {via} {end} @1"]
-    lines = [f"node 0000000000000020 {word} {ports} @1", f"portguid 0000000000000020/{port_guid} 0000000000000020 @1", *links]
+    lines = [
+        f"node 0000000000000020 {word} {ports} @1", f"portguid 0000000000000020/{port_guid} 0000000000000020 @1", *links
+    ]
     return "".join(f"{line}\n" for line in lines)
 
 

@@ -1,11 +1,12 @@
-"""Plans and runs by the rule that spreads, texts of roots and of orders for them, and how these end. Faults and plans were worked out from
-docs/FORMATS.md and docs/MODEL.md, apart from the program."""
+"""Plans and runs by the rule that spreads, texts of roots and of orders for them, and how these end. Faults and plans
+were worked out from docs/FORMATS.md and docs/MODEL.md, apart from the program."""
 from built_program import prints, refused, says
 
 THREE = (0x10, 0x20, 0x30)
 TREE = (
     (0x10, 0x20, 0x30, 0x40, 0x50), (0x100, 0x110, 0x120, 0x200, 0x210, 0x300),
-    "10/1-30/1 10/2-40/1 10/3-50/1 20/1-30/2 20/2-40/2 20/3-50/2 30/3-100/1 30/4-110/1 40/3-120/1 40/4-200/1 50/3-210/1 50/4-300/1",
+    "10/1-30/1 10/2-40/1 10/3-50/1 20/1-30/2 20/2-40/2 20/3-50/2 30/3-100/1 30/4-110/1 40/3-120/1 40/4-200/1 "
+    "50/3-210/1 50/4-300/1",
 )
 TREE_LIDS = "1 10/0 2 20/0 3 30/0 4 40/0 5 50/0 6 100/1 7 110/1 8 120/1 9 200/1 10 210/1 11 300/1"
 RINGS = (
@@ -61,7 +62,10 @@ def spread(plan):
         plan(one, "10 0 1 - -", "20 1 0 - -", "30 - - 0 1"),
     )
     yield (
-        "a ring of five", TREE[0], (0x100, 0x200), "10/1-20/1 20/2-30/1 30/2-40/1 40/2-50/1 50/2-10/2 10/3-100/1 30/3-200/1",
+        "a ring of five",
+        TREE[0],
+        (0x100, 0x200),
+        "10/1-20/1 20/2-30/1 30/2-40/1 40/2-50/1 50/2-10/2 10/3-100/1 30/3-200/1",
         plan(
             RING_LIDS,
             "10 0 1 1 2 2 3 1", "20 1 0 2 2 1 1 2", "30 1 1 0 2 1 1 3", "40 2 1 1 0 2 2 1", "50 2 2 2 1 0 2 2",
@@ -120,13 +124,17 @@ def plans_as_named(plan):
         "10 0 1 1 2 3 1 1 2 2 3 3", "20 1 0 1 2 3 1 1 2 2 3 3", "30 1 2 0 2 1 3 4 2 1 2 1",
         "40 1 2 2 0 2 1 2 3 4 1 2", "50 1 2 2 1 0 1 2 1 2 3 4",
     )
-    yield "a tree by GUID", TREE, ("", "# none\r\n", "11\n100\nffffffffffffffff", "10\n20\n30\n40\n50"), plan(TREE_LIDS, *least)
+    yield "a tree by GUID", TREE, ("", "# none\r\n", "11\n100\nffffffffffffffff", "10\n20\n30\n40\n50"), plan(
+        TREE_LIDS, *least
+    )
     # 20 and 40 are named in a row; 30, which joins them, comes between; 60 and 70 stay in order of GUID.
     rings = (
         "10 0 1 1 1 2 - - - 3 1 -", "20 1 0 2 2 1 - - - 1 2 -", "30 1 1 0 2 2 - - - 1 3 -", "40 1 1 1 0 2 - - - 1 1 -",
         "50 2 2 1 1 0 - - - 2 1 -", "60 - - - - - 0 1 2 - - 2", "70 - - - - - 1 0 2 - - 2", "80 - - - - - 2 1 0 - - 3",
     )
-    yield "two rings in an order of some", RINGS, ("40\n20\n80", "80\n40\n20\n30\n10\n50", "41\n40\n42\n80"), plan(RINGS_LIDS, *rings)
+    yield "two rings in an order of some", RINGS, ("40\n20\n80", "80\n40\n20\n30\n10\n50", "41\n40\n42\n80"), plan(
+        RINGS_LIDS, *rings
+    )
 
 
 # A subnet, an option with its text, and the order that is printed, from the first switch on.

@@ -1,5 +1,5 @@
-"""Texts of topologies and of schedules, what is wrong with some of them, and others that are taken. Worked out by hand from
-docs/FORMATS.md."""
+"""Texts of topologies and of schedules, what is wrong with some of them, and others that are taken. Worked out by hand
+from docs/FORMATS.md."""
 import sample_fabrics
 
 # Topologies, each with a fault in its first line.

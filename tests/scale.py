@@ -1,4 +1,5 @@
-"""Runs of the program on large inputs, for `tests/at-scale`: what they print and cost, and fabrics whose answers are known."""
+"""Runs of the program on large inputs, for `tests/at-scale`: what they print and cost, and fabrics whose answers are
+known."""
 import itertools
 import json
 import os
@@ -41,7 +42,11 @@ def check(holds, text):
 def started(command, folder, stdout, stderr):
     """Runs a command, and returns its exit status, its processor time and its peak memory."""
     if not starters:
-        starters.append(subprocess.Popen([sys.executable, "-S", "-E", "-c", STARTER], stdin=subprocess.PIPE, stdout=subprocess.PIPE, text=True))
+        starters.append(
+            subprocess.Popen(
+                [sys.executable, "-S", "-E", "-c", STARTER], stdin=subprocess.PIPE, stdout=subprocess.PIPE, text=True
+            )
+        )
     written = os.O_WRONLY | os.O_CREAT | os.O_TRUNC
     streams = (os.devnull, os.O_RDONLY), (str(stdout), written), (str(stderr), written)
     starters[0].stdin.write(json.dumps([[str(it) for it in command], str(folder), *streams]) + "\n")
@@ -248,7 +253,9 @@ class Tree:
         return [make.cell(*key, generation(place)) for place, key in enumerate(keys)]
 
     def topology(self):
-        lines = [f'Switch {self.ports} "S{i}" guid 0x{guid:x} cap {MOST_LIDS + 1}' for i, guid in enumerate(self.switches)]
+        lines = [
+            f'Switch {self.ports} "S{i}" guid 0x{guid:x} cap {MOST_LIDS + 1}' for i, guid in enumerate(self.switches)
+        ]
         lines = [[line] for line in lines]
         for (one, port), (other, back) in self.wires:
             lines[one].append(f'[{port}] "S{other}"[{back}]')

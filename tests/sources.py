@@ -1,5 +1,5 @@
-"""The code of crates/*/src without what is only proved or tested (comments, contracts, ghost items, attributes, tests), and what stands
-where in it: for `tests/limits`, which holds places of it against tables."""
+"""The code of crates/*/src without what is only proved or tested (comments, contracts, ghost items, attributes, tests),
+and what stands where in it: for `tests/limits`, which holds places of it against tables."""
 import bisect
 import re
 
@@ -8,7 +8,10 @@ from paths import ROOT
 CRATES = ROOT / "crates"
 CLAUSE = re.compile(r"\b(?:ensures|requires)\b[^{]*(?=\{)")
 GHOST = re.compile(r"\bghost\b")
-WORDS = re.compile(r'\s+|//[^\n]*|b?r(#*)".*?"\1|b?"(?:[^"\\]|\\.)*"|b?\'(?:[^\'\\]|\\[^\']*)\'|\w+|::|=>|->|[=!<>]=|&&|\|\||\.\.=?|.', re.S)
+WORDS = re.compile(
+    r'\s+|//[^\n]*|b?r(#*)".*?"\1|b?"(?:[^"\\]|\\.)*"|b?\'(?:[^\'\\]|\\[^\']*)\'|\w+|::|=>|->|[=!<>]=|&&|\|\||\.\.=?|.',
+    re.S,
+)
 OPENS, CLOSES = "([{", ")]}"
 
 
@@ -91,7 +94,9 @@ class Code:
             if out and self.begins[at] > self.begins[at - 1] + len(self.words[at - 1]):
                 out.append(" ")
             out.append(word)
-        return re.sub(r",? ([)\]])", r"\1", re.sub(r"([(\[]) ", r"\1", "".join(out))).replace(" .", ".").replace(" ?", "?")
+        return (
+            re.sub(r",? ([)\]])", r"\1", re.sub(r"([(\[]) ", r"\1", "".join(out))).replace(" .", ".").replace(" ?", "?")
+        )
 
     def begin(self, at):
         """Returns the first word of the statement or arm around the word, within the braces around it."""
@@ -149,7 +154,9 @@ class Code:
             while self.words[brace] not in "{;":
                 brace = self.partner[brace] + 1 if self.words[brace] in "([" else brace + 1
             if self.words[brace] == "{":
-                yield Function(self.owner(at) + self.words[at + 1], self.said(at, brace - 1), brace, self.partner[brace])
+                yield Function(
+                    self.owner(at) + self.words[at + 1], self.said(at, brace - 1), brace, self.partner[brace]
+                )
 
     def owner(self, at):
         """Returns the type whose method stands here, with `::`, or an empty text."""

@@ -1,7 +1,7 @@
 """The rule of routing that spreads, worked out from its definitions in docs/MODEL.md, apart from the program.
 
-A graph is for each usable switch, by its GUID, the edges of its ports: pairs of a port and the switch that the wire leads
-to, by rising port.
+A graph is for each usable switch, by its GUID, the edges of its ports: pairs of a port and the switch that the wire
+leads to, by rising port.
 """
 import collections
 import heapq
@@ -88,7 +88,9 @@ def candidates(graph, places, cost, down, switch):
     """Returns the edges that gave a switch its label, by rising port."""
     return [
         (port, to) for port, to in graph[switch]
-        if to in cost and cost[to] < cost[switch] and (places[to] < places[switch] or places[to] > places[switch] and to in down)
+        if to in cost
+        and cost[to] < cost[switch]
+        and (places[to] < places[switch] or places[to] > places[switch] and to in down)
     ]
 
 

@@ -1,4 +1,5 @@
-"""Cables and switches taken away in thought: which packets are lost by the tables that are held, and what facts are then."""
+"""Cables and switches taken away in thought: which packets are lost by the tables that are held, and what facts are
+then."""
 from __future__ import annotations
 
 import collections

@@ -1,4 +1,5 @@
-"""Where two plans differ, or a plan and what a fabric holds: LIDs, tops and entries; and where two texts of facts do."""
+"""Where two plans differ, or a plan and what a fabric holds: LIDs, tops and entries; and where two texts of facts
+do."""
 from ibsm_texts import ENTRIES, NONE, name_of
 
 

@@ -173,7 +173,8 @@ class Dump:
         elif before != port:
             place = self.elsewhere("switch", self.at)
             raise LineRefused(
-                f"line {number}: switch {self.at:016x} has another port for LID {lid} {place}: are these dumps of two times?"
+                f"line {number}: switch {self.at:016x} has another port for LID {lid} {place}: are these dumps of two "
+                "times?"
             )
 
     def entry(self, number, line):

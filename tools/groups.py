@@ -1,4 +1,5 @@
-"""Switches in groups, such as those of a dragonfly or the rows of a torus, and where each stands in a picture of them."""
+"""Switches in groups, such as those of a dragonfly or the rows of a torus, and where each stands in a picture of
+them."""
 from __future__ import annotations
 
 import collections
@@ -36,7 +37,10 @@ def in_order(guids: Iterable[int], group_of: dict[int, str], names: Names) -> Gr
     found = collections.defaultdict(list)
     for guid in guids:
         found[group_of[guid]].append(guid)
-    return {name: sorted(found[name], key=lambda guid: (place(names.get(guid, "")), guid)) for name in sorted(found, key=place)}
+    return {
+        name: sorted(found[name], key=lambda guid: (place(names.get(guid, "")), guid))
+        for name in sorted(found, key=place)
+    }
 
 
 def is_grid(groups: Groups, wires: Sequence[Wire]) -> bool:

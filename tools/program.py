@@ -26,7 +26,8 @@ def printed_by(program, *words, statuses=(0,)):
     run = subprocess.run([program, *map(str, words)], capture_output=True, text=True, stdin=subprocess.DEVNULL)
     if run.returncode not in statuses:
         raise Refused(
-            f"{' '.join(['ibsm', *map(str, words)])}: {(run.stderr.strip() or f'status {run.returncode}').splitlines()[-1]}"
+            f"{' '.join(['ibsm', *map(str, words)])}: "
+            f"{(run.stderr.strip() or f'status {run.returncode}').splitlines()[-1]}"
         )
     return run.stdout
 

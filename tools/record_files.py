@@ -70,7 +70,11 @@ def cell_of(line):
     word, place, *value, at = line.split()
     guid, _, port = place.partition("/")
     key = KINDS[word], int(guid, 16), int(port or 0)
-    return cell(*key, b"", int(at[1:]), DISPUTED) if value == ["disputed"] else cell(*key, spelled(word, *value), int(at[1:]))
+    return (
+        cell(*key, b"", int(at[1:]), DISPUTED)
+        if value == ["disputed"]
+        else cell(*key, spelled(word, *value), int(at[1:]))
+    )
 
 
 def spelled(word, first, second=None):

@@ -1,4 +1,5 @@
-"""The picture of a page of `tools/report`: where switches stand, what each channel carries, and tables to follow packets by."""
+"""The picture of a page of `tools/report`: where switches stand, what each channel carries, and tables to follow
+packets by."""
 from __future__ import annotations
 
 import base64
@@ -17,12 +18,15 @@ Channel = tuple[int, int]
 # Above this many switches only the surroundings of the busiest channel are shown; above this many entries the page gets
 # no tables.
 MOST_SWITCHES, MOST_ENTRIES = 300, 1_200_000
-# In pixels of the picture: the width of a letter, the distances between the channels of one cable and between others.
+# In units of the SVG picture: the width of a letter, the distances between the channels of one cable and between others.
 LETTER, LINE, BESIDE, ROW, INCH = 7, 5, 26, 130, 90
 
 
 class Picture:
-    def __init__(self, facts: Facts, held: Plan, routes: Routes, names: Names, group_of: dict[int, str] | None, roots: Iterable[int], most: int) -> None:
+    def __init__(
+        self, facts: Facts, held: Plan, routes: Routes, names: Names, group_of: dict[int, str] | None,
+        roots: Iterable[int], most: int,
+    ) -> None:
         self.facts, self.held, self.routes, self.names = facts, held, routes, names
         self.loads = routes.carried()
         self.ends = routes.ends()
@@ -98,7 +102,9 @@ class Picture:
         found = groups.in_order(shown, {guid: group_of.get(guid, "?") for guid in shown}, self.names)
         wires = [(guids[one[0]], guids[other[0]]) for one, other in self.cables()]
         where, frames, _ = groups.placed(found, wires) if found else ({}, {}, {})
-        self.frames = {name: tuple(INCH * it for it in (x, -y, width, height)) for name, (x, y, width, height) in frames.items()}
+        self.frames = {
+            name: tuple(INCH * it for it in (x, -y, width, height)) for name, (x, y, width, height) in frames.items()
+        }
         return {shown[guid]: (INCH * x, -INCH * y) for guid, (x, y) in where.items()}
 
     def lines(self) -> Iterator[tuple[Channel, tuple[float, float, float, float]]]:

@@ -106,7 +106,9 @@ def ask_for_sweep(process: int, log: str, seconds: float) -> None:
             if not os.path.exists(f"/proc/{process}"):
                 raise Ended(3, f"OpenSM {process} has ended meanwhile")
             time.sleep(0.05)
-    raise Ended(1, f"{log} does not say SUBNET UP within {seconds:g} seconds; without -d 2 OpenSM keeps its log in memory")
+    raise Ended(
+        1, f"{log} does not say SUBNET UP within {seconds:g} seconds; without -d 2 OpenSM keeps its log in memory"
+    )
 
 
 class Log:

@@ -1,4 +1,5 @@
-"""Facts of a recording in which something was silent, with what was known before of adapters that are still plugged in."""
+"""Facts of a recording in which something was silent, with what was known before of adapters that are still plugged
+in."""
 from __future__ import annotations
 
 from collections.abc import Container
@@ -26,7 +27,9 @@ class Completed:
         """Takes facts, older ones or None, both with their lines, and the switches whose tables are known."""
         self.facts, self.before = facts, before
         self.lines = {key_of(line): line for line in facts.lines if not line.startswith("floor ")}
-        lacking = [guid for guid in facts.nodes if facts.is_switch(guid) and not (guid in facts.caps and guid in tables)]
+        lacking = [
+            guid for guid in facts.nodes if facts.is_switch(guid) and not (guid in facts.caps and guid in tables)
+        ]
         self.left_out = sorted(lacking)
         self.leave_out(set(lacking))
         self.kept = {}
@@ -51,7 +54,8 @@ class Completed:
         self.lines = {
             key: line
             for key, line in self.lines.items()
-            if f"{key[1]:016x}" not in about and not (key[0] == KINDS["link"] and line.split(" ")[2].split("/")[0] in about)
+            if f"{key[1]:016x}" not in about
+            and not (key[0] == KINDS["link"] and line.split(" ")[2].split("/")[0] in about)
         }
 
     def keep(self) -> None:
@@ -63,7 +67,9 @@ class Completed:
             now, is_up = self.facts.links.get(end), self.facts.up.get(end)
             if not is_up or now not in (None, far) or self.facts.links.get(far, end) != end or far in self.facts.up:
                 continue
-            about = [("node", far[0], 0), *((kind, *far) for kind in ("portguid", "link", "port", "claim")), ("link", *end)]
+            about = [
+                ("node", far[0], 0), *((kind, *far) for kind in ("portguid", "link", "port", "claim")), ("link", *end)
+            ]
             for kind, *place in about:
                 key = (KINDS[kind], *place)
                 if key in old:

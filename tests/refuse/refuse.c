@@ -13,9 +13,9 @@
  *   empty-write         a write takes no byte
  *   short-read, short-write
  *                       the call moves one byte
- * Writes are those to standard output. `say`, `again-say`, `late-say`, `interrupted-say`, `empty-say` and `short-say` are
- * the kinds of writes to standard error. At the end the number of calls of the kind is written to the file REFUSE_COUNT.
- * Threads are not considered.
+ * Writes are those to standard output. `say`, `again-say`, `late-say`, `interrupted-say`, `empty-say` and `short-say`
+ * are the kinds of writes to standard error. At the end the number of calls of the kind is written to the file
+ * REFUSE_COUNT. Threads are not considered.
  */
 #define _GNU_SOURCE
 #include <dlfcn.h>

@@ -86,8 +86,8 @@ void put(uint8_t *bytes, int count, uint64_t value)
 
 static const char *name_of(uint16_t attribute)
 {
-	return attribute == NODE_DESCRIPTION ? "NodeDescription" : attribute == NODE_INFO ? "NodeInfo" : attribute == SWITCH_INFO ? "SwitchInfo" :
-	       attribute == PORT_INFO ? "PortInfo" : "LinearForwardingTable";
+	return attribute == NODE_DESCRIPTION ? "NodeDescription" : attribute == NODE_INFO ? "NodeInfo" :
+	       attribute == SWITCH_INFO ? "SwitchInfo" : attribute == PORT_INFO ? "PortInfo" : "LinearForwardingTable";
 }
 
 /* Says `what` of a request, named by its path in the form that smpquery -D takes. */

@@ -55,7 +55,8 @@ static void judge_switch(const struct node *node, const struct wanted *wanted)
 	if (!table && !node->lacks)
 		reason("switch %016llx has no table", LONG(node->guid));
 	if (table && table->top < wanted->greatest)
-		reason("switch %016llx has top %u, and the greatest LID is %u: is it cut?", LONG(node->guid), table->top, wanted->greatest);
+		reason("switch %016llx has top %u, and the greatest LID is %u: is it cut?", LONG(node->guid), table->top,
+		       wanted->greatest);
 	for (lid = wanted->greatest + 1; table && lid <= table->top; lid++)
 		if (table->entries[lid] != NO_WAY) {
 			reason("switch %016llx has an entry for LID %u, above the greatest", LONG(node->guid), lid);
@@ -77,7 +78,8 @@ static void judge_range(const struct range *range)
 	if (choices.silent && (!port || !port->has_info))
 		return;
 	if (!is_end_port(node, range->port) || !port->has_info) {
-		reason("LID %u: there is no end port %016llx/%u: are these tables of this subnet?", range->first, LONG(range->guid), range->port);
+		reason("LID %u: there is no end port %016llx/%u: are these tables of this subnet?", range->first,
+		       LONG(range->guid), range->port);
 		return;
 	}
 	old = get(port->info + 16, 2);

@@ -253,7 +253,8 @@ static void take_answer(const struct request *request, uint8_t *reply)
 	if (!is_good(request, reply)) {
 		faults++;
 	} else if (!is_as_ordered(order, reply + ATTRIBUTE)) {
-		say_of(request, request->value ? "the answer is otherwise than what was set" : "it is held otherwise than it was set");
+		say_of(request, request->value ? "the answer is otherwise than what was set" :
+		       "it is held otherwise than it was set");
 		faults++;
 	} else {
 		written += request->value != NULL;
@@ -308,7 +309,8 @@ static void write_and_read_back(size_t lids, size_t blocks)
 		send_orders(blocks, order_count, 1);
 	is_writing = 0;
 	if (stopped_by)
-		end(SIGNALLED + stopped_by, "stopped: %lu of %zu Sets are answered, each of a whole block, LID or top", written, order_count);
+		end(SIGNALLED + stopped_by, "stopped: %lu of %zu Sets are answered, each of a whole block, LID or top", written,
+		    order_count);
 	if (faults)
 		end(NOT_WHOLE, "NOT WRITTEN: %lu of %zu Sets are answered", written, order_count);
 	stage = "reads back";

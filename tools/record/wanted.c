@@ -59,8 +59,8 @@ static int take_lids(struct wanted *wanted, const char *line)
 	unsigned long lid, port, lmc = 0, last;
 	uint64_t guid;
 
-	if (!word_at(&line, "lid ") || !number_at(&line, GREATEST_LID, &lid) || !word_at(&line, " ") || !guid_at(&line, &guid) ||
-	    !word_at(&line, "/") || !number_at(&line, MOST_PORTS, &port))
+	if (!word_at(&line, "lid ") || !number_at(&line, GREATEST_LID, &lid) || !word_at(&line, " ") ||
+	    !guid_at(&line, &guid) || !word_at(&line, "/") || !number_at(&line, MOST_PORTS, &port))
 		return 0;
 	if (word_at(&line, " lmc ") && (!number_at(&line, MOST_LMC, &lmc) || !lmc))
 		return 0;
