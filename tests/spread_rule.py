@@ -22,19 +22,19 @@ def distances(graph, starts):
     return far
 
 
-def class_of(far, bearing, roots):
+def class_of(far, leaves, roots):
     """Returns the distance class of a switch, given the distances from it."""
     to_roots = [far[root] for root in roots if root in far]
     if to_roots:
         return min(to_roots)
-    to_bearing = [far[switch] for switch in bearing if switch in far]
-    return 4 * sum(to_bearing) // len(to_bearing) if to_bearing else 0
+    to_leaves = [far[switch] for switch in leaves if switch in far]
+    return 4 * sum(to_leaves) // len(to_leaves) if to_leaves else 0
 
 
-def keys_of(graph, bearing, roots):
+def keys_of(graph, leaves, roots):
     """Returns the key of each switch: class, distance from the first of the component, and GUID."""
     far = {switch: distances(graph, [switch]) for switch in graph}
-    classes = {switch: class_of(far[switch], bearing, roots) for switch in graph}
+    classes = {switch: class_of(far[switch], leaves, roots) for switch in graph}
     keys = {}
     for switch in graph:
         first = min(far[switch], key=lambda one: (classes[one], one))
@@ -94,24 +94,24 @@ def candidates(graph, places, cost, down, switch):
     ]
 
 
-def units_of(graph, heights):
+def weights_of(graph, levels):
     """Returns the digit weight of each level."""
     widths = collections.defaultdict(lambda: 1)
     for switch, exits in graph.items():
-        taller = sum(heights[to] > heights[switch] for _, to in exits)
-        widths[heights[switch]] = max(widths[heights[switch]], taller)
-    units = [1]
-    for height in range(max(heights.values(), default=0)):
-        units.append(min(units[-1] * widths[height], 65536))
-    return units
+        higher = sum(levels[to] > levels[switch] for _, to in exits)
+        widths[levels[switch]] = max(widths[levels[switch]], higher)
+    weights = [1]
+    for level in range(max(levels.values(), default=0)):
+        weights.append(min(weights[-1] * widths[level], 65536))
+    return weights
 
 
-def tables(graph, bearing, homes, roots=(), named=None):
+def tables(graph, leaves, homes, roots=(), named=None):
     """Returns the port by which packets for each LID leave each switch. `homes` has for each LID its owner's switch and
     the port there. The order grows from `roots`, or as switches are `named`."""
-    places = places_of(graph, keys_of(graph, bearing, roots) if named is None else keys_as_named(graph, named))
-    heights = dict.fromkeys(graph, 0) | distances(graph, bearing)
-    units = units_of(graph, heights)
+    places = places_of(graph, keys_of(graph, leaves, roots) if named is None else keys_as_named(graph, named))
+    levels = dict.fromkeys(graph, 0) | distances(graph, leaves)
+    weights = weights_of(graph, levels)
     found = {switch: {} for switch in graph}
     by_home = collections.defaultdict(list)
     for lid, (home, _) in homes.items():
@@ -125,8 +125,8 @@ def tables(graph, bearing, homes, roots=(), named=None):
                 found[switch].update((lid, NO_WAY) for lid in lids)
             else:
                 exits = candidates(graph, places, cost, down, switch)
-                taller = any(heights[to] > heights[switch] for _, to in exits)
-                unit = units[heights[switch]] if taller else 1
+                higher = any(levels[to] > levels[switch] for _, to in exits)
+                weight = weights[levels[switch]] if higher else 1
                 for lid in lids:
-                    found[switch][lid] = exits[(lid // unit + switch % 31) % len(exits)][0]
+                    found[switch][lid] = exits[(lid // weight + switch % 31) % len(exits)][0]
     return found

@@ -117,7 +117,7 @@ class AuditRead(Rules):
     )
 
     def __init__(self):
-        self.told, self.counts, self.spreads, self.circle = {}, {"disputed": 0}, {}, None
+        self.told, self.counts, self.spreads, self.cycle = {}, {"disputed": 0}, {}, None
         self.found, self.others = {kind: [] for kind in KINDS}, {}
 
     def pairs(self, which, pairs, arrive):
@@ -146,43 +146,43 @@ class AuditRead(Rules):
         self.spreads[kind] = None if most is None else {"max": int(most), "mean": float(mean)}
 
     def loop(self, ends, *_):
-        self.circle = ends.split(" ") if ends else []
+        self.cycle = ends.split(" ") if ends else []
 
     def lacks(self):
         parts = {"", "between_adapters", "with_a_switch", "missed"}
-        return self.circle is None or set(self.told) != parts or set(self.spreads) != {"hops", "load"}
+        return self.cycle is None or set(self.told) != parts or set(self.spreads) != {"hops", "load"}
 
     def passes(self):
         """Returns whether `ibsm audit` ends with 0. Without end ports there are neither pairs nor ports without a
         LID."""
         all_pairs, found = self.told[""], self.found
-        arrive = all_pairs["pairs"] == all_pairs["arrive"] and not self.circle
+        arrive = all_pairs["pairs"] == all_pairs["arrive"] and not self.cycle
         have_tables = not found["tableless"] or not all_pairs["pairs"]
         return arrive and have_tables and not found["unusable"] and not found["lidless"]
 
     def value_of_text(self):
         told = {"passes": self.passes()} | self.told[""]
         told |= {name: self.told[name] for name in ("between_adapters", "with_a_switch", "missed")}
-        return told | self.found | {"more": self.others} | self.counts | self.spreads | {"credit_loop": self.circle}
+        return told | self.found | {"more": self.others} | self.counts | self.spreads | {"credit_loop": self.cycle}
 
 
 class NextRead(Rules):
     rules = (AuditRead.rules[-1], (r"lids (\d+(?: \d+)*)", "waiting"))
 
     def __init__(self):
-        self.circle, self.lids = None, []
+        self.cycle, self.lids = None, []
 
     def loop(self, ends, *_):
-        self.circle = ends.split(" ") if ends else []
+        self.cycle = ends.split(" ") if ends else []
 
     def waiting(self, lids):
         self.lids = [int(lid) for lid in lids.split(" ")]
 
     def lacks(self):
-        return self.circle is None or len(self.circle) != len(self.lids)
+        return self.cycle is None or len(self.cycle) != len(self.lids)
 
     def value_of_text(self):
-        return {"credit_loop": self.circle, "lids": self.lids}
+        return {"credit_loop": self.cycle, "lids": self.lids}
 
 
 class CompareRead(Rules):

@@ -21,7 +21,7 @@ def wires_of(facts: Facts) -> dict[int, list[int]]:
 
 def rows_of(facts: Facts, wires: dict[int, list[int]], roots: Iterable[int]) -> dict[int, int]:
     """Returns the row of each switch, from the top of its component down."""
-    bearing = {
+    leaves = {
         far[0]
         for end in facts.links
         if not facts.is_switch(end[0])
@@ -31,7 +31,7 @@ def rows_of(facts: Facts, wires: dict[int, list[int]], roots: Iterable[int]) -> 
     for root in roots:
         if root not in wires:
             raise Refused(f"there is no switch {root:016x}, which --roots names")
-    return ranks(wires, bearing, roots)
+    return ranks(wires, leaves, roots)
 
 
 def groups_in(path: str, facts: Facts, names: Names) -> dict[int, str]:

@@ -18,7 +18,7 @@ Channel = tuple[int, int]
 # Above this many switches only the surroundings of the busiest channel are shown; above this many entries the page gets
 # no tables.
 MOST_SWITCHES, MOST_ENTRIES = 300, 1_200_000
-# In units of the SVG picture: the width of a letter, the distances between the channels of one cable and between others.
+# In units of the SVG picture: the width of a letter, the distances between channels of one cable and between others.
 LETTER, LINE, BESIDE, ROW, INCH = 7, 5, 26, 130, 90
 
 

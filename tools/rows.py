@@ -33,24 +33,24 @@ def components(beside, nodes):
     return found
 
 
-def tops(beside, bearing, roots=()):
+def tops(beside, leaves, roots=()):
     """Yields the top switches of each component: the named roots, or those furthest from switches with adapters, or the
     switch with the shortest way to the furthest."""
-    heights = distances(beside, sorted(bearing))
+    levels = distances(beside, sorted(leaves))
     for part in components(beside, beside):
         named = [switch for switch in part if switch in roots]
-        high = max((heights.get(switch, 0) for switch in part), default=0)
+        high = max((levels.get(switch, 0) for switch in part), default=0)
         if named:
             yield named
         elif high:
-            yield [switch for switch in part if heights.get(switch, 0) == high]
+            yield [switch for switch in part if levels.get(switch, 0) == high]
         else:
             yield [min(part, key=lambda switch: (max(distances(beside, [switch]).values()), switch))]
 
 
-def ranks(beside, bearing, roots=()):
+def ranks(beside, leaves, roots=()):
     """Returns the row of each switch: how many cables it is below the top of its component."""
-    return distances(beside, [switch for part in tops(beside, bearing, roots) for switch in part])
+    return distances(beside, [switch for part in tops(beside, leaves, roots) for switch in part])
 
 
 def nested(beside, rank, nodes, row, order):
