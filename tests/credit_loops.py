@@ -1,11 +1,15 @@
 """Credit loops, by a search over channels and those that packets take next."""
+from __future__ import annotations
+
 import collections
+from collections.abc import Callable
 
 from built_program import check
-from ibsm_texts import end_in
+from ibsm_texts import End, end_in
+from routes import Channel, Routes
 
 
-def after(ways):
+def after(ways: Routes) -> dict[Channel, set[Channel]]:
     """Returns for each channel, a switch and its port, the channels that packets take next, for any LID up to the
     greatest top."""
     ends, found = ways.ends(), collections.defaultdict(set)
@@ -19,7 +23,7 @@ def after(ways):
     return found
 
 
-def count_round(after, first):
+def count_round(after: dict[Channel, set[Channel]], first: Channel) -> int:
     """Returns the number of channels in the shortest cycle through `first`, by breadth-first search; 0 if there is
     none."""
     counts, reached = {first: 1}, [first]
@@ -33,7 +37,7 @@ def count_round(after, first):
     return 0
 
 
-def check_told(line, after, channel_of, what):
+def check_told(line: str, after: dict[Channel, set[Channel]], channel_of: Callable[[End], Channel], what: str) -> int:
     """Checks that `line` tells a loop, with the fewest channels of all, and returns its length. `channel_of` maps an
     end to its channel."""
     least = min(filter(None, (count_round(after, first) for first in list(after))), default=0)

@@ -4,20 +4,24 @@ several tables.
 
 A hop of a packet is a pair: ON and a switch, TAKEN and the end that took it, or LOST and None.
 """
+from __future__ import annotations
+
 import collections
+from collections.abc import Iterable
 
 import paths  # noqa: F401
 import spread_rule
-from ibsm_texts import ENTRIES, NO_WAY, name_of
+from ibsm_texts import ENTRIES, NO_WAY, End, Facts, name_of
 
 ON, TAKEN, LOST = "on", "taken", "lost"
 NOWHERE = LOST, None
+Hop = tuple[str, object]
 
 
 class Tables:
     """The contents of a text in the form of a plan: the LIDs of ends, and the tops and blocks of switches."""
 
-    def __init__(self, text=""):
+    def __init__(self, text: str = "") -> None:
         self.ranges = []  # first LID, end, LMC
         self.tops, self.blocks = {}, {}  # by GUID; by GUID and then by number
         for line in text.splitlines():
@@ -31,7 +35,7 @@ class Tables:
             else:
                 self.blocks[at][int(first)] = bytes.fromhex(rest[0])
 
-    def owners(self):
+    def owners(self) -> dict[int, list[End]]:
         """Returns for each LID the ends that hold it, without repetition."""
         found = collections.defaultdict(list)
         for first, end, lmc in self.ranges:
@@ -40,15 +44,15 @@ class Tables:
                     found[lid].append(end)
         return found
 
-    def entry(self, guid, lid):
+    def entry(self, guid: int, lid: int) -> int:
         """Returns the switch's entry for a LID, as the switch applies it."""
         block = self.blocks.get(guid, {}).get(lid // ENTRIES)
         return NO_WAY if block is None or lid == 0 or lid > self.tops[guid] else block[lid % ENTRIES]
 
-    def column(self, switches, lid):
+    def column(self, switches: Iterable[int], lid: int) -> dict[int, int]:
         return {guid: self.entry(guid, lid) for guid in switches}
 
-    def text(self):
+    def text(self) -> str:
         lines = [f"lid {lid} {name_of(end)}" + (f" lmc {lmc}" if lmc else "") for lid, end, lmc in sorted(self.ranges)]
         for guid, top in sorted(self.tops.items()):
             lines.append(f"switch {guid:016x} top {top}")
@@ -59,13 +63,13 @@ class Tables:
 class Subnet:
     """What counts among facts: the usable switches, the end ports, and where the wires in ports lead."""
 
-    def __init__(self, facts):
+    def __init__(self, facts: Facts) -> None:
         self.switches = sorted(guid for guid in facts.caps if facts.is_switch(guid))
         self.ends = sorted(facts.port_guids)
         wired = [end for end in facts.links if end[0] in self.switches or end in facts.port_guids]
         self.wires = {end: far for end in wired if (far := facts.wire(end)) in wired}
 
-    def graph(self):
+    def graph(self) -> dict[int, list[tuple[int, int]]]:
         """Returns for each switch its ports with a wire to a switch, and that switch, by rising port."""
         found = {guid: [] for guid in self.switches}
         for (guid, port), (far, _) in sorted(self.wires.items()):
@@ -73,13 +77,13 @@ class Subnet:
                 found[guid].append((port, far))
         return found
 
-    def leaves(self):
+    def leaves(self) -> list[int]:
         """Returns the switches that have a wire to an adapter."""
         return sorted(
             {far[0] for end, far in self.wires.items() if end[0] not in self.switches and far[0] in self.switches}
         )
 
-    def over(self, end, owners):
+    def over(self, end: End, owners: list[End]) -> Hop:
         """Returns the hop over the wire in a port."""
         far = self.wires.get(end)
         if far is None:
@@ -88,21 +92,21 @@ class Subnet:
             return ON, far[0]
         return (TAKEN, far) if far in owners else NOWHERE
 
-    def hop(self, guid, entry, owners):
+    def hop(self, guid: int, entry: int, owners: list[End]) -> Hop:
         """Returns what a switch does with a packet for a LID that `owners` own."""
         return (TAKEN, (guid, 0)) if entry == 0 else self.over((guid, entry), owners)
 
-    def hops(self, column, owners):
+    def hops(self, column: dict[int, int], owners: list[End]) -> dict[int, Hop]:
         return {guid: self.hop(guid, entry, owners) for guid, entry in column.items()}
 
-    def sent(self, end, owners):
+    def sent(self, end: End, owners: list[End]) -> Hop:
         """Returns the first hop of a packet from an end port."""
         if end[0] in self.switches:
             return ON, end[0]
         return (TAKEN, end) if end in owners else self.over(end, owners)
 
 
-def walk(hops, hop):
+def walk(hops: dict[int, Hop], hop: Hop) -> tuple[list[int], Hop | None]:
     """Returns the switches that a packet meets from a hop on, and its last hop, or None if it goes round."""
     met = []
     while hop[0] == ON:
@@ -113,7 +117,7 @@ def walk(hops, hop):
     return met, hop
 
 
-def ways(tables, hop):
+def ways(tables: list[dict[int, Hop]], hop: Hop) -> tuple[set[Hop], set[int], bool]:
     """Returns how a packet may end if each switch takes any of its hops in `tables`, the switches that it may meet, and
     whether it may go round."""
     met, ends, waiting = set(), set(), [hop]
@@ -132,7 +136,7 @@ def ways(tables, hop):
     return ends, met, over != met
 
 
-def turns(subnet, tables):
+def turns(subnet: Subnet, tables: Tables) -> dict[int, set[tuple[int, int]]]:
     """Returns for each switch the pairs of switches between which it forwards packets: for some LID they come from the
     first and leave for the second."""
     found = {guid: set() for guid in subnet.switches}
@@ -144,7 +148,7 @@ def turns(subnet, tables):
     return found
 
 
-def told_order(subnet, tables):
+def told_order(subnet: Subnet, tables: Tables) -> list[int] | None:
     """Returns an order of the switches by which the tables lead packets up and then down, or None. It is built from the
     last switch on: each time the one of the greatest GUID at which no packet turns between two that are left."""
     found, left, taken = turns(subnet, tables), set(subnet.switches), []
@@ -157,7 +161,7 @@ def told_order(subnet, tables):
     return taken[::-1]
 
 
-def next_column(subnet, held, planned, end):
+def next_column(subnet: Subnet, held: dict[int, int], planned: dict[int, int], end: End) -> dict[int, int]:
     """Returns the next entries for a LID that `end` alone holds, from the held entries and those of the plan."""
     by_held, by_plan, there = subnet.hops(held, [end]), subnet.hops(planned, [end]), (TAKEN, end)
     agreed = {guid: by_plan[guid] if held[guid] == planned[guid] else NOWHERE for guid in held}
@@ -165,7 +169,7 @@ def next_column(subnet, held, planned, end):
     mended = {guid: held[guid] if by_held[guid][0] == ON else planned[guid] for guid in held}
     mending = {guid: there if guid in delivers else hop for guid, hop in subnet.hops(mended, [end]).items()}
 
-    def entry(guid):
+    def entry(guid: int) -> int:
         if walk(agreed, by_plan[guid])[1] == there:
             return planned[guid]
         if guid in delivers:
@@ -178,16 +182,16 @@ def next_column(subnet, held, planned, end):
 class Order:
     """An order of the usable switches, by the place of each."""
 
-    def __init__(self, places):
+    def __init__(self, places: dict[int, int]) -> None:
         self.places = places
 
-    def is_up(self, one, other):
+    def is_up(self, one: int, other: int) -> bool:
         return self.places[other] <= self.places[one]
 
-    def is_down(self, one, other):
+    def is_down(self, one: int, other: int) -> bool:
         return self.places[one] <= self.places[other]
 
-    def is_right(self, subnet, tables):
+    def is_right(self, subnet: Subnet, tables: Tables) -> bool:
         """Returns whether no packet goes down and then up again, for any LID."""
         for lid in range(1, max((tables.tops.get(guid, 0) for guid in subnet.switches), default=0) + 1):
             to = {
@@ -199,7 +203,9 @@ class Order:
                 return False
         return True
 
-    def next_column(self, subnet, held, owners, planned, end):
+    def next_column(
+        self, subnet: Subnet, held: dict[int, int], owners: list[End], planned: dict[int, int], end: End
+    ) -> dict[int, int]:
         """Returns the next entries for a LID of the plan that `owners` hold, from the held entries and those of the
         plan."""
         by_held, by_plan, there = subnet.hops(held, owners), subnet.hops(planned, [end]), (TAKEN, end)
@@ -211,7 +217,7 @@ class Order:
         entered = {far for guid, far in onward.items() if guid in differs and self.is_down(guid, far)}
         going_up = {guid for guid, far in onward.items() if guid in differs and self.is_up(guid, far)}
 
-        def may_change(guid):
+        def may_change(guid: int) -> bool:
             kind, at = by_plan[guid]
             if kind == ON and (self.is_up(guid, at) and guid in entered or self.is_down(guid, at) and at in going_up):
                 return False
@@ -225,7 +231,7 @@ class Order:
         }
 
 
-def by_rank(subnet):
+def by_rank(subnet: Subnet) -> Order:
     """Returns the order of up/down routing: by distance from the least GUID of the component, and then by GUID."""
     graph = subnet.graph()
     far = {}
@@ -237,25 +243,25 @@ def by_rank(subnet):
     )
 
 
-def by_spread(subnet, roots):
+def by_spread(subnet: Subnet, roots: Iterable[int]) -> Order:
     """Returns the order of the rule that spreads."""
     graph = subnet.graph()
     return Order(spread_rule.places_of(graph, spread_rule.keys_of(graph, subnet.leaves(), roots)))
 
 
-def as_named(subnet, named):
+def as_named(subnet: Subnet, named: Iterable[int]) -> Order:
     """Returns the order of the rule that spreads, if `named` switches are given."""
     graph = subnet.graph()
     return Order(spread_rule.places_of(graph, spread_rule.keys_as_named(graph, named)))
 
 
-def first_moved(held, plan):
+def first_moved(held: Tables, plan: Tables) -> int | None:
     """Returns the least LID that the plan gives to an end and that another end holds, or None."""
     owners = held.owners()
     return next((lid for lid, ends in sorted(plan.owners().items()) if set(owners[lid]) - set(ends)), None)
 
 
-def next_tables(subnet, held, plan, order):
+def next_tables(subnet: Subnet, held: Tables, plan: Tables, order: Order) -> Tables:
     """Returns the next tables. They follow the plan's order if the held tables are right by that order."""
     made, before, after, is_right = Tables(), held.owners(), plan.owners(), order.is_right(subnet, held)
     made.ranges = plan.ranges
@@ -275,7 +281,7 @@ def next_tables(subnet, held, plan, order):
     return made
 
 
-def waits(subnet, tables):
+def waits(subnet: Subnet, tables: list[Tables]) -> dict[End, dict[End, int]]:
     """Returns for each channel the channels that packets may take after it, each with the least LID of a packet that
     may: first by an entry of any of `tables`, then by one of any. A channel is a switch and its port with a wire to a
     switch."""

@@ -3,6 +3,8 @@ growth.py, and memory of those in past_sizes.py. A run asks for memory no more o
 instructions alike on each run, and on all machines but for what the C library chooses by the processor, so a run may
 take a tenth more than noted. The processor's own counter counts some besides, and memory goes by pages: there it may be
 more."""
+from __future__ import annotations
+
 import pathlib
 
 from scale import check
@@ -18,13 +20,13 @@ LEAST = 16
 LESS = 0.8
 
 
-def told(number):
+def told(number: float) -> str:
     """Returns a number with at most two decimals."""
     return f"{number:.2f}".rstrip("0").rstrip(".")
 
 
 class Noted:
-    def __init__(self):
+    def __init__(self) -> None:
         kind = None
         self.noted, self.found = ({kind: {} for kind in (INSTRUCTIONS, ALLOCATIONS, MEMORY)} for _ in range(2))
         for line in PATH.read_text().splitlines() if PATH.exists() else []:
@@ -34,11 +36,11 @@ class Noted:
             elif not line.startswith("#"):
                 kind = line
 
-    def find(self, kind, title, number):
+    def find(self, kind: str, title: str, number: float) -> None:
         """Keeps the cost of a run; of several runs with one title, the greatest."""
         self.found[kind][title] = max(round(number, 2), self.found[kind].get(title, LEAST if kind == MEMORY else 0))
 
-    def check_all(self, counter):
+    def check_all(self, counter: str) -> None:
         """Compares the costs that were found with the noted ones. `counter` is what counted instructions, or timed runs
         instead."""
         for kind, found in self.found.items():
@@ -59,7 +61,7 @@ class Noted:
             for title in self.noted[kind].keys() - found.keys():
                 check(False, f"{title}: {kind} are noted of a run that is none")
 
-    def write(self, counter):
+    def write(self, counter: str) -> None:
         """Notes the costs that were found. Instructions stay as noted unless valgrind counted them."""
         if counter != "valgrind":
             self.found[INSTRUCTIONS] = self.noted[INSTRUCTIONS]

@@ -1,5 +1,9 @@
 """Tables of two switches and of a ring of five, and how an audit of them ends. Worked out by hand from
 docs/FORMATS.md."""
+from __future__ import annotations
+
+from collections.abc import Callable, Iterator
+
 from built_program import Ended, prints, refused, says
 
 # Adapters 100 at port 2 of switch 10 and 200 at port 2 of switch 20. A wire joins the switches' ports 1.
@@ -14,27 +18,27 @@ RING_WIRES = " ".join(f"{guid:x}/1-{RING[(i + 1) % 5]:x}/2" for i, guid in enume
 RING_LIDS = " ".join(f"{i + 1} {guid:x}/0" for i, guid in enumerate(RING))
 
 
-def ring(*rows):
+def ring(*rows: str) -> list[str]:
     return [f"{guid:x} {row}" for guid, row in zip(RING, rows)]
 
 
-def named(word):
+def named(word: str) -> str:
     guid, port = word.split("/")
     return f"{guid.rjust(16, '0')}/{port}"
 
 
-def spelled(text):
+def spelled(text: str) -> str:
     """Returns the lines of an audit with GUIDs and ports in full."""
     words = [[named(word) if "/" in word else word for word in line.split(" ")] for line in text.split("\n")]
     return "\n".join(" ".join(line) for line in words)
 
 
-def found(text):
+def found(text: str) -> Ended:
     """Returns the end of an audit that finds missing things, undelivered packets or a credit loop."""
     return Ended(1, b"", spelled(text).encode())
 
 
-def lost(at, *packets):
+def lost(at: str, *packets: str) -> str:
     return "".join(f"lost {packet} at {at}\n" for packet in packets)
 
 
@@ -42,7 +46,7 @@ def lost(at, *packets):
 KINDS = "above-top", "no-entry", "no-port", "no-link", "foreign", "misdelivered", "round"
 
 
-def counted(sent, between, **missed):
+def counted(sent: int, between: int, **missed: int) -> str:
     """Returns the first lines of an audit: the number of packets, how many of these are between adapters, and for each
     kind in `missed` how many do not arrive. `apart` of those between adapters do not."""
     apart = missed.pop("apart", 0)
@@ -76,7 +80,7 @@ CLAIM_ALONE = found(
 )
 
 
-def tables(plan):
+def tables(plan: Callable[..., Ended]) -> Iterator[tuple[str, str, Ended]]:
     """Yields titles, texts of tables, and how their audits end."""
     good = plan(LIDS, *GOOD).printed.decode()
     lines = good.splitlines()
@@ -197,7 +201,7 @@ def tables(plan):
     )
 
 
-def ranges(plan):
+def ranges(plan: Callable[..., Ended]) -> Iterator[tuple[str, str, Ended]]:
     """Yields titles, tables and ends of audits if each adapter's port has two LIDs: 100/1 has 4 and 5, 200/1 has 6 and
     7."""
     good = plan("1 10/0 2 20/0 4 100/1 6 200/1", *GOOD, lmc=1).printed.decode()
@@ -239,14 +243,14 @@ def ranges(plan):
     )
 
 
-def told_again(text, again):
+def told_again(text: str, again: str) -> str:
     """Returns the text with the line `again` behind that of 100/1."""
     line = f"lid 4 {0x100:016x}/1 lmc 1\n"
     assert line in text
     return text.replace(line, line + again)
 
 
-def unclear():
+def unclear() -> Iterator[tuple[str, Ended]]:
     """Yields titles and ends of audits by the good tables of facts with gaps: the room of 20 is unknown, its type is
     disputed, nothing is known of 200, or too little of the wire between the switches, of 20, or of other nodes."""
     ports = "unjoined 20/1\nunjoined 20/2\nunjoined 200/1\n"
@@ -280,7 +284,7 @@ def unclear():
     yield "disputed link", prints(spelled(f"{whole}unjoined 10/3\ndisputed 1\n{BOTH}credit loop none\n"))
 
 
-def otherwise(text):
+def otherwise(text: str) -> str:
     """Returns the text with CRLF, comments, empty lines, blanks, tabs, short GUIDs and upper case."""
     lines = []
     for line in text.splitlines():
@@ -290,7 +294,7 @@ def otherwise(text):
     return "\r\n".join(lines)
 
 
-def one_by_one(text):
+def one_by_one(text: str) -> str:
     """Returns the text with a line for each LID of a range."""
     lines = []
     for line in text.splitlines():
@@ -302,7 +306,7 @@ def one_by_one(text):
     return "\n".join(lines) + "\n"
 
 
-def rings(plan):
+def rings(plan: Callable[..., Ended]) -> Iterator[tuple[str, str, Ended]]:
     """Yields titles, tables and ends of audits of the ring: the short way in both directions, and without the wire from
     the last to the first."""
     short = ring("0 1 1 2 2", "2 0 1 1 2", "2 2 0 1 1", "1 2 2 0 1", "1 1 2 2 0")
@@ -351,7 +355,7 @@ RING_AND_TWO = *RING, 0x60, 0x70
 RING_AND_TWO_WIRES = f"{RING_WIRES} 60/1-70/1"
 
 
-def ring_and_two(plan):
+def ring_and_two(plan: Callable[..., Ended]) -> Iterator[tuple[str, str, Ended]]:
     """Yields tables by which all packets of both arrive. The two switches send each other packets for the ring, which
     makes a loop of two."""
     short = ring("0 1 1 2 2 - -", "2 0 1 1 2 - -", "2 2 0 1 1 - -", "1 2 2 0 1 - -", "1 1 2 2 0 - -")
@@ -370,7 +374,7 @@ def ring_and_two(plan):
 PAIR_WIRES = "100/1-200/1"
 
 
-def pairs(plan):
+def pairs(plan: Callable[..., Ended]) -> Iterator[tuple[str, str, Ended]]:
     lids = f"lid 3 {0x100:016x}/1\nlid 4 {0x200:016x}/1\n"
     yield (
         "two adapters and no switch",
@@ -386,7 +390,7 @@ ROW_ADAPTERS = (0x100, 0x200, 0x300)
 ROW_WIRES = "10/1-20/2 20/1-30/2 10/3-100/1 10/4-300/1 30/3-200/1"
 
 
-def rows(plan):
+def rows(plan: Callable[..., Ended]) -> Iterator[tuple[str, str, Ended]]:
     lids = "1 100/1 2 200/1 3 300/1 4 10/0 5 20/0 6 30/0"
     all_arrive = plan(lids, "10 3 1 4 0 1 1", "20 2 1 2 2 0 1", "30 2 3 2 2 2 0").printed.decode()
     yield (
@@ -446,12 +450,12 @@ FAULTS = (
 )
 
 
-def faults():
+def faults() -> Iterator[tuple[str, Ended]]:
     for text, said in FAULTS:
         yield text.replace("%", "f" * 128), refused(f"TABLES: {said}")
 
 
-def orders():
+def orders() -> list[tuple[str, Ended]]:
     """Returns command lines and which fault each tells first: all files are opened, then the tables are read and
     judged, then the other files in turn."""
     return [

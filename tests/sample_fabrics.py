@@ -1,56 +1,60 @@
 """Fabrics for the tests of the tools: their facts and tables as texts, and as ibsim reads them."""
+from __future__ import annotations
+
 import collections
 import random
+from collections.abc import Iterable
 
 ADAPTER, SWITCH = "ca", "switch"
 # The number of entries in a forwarding table: LIDs 0 to 0xBFFF.
 ROOM = 49152
+Port = tuple[str, int]
 
 
 class Fabric:
-    def __init__(self):
+    def __init__(self) -> None:
         self.nodes = {}  # name: type, GUID, ports
         self.peers = {}  # (name, port): name and port of the other end
         self.used = collections.Counter()  # name: ports with a cable
 
-    def add(self, kind, name, guid, ports=0):
+    def add(self, kind: str, name: str, guid: int, ports: int = 0) -> str:
         """Adds a node and returns its name. Without `ports` it gets a port for each cable, and a switch one more."""
         self.nodes[name] = kind, guid, ports
         return name
 
-    def switches(self, count, ports=0):
+    def switches(self, count: int, ports: int = 0) -> list[str]:
         return [self.add(SWITCH, f"S{i}", 16 * i, ports) for i in range(1, count + 1)]
 
-    def hosts(self, switches):
+    def hosts(self, switches: Iterable[str]) -> None:
         """Adds an adapter of one port at each of the switches named."""
         for i, switch in enumerate(switches, 1):
             self.join(self.add(ADAPTER, f"H{i}", 0x1000000 + 16 * i, 1), switch)
 
-    def take(self, name):
+    def take(self, name: str) -> Port:
         self.used[name] += 1
         return name, self.used[name]
 
-    def join(self, one, other):
+    def join(self, one: str, other: str) -> None:
         a, b = self.take(one), self.take(other)
         self.peers[a], self.peers[b] = b, a
 
-    def ports(self, name):
+    def ports(self, name: str) -> int:
         kind, _, ports = self.nodes[name]
         return ports or self.used[name] + (kind == SWITCH)
 
-    def guid(self, name):
+    def guid(self, name: str) -> int:
         return self.nodes[name][1]
 
-    def is_switch(self, name):
+    def is_switch(self, name: str) -> bool:
         return self.nodes[name][0] == SWITCH
 
-    def ends(self):
+    def ends(self) -> list[Port]:
         """Returns the end ports, switches first, in the order in which the texts give them LIDs."""
         adapters = [name for name in self.nodes if not self.is_switch(name)]
         ports = [(name, port) for name in adapters for port in range(1, self.ports(name) + 1)]
         return [(name, 0) for name in self.nodes if self.is_switch(name)] + [end for end in ports if end in self.peers]
 
-    def ibsim(self):
+    def ibsim(self) -> str:
         """Returns the topology in the form of ibsim, with the seat H1 first."""
         texts = []
         for name in sorted(self.nodes, key=lambda name: name != "H1"):
@@ -64,7 +68,7 @@ class Fabric:
             texts.append("\n".join(lines) + "\n")
         return "\n".join(texts)
 
-    def topology(self):
+    def topology(self) -> str:
         """Returns the topology in the form of `ibsm run`."""
         lines = []
         for name, (kind, guid, _) in self.nodes.items():
@@ -76,7 +80,7 @@ class Fabric:
                     lines.append(f'[{port}] "{far}"[{at}]')
         return "\n".join(lines) + "\n"
 
-    def facts(self):
+    def facts(self) -> str:
         """Returns what `ibsm facts` prints of a first sweep, without LIDs and with tables that have room for 1,024."""
         found = collections.defaultdict(list)
         for name, (kind, guid, _) in self.nodes.items():
@@ -97,7 +101,7 @@ class Fabric:
         kinds = ("node", "portguid", "link", "port", "claim", "cap")
         return "".join(f"{kind} {text} @1\n" for kind in kinds for _, _, text in sorted(found[kind]))
 
-    def shortest(self):
+    def shortest(self) -> dict[str, list[int]]:
         """Returns tables by which each packet takes a shortest way. In rings, packets can wait for each other."""
         tables = {name: [255] * (len(self.ends()) // 64 + 1) * 64 for name in self.nodes if self.is_switch(name)}
         for lid, (name, port) in enumerate(self.ends(), 1):
@@ -113,12 +117,12 @@ class Fabric:
                         waiting.append(far)
         return tables
 
-    def exits(self, name):
+    def exits(self, name: str) -> list[tuple[int, str]]:
         """Returns the ports of a switch with a cable to a switch, each with that switch."""
         ends = ((port, self.peers.get((name, port), ("", 0))[0]) for port in range(1, self.ports(name) + 1))
         return [(port, far) for port, far in ends if far and self.is_switch(far)]
 
-    def some_shortest(self, chance):
+    def some_shortest(self, chance: random.Random) -> dict[str, list[int]]:
         """Returns tables of shortest ways. If several ports lead nearer, `chance` chooses one."""
         exits = {name: self.exits(name) for name in self.nodes if self.is_switch(name)}
         tables = {name: [255] * (len(self.ends()) // 64 + 1) * 64 for name in exits}
@@ -135,7 +139,7 @@ class Fabric:
                 tables[switch][lid] = chance.choice([port for port, far in exits[switch] if steps[far] < steps[switch]])
         return tables
 
-    def plan(self, tables):
+    def plan(self, tables: dict[str, list[int]]) -> str:
         """Returns what the fabric holds with these tables, in the form of a plan."""
         ends = self.ends()
         lines = [f"lid {lid} {self.guid(name):016x}/{port}" for lid, (name, port) in enumerate(ends, 1)]
@@ -146,7 +150,7 @@ class Fabric:
         return "\n".join(lines) + "\n"
 
 
-def triangle():
+def triangle() -> Fabric:
     fabric = Fabric()
     for i in (1, 2, 3):
         fabric.add(SWITCH, f"S{i}", 16 * i, 4)
@@ -157,7 +161,7 @@ def triangle():
     return fabric
 
 
-def random_fabric(count, degree, hosts, seed=7):
+def random_fabric(count: int, degree: int, hosts: int, seed: int = 7) -> Fabric:
     """Returns a random tree with more cables up to the mean degree, and adapters at random switches."""
     fabric, chance = Fabric(), random.Random(seed)
     switches = fabric.switches(count)
@@ -169,7 +173,7 @@ def random_fabric(count, degree, hosts, seed=7):
     return fabric
 
 
-def fat_tree(k, hosts):
+def fat_tree(k: int, hosts: int) -> Fabric:
     """Returns a fat tree: three levels of switches with `k` ports, and `hosts` adapters at each of the lowest."""
     fabric, half = Fabric(), k // 2
     switches = fabric.switches(5 * half * half)
@@ -184,7 +188,7 @@ def fat_tree(k, hosts):
     return fabric
 
 
-def line(count):
+def line(count: int) -> Fabric:
     """Returns a row of switches, with an adapter at the first."""
     fabric = Fabric()
     switches = fabric.switches(count)
@@ -194,7 +198,7 @@ def line(count):
     return fabric
 
 
-def ring(count):
+def ring(count: int) -> Fabric:
     fabric = Fabric()
     switches = fabric.switches(count)
     fabric.hosts(switches)
@@ -203,7 +207,7 @@ def ring(count):
     return fabric
 
 
-def two_ports(count):
+def two_ports(count: int) -> Fabric:
     """Returns two rows of switches, joined at one end, and adapters with a port in each."""
     fabric = Fabric()
     switches = fabric.switches(2 * count)
@@ -218,7 +222,7 @@ def two_ports(count):
     return fabric
 
 
-def half_linked(count):
+def half_linked(count: int) -> Fabric:
     """Returns a ring whose adapters have two ports, one of them without a cable."""
     fabric = Fabric()
     switches = fabric.switches(count)
@@ -229,7 +233,7 @@ def half_linked(count):
     return fabric
 
 
-def torus(rows, columns):
+def torus(rows: int, columns: int) -> Fabric:
     """Returns switches in rows and columns that close to rings, with an adapter at each."""
     fabric = Fabric()
     switches = fabric.switches(rows * columns)
@@ -241,7 +245,7 @@ def torus(rows, columns):
     return fabric
 
 
-def dragonfly(groups, size, hosts):
+def dragonfly(groups: int, size: int, hosts: int) -> Fabric:
     """Returns groups of switches, all wired to each other within a group, with a cable between any two groups, and
     adapters at each switch."""
     fabric = Fabric()
@@ -259,7 +263,7 @@ def dragonfly(groups, size, hosts):
     return fabric
 
 
-def two_levels(low, high, hosts):
+def two_levels(low: int, high: int, hosts: int) -> Fabric:
     """Returns two levels, each lower switch wired to each higher one, and `hosts` adapters at each lower one."""
     fabric = Fabric()
     switches = fabric.switches(low + high)
@@ -270,7 +274,7 @@ def two_levels(low, high, hosts):
     return fabric
 
 
-def apart():
+def apart() -> Fabric:
     """Returns a ring of five and a ladder of two rings, with no wire between them, and an adapter at every second
     switch."""
     fabric = Fabric()
@@ -287,7 +291,7 @@ def apart():
     return fabric
 
 
-def without_adapters(count):
+def without_adapters(count: int) -> Fabric:
     """Returns a ring of switches, with more wires between those three apart."""
     fabric = Fabric()
     switches = fabric.switches(count)
@@ -297,7 +301,7 @@ def without_adapters(count):
     return fabric
 
 
-def with_double_wires():
+def with_double_wires() -> Fabric:
     """Returns a tree of two levels with each wire doubled, and a switch with a wire to itself."""
     fabric = Fabric()
     switches = fabric.switches(6)

@@ -1,10 +1,14 @@
 """Runs of the program on large inputs, for `tests/at-scale`: what they print and cost, and fabrics whose answers are
 known."""
+from __future__ import annotations
+
 import itertools
 import json
 import os
+import pathlib
 import subprocess
 import sys
+from collections.abc import Callable, Sequence
 
 import paths  # noqa: F401
 import record_files as make
@@ -33,13 +37,15 @@ starters = []
 failures = []
 
 
-def check(holds, text):
+def check(holds: object, text: str) -> None:
     if not holds:
         failures.append(text)
         print(f"at-scale: FAILED: {text}")
 
 
-def started(command, folder, stdout, stderr):
+def started(
+    command: Sequence, folder: str | pathlib.Path, stdout: str | pathlib.Path, stderr: str | pathlib.Path
+) -> tuple[int, float, int]:
     """Runs a command, and returns its exit status, its processor time and its peak memory."""
     if not starters:
         starters.append(
@@ -57,7 +63,9 @@ def started(command, folder, stdout, stderr):
 class Run:
     """What a command printed, and what it cost."""
 
-    def __init__(self, program, words, room, out, status=0):
+    def __init__(
+        self, program: pathlib.Path, words: Sequence[str], room: pathlib.Path, out: str, status: int = 0
+    ) -> None:
         self.command = [program, *words]
         self.what = " ".join(words)
         self.path = room / out
@@ -65,7 +73,7 @@ class Run:
         self.seconds, self.memory = self.cost()
         self.size = self.path.stat().st_size
 
-    def cost(self):
+    def cost(self) -> tuple[float, int]:
         """Runs the command, and returns its processor time and its peak memory."""
         said = self.path.with_suffix(".said")
         status, seconds, memory = started(self.command, self.path.parent, self.path, said)
@@ -77,13 +85,13 @@ class Run:
         check(not is_right or text == said, f"{self.what}: says on standard error: {text[:200]}")
         return seconds, memory
 
-    def again(self):
+    def again(self) -> None:
         self.seconds = min(self.seconds, self.cost()[0])
 
-    def printed(self):
+    def printed(self) -> bytes:
         return self.path.read_bytes()
 
-    def counts(self):
+    def counts(self) -> dict[str, int]:
         """Returns how many lines begin with each word."""
         found = {}
         with open(self.path, "rb") as lines:
@@ -96,7 +104,7 @@ class Run:
 class Fabric:
     """Switches in two levels, each lower one cabled to two upper ones, with adapters of one port below."""
 
-    def __init__(self, tops, leaves, ports, adapters):
+    def __init__(self, tops: int, leaves: int, ports: int, adapters: int) -> None:
         self.ports = ports
         self.switches = [0x1000 + i for i in range(tops + leaves)]
         self.adapters = [0x100000 + 16 * i for i in range(adapters)]
@@ -104,7 +112,7 @@ class Fabric:
         # Each cable is a pair of ends; the second is at least as far from the first adapter's switch.
         self.cables = []
 
-        def take(guid):
+        def take(guid: int) -> tuple[int, int]:
             used[guid] += 1
             return guid, used[guid]
 
@@ -118,7 +126,7 @@ class Fabric:
             raise ValueError("a switch has too few ports")
         self.peers = {a: b for a, b in self.cables} | {b: a for a, b in self.cables}
 
-    def facts(self):
+    def facts(self) -> dict[str, int]:
         """Returns the number of lines of each kind in the facts."""
         switches, adapters = len(self.switches), len(self.adapters)
         ends = switches * (self.ports + 1) + adapters
@@ -131,13 +139,13 @@ class Fabric:
             "cap": switches,
         }
 
-    def plan(self):
+    def plan(self) -> dict[str, int]:
         """Returns the number of lines of each kind in the plan."""
         lids = len(self.switches) + len(self.adapters)
         blocks = len(self.switches) * (lids // 64 + 1)
         return {"lid": lids, "switch": len(self.switches), "block": blocks}
 
-    def reports(self, path):
+    def reports(self, path: pathlib.Path) -> int:
         """Writes the replies of a sweep, and returns their number."""
         start = self.adapters[0]
         with open(path, "wb") as file:
@@ -162,7 +170,7 @@ class Fabric:
                 count += 1
         return count
 
-    def topology(self):
+    def topology(self) -> str:
         lines = []
         for guid in self.switches:
             lines.append(f'Switch {self.ports} "{guid:x}" guid 0x{guid:x} cap 49152')
@@ -174,7 +182,7 @@ class Fabric:
         return "\n".join(lines) + "\n"
 
 
-def node_info(context, guid, port, ports=1):
+def node_info(context: tuple[int, int, int], guid: int, port: int, ports: int = 1) -> bytes:
     """Makes NodeInfo: a switch has `ports` ports, an adapter one."""
     if guid < 0x100000:
         return make.node_info(context, make.SWITCH, ports, guid, guid, port)
@@ -185,7 +193,7 @@ class Tree:
     """Switches in a tree, and adapters below some of them, numbered switch by switch. There is one way between any two,
     so every rule plans the same, and the plan and its audit are known."""
 
-    def __init__(self, parents, hosts, ports_of_adapters=1):
+    def __init__(self, parents: Sequence[int], hosts: Sequence[int], ports_of_adapters: int = 1) -> None:
         """Takes the index of the parent of each switch but the first, and the number of wires from each to adapters. An
         adapter of several ports has them at different switches in turn."""
         self.count = len(hosts)
@@ -208,7 +216,7 @@ class Tree:
         self.exits, self.steps = self.ways()
 
     @staticmethod
-    def next(used, switch):
+    def next(used: list[int], switch: int) -> int:
         used[switch] += 1
         if used[switch] > 254:
             raise ValueError("a switch has too few ports")
@@ -240,7 +248,7 @@ class Tree:
         wires += [((self.switches[switch], out), (guid, port)) for guid, port, switch, out in self.ends]
         return sorted(wires + [(b, a) for a, b in wires])
 
-    def cells(self, generation=lambda _: 1):
+    def cells(self, generation: Callable[[int], int] = lambda _: 1) -> list[bytes]:
         """Returns the records of a store file of its facts. `generation` maps a cell's index to its generation."""
         links = self.links()
         keys = [(make.NODE, guid, 0, bytes([make.SWITCH, self.ports])) for guid in self.switches]
@@ -252,7 +260,7 @@ class Tree:
         keys += [(make.CAP, guid, 0, (MOST_LIDS + 1).to_bytes(2, "big")) for guid in self.switches]
         return [make.cell(*key, generation(place)) for place, key in enumerate(keys)]
 
-    def topology(self):
+    def topology(self) -> str:
         lines = [
             f'Switch {self.ports} "S{i}" guid 0x{guid:x} cap {MOST_LIDS + 1}' for i, guid in enumerate(self.switches)
         ]
@@ -264,13 +272,13 @@ class Tree:
         lines.append([f'Hca {self.ports_of_adapters} "H{guid:x}" guid 0x{guid:x}' for guid in self.adapters])
         return "".join(f"{line}\n" for its in lines for line in its)
 
-    def lids(self, lmc=0):
+    def lids(self, lmc: int = 0) -> tuple[range, range]:
         """Returns the LIDs of the switches, and the first LIDs of the adapters' ranges."""
         width = 2**lmc
         first = (self.count // width + 1) * width
         return range(1, self.count + 1), range(first, first + width * len(self.ends), width)
 
-    def plan(self, lmc=0):
+    def plan(self, lmc: int = 0) -> bytes:
         """Returns the text of its plan."""
         switches, ranges = self.lids(lmc)
         width = 2**lmc
@@ -322,12 +330,12 @@ def hundredths(number):
     return f"{number // 100}.{number % 100:02}"
 
 
-def levels(first, second, hosts):
+def levels(first: int, second: int, hosts: int) -> Tree:
     """Returns a tree: a switch above `first` others, each above `second` others, and adapters below these."""
     parents = [0] * first + [1 + i // second for i in range(first * second)]
     return Tree(parents, [0] * (1 + first) + [hosts] * (first * second))
 
 
-def chain(count, hosts):
+def chain(count: int, hosts: int) -> Tree:
     """Returns a row of switches with adapters at each."""
     return Tree(list(range(count - 1)), [hosts] * count)

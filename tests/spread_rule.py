@@ -3,13 +3,18 @@
 A graph is for each usable switch, by its GUID, the edges of its ports: pairs of a port and the switch that the wire
 leads to, by rising port.
 """
+from __future__ import annotations
+
 import collections
 import heapq
+from collections.abc import Iterable, Sequence
 
 NO_WAY = 255
+Edge = tuple[int, int]
+Graph = dict[int, list[Edge]]
 
 
-def distances(graph, starts):
+def distances(graph: Graph, starts: Iterable[int]) -> dict[int, int]:
     """Returns the number of wires from each switch that is reached to the nearest of `starts`."""
     far = dict.fromkeys(starts, 0)
     waiting = collections.deque(far)
@@ -22,7 +27,7 @@ def distances(graph, starts):
     return far
 
 
-def class_of(far, leaves, roots):
+def class_of(far: dict[int, int], leaves: Iterable[int], roots: Iterable[int]) -> int:
     """Returns the distance class of a switch, given the distances from it."""
     to_roots = [far[root] for root in roots if root in far]
     if to_roots:
@@ -31,7 +36,7 @@ def class_of(far, leaves, roots):
     return 4 * sum(to_leaves) // len(to_leaves) if to_leaves else 0
 
 
-def keys_of(graph, leaves, roots):
+def keys_of(graph: Graph, leaves: Sequence[int], roots: Sequence[int]) -> dict[int, tuple]:
     """Returns the key of each switch: class, distance from the first of the component, and GUID."""
     far = {switch: distances(graph, [switch]) for switch in graph}
     classes = {switch: class_of(far[switch], leaves, roots) for switch in graph}
@@ -42,13 +47,13 @@ def keys_of(graph, leaves, roots):
     return keys
 
 
-def keys_as_named(graph, named):
+def keys_as_named(graph: Graph, named: Sequence[int]) -> dict[int, tuple]:
     """Returns the key of each switch: its index in `named`, with others behind, and GUID."""
     numbers = {switch: number for number, switch in enumerate(named)}
     return {switch: (numbers.get(switch, len(named)), switch) for switch in graph}
 
 
-def places_of(graph, keys):
+def places_of(graph: Graph, keys: dict[int, tuple]) -> dict[int, int]:
     """Returns the place of each switch in the order that grows by `keys`."""
     places, left, beside = {}, sorted(graph, key=keys.get, reverse=True), []
     while left:
@@ -62,7 +67,7 @@ def places_of(graph, keys):
     return places
 
 
-def rounds(graph, places, target):
+def rounds(graph: Graph, places: dict[int, int], target: int) -> tuple[dict[int, int], set[int]]:
     """Returns the round in which each switch with a way to the target is labelled, and the switches labelled Down."""
     cost, down, last = {target: 0}, {target}, [target]
     while last:
@@ -84,7 +89,7 @@ def rounds(graph, places, target):
     return cost, down
 
 
-def candidates(graph, places, cost, down, switch):
+def candidates(graph: Graph, places: dict[int, int], cost: dict[int, int], down: set[int], switch: int) -> list[Edge]:
     """Returns the edges that gave a switch its label, by rising port."""
     return [
         (port, to) for port, to in graph[switch]
@@ -94,7 +99,7 @@ def candidates(graph, places, cost, down, switch):
     ]
 
 
-def weights_of(graph, levels):
+def weights_of(graph: Graph, levels: dict[int, int]) -> list[int]:
     """Returns the digit weight of each level."""
     widths = collections.defaultdict(lambda: 1)
     for switch, exits in graph.items():
@@ -106,7 +111,13 @@ def weights_of(graph, levels):
     return weights
 
 
-def tables(graph, leaves, homes, roots=(), named=None):
+def tables(
+    graph: Graph,
+    leaves: Sequence[int],
+    homes: dict[int, tuple[int, int]],
+    roots: Sequence[int] = (),
+    named: Sequence[int] | None = None,
+) -> dict[int, dict[int, int]]:
     """Returns the port by which packets for each LID leave each switch. `homes` has for each LID its owner's switch and
     the port there. The order grows from `roots`, or as switches are `named`."""
     places = places_of(graph, keys_of(graph, leaves, roots) if named is None else keys_as_named(graph, named))

@@ -5,9 +5,12 @@ Each switch has a head with its range of LIDs and its GUID, a line for each LID 
 GUID of the LID's owner, and a line that counts them. OpenSM reads its own file so for its routing engine `file`. In
 .fdbs a head has no range, the last LID that has a line is the top, and nothing is counted or named.
 """
-import re
+from __future__ import annotations
 
-from ibsm_texts import ENTRIES, GREATEST_LID, NO_WAY, NONE, Refused, each_line, name_of
+import re
+from collections.abc import Iterable, Iterator
+
+from ibsm_texts import ENTRIES, GREATEST_LID, NO_WAY, NONE, End, Facts, Refused, each_line, name_of
 
 # OpenSM reads lines into 1,024 bytes.
 LONGEST_LINE = 1022
@@ -30,26 +33,26 @@ class LineRefused(Refused):
     """A line does not belong to a dump."""
 
 
-def is_head(line):
+def is_head(line: str) -> bool:
     return line.startswith(HEAD) or FDBS_HEAD.fullmatch(line) is not None
 
 
-def is_dump(lines):
+def is_dump(lines: Iterable[str]) -> bool:
     return any(is_head(line.lstrip()) for line in lines)
 
 
 class Entries:
     """The ports of a switch by LID: a byte each, NO_WAY if unknown. `others` has what a byte alone cannot tell."""
 
-    def __init__(self):
+    def __init__(self) -> None:
         self.row, self.others = bytearray(), {}
 
-    def get(self, lid):
+    def get(self, lid: int) -> int | None:
         """Returns the port, or None if it is unknown."""
         port = self.row[lid] if lid < len(self.row) else NO_WAY
         return self.others.get(lid) if port == NO_WAY else port
 
-    def put(self, lid, port):
+    def put(self, lid: int, port: int) -> None:
         if port >= NO_WAY or lid >= LIDS:
             self.others[lid] = port
             return
@@ -57,7 +60,7 @@ class Entries:
             self.row += NONE * (lid // ROOM * ROOM + ROOM - len(self.row))
         self.row[lid] = port
 
-    def lacks(self, lids, top):
+    def lacks(self, lids: Iterable[int], top: int) -> list[int]:
         """Returns those of `lids`, up to a top, whose port is unknown."""
         row = self.row
         return [
@@ -66,18 +69,18 @@ class Entries:
             if (lid >= len(row) or row[lid] == NO_WAY) and lid <= top and lid not in self.others
         ]
 
-    def led(self):
+    def led(self) -> Iterator[int]:
         """Yields the LIDs for which packets leave by a port."""
         yield from (lid for lid, port in enumerate(self.row) if port != NO_WAY)
         yield from (lid for lid, port in self.others.items() if port != NO_WAY)
 
-    def greatest(self):
+    def greatest(self) -> int:
         """Returns the greatest LID with a known port, or 0."""
         return max(len(self.row.rstrip(NONE)) - 1, 0, *self.others)
 
 
 class Dump:
-    def __init__(self):
+    def __init__(self) -> None:
         self.tables = {}  # GUID: entries
         self.tops = {}  # GUID: the last LID of its range
         self.named = {}  # LID: port GUID
@@ -89,10 +92,10 @@ class Dump:
         self.ports = {f" {port:03d}": port for port in range(NO_WAY)}
         self.begin("")
 
-    def begin(self, path):
+    def begin(self, path: str) -> None:
         self.path, self.at, self.is_fdbs, self.is_dump, self.fault = path, None, False, False, None
 
-    def read(self, path):
+    def read(self, path: str) -> bool:
         """Takes in a file, and returns whether it is a dump. Adds lines of a known switch to it, and skips lines of no
         dump, as OpenSM does."""
         self.begin(path)
@@ -101,7 +104,7 @@ class Dump:
             raise self.fault
         return self.is_dump
 
-    def take_loosely(self, number, line):
+    def take_loosely(self, number: int, line: str) -> None:
         """Takes in a line of a file that may be no dump, and keeps the first fault."""
         if self.is_like_one(line):
             return
@@ -113,7 +116,7 @@ class Dump:
             except LineRefused as fault:
                 self.fault, self.at = fault, None
 
-    def is_like_one(self, line):
+    def is_like_one(self, line: str) -> bool:
         """Takes in a line that differs from one read before only in the port, and returns whether it did."""
         lid = self.lids.get(line[:6])
         port = self.ports.get(line[6:10])
@@ -125,7 +128,7 @@ class Dump:
             table.row[lid] = port
         return is_taken
 
-    def read_strictly(self, path, lines):
+    def read_strictly(self, path: str, lines: Iterable[str]) -> None:
         """Takes in the lines of a file, each of which has to belong to a dump."""
         self.begin(path)
         for number, line in enumerate(lines, 1):
@@ -133,7 +136,7 @@ class Dump:
             if not self.take(number, line) and not BETWEEN.fullmatch(line):
                 raise LineRefused(f"line {number} is no line of a dump of tables: {line[:60]}")
 
-    def take(self, number, line):
+    def take(self, number: int, line: str) -> bool:
         """Takes in a line, and returns whether it belongs to a dump."""
         if len(line) > LONGEST_LINE:
             raise LineRefused(f"line {number} is longer than OpenSM reads")
@@ -147,7 +150,7 @@ class Dump:
             return False
         return True
 
-    def head(self, number, line):
+    def head(self, number: int, line: str) -> None:
         fdbs = FDBS_HEAD.fullmatch(line)
         guid = fdbs or GUID.search(line)
         if not guid:
@@ -161,11 +164,11 @@ class Dump:
         elif last := RANGE.match(line):
             self.tops[self.at] = max(self.tops.get(self.at, 0), int(last[1], 16 if last[1].startswith("0x") else 10))
 
-    def elsewhere(self, *key):
+    def elsewhere(self, *key: str | int) -> str:
         """Returns the words for where else it is told."""
         return "further up" if self.sources[key] == self.path else f"in {self.sources[key]}"
 
-    def put(self, number, lid, port):
+    def put(self, number: int, lid: int, port: int) -> None:
         table = self.tables[self.at]
         before = table.get(lid)
         if before is None:
@@ -177,7 +180,7 @@ class Dump:
                 "times?"
             )
 
-    def entry(self, number, line):
+    def entry(self, number: int, line: str) -> None:
         entry = ENTRY.match(line)
         if not entry:
             raise LineRefused(f"line {number} has no LID and port")
@@ -191,7 +194,7 @@ class Dump:
         if entry.span(1) == (2, 6) and entry.end(2) == 10 and self.lids.get(line[:6]) == lid:
             self.tails[lid] = line[10:]
 
-    def fdbs_entry(self, number, line):
+    def fdbs_entry(self, number: int, line: str) -> None:
         entry = FDBS_LINE.fullmatch(line)
         if not entry:
             raise LineRefused(f"line {number} has no LID and port")
@@ -200,7 +203,7 @@ class Dump:
         if entry[2]:
             self.put(number, lid, int(entry[2]))
 
-    def judge(self):
+    def judge(self) -> None:
         """Refuses what no switch can hold."""
         for guid, table in self.tables.items():
             if guid not in self.tops or table.greatest() > self.tops[guid] or self.tops[guid] > GREATEST_LID:
@@ -209,7 +212,9 @@ class Dump:
                 raise Refused(f"switch {guid:016x} has an entry over {NO_WAY}")
 
 
-def lids_of(facts, dump, lmcs=None):
+def lids_of(
+    facts: Facts, dump: Dump, lmcs: dict[End, int] | None = None
+) -> tuple[dict[End, tuple[int, int]], list[str]]:
     """Returns the first and the last LID of each end port, by facts, dumps and known LMCs, and where these disagree."""
     by_guid, ranges, found = {}, {}, []
     for lid, guid in sorted(dump.named.items()):
@@ -236,7 +241,7 @@ def lids_of(facts, dump, lmcs=None):
     return ranges, found
 
 
-def lacks(facts, dump, ranges):
+def lacks(facts: Facts, dump: Dump, ranges: dict[End, tuple[int, int]]) -> Iterator[tuple[str, str]]:
     """Yields what dumps lack: the kind, and a line that tells it."""
     owned = sorted(lid for first, last in ranges.values() for lid in range(first, last + 1))
     for guid in sorted(set(facts.nodes) | set(dump.tables)):

@@ -2,12 +2,16 @@
 
 An end is a pair of a node's GUID and a port. A text that is not whole or not in its form raises `Refused`.
 """
+from __future__ import annotations
+
 import contextlib
 import io
 import os
 import pathlib
 import re
 import sys
+from collections.abc import Callable, Iterable, Iterator
+from typing import BinaryIO, TextIO
 
 import progress
 import version
@@ -42,7 +46,7 @@ class Refused(Exception):
     """The input of a tool is not what it takes, or its task must not be done."""
 
 
-def ends(tool, doc, work):
+def ends(tool: str, doc: str, work: Callable[[list[str]], int]) -> int:
     """Runs a tool, and returns its exit status. `work` takes the words behind its name. A failure is said in one
     line."""
     # Words behind -- are for another program.
@@ -72,14 +76,14 @@ def ends(tool, doc, work):
     return status
 
 
-def told(fault):
+def told(fault: OSError) -> str:
     """Returns the text of an OSError, with the file's name once. Without a name it is standard output's."""
     if fault.strerror is None:
         return str(fault)
     return f"{fault.filename or 'standard output'}: {fault.strerror}"
 
 
-def as_called(doc):
+def as_called(doc: str) -> str:
     """Returns a tool's help, with the name by which it was installed and called."""
     called = pathlib.Path(sys.argv[0])
     return (
@@ -87,16 +91,16 @@ def as_called(doc):
     )
 
 
-def usage_of(doc):
+def usage_of(doc: str) -> str:
     """Returns a tool's usage, for its parser."""
     return as_called(doc).split("usage: ")[1].split("\n\n")[0]
 
 
-def name_of(end):
+def name_of(end: End) -> str:
     return f"{end[0]:016x}/{end[1]}"
 
 
-def end_in(word):
+def end_in(word: str) -> End | None:
     """Returns the end that a text `G/p` names, with or without 0x before its hex digits, or None."""
     form = re.fullmatch(r"(?:0x)?([0-9a-fA-F]{1,16})/([0-9]{1,3})", word)
     return (int(form[1], 16), int(form[2])) if form else None
@@ -105,7 +109,7 @@ def end_in(word):
 _input = []
 
 
-def opened(path, **how):
+def opened(path: str | os.PathLike, **how) -> TextIO:
     """Opens a text; `-` is standard input, which is read once, however often it is opened."""
     if path != "-":
         return open(path, **how)
@@ -114,7 +118,7 @@ def opened(path, **how):
     return io.TextIOWrapper(io.BytesIO(_input[0]), **how)
 
 
-def opened_bytes(path, most=-1):
+def opened_bytes(path: str | os.PathLike, most: int = -1) -> bytes:
     """Returns the bytes of a file or of standard input, at most `most` of them."""
     if path == "-":
         return sys.stdin.buffer.read(most)
@@ -122,7 +126,9 @@ def opened_bytes(path, most=-1):
         return file.read(most)
 
 
-def each_line(path, take, errors="strict", encoding="ascii"):
+def each_line(
+    path: str | os.PathLike, take: Callable[[int, str], object], errors: str = "strict", encoding: str = "ascii"
+) -> None:
     """Passes each line of a text with its number to `take`, so that the text is never held as a whole.
 
     The first refusal of `take` is raised at the end, once the whole text is known to be well-formed, with an end to its
@@ -147,14 +153,14 @@ def each_line(path, take, errors="strict", encoding="ascii"):
         raise refused
 
 
-def lines_of(path, errors="strict", encoding="ascii"):
+def lines_of(path: str | os.PathLike, errors: str = "strict", encoding: str = "ascii") -> list[str]:
     """Returns the lines of a text. The last one must have an end."""
     lines = []
     each_line(path, lambda _, line: lines.append(line), errors, encoding)
     return lines
 
 
-def names_in(path):
+def names_in(path: str | os.PathLike) -> Names:
     """Returns the names of a node name map, by GUID."""
     found = {}
     with opened(path, encoding="utf-8", errors="replace") as file:
@@ -167,10 +173,10 @@ def names_in(path):
 NAMED = re.compile(r"\b(?:0x)?([0-9a-f]{16})(?:/[0-9]{1,3})?(?![0-9A-Za-z_])")
 
 
-def with_names(line, names):
+def with_names(line: str, names: Names) -> str:
     """Returns a line with names behind its GUIDs and ends."""
 
-    def told(found):
+    def told(found: re.Match) -> str:
         name = names.get(int(found[1], 16))
         return found[0] if name is None else f'{found[0]} "{name}"'
 
@@ -178,7 +184,7 @@ def with_names(line, names):
 
 
 @contextlib.contextmanager
-def whole(path):
+def whole(path: str | os.PathLike) -> Iterator[BinaryIO]:
     """Opens a file for writing bytes under another name until all is there, so that the file is whole or unchanged."""
     if os.path.exists(path) and not os.path.isfile(path):
         raise OSError(f"{path}: it is no regular file")
@@ -197,13 +203,13 @@ def whole(path):
         raise
 
 
-def put(path, text):
+def put(path: str | os.PathLike, text: str) -> None:
     """Writes a file whole, or leaves it unchanged."""
     with whole(path) as file:
         file.write(text.encode())
 
 
-def plan_lines(ranges, tops, tables):
+def plan_lines(ranges: dict[End, tuple[int, int]], tops: dict[int, int], tables: dict[int, bytes]) -> Iterator[str]:
     """Yields the lines of a plan from the first and last LID of each end, and the top and the entries from LID 0 of
     each switch's GUID."""
     for end, (first, last) in sorted(ranges.items(), key=lambda item: (item[1], item[0])):
@@ -218,7 +224,7 @@ def plan_lines(ranges, tops, tables):
 class Facts:
     """The text of `ibsm facts`, from a file or from lines. A file's lines are kept on demand."""
 
-    def __init__(self, path, keeps_lines=False, lines=None):
+    def __init__(self, path: str | os.PathLike, keeps_lines: bool = False, lines: Iterable[str] | None = None) -> None:
         self.nodes = {}  # GUID: type, ports
         self.port_guids = {}
         self.links = {}  # end: far end
@@ -235,7 +241,7 @@ class Facts:
             for number, line in enumerate(lines, 1):
                 self.take_line(number, line)
 
-    def take_line(self, number, line):
+    def take_line(self, number: int, line: str) -> None:
         if self.lines is not None:
             self.lines.append(line)
         floor = FLOOR.fullmatch(line) if number == 1 else None
@@ -244,7 +250,7 @@ class Facts:
         elif not self.take(line):
             raise Refused(f"{self.path}: line {number} is no fact: {line[:60]}")
 
-    def take(self, line):
+    def take(self, line: str) -> bool:
         kind = line.split(" ", 1)[0]
         form = kind in FORMS and FORMS[kind].fullmatch(line)
         if not form:
@@ -269,20 +275,20 @@ class Facts:
             self.caps[guid] = int(words[0])
         return True
 
-    def type_of(self, guid):
+    def type_of(self, guid: int) -> str:
         return self.nodes.get(guid, ("", 0))[0]
 
-    def is_switch(self, guid):
+    def is_switch(self, guid: int) -> bool:
         return self.type_of(guid) == "switch"
 
-    def wire(self, end):
+    def wire(self, end: End) -> End | None:
         """Returns the far end of the cable in a port if both ends tell of it and are up, or else None."""
         far = self.links.get(end)
         if far is None or far == end or self.links.get(far) != end or not (self.up.get(end) and self.up.get(far)):
             return None
         return far
 
-    def cables(self):
+    def cables(self) -> list[tuple[End, End, str]]:
         """Returns each cable once: its ends, and whether it is `up`, `down`, or told by `one` end."""
         found = {}
         for end, far in sorted(self.links.items()):
@@ -294,7 +300,7 @@ class Facts:
 class Plan:
     """The text of `ibsm plan`, or what a fabric holds in that form: LIDs, and each switch's top and entries."""
 
-    def __init__(self, path):
+    def __init__(self, path: str | os.PathLike) -> None:
         self.owners = {}  # LID: end, with each LID of a range
         self.ranges = {}  # end: its first LID, and the last
         self.shared = []  # LIDs that a second end has, with that end
@@ -310,7 +316,7 @@ class Plan:
                 blocks = len(table) // ENTRIES
                 raise Refused(f"{path}: switch {guid:016x} has {blocks} blocks for top {self.tops[guid]}: is it cut?")
 
-    def take_line(self, number, line):
+    def take_line(self, number: int, line: str) -> None:
         if line.startswith("block "):
             is_taken = self.take_block(line)
         else:
@@ -318,7 +324,7 @@ class Plan:
         if not is_taken:
             raise Refused(f"{self.path}: line {number} is no line of a plan: {line[:60]}")
 
-    def take_lids(self, line):
+    def take_lids(self, line: str) -> bool:
         form = LID_LINE.fullmatch(line)
         if not form:
             return False
@@ -330,7 +336,7 @@ class Plan:
                 self.shared.append((lid, end))
         return True
 
-    def take_switch(self, line):
+    def take_switch(self, line: str) -> bool:
         form = SWITCH_LINE.fullmatch(line)
         guid = int(form[1], 16) if form else None
         if guid is None or guid in self.tops:
@@ -339,7 +345,7 @@ class Plan:
         self.last, self.tops[guid] = guid, int(form[2])
         return True
 
-    def take_block(self, line):
+    def take_block(self, line: str) -> bool:
         """Takes in the next block of the current switch, and returns whether it is well-formed."""
         number, _, digits = line[6:].partition(" ")
         try:
@@ -354,16 +360,16 @@ class Plan:
         self.blocks.append(entries)
         return True
 
-    def close(self):
+    def close(self) -> None:
         """Keeps the table of the current switch."""
         if self.last is not None:
             self.tables[self.last], self.blocks = b"".join(self.blocks), []
 
-    def entry(self, guid, lid):
+    def entry(self, guid: int, lid: int) -> int:
         """Returns the port by which a switch sends packets for a LID; NO_WAY above its top, and for an unknown
         switch."""
         return self.tables[guid][lid] if lid <= self.tops.get(guid, -1) else NO_WAY
 
-    def row(self, guid):
+    def row(self, guid: int) -> bytes:
         """Returns the entries of a switch from LID 0 up to its top."""
         return self.tables[guid][: self.tops[guid] + 1]

@@ -2,7 +2,10 @@
 
 A reader takes the lines of a text one by one, and says of each whether it is one of its form.
 """
+from __future__ import annotations
+
 import re
+from collections.abc import Iterable
 
 from ibsm_texts import END, FLOOR, FORMS, GUID, NUMBER
 
@@ -14,13 +17,13 @@ MISSED = ("above-top", "no-entry", "no-port", "no-link", "foreign", "misdelivere
 NAMED = re.compile(r'(?<![0-9A-Za-z_"])(([0-9a-f]{16})(?:/[0-9]{1,3})?) "([^"]*)"')
 
 
-def typed(words):
+def typed(words: str) -> dict[str, str | int]:
     """Returns a node's type and number of ports from the words of a line."""
     kind, ports = words.split(" ")
     return {"type": kind, "ports": int(ports)}
 
 
-def fault_of_lines(reader, lines):
+def fault_of_lines(reader: Rules, lines: Iterable[str]) -> int:
     """Reads a text, and returns the number of the first line that is not of its form, or 0."""
     return next((number for number, line in enumerate(lines, 1) if not reader.take(line)), 0)
 
@@ -30,13 +33,13 @@ class Rules:
 
     rules = ()
 
-    def take(self, line):
+    def take(self, line: str) -> bool:
         for pattern, method in self.rules:
             if form := re.fullmatch(pattern, line):
                 return getattr(self, method)(*form.groups()) is not False
         return False
 
-    def lacks(self):
+    def lacks(self) -> bool:
         """Returns whether the text ends too early."""
         return False
 
@@ -44,11 +47,11 @@ class Rules:
 class FactsRead(Rules):
     lists = {kind: f"{kind}s" for kind in FORMS}
 
-    def __init__(self):
+    def __init__(self) -> None:
         self.floor, self.is_first = 1, True
         self.found = {name: [] for name in self.lists.values()}
 
-    def take(self, line):
+    def take(self, line: str) -> bool:
         floor, self.is_first = FLOOR.fullmatch(line) if self.is_first else None, False
         if floor:
             self.floor = int(floor[1])
@@ -63,13 +66,13 @@ class FactsRead(Rules):
         self.found[self.lists[kind]].append(told | {"generation": int(form.groups()[-1])})
         return True
 
-    def value(self, kind, value):
+    def value(self, kind: str, value: str) -> dict[str, str | int]:
         if kind == "node":
             return typed(value)
         name = {"portguid": "portguid", "link": "far", "port": "state", "claim": "lid", "cap": "size"}[kind]
         return {name: int(value) if kind in ("claim", "cap") else value}
 
-    def value_of_text(self):
+    def value_of_text(self) -> dict:
         return {"floor": self.floor} | self.found
 
 
@@ -80,7 +83,7 @@ class TablesRead(Rules):
         (rf"block {NUMBER} ([0-9a-f]{{128}})", "block"),
     )
 
-    def __init__(self):
+    def __init__(self) -> None:
         self.lids, self.switches = [], []
 
     def lid(self, lid, end, lmc):
@@ -94,7 +97,7 @@ class TablesRead(Rules):
             return False
         self.switches[-1]["blocks"].append({"block": int(number), "entries": list(bytes.fromhex(digits))})
 
-    def value_of_text(self):
+    def value_of_text(self) -> dict:
         return {"lids": self.lids, "switches": self.switches}
 
 
@@ -116,7 +119,7 @@ class AuditRead(Rules):
         (rf"credit loop (?:none|on one lane ({PLACE}(?: {PLACE})*))", "loop"),
     )
 
-    def __init__(self):
+    def __init__(self) -> None:
         self.told, self.counts, self.spreads, self.cycle = {}, {"disputed": 0}, {}, None
         self.found, self.others = {kind: [] for kind in KINDS}, {}
 
@@ -148,11 +151,11 @@ class AuditRead(Rules):
     def loop(self, ends, *_):
         self.cycle = ends.split(" ") if ends else []
 
-    def lacks(self):
+    def lacks(self) -> bool:
         parts = {"", "between_adapters", "with_a_switch", "missed"}
         return self.cycle is None or set(self.told) != parts or set(self.spreads) != {"hops", "load"}
 
-    def passes(self):
+    def passes(self) -> bool:
         """Returns whether `ibsm audit` ends with 0. Without end ports there are neither pairs nor ports without a
         LID."""
         all_pairs, found = self.told[""], self.found
@@ -160,7 +163,7 @@ class AuditRead(Rules):
         have_tables = not found["tableless"] or not all_pairs["pairs"]
         return arrive and have_tables and not found["unusable"] and not found["lidless"]
 
-    def value_of_text(self):
+    def value_of_text(self) -> dict:
         told = {"passes": self.passes()} | self.told[""]
         told |= {name: self.told[name] for name in ("between_adapters", "with_a_switch", "missed")}
         return told | self.found | {"more": self.others} | self.counts | self.spreads | {"credit_loop": self.cycle}
@@ -169,7 +172,7 @@ class AuditRead(Rules):
 class NextRead(Rules):
     rules = (AuditRead.rules[-1], (r"lids (\d+(?: \d+)*)", "waiting"))
 
-    def __init__(self):
+    def __init__(self) -> None:
         self.cycle, self.lids = None, []
 
     def loop(self, ends, *_):
@@ -178,10 +181,10 @@ class NextRead(Rules):
     def waiting(self, lids):
         self.lids = [int(lid) for lid in lids.split(" ")]
 
-    def lacks(self):
+    def lacks(self) -> bool:
         return self.cycle is None or len(self.cycle) != len(self.lids)
 
-    def value_of_text(self):
+    def value_of_text(self) -> dict:
         return {"credit_loop": self.cycle, "lids": self.lids}
 
 
@@ -206,10 +209,10 @@ class CompareRead(Rules):
         (r"((?:(?:gone|come|other|slow|fast) (?:node|cable)|[a-z]+) \d+(?:, [a-z]+ ?[a-z]* \d+)*)", "ends"),
     )
 
-    def __init__(self):
+    def __init__(self) -> None:
         self.changes, self.counts, self.end = [], {}, None
 
-    def take(self, line):
+    def take(self, line: str) -> bool:
         return self.end is None and super().take(line)
 
     def change(self, word, what, **told):
@@ -257,10 +260,10 @@ class CompareRead(Rules):
         self.end = line
         return (line == "equal") == (not self.changes)
 
-    def lacks(self):
+    def lacks(self) -> bool:
         return self.end is None
 
-    def value_of_text(self):
+    def value_of_text(self) -> dict:
         return {"equal": self.end == "equal", "changes": self.changes} | self.counts
 
 
@@ -277,7 +280,7 @@ class WhatIfRead(Rules):
         ),
     )
 
-    def __init__(self):
+    def __init__(self) -> None:
         self.rows, self.last, self.kind = [], None, "cables"
 
     def head(self, kind):
@@ -299,10 +302,10 @@ class WhatIfRead(Rules):
     def end(self, *words):
         self.last = [int(word) for word in words]
 
-    def lacks(self):
+    def lacks(self) -> bool:
         return self.last is None
 
-    def value_of_text(self):
+    def value_of_text(self) -> dict:
         count, harmless, entries, switches = self.last
         uncut = {"entries": entries, "switches": switches}
         return {self.kind: self.rows, "count": count, "harmless": harmless, "uncut": uncut}
@@ -323,16 +326,16 @@ READERS = {
 }
 
 
-def form_of(line):
+def form_of(line: str) -> str | None:
     """Returns the name of a text's form by its first line, or None."""
     return next((name for name, (_, begins) in READERS.items() if re.match(begins, line)), None)
 
 
-def without_names(lines):
+def without_names(lines: Iterable[str]) -> tuple[list[str], dict[str, str]]:
     """Returns the lines without the names behind GUIDs and ends, and these names by GUID."""
     names = {}
 
-    def taken(found):
+    def taken(found: re.Match) -> str:
         names[found[2]] = found[3]
         return found[1]
 

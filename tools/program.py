@@ -1,8 +1,11 @@
 """The built program `ibsm`, for tools that call it."""
+from __future__ import annotations
+
 import os
 import pathlib
 import shutil
 import subprocess
+from collections.abc import Container
 
 from ibsm_texts import Refused
 
@@ -12,7 +15,7 @@ BUILT = HERE.parent / "crates/ibsm/out"
 BESIDE = BUILT / "ibsm", BUILT / "unproved/ibsm", HERE / "ibsm"
 
 
-def the_program(named=None):
+def the_program(named: str | None = None) -> str:
     """Returns the program that is named, or was built or installed beside these tools, or is on the path."""
     beside = [os.fspath(path) for path in BESIDE if os.access(path, os.X_OK)]
     found = shutil.which(named) if named else beside[0] if beside else shutil.which("ibsm")
@@ -21,7 +24,7 @@ def the_program(named=None):
     return found
 
 
-def printed_by(program, *words, statuses=(0,)):
+def printed_by(program: str, *words: object, statuses: Container[int] = (0,)) -> str:
     """Returns what a run of the program prints. Refuses a run with another exit status, with what it said."""
     run = subprocess.run([program, *map(str, words)], capture_output=True, text=True, stdin=subprocess.DEVNULL)
     if run.returncode not in statuses:
@@ -32,7 +35,7 @@ def printed_by(program, *words, statuses=(0,)):
     return run.stdout
 
 
-def made_in_c(name, named=None):
+def made_in_c(name: str, named: str | None = None) -> str:
     """Returns the program `record` or `send`: the one that is named, or was made or installed beside these tools, or is
     on the path."""
     beside = [HERE / "record/out" / name, HERE.parent.parent / f"bin/ibsm-{name}"]

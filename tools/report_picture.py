@@ -10,11 +10,10 @@ import groups
 from ibsm_texts import NO_WAY, End, Facts, Names, Plan
 from layout import rows_of, wires_of
 from round_parts import Audit
-from routes import Routes
+from routes import Channel, Routes
 from rows import distances, ordered, places
 from ways import hundredths
 
-Channel = tuple[int, int]
 # Above this many switches only the surroundings of the busiest channel are shown; above this many entries the page gets
 # no tables.
 MOST_SWITCHES, MOST_ENTRIES = 300, 1_200_000

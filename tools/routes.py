@@ -3,20 +3,24 @@
 Switches are numbered by their GUIDs' order. The entries of all switches for one LID are a *column*, one byte each. LIDs
 whose owners sit at one switch mostly have the same column but for that switch, so each column is walked once.
 """
+from __future__ import annotations
+
 import collections
 import functools
 import itertools
 import operator
+from collections.abc import Iterable, Iterator
 
 import progress
-from ibsm_texts import ENTRIES, NO_WAY, NONE, name_of
+from ibsm_texts import ENTRIES, NO_WAY, NONE, Facts, Plan, name_of
 
 # The most faults that are said.
 MOST_SAID = 20
+Channel = tuple[int, int]
 
 
 class Routes:
-    def __init__(self, facts, plan):
+    def __init__(self, facts: Facts, plan: Plan) -> None:
         self.plan, self.owners, self.guids = plan, plan.owners, sorted(plan.tables)
         self.place = {guid: i for i, guid in enumerate(self.guids)}
         self.far = [{} for _ in self.guids]  # port: far end
@@ -30,7 +34,7 @@ class Routes:
                 if end[0] not in self.place:
                     self.home[end] = i, port
 
-    def columns(self, lids):
+    def columns(self, lids: Iterable[int]) -> Iterator[tuple[int, bytes]]:
         """Yields each of some rising LIDs with its column. Puts together no more than a block of each switch at a
         time."""
         for number, those in itertools.groupby(lids, lambda lid: lid // ENTRIES):
@@ -42,7 +46,7 @@ class Routes:
             for lid in those:
                 yield lid, stripe[lid - start :: ENTRIES]
 
-    def owned(self):
+    def owned(self) -> Iterator[tuple[int, int | None, bytes]]:
         """Yields each owned LID, rising, with its owner's switch and the column.
 
         At the owner's switch the column has 0 if packets leave it for the owner; if they do not, the switch is None.
@@ -57,14 +61,14 @@ class Routes:
             yield lid, at, bytes(column)
 
     @functools.cached_property
-    def groups(self):
+    def groups(self) -> dict[tuple[int | None, bytes], list[int]]:
         """Returns the LIDs of each pair of the owners' switch and column."""
         found = collections.defaultdict(list)
         for lid, at, column in self.owned():
             found[at, column].append(lid)
         return found
 
-    def step(self, at, home, column):
+    def step(self, at: int, home: int | None, column: bytes) -> tuple[int | None, bool, str | None]:
         """Returns where a packet goes on from a switch: the next switch, or how it ends and what is wrong with that."""
         port = column[at]
         if at == home:
@@ -81,7 +85,7 @@ class Routes:
             return None, False, f"port {port} of switch {self.guids[at]:016x} leads to {far}, which does not own it"
         return self.place[end[0]], None, None
 
-    def arrivals(self, home, column):
+    def arrivals(self, home: int | None, column: bytes) -> tuple[dict[int, bool | None], list[str]]:
         """Returns whether packets arrive from each switch by one column, and what is wrong."""
         arrives, wrong = {}, []
         for start in range(len(self.guids)):
@@ -104,7 +108,7 @@ class Routes:
                 arrives[at] = ended
         return arrives, wrong
 
-    def faults(self):
+    def faults(self) -> tuple[list[str], int]:
         """Returns what is wrong with the ways of LIDs, and how many pairs of a switch and a LID have no way.
 
         Looks at single switches only if something is wrong with a column. A LID with the column of the LID before it at
@@ -127,7 +131,7 @@ class Routes:
             found += [f"a packet for LID {lids[0]}{alike}: {fault}" for fault in wrong[:MOST_SAID]]
         return found, without
 
-    def nexts(self):
+    def nexts(self) -> list[list[int]]:
         """Returns for each switch and entry the next switch. Numbers above the switches stand for an arrival, no way,
         and a fault."""
         count = len(self.guids)
@@ -141,7 +145,7 @@ class Routes:
             found.append(row)
         return found
 
-    def lost(self, nexts, home, column):
+    def lost(self, nexts: list[list[int]], home: int | None, column: bytes) -> int | None:
         """Returns from how many switches packets have no way by a column, or None if one goes round or ends with a
         fault.
 
@@ -158,12 +162,12 @@ class Routes:
         without = count + 1 - at.count(count)
         return without if not without or at.count(count + 1) - 1 == without else None
 
-    def ends(self):
+    def ends(self) -> dict[Channel, int]:
         """Returns the channels, each a switch and its port with a cable to another switch, with that switch."""
         return {(i, port): self.place[end[0]] for i, ports in enumerate(self.far) for port, end in ports.items()
                 if end[0] in self.place}
 
-    def carried(self):
+    def carried(self) -> dict[Channel, int]:
         """Returns for each channel the number of routes that it carries: one for each adapter port and each LID of
         another one."""
         ends = self.ends()
@@ -175,7 +179,15 @@ class Routes:
                 self.carry(home, column, ends, sources, count, carried)
         return carried
 
-    def carry(self, home, column, ends, sources, count, carried):
+    def carry(
+        self,
+        home: int,
+        column: bytes,
+        ends: dict[Channel, int],
+        sources: collections.Counter,
+        count: int,
+        carried: dict[Channel, int],
+    ) -> None:
         """Adds the routes of one column to `carried`, beginning with the switches that no other one sends to."""
         ahead = [ends.get((at, port)) if at != home else None for at, port in enumerate(column)]
         waits = collections.Counter(ahead)

@@ -1,11 +1,14 @@
 """Switches and adapters in rows, from the top switches down, each row in an order in which few cables cross."""
+from __future__ import annotations
+
 import collections
+from collections.abc import Collection, Iterable, Iterator, Sequence
 
 # How often neighbours determine the order of rows, from above and from below.
 SWEEPS = 6
 
 
-def distances(beside, starts):
+def distances(beside: dict[int, list[int]], starts: Iterable[int]) -> dict[int, int]:
     """Returns how many cables each reachable node is away from the nearest of `starts`."""
     found = dict.fromkeys(starts, 0)
     waiting = collections.deque(found)
@@ -18,7 +21,7 @@ def distances(beside, starts):
     return found
 
 
-def components(beside, nodes):
+def components(beside: dict[int, list[int]], nodes: Collection[int]) -> list[list[int]]:
     """Returns the parts of some nodes that cables join, each sorted, in order of their least nodes."""
     left, found = set(nodes), []
     for node in sorted(nodes):
@@ -33,7 +36,7 @@ def components(beside, nodes):
     return found
 
 
-def tops(beside, leaves, roots=()):
+def tops(beside: dict[int, list[int]], leaves: Iterable[int], roots: Collection[int] = ()) -> Iterator[list[int]]:
     """Yields the top switches of each component: the named roots, or those furthest from switches with adapters, or the
     switch with the shortest way to the furthest."""
     levels = distances(beside, sorted(leaves))
@@ -48,19 +51,21 @@ def tops(beside, leaves, roots=()):
             yield [min(part, key=lambda switch: (max(distances(beside, [switch]).values()), switch))]
 
 
-def ranks(beside, leaves, roots=()):
+def ranks(beside: dict[int, list[int]], leaves: Iterable[int], roots: Collection[int] = ()) -> dict[int, int]:
     """Returns the row of each switch: how many cables it is below the top of its component."""
     return distances(beside, [switch for part in tops(beside, leaves, roots) for switch in part])
 
 
-def nested(beside, rank, nodes, row, order):
+def nested(
+    beside: dict[int, list[int]], rank: dict[int, int], nodes: Collection[int], row: int, order: list[int]
+) -> None:
     """Orders nodes so that what is joined below a row stands together in all rows below it."""
     order += [node for node in nodes if rank[node] == row]
     for part in components(beside, [node for node in nodes if rank[node] > row]):
         nested(beside, rank, part, min(rank[node] for node in part), order)
 
 
-def crossings(rows, beside, place):
+def crossings(rows: Sequence[Sequence[int]], beside: dict[int, list[int]], place: dict[int, float]) -> int:
     """Counts the pairs of cables between neighbouring rows that cross."""
     count = 0
     for upper, lower in zip(rows, rows[1:]):
@@ -73,12 +78,12 @@ def crossings(rows, beside, place):
     return count
 
 
-def places(rows):
+def places(rows: Iterable[Sequence[int]]) -> dict[int, float]:
     """Returns how far to the right each node stands. The nodes of a row are spread over the whole width."""
     return {node: (i + 0.5) / len(row) for row in rows for i, node in enumerate(row)}
 
 
-def by_neighbours(rows, beside, is_down):
+def by_neighbours(rows: Sequence[Sequence[int]], beside: dict[int, list[int]], is_down: bool) -> list[list[int]]:
     """Orders each row, from the top or from the bottom, by the mean position of its neighbours in the row before."""
     found = [list(row) for row in rows]
     steps = range(1, len(found)) if is_down else range(len(found) - 2, -1, -1)
@@ -86,7 +91,7 @@ def by_neighbours(rows, beside, is_down):
         place = places(found)
         before = set(found[i - 1 if is_down else i + 1])
 
-        def middle(node):
+        def middle(node: int) -> float:
             near = [place[far] for far in beside[node] if far in before]
             return sum(near) / len(near) if near else place[node]
 
@@ -94,7 +99,7 @@ def by_neighbours(rows, beside, is_down):
     return found
 
 
-def ordered(beside, rank):
+def ordered(beside: dict[int, list[int]], rank: dict[int, int]) -> list[list[int]]:
     """Returns the rows of nodes, each in its order."""
     order, best = [], None
     for part in components(beside, rank):
@@ -112,7 +117,7 @@ def ordered(beside, rank):
     return best[1]
 
 
-def sags(rows, beside):
+def sags(rows: Iterable[Sequence[int]], beside: dict[int, list[int]]) -> dict[int, float]:
     """Returns how far each node stands below its row, from 0 to 1. If cables of a component join nodes of a row that
     are not neighbours there, its part of the row is an arc, so that the cables do not run behind others."""
     part_of = {node: i for i, part in enumerate(components(beside, beside)) for node in part}
