@@ -199,12 +199,12 @@ def as_script(value: object) -> str:
 
 
 PROVED = {
-    True: "The program that printed the audit says that it is proved: then what the audit says of these facts and tables "
-    "is so (docs/PROVED.md has the theorems), of unicast, on one virtual lane, with agents that do what "
+    True: "The program that printed the audit says that it is proved: then what the audit says of these facts and "
+    "tables is so (docs/PROVED.md has the theorems), of unicast, on one virtual lane, with agents that do what "
     "docs/FORMATS.md says.",
     False: "The program that printed the audit was compiled without its proofs: nothing on this page is proved.",
-    None: "The program that printed the audit does not tell whether it is proved. If it is, what the audit says of these "
-    "facts and tables is so, of unicast, on one virtual lane, with agents that do what docs/FORMATS.md says.",
+    None: "The program that printed the audit does not tell whether it is proved. If it is, what the audit says of "
+    "these facts and tables is so, of unicast, on one virtual lane, with agents that do what docs/FORMATS.md says.",
 }
 
 
