@@ -1,5 +1,6 @@
-"""The rule of routing that spreads in the order of the least trial load, worked out from its definitions in docs/MODEL.md, apart from
-the program. Graphs are those of spread_rule, and so are labels, candidates and the ports that LIDs take.
+"""The rule of routing that spreads in the order of the least trial load, worked out from its definitions in
+docs/MODEL.md, apart from the program. Graphs are those of spread_rule, and so are labels, candidates and the ports that
+LIDs take.
 """
 import collections
 
@@ -9,7 +10,7 @@ TRIED = 8
 
 
 def by_depth(graph, keys, root, backwards=False):
-    """The switches in their order by depth from a root."""
+    """Returns the switches in order of depth from `root`."""
     found, placed = [root], {root}
 
     def first(switches, test):
@@ -39,19 +40,19 @@ def by_depth(graph, keys, root, backwards=False):
     return found
 
 
-def trial_load(graph, keys, bearing):
-    """How many ways between switches that bear adapters take the channel that most take, in the order that grows by these keys."""
+def trial_load(graph, keys, leaves):
+    """Returns how many ways between leaf switches take the busiest channel, in the order that grows by `keys`."""
     places = spread_rule.places_of(graph, keys)
     numbers = {switch: number for number, switch in enumerate(sorted(graph))}
     loads = collections.Counter()
-    for target in bearing:
+    for target in leaves:
         cost, down = spread_rule.rounds(graph, places, target)
         taken = {}
         for switch in cost:
             exits = spread_rule.candidates(graph, places, cost, down, switch)
             if exits:
                 taken[switch] = exits[(numbers[target] + numbers[switch]) % len(exits)]
-        for source in bearing:
+        for source in leaves:
             switch = source
             while switch in taken:
                 port, to = taken[switch]
@@ -60,22 +61,22 @@ def trial_load(graph, keys, bearing):
     return max(loads.values(), default=0)
 
 
-def keys_of(graph, bearing):
-    """The keys that the rule goes by: of those that are tried the first whose trial load is least."""
-    keys = spread_rule.keys_of(graph, bearing, ())
+def keys_of(graph, leaves):
+    """Returns the keys that the rule goes by: of those tried, the first with the least trial load."""
+    keys = spread_rule.keys_of(graph, leaves, ())
     tried = [keys]
     for backwards in False, True:
         for root in sorted(graph)[:TRIED]:
             tried.append(spread_rule.keys_as_named(graph, by_depth(graph, keys, root, backwards)))
-    return min(tried, key=lambda keys: trial_load(graph, keys, bearing))
+    return min(tried, key=lambda keys: trial_load(graph, keys, leaves))
 
 
-def order_of(graph, bearing):
-    """The switches in the order that the rule goes by."""
-    places = spread_rule.places_of(graph, keys_of(graph, bearing))
+def order_of(graph, leaves):
+    """Returns the switches in the rule's order."""
+    places = spread_rule.places_of(graph, keys_of(graph, leaves))
     return sorted(graph, key=places.get)
 
 
-def tables(graph, bearing, homes):
-    """The port by which packets for each LID leave each switch, as spread_rule.tables has them."""
-    return spread_rule.tables(graph, bearing, homes, named=order_of(graph, bearing))
+def tables(graph, leaves, homes):
+    """Returns the port by which packets for each LID leave each switch, in the form of spread_rule.tables."""
+    return spread_rule.tables(graph, leaves, homes, named=order_of(graph, leaves))

@@ -1,4 +1,5 @@
-"""Agents of a fabric, written for the tests of `serve`: what each answers to a directed request, and what it holds then."""
+"""Agents of a fabric, written for the tests of `serve`: what each answers to a directed request, and what it holds
+then."""
 import struct
 
 from sample_fabrics import ROOM
@@ -15,7 +16,7 @@ def field(packet, at, size):
 
 
 class Agents:
-    """The agents of a fabric of sample_fabrics, all as they are when they begin."""
+    """The agents of a fabric of sample_fabrics, all in their first state."""
 
     def __init__(self, fabric, seat):
         self.fabric, self.seat = fabric, seat
@@ -27,7 +28,7 @@ class Agents:
                 self.states[name, port] = ACTIVE if port == 0 else INITIALIZE if wired else DOWN
 
     def answer(self, packet):
-        """The answer to a directed request from the seat, as it comes back there; None where it is lost."""
+        """Returns the answer to a directed request from the seat, as it arrives back there, or None if it is lost."""
         if packet[1] != DIRECTED or packet[3] not in (GET, SET):
             return None
         hops = packet[7]
@@ -49,13 +50,16 @@ class Agents:
         return bytes(head) + data + packet[128:192] + bytes(back)
 
     def told(self, name, came_by, packet):
-        """The attribute's 64 bytes."""
+        """Returns the 64 bytes of the attribute."""
         attribute, modifier, is_set = field(packet, 16, 2), field(packet, 20, 4), packet[3] == SET
         data = bytearray(64)
         guid, ports = self.fabric.guid(name), self.fabric.ports(name)
         is_switch = self.fabric.is_switch(name)
         if attribute == NODE_INFO:
-            head = struct.pack(">BBBBQQQHHI", 1, 1, 2 if is_switch else 1, ports, guid, guid, guid + (0 if is_switch else came_by), 1, 0, 0)
+            head = struct.pack(
+                ">BBBBQQQHHI", 1, 1, 2 if is_switch else 1, ports, guid, guid, guid + (0 if is_switch else came_by), 1,
+                0, 0,
+            )
             data[: len(head)] = head
             data[36] = came_by
         elif attribute == SWITCH_INFO and is_switch:
@@ -85,7 +89,7 @@ class Agents:
         return bytes(data)
 
     def held(self):
-        """What they hold, in the form of a plan."""
+        """Returns what the agents hold, in the form of a plan."""
         lines = []
         for (name, port), (lid, lmc) in sorted(self.lids.items(), key=lambda it: it[1]):
             lines.append(f"lid {lid} {self.fabric.guid(name):016x}/{port}" + (f" lmc {lmc}" if lmc else ""))

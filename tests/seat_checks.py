@@ -13,16 +13,16 @@ import paths
 import sample_fabrics
 
 SECONDS = 90
-# OpenSM takes a manager whose SM_Key is 0 for one of its own where its own is 0.
+# OpenSM with SM_Key 0 accepts a manager whose SM_Key is 0.
 OPENSM = "sm_key 0x0\nsminfo_polling_timeout 500\npolling_retry_number 3\n"
-# A packet's TransactionID.
+# The TransactionID in a packet.
 NUMBER = slice(8, 16)
-# Of a trap, its number 128.
+# The number of a trap for a changed link: 128.
 LINK_CHANGED = b"\0\x80"
 
 
 def until(holds, seconds=SECONDS):
-    """Seconds until it holds, or None."""
+    """Waits until `holds` is true, and returns the seconds that this took, or None."""
     began = time.monotonic()
     while time.monotonic() < began + seconds:
         if holds():
@@ -32,7 +32,7 @@ def until(holds, seconds=SECONDS):
 
 
 class Seat:
-    """A process at an adapter of the fabric, and what it has said."""
+    """A process at an adapter of the fabric, and its output."""
 
     def __init__(self, process, log, status):
         self.process, self.log, self.status_file = process, log, status
@@ -51,7 +51,7 @@ class Seat:
         return [int(it) for it in pathlib.Path(f"/proc/{number}/task/{number}/children").read_text().split()]
 
     def settles(self, seconds=SECONDS):
-        """Whether its last sweep found what it wrote last."""
+        """Returns whether its last sweep found what it wrote last."""
 
         def holds():
             now = self.status() if self.status_file.exists() else None
@@ -66,7 +66,8 @@ class Seat:
 
 @contextlib.contextmanager
 def seated(bench, host, *words, program=None, packets=None, bend=None):
-    """A seat at an adapter; it is ended by its id. Its packets are kept in a file, and bent, where that is asked."""
+    """Runs a seat at an adapter, ended by its id. `packets` names a file that keeps its packets; `bend` says how to
+    bend them."""
     bench.seats = getattr(bench, "seats", 0) + 1
     log, status = (bench.path / f"seat{bench.seats}.{kind}" for kind in ("log", "json"))
     environment = bench.environment() | {"SIM_HOST": host}
@@ -91,7 +92,7 @@ def seated(bench, host, *words, program=None, packets=None, bend=None):
 
 @contextlib.contextmanager
 def opensm(bench, host, priority, *words):
-    """OpenSM with SM_Key 0 at another adapter, and what it has logged."""
+    """Runs OpenSM with SM_Key 0 at another adapter, and yields it with its log."""
     (bench.path / "opensm.conf").write_text(OPENSM)
     log = bench.path / f"opensm-{host}.log"
     log.unlink(missing_ok=True)
@@ -109,7 +110,7 @@ def opensm(bench, host, priority, *words):
 
 
 def held(bench, name, host="H1"):
-    """What the subnet holds; it is checked to be the plan of a recording, and to pass the audit."""
+    """Returns what the subnet holds. Checks that it is the plan of a recording and passes the audit."""
     bench.record("-q", "-g", 1, "-T", name, f"{name}.reports", seat=host)
     bench.texts(name, f"{name}.reports")
     bench.check(bench.same(name, f"{name}.plan"), f"{name}: held is the plan of a recording, byte for byte")
@@ -123,7 +124,7 @@ def lids(text):
 
 
 def manager(bench, host="H1"):
-    """GUID, priority and state that `sminfo` tells of the master."""
+    """Returns GUID, priority and state of the master, as `sminfo` tells them."""
     bench.run("sminfo", simulated=True, seat=host)
     found = re.search(r"sm guid (0x\w+), .*priority (\d+) state (\d)", bench.printed)
     return (int(found[1], 16), int(found[2]), int(found[3])) if found else bench.printed + bench.said
@@ -134,7 +135,7 @@ def port_guid(bench, host):
 
 
 def dry_run(bench):
-    """What would be written is printed, and nothing is."""
+    """Checks that --dry-run prints what would be written, and writes nothing."""
     words = [bench.room / "out/seat", "-q", "--ibsm", bench.program, "--dry-run"]
     bench.check(bench.run(*words, simulated=True) == 0, f"--dry-run: status 0 {bench.said}")
     (bench.path / "dry").write_text(bench.printed)
@@ -149,7 +150,7 @@ def dry_run(bench):
 
 
 def wrong_usage(bench):
-    """What does not start."""
+    """Checks command lines that must not start."""
     seat = bench.room / "out/seat"
     bench.check(bench.run(seat, "more") == 2 and bench.run(seat, "-p", 16) == 2, "wrong usage: status 2")
     bench.check(
@@ -181,7 +182,7 @@ def wrong_usage(bench):
 
 
 def brought_up(bench):
-    """A subnet with no manager is brought up; what tools of others see of it."""
+    """Checks that a subnet without a manager is brought up, and what other tools see of it."""
     with seated(bench, "H1", "-p", 5) as seat:
         bench.check(seat.settles(), f"SUBNET UP: {seat.said().splitlines()[-2:]}")
         held(bench, "up")
@@ -212,7 +213,7 @@ def brought_up(bench):
 
 
 def by_options(bench):
-    """What is handed on to the program: LMC, rule and roots."""
+    """Checks the options that are passed to the program: LMC, rule and roots."""
     root = next(node for node in bench.fabric.nodes if bench.fabric.is_switch(node))
     (bench.path / "roots").write_text(f"{bench.fabric.guid(root):x}\n")
     words = ["--lmc", 2, "--routing", "spread", "--roots", "roots"]
@@ -227,7 +228,7 @@ def by_options(bench):
 
 
 def ways(bench):
-    """`ibtracert` finds a way between any two adapters, and `ibroute` dumps the plan."""
+    """Checks that `ibtracert` finds a way between any two adapters, and that `ibroute` dumps the plan."""
     plan = (bench.path / "up.plan").read_text()
     lid_of = {guid: lid for lid, guid in re.findall(r"^lid (\d+) (\w+)/", plan, re.M)}
     adapters = [node for node in bench.fabric.nodes if not bench.fabric.is_switch(node)]
@@ -247,7 +248,7 @@ def ways(bench):
 
 
 def between(bench, name):
-    """A program that is `ibsm`, and keeps what it is told and prints in NAME.told and NAME.printed."""
+    """Returns a program that runs `ibsm`, and keeps its input and output in NAME.told and NAME.printed."""
     script = bench.path / name
     script.write_text(f'#!/bin/sh\ntee -a {name}.told | {bench.program} "$@" | tee -a {name}.printed\n')
     script.chmod(0o755)
@@ -264,7 +265,7 @@ def packets_of(path, word):
 
 
 def between_switches(bench):
-    """The two ends of a cable between switches."""
+    """Returns the two ends of a cable between switches."""
     for end, peer in bench.fabric.peers.items():
         if bench.fabric.is_switch(end[0]) and bench.fabric.is_switch(peer[0]):
             return end, peer
@@ -276,7 +277,7 @@ def without_number(packet):
 
 
 def faithful(bench):
-    """What goes out was printed, and what is told came, but for numbers of requests: seen from both sides."""
+    """Checks from both sides that what was printed went out and what came was told, but for numbers of requests."""
     script = between(bench, "all")
     with seated(bench, "H1", "-p", 5, "-x", program=script, packets="all.packets") as seat:
         bench.check(seat.settles(), "a subnet is brought up by Sets as they are printed")
@@ -307,7 +308,7 @@ def faithful(bench):
 
 
 def what_ports_hold(bench, name):
-    """GidPrefixes of end ports, and HOQLives of the other ports of switches that are Active."""
+    """Returns the GidPrefixes of end ports, and the HOQLives of other ports of switches that are Active."""
     held(bench, name)
     infos = live_checks.port_infos(bench.path / f"{name}.reports").values()
     prefixes = {info[8:16].hex() for info in infos if info[16:18] != b"\0\0"}
@@ -315,7 +316,7 @@ def what_ports_hold(bench, name):
 
 
 def repeated(bench, name):
-    """Where packets are lost, a request is sent again as a copy, up to twice; what is given up is told once."""
+    """Checks that a lost request is sent again as a copy, up to twice, and that a request given up is told once."""
     sent = [bytes.fromhex(words[0]) for words in lines_of(bench.path / f"{name}.packets", "out")]
     copies = {}
     for packet in sent:
@@ -336,7 +337,7 @@ def repeated(bench, name):
 
 
 def repressed(bench):
-    """Each trap of a link that came was answered by TrapRepress, the same packet but for its method."""
+    """Checks that each trap of a link was answered by TrapRepress: a copy of the packet but for its method."""
     came, sent = (packets_of(bench.path / "traps.packets", word) for word in ("in", "out"))
     traps = [packet for packet in came if packet[1] == 1 and packet[3] == 5 and packet[68:70] == LINK_CHANGED]
     answers = [packet for packet in sent if packet[3] == 7 and packet[68:70] == LINK_CHANGED]
@@ -347,7 +348,7 @@ def repressed(bench):
 
 
 def bent(bench):
-    """Hop pointer 1 of an answer over no hops becomes 0; an answer that is refused is given up."""
+    """Checks that hop pointer 1 in an answer over no hops becomes 0, and that a refused answer is given up."""
     with seated(bench, "H1", "-p", 5, bend="pointer") as seat:
         bench.check(
             seat.settles() and seat.status()["packets"]["pointers_set"] > 0,
@@ -366,13 +367,13 @@ def bent(bench):
 
 
 def zeros(bench):
-    """Behind Sets as they are printed, ports hold zeros."""
+    """Checks that ports hold zeros after Sets as they are printed."""
     told = what_ports_hold(bench, "printed")
     bench.check(told == ({"0" * 16}, {0}), f"printed: GidPrefix, HOQLife {told}")
 
 
 def images(bench):
-    """Behind Sets that carry what was read, they hold that, and a value where they had none."""
+    """Checks that after Sets that carry what was read, ports hold that, or a value if they had none."""
     with seated(bench, "H1", "-p", 5) as seat:
         bench.check(seat.settles(), "SUBNET UP")
         told = seat.status()["packets"]
@@ -385,7 +386,7 @@ def images(bench):
 
 
 def cable(bench):
-    """A cable between switches is cut, and plugged again: by traps alone the subnet follows."""
+    """Checks that the subnet follows traps alone when a cable between switches is cut and plugged in again."""
     with seated(bench, "H1", "-p", 5, "-s", 0, packets="traps.packets") as seat:
         bench.check(seat.settles(), "SUBNET UP")
         before = held(bench, "whole")
@@ -408,7 +409,7 @@ def cable(bench):
 
 
 def losses(bench):
-    """Where a fifth of a port's packets is lost, what was not answered is asked again, and a gap is not written."""
+    """Checks that with a fifth of a port's packets lost, unanswered requests are sent again, and no gap is written."""
     (name, port), _ = between_switches(bench)
     bench.tell(f'Error "{name}"[{port}] 20')
     with seated(bench, "H1", "-p", 5, "-s", 1, "-r", 10) as seat:
@@ -439,7 +440,8 @@ def losses(bench):
 
 
 def two_seats(bench):
-    """Of two seats one is master; it is killed, and the other takes over with its tables; a greater one gets them."""
+    """Checks two seats: one is master; it is killed, and the other takes over with its tables; a seat of higher
+    priority then gets them."""
     timing = ["-s", 3, "-m", 200, "-r", 1]
     hosts = [node for node in bench.fabric.nodes if not bench.fabric.is_switch(node)]
     first, second = hosts[0], hosts[-1]
@@ -472,7 +474,7 @@ def two_seats(bench):
 
 
 def killed_while_it_writes(bench):
-    """The master is killed with part of its plan written; the other finishes it."""
+    """Checks that if the master is killed with part of its plan written, the other one finishes the plan."""
     timing = ["-m", 200, "-r", 1]
     with contextlib.ExitStack() as stack:
         one = stack.enter_context(seated(bench, "H1", "-p", 5, "-s", 0, "-n", 1, *timing))
@@ -492,7 +494,8 @@ def killed_while_it_writes(bench):
 
 
 def beside_opensm(bench):
-    """OpenSM with `sm_key 0` above, and killed; below, and it takes over."""
+    """Checks a seat beside OpenSM with `sm_key 0`, first of higher and then of lower priority: the master is killed,
+    and the other takes over."""
     timing = ["-s", 0, "-m", 300, "-r", 1]
     with opensm(bench, "H2", 8, "-R", "updn") as (process, log):
         bench.check(until(lambda: "SUBNET UP" in log()) is not None, "OpenSM, priority 8, is master")
@@ -521,7 +524,7 @@ def beside_opensm(bench):
             bench.check(lids((bench.path / "theirs").read_text()) == lids(before), "LIDs stay")
 
 
-# Fabrics on which it is tried, and what.
+# The fabrics, and the checks tried on each.
 SEATED = (
     ("triangle", sample_fabrics.triangle, (dry_run, wrong_usage, brought_up, two_seats)),
     ("another triangle", sample_fabrics.triangle, (faithful, zeros, bent)),

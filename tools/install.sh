@@ -30,7 +30,7 @@ if [ "$is_taken_off" ]; then
         exit 1
     }
     while read -r name; do rm -f -- "$root/$name"; done <"$list"
-    # What Python kept of modules.
+    # Compiled Python modules.
     rm -rf -- "$list" "$root/lib/ibsm/__pycache__"
     rmdir -- "$root/lib/ibsm" "$root/share/doc/ibsm" 2>/dev/null || :
     echo "ibsm is taken off $root"
@@ -51,7 +51,7 @@ done <"$list.new"
 for unit in ibsm-round ibsm-seat; do
     sed "s|/usr/local/|$prefix/|g" "$here/tree/lib/systemd/system/$unit.service" >"$root/lib/systemd/system/$unit.service"
 done
-# What an older one had, and this one has not.
+# Files of an older version that this one does not have.
 if [ -f "$list" ]; then
     while read -r name; do grep -qxF -- "$name" "$list.new" || rm -f -- "$root/$name"; done <"$list"
 fi

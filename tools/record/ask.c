@@ -1,8 +1,8 @@
 /*
  * Requests, and their replies in the order of the requests.
  *
- * Some requests are out at a time. Replies come in any order and wait for their turn, so what is asked next, and what
- * is written, doesn't depend on which was faster.
+ * Several requests are out at a time. Replies come in any order and wait for their turn, so what is asked next, and
+ * what is written, doesn't depend on which was faster.
  */
 #include <errno.h>
 #include <signal.h>
@@ -118,7 +118,7 @@ static int answers(const uint8_t *packet, const struct request *request)
 	       packet[7] == request->path.hops;
 }
 
-/* A packet that the kernel hands over: a reply, or a request that it hands back with a status since none came. */
+/* Takes a packet from the kernel: a reply, or an unanswered request that comes back with a status. */
 static void sort_in(const uint8_t *packet, int status)
 {
 	unsigned i;
@@ -155,7 +155,7 @@ static void receive(void)
 		return;
 	if (fault != ETIMEDOUT && fault != EWOULDBLOCK && fault != EAGAIN)
 		end(NO_FABRIC, "cannot receive: %s", strerror(fault));
-	for (i = 0; i < out; i++)	/* the kernel said nothing of these, which counts as no answer */
+	for (i = 0; i < out; i++)	/* the kernel returned nothing for these: no answer */
 		if (slot_at(i)->state == WAITS)
 			no_answer(slot_at(i));
 }

@@ -24,7 +24,7 @@
 enum { SET = 2, FIFTH = 5, PACKET = 256 };
 
 static int sets;
-static uint64_t fifth;	/* its number */
+static uint64_t fifth;	/* its TransactionID */
 
 static void keep_packet(const char *word, const uint8_t *packet)
 {
@@ -45,7 +45,8 @@ static void keep_packet(const char *word, const uint8_t *packet)
 
 int umad_send(int port, int agent, void *buffer, int length, int timeout_ms, int tries)
 {
-	int (*real)(int, int, void *, int, int, int) = (int (*)(int, int, void *, int, int, int)) dlsym(RTLD_NEXT, "umad_send");
+	int (*real)(int, int, void *, int, int, int) =
+		(int (*)(int, int, void *, int, int, int)) dlsym(RTLD_NEXT, "umad_send");
 	uint8_t *packet = umad_get_mad(buffer);
 	const char *bend = getenv("BEND");
 

@@ -1,11 +1,11 @@
-/* The port of this machine that requests go out by. */
+/* The port of this machine that sends requests. */
 #include <endian.h>
 #include <errno.h>
 #include <string.h>
 #include <infiniband/umad.h>
 #include "record.h"
 
-/* The port of the options, where it can carry requests. */
+/* Chooses the port of the options if it can carry requests. */
 static void choose(struct own_port *own)
 {
 	umad_port_t port;

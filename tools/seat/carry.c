@@ -1,8 +1,8 @@
 /*
- * Packets between the port and the process that decides: byte for byte as it printed them and as they came, but for
- * the TransactionID of a request, which Linux halves: it is numbered here, and put back in its answer.
+ * Packets between the port and the process that decides: byte for byte as printed and as received, except for the
+ * TransactionID of a request. Linux halves that, so requests are numbered here, and answers get theirs back.
  *
- * What is printed waits in a queue for its place in a window. Answers to others go out at once and outside it.
+ * Printed packets wait in a queue for their turn in a window. Answers to others go out at once and outside it.
  */
 #include <errno.h>
 #include <fcntl.h>
@@ -12,7 +12,7 @@
 #include <infiniband/umad.h>
 #include "seat.h"
 
-/* The kernel gives up a request first. A manager that plans answers late, so SMInfo may take longer than the rest. */
+/* The kernel gives up a request first. SMInfo may take longer than the rest: a manager answers late while it plans. */
 enum { GRACE_MS = 500, SM_INFO_TIMES = 3, AT_ONCE = 64, CLOCK_SHIFT = 12 };
 
 struct packet {
@@ -22,7 +22,7 @@ struct packet {
 
 /* A request that is out. */
 struct out {
-	struct packet packet;	/* as it goes out, but for its number */
+	struct packet packet;	/* as it goes out, except for its number */
 	uint8_t tid[8];		/* as the manager gave it */
 	uint32_t number;
 	int tries;
@@ -38,7 +38,7 @@ static uint32_t next_number;
 static char silent[MOST_SILENT][SILENT_TEXT];
 static size_t silent_count;
 
-/* A port has one subnet manager: the file says to the kernel that it is here, as long as it is open. */
+/* Becomes the port's subnet manager, of which there is one: the open file tells the kernel so. */
 static void be_manager(void)
 {
 	char path[256];
@@ -64,7 +64,7 @@ void open_seat(void)
 		    strerror(directed < 0 ? -directed : -routed));
 	if (!seat.dry_run)
 		be_manager();
-	/* No number of a process before is used again soon. */
+	/* The numbers of an earlier process are not used again soon. */
 	next_number = (uint32_t) time(NULL) << CLOCK_SHIFT | 1;
 }
 
@@ -99,7 +99,7 @@ static int is_directed(const uint8_t *packet)
 	return packet[1] == DIRECTED_CLASS;
 }
 
-/* What is not sent counts as lost on the way. */
+/* Sends a packet. One that cannot be sent counts as lost. */
 static void send_out(const struct packet *packet, int timeout_ms)
 {
 	static uint8_t buffer[512];
@@ -196,7 +196,7 @@ const char *silent_request(size_t place)
 	return silent[place];
 }
 
-/* In the form that smpquery -D takes. */
+/* Notes a silent path, in the form that smpquery -D takes. */
 static void note_silent(const uint8_t *packet)
 {
 	char *text = silent[silent_count];
@@ -212,7 +212,7 @@ static void note_silent(const uint8_t *packet)
 		 (unsigned) get(packet + 16, 2), (unsigned) get(packet + 20, 4));
 }
 
-/* The manager is told that a request has no answer; what comes later finds no entry. */
+/* Tells the manager that a request has no answer. A later answer finds no entry. */
 static void give_up(int place)
 {
 	unsigned long long tid = get(outs[place].tid, 8);
@@ -242,7 +242,7 @@ static int place_of(const uint8_t *packet)
 	return -1;
 }
 
-/* What the process says to a packet that came. */
+/* Returns what the process says to a received packet. */
 static const char *give(const uint8_t *packet, unsigned lid)
 {
 	static const char digits[] = "0123456789abcdef";
@@ -264,7 +264,7 @@ static int answers(const uint8_t *packet, const uint8_t *request)
 	       get(packet + 20, 4) == get(request + 20, 4);
 }
 
-/* The manager was told a GUID and a port, and the node itself tells them once more. */
+/* Ends if the node tells another GUID or port than the manager was told. */
 static void check_own_port(const uint8_t *packet)
 {
 	const uint8_t *info = packet + ATTRIBUTE;
@@ -276,7 +276,7 @@ static void check_own_port(const uint8_t *packet)
 		    (unsigned long long) own_port.guid, (unsigned long long) get(info + 20, 8), info[36]);
 }
 
-/* What the manager refuses, as an answer with another status than 0, answers nothing, and is not asked again. */
+/* Passes an answer to the manager. A refused one, as with a status other than 0, gives up its request. */
 static void on_answer(uint8_t *packet, unsigned lid)
 {
 	int place = place_of(packet);
@@ -289,7 +289,7 @@ static void on_answer(uint8_t *packet, unsigned lid)
 		return;
 	}
 	carried.answered++;
-	/* Linux leaves it so where a path has no hops; the standard has 0. */
+	/* Linux leaves 1 here if a path has no hops; the standard has 0. */
 	if (is_directed(packet) && packet[7] == 0 && packet[6] == 1) {
 		packet[6] = 0;
 		carried.pointers++;
@@ -305,7 +305,7 @@ static void on_answer(uint8_t *packet, unsigned lid)
 	tell("timeout %016llx", (unsigned long long) get(out.tid, 8));
 }
 
-/* The manager knows no traps, so it is said here that they came. */
+/* Tells of a trap here, since the manager knows none. */
 static void on_trap(const uint8_t *packet, unsigned lid)
 {
 	struct packet answer = { .lid = lid };
@@ -319,7 +319,7 @@ static void on_trap(const uint8_t *packet, unsigned lid)
 	send_out(&answer, 0);
 }
 
-/* A packet, or a request that the kernel hands back with a status since no answer came. */
+/* Takes a packet, or an unanswered request that the kernel returns with a status. */
 static void sort_in(uint8_t *packet, unsigned lid, int status)
 {
 	int place;
@@ -338,7 +338,7 @@ static void sort_in(uint8_t *packet, unsigned lid, int status)
 	}
 }
 
-/* Whether there was a packet. */
+/* Receives a packet, and returns whether there was one. */
 static int receive(int wait_ms)
 {
 	static uint8_t buffer[512];
@@ -361,7 +361,7 @@ void carry(int wait_ms)
 	int i, count;
 
 	fill_window();
-	/* All that is there comes before anything is late: the process may have planned for long. */
+	/* Takes all that is there before anything counts as late: the process may have planned for long. */
 	for (count = 0; count < AT_ONCE && receive(count ? 0 : wait_ms); count++)
 		fill_window();
 	for (i = 0; count < AT_ONCE && i < out_count; i++)

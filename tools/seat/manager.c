@@ -24,7 +24,7 @@ int manager_is_gone(void)
 	return is_gone;
 }
 
-/* In the child. What was loaded before libumad is not for it. */
+/* Runs the program in the child, without the library loaded before libumad. */
 static void become(char **words, const int *in, const int *out)
 {
 	unsetenv("LD_PRELOAD");
@@ -80,7 +80,7 @@ void start_manager(void)
 	is_gone = 0;
 }
 
-/* Closes its input, with which it ends, and waits for that. */
+/* Closes the process's input, which ends it, and waits for that. */
 void stop_manager(void)
 {
 	int status = 0;
@@ -122,7 +122,7 @@ static void write_line(const char *line, size_t length)
 	}
 }
 
-/* The next line that it printed, with 0 for its end; NULL where it is gone. */
+/* Returns the next line that the process printed, ended by 0, or NULL if it is gone. */
 static char *read_line(void)
 {
 	size_t seen = input_begin;

@@ -1,8 +1,8 @@
 /*
- * When what is told: a sweep where there is news or it is time for one, a writing after a sweep that has every answer
- * and whose plan is not what was written, polls while another manager is the master.
+ * When to tell what: a sweep if there is news or it is time for one, a writing after a sweep that has every answer and
+ * whose plan is not what was written, polls while another manager is the master.
  *
- * All of it is told while no packet is queued or out.
+ * Nothing is told while a packet is queued or out.
  */
 #include <stdlib.h>
 #include <string.h>
@@ -11,7 +11,7 @@
 
 enum phase { RESTS, SWEEPS, WRITES, HANDS_OVER };
 enum { LINK_STATE_CHANGED = 128, CAPABILITIES_CHANGED = 144, MOST_REPEATS = 3, MOST_WAIT = 10 };
-#define SHORTEST 1.0	/* seconds from the begin of a sweep to that of the next */
+#define SHORTEST 1.0	/* seconds from the beginning of one sweep to that of the next */
 
 static enum phase phase;
 static struct standing status;
@@ -26,7 +26,7 @@ void heard_news(void)
 	has_news = 1;
 }
 
-/* What failed before may go now, so nothing waits but for the shortest time. */
+/* Asks for a sweep. What failed before may succeed now, so only the shortest time is waited. */
 static void want_sweep(void)
 {
 	is_wanted = 1;
@@ -71,7 +71,7 @@ static size_t lines_with(const char *text, const char *word)
 	return count;
 }
 
-/* What others did while this one was not the master is not known. */
+/* Forgets what was written: others may have changed it while this manager was not the master. */
 static void forget_written(void)
 {
 	keep_text(&kept_plan, NULL);
@@ -117,7 +117,7 @@ static void begin_sweep(void)
 	status.sweeps++;
 }
 
-/* Goes on later, the later the more often it failed in a row. */
+/* Waits before going on, the longer the more failures came in a row. */
 static void wait_longer(void)
 {
 	double wait = faults < 4 ? 1 << faults : MOST_WAIT;
@@ -139,7 +139,7 @@ static void read_progress(void)
 	status.managers = managers;
 }
 
-/* Whose LID a standby polls: the master that the sweep saw. It is 0 where the sweep saw none with a LID. */
+/* Returns the LID that a standby polls: that of the master seen by the sweep, or 0 if it saw none with a LID. */
 static unsigned master_lid(void)
 {
 	unsigned long long node;
@@ -191,14 +191,14 @@ static void write_plan(const char *plan)
 	phase = WRITES;
 }
 
-/* Where a manager wins over this one, it gets the subnet, which is written. */
+/* Hands the subnet, once written, over to a manager that wins over this one. */
 static void hand_over(void)
 {
 	if (strncmp(tell("handover"), "refused ", 8))
 		phase = HANDS_OVER;
 }
 
-/* Nothing is left to write. */
+/* Settles, since nothing is left to write. */
 static void settle(void)
 {
 	if (ports_not_active() > left_not_active)
@@ -211,7 +211,7 @@ static void settle(void)
 	hand_over();
 }
 
-/* A plan that this process wrote last stands, unless ports have come up anew. */
+/* Writes the plan, unless this process wrote it last and no ports have come up anew. */
 static void judge_plan(void)
 {
 	const char *plan = tell("plan");
@@ -247,7 +247,7 @@ static void after_sweep(void)
 {
 	phase = RESTS;
 	read_progress();
-	if (manager_is_gone())	/* another one begins anew */
+	if (manager_is_gone())	/* a new process begins anew */
 		return;
 	if (options.verbose)
 		note("swept in %.3f s, %s", now() - began, status.is_whole ? "all is answered" : "not whole");
@@ -271,7 +271,7 @@ static void after_sweep(void)
 		faults = 0;
 }
 
-/* What moved while it was written is seen by another sweep. */
+/* Asks for another sweep after a writing, to see what moved meanwhile. */
 static void after_writing(void)
 {
 	phase = RESTS;
@@ -290,7 +290,7 @@ static void after_writing(void)
 	hand_over();
 }
 
-/* The greatest manager that the sweep saw was handed over to. */
+/* Notes the manager that got the subnet: the greatest that the sweep saw. */
 static void after_handover(void)
 {
 	unsigned long long guid, greatest = 0;

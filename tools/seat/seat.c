@@ -14,7 +14,7 @@
 #include "seat.h"
 
 enum { WAIT_MS = 20, MOST_STARTS = 3 };
-#define SHORT_LIFE 5.0	/* seconds; a process that ends sooner will again */
+#define SHORT_LIFE 5.0	/* seconds; a process that ends sooner will do so again */
 
 const char *tool = "seat";
 struct seat_options seat = { .program = "ibsm", .sweep_seconds = 10, .poll_ms = 1000 };
@@ -87,7 +87,7 @@ static void on_signal(int number)
 
 static void catch_signals(void)
 {
-	struct sigaction action = { .sa_handler = on_signal };	/* what waits is interrupted */
+	struct sigaction action = { .sa_handler = on_signal };	/* no SA_RESTART: waiting calls are interrupted */
 
 	sigaction(SIGINT, &action, NULL);
 	sigaction(SIGTERM, &action, NULL);
@@ -144,7 +144,7 @@ static void parse(int count, char **texts)
 		take_option('?');
 }
 
-/* What an earlier process has on the way is over when the first line is told. */
+/* Starts the process. Packets of an earlier one are done with before it is told the first line. */
 static void start(void)
 {
 	static double started;

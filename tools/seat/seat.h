@@ -13,7 +13,7 @@ struct seat_options {
 	int priority, sweep_seconds, poll_ms, dry_run, as_printed, partial;
 };
 
-/* What was carried since the start. */
+/* Counts of what was carried since the start. */
 struct carried {
 	unsigned long sent, again, answered, given_up, late, refused, requests, traps, repressed, pointers;
 	unsigned long filled, unfilled;	/* Sets */
@@ -25,14 +25,14 @@ extern struct carried carried;
 
 /* seat.c: says a line with the time of day. */
 void note(const char *format, ...) __attribute__((format(printf, 1, 2)));
-/* Whether a signal has ended it. */
+/* Returns whether a signal has ended the program. */
 int is_ended(void);
 
 /* manager.c: the process that decides. */
 void start_manager(void);
 void stop_manager(void);
 int manager_is_gone(void);
-/* Tells it a line, and gives its answer, up to the next call, without packets, which queue_packet gets. */
+/* Tells the process a line. Returns its answer, until the next call, without the packets: queue_packet gets those. */
 const char *tell(const char *format, ...) __attribute__((format(printf, 1, 2)));
 
 /* carry.c: packets. */
@@ -40,33 +40,33 @@ void open_seat(void);
 void close_seat(void);
 /* Waits, and drops what comes, until no request of an earlier process can be answered any more. */
 void let_pass(void);
-/* A packet in hex digits, to a LID, or NO_LID where it goes by the path that it carries. */
+/* Queues a packet in hex digits for a LID, or for NO_LID if it goes by the path that it carries. */
 void queue_packet(const char *hex, unsigned lid);
-/* Sends, receives for so long, and gives up what is late. */
+/* Sends, receives for `wait_ms` at most, and gives up what is late. */
 void carry(int wait_ms);
-/* Whether nothing is queued or out. */
+/* Returns whether nothing is queued or out. */
 int is_at_rest(void);
 void drop_all(void);
-/* Requests that nobody answered since a sweep began, as texts; at most MOST_SILENT are kept. */
+/* Unanswered requests since a sweep began, as texts; at most MOST_SILENT are kept. */
 enum { MOST_SILENT = 20, SILENT_TEXT = 120 };
 void begin_silent(void);
 size_t silent_requests(void);
 const char *silent_request(size_t place);
 
-/* sets.c: what Sets carry beside what the manager set. */
+/* sets.c: what Sets carry besides what the manager set. */
 void forget_images(void);
-/* Keeps what the answer to a directed request told. */
+/* Keeps what an answer to a directed request told. */
 void keep_image(const uint8_t *answer);
 void fill_set(uint8_t *packet);
-/* Ports that the last sweep read as Initialize or Armed. */
+/* Counts the ports that the last sweep read as Initialize or Armed. */
 unsigned ports_not_active(void);
 
 /* policy.c: when what is told. */
 void begin_policy(void);
 void policy(void);
-/* Something was told beside the policy's own lines. */
+/* Notes that something was told besides the policy's own lines. */
 void heard_news(void);
-/* A trap came; whether it is repressed. */
+/* Notes a trap, and returns whether to repress it. */
 int heard_trap(unsigned number, unsigned lid);
 void heard_hangup(void);
 

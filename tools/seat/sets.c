@@ -1,9 +1,9 @@
 /*
- * What Sets of PortInfo and SwitchInfo carry beside what the manager set.
+ * What Sets of PortInfo and SwitchInfo carry besides what the manager set.
  *
  * The manager sets fields of an attribute whose other bytes are 0, and to hardware some of these zeros are values: a
- * lifetime of 4 microseconds, a GID prefix of 0. So a Set gets what its port told last, and what the manager set;
- * where what is read is no value to write it says "no change". Blocks of tables are whole, and go as they are.
+ * lifetime of 4 microseconds, a GID prefix of 0. So a Set gets what its port told last, and what the manager set.
+ * Fields whose value when read is none to write say "no change". Blocks of tables are whole, and stay as they are.
  */
 #include <stdlib.h>
 #include <string.h>
@@ -12,7 +12,7 @@
 enum { FIRST_ROOM = 1024, PATH = 128, INITIALIZE = 2, ARMED = 3, QUARTER_SECOND = 16, ONE_SECOND = 18 };
 #define LINK_LOCAL 0xfe80000000000000u
 
-/* What a node told of itself or of a port, by the path that it was asked by. */
+/* What a node told of itself or of a port, by the path of the request. */
 struct image {
 	uint8_t is_used, hops, path[MOST_HOPS], value[BLOCK];
 	uint16_t attribute;
@@ -99,7 +99,7 @@ void keep_image(const uint8_t *answer)
 	memcpy(image->value, answer + ATTRIBUTE, BLOCK);
 }
 
-/* A Set of an end port has a LID; one of another port of a switch has none. */
+/* Fills a Set of PortInfo. That of an end port has a LID, that of another port of a switch has none. */
 static void fill_port(uint8_t *info, const uint8_t *set)
 {
 	if (get(set + 16, 2)) {

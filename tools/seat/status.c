@@ -1,4 +1,4 @@
-/* What seat is at, as a file of JSON that is whole at any time. */
+/* The state of seat, as a file of JSON that is whole at any time. */
 #include <errno.h>
 #include <inttypes.h>
 #include <stdlib.h>
@@ -71,7 +71,7 @@ static void print_status(FILE *file, const struct standing *status)
 	fprintf(file, "}\n");
 }
 
-/* A manager goes on where its status cannot be written; that is said once. */
+/* Writes the status file. A failure is said once, and the manager goes on. */
 void write_status(const struct standing *status)
 {
 	static char *temporary;
