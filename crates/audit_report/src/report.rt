@@ -12,7 +12,7 @@ ghost use Rattle.audit_report.specs.Passing.{IsSound, IsWholeFor, Passes, Passes
 use audit::Network;
 use audit_channels::{ChannelOrder, channel_order};
 use audit_counts::{PacketSurvey, PacketTally, Unmatched, disputed, sites, survey};
-use audit_ways::{WayFigures, figures_of_ways_told};
+use audit_ways::{Figures, WayFigures, figures_of_ways_told};
 use fact_store::{Refused, Store};
 use plan_file::Held;
 use std::alloc::{AllocError, Global};
@@ -94,10 +94,7 @@ impl<'a> Audit<'a> {
     fn is_within(&self, bound: Option<u64>) -> bool
         ensures { result ≡ is_within bound (figures_of (loads_of (cells_of self.now.facts) self.now.held)) }
     {
-        match (bound, &self.findings.ways.load) {
-            (Some(bound), Some(load)) => load.most <= bound,
-            _ => true,
-        }
+        is_within(bound, &self.findings.ways.load)
     }
 
     /// Returns whether the tables pass: nothing is missing, each packet arrives, and there is no credit loop.
@@ -143,6 +140,16 @@ impl<'a> Audit<'a> {
     {
         self.findings.tally.all.arrived == self.findings.tally.all.sent
             && self.findings.cycle.is_empty()
+    }
+}
+
+/// Returns whether the greatest load in `load` is at most `bound`, if there are both.
+fn is_within(bound: Option<u64>, load: &Option<Figures>) -> bool
+    ensures { result ≡ is_within bound load.now }
+{
+    match (bound, load) {
+        (Some(bound), Some(load)) => load.most <= bound,
+        _ => true,
     }
 }
 

@@ -1,5 +1,5 @@
 -- What was found of the store's facts and of the tables is written and told.
-use Rattle.std.proofs.Common.{◌≡◌, IsTrue, subst}
+use Rattle.std.proofs.Common.{◌≡◌, ◌∙◌, IsTrue, subst}
 use Rattle.std.proofs.lemmas.Result.{IfOk-weaker}
 use Rattle.std.specs.Prelude.{◌↔◌}
 use Rattle.std.specs.Io.KnownBytes.{Appends}
