@@ -156,7 +156,7 @@ class AuditRead(Rules):
         return self.cycle is None or set(self.told) != parts or set(self.spreads) != {"hops", "load"}
 
     def passes(self) -> bool:
-        """Returns whether `ibsm audit` ends with 0. Without end ports there are neither pairs nor ports without a
+        """Returns whether the tables pass. Without end ports there are neither pairs nor ports without a
         LID."""
         all_pairs, found = self.told[""], self.found
         arrive = all_pairs["pairs"] == all_pairs["arrive"] and not self.cycle
