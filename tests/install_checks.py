@@ -122,7 +122,7 @@ def completed(room, to, program):
     if os.access(program, os.X_OK):
         for command, options in completions.COMMANDS.items():
             helped = run([program, command, "--help"]).stdout if command != "help" else ""
-            there = set(re.findall(r"^ +(?:-\w, )?(--[a-z]+)", helped, re.M)) - {"--help"}
+            there = set(re.findall(r"^ +(?:-\w, )?(--[a-z][a-z-]*)", helped, re.M)) - {"--help"}
             room.check(there == set(options.split()), f"options of {command}: {sorted(there)}")
 
 

@@ -31,8 +31,11 @@ for word; do last=$word; done
 case $1 in
 facts) case $last in *.store) cat fab/stored ;; *) cat "$last" ;; esac ;;
 plan) echo "$*" >>fab/planned; cat fab/plan ;;
+order) echo "$*" >>fab/ordered; echo 0x1 ;;
+order-of) echo "$*" >>fab/ordered; [ -f fab/told ] && cat fab/told ;;
 next)
     echo "$*" >>fab/stepped
+    case "$*" in *kept.order*) if [ -f fab/turns ]; then cat fab/turns >&2; rm fab/turns; exit 1; fi ;; esac
     for word; do tables=$file; file=$word; done
     if [ -f fab/moves ]; then cat fab/moves >&2; exit 3; fi
     between=
@@ -216,6 +219,7 @@ def rounds(room):
     ends(f"--opensm {os.getpid()}", 3, "manager", "not opensm")
     ends("--opensm 99999999", 3, "manager", "there is no process 99999999: has OpenSM ended?")
     directly(room, fab, ends)
+    by_a_kept_order(room, fab, ends)
     told_beside(room, fab, ends)
     silence(room, fab, ends)
     other_files(room, fab, ends)
@@ -233,7 +237,8 @@ def rounds(room):
     room.refused("round rd --ibsm ./nothing --record ./record", "no program ./nothing", 4)
     room.refused("round rd --ibsm ./ibsm --record ./nothing", "no program record", 4)
     room.refused("round rd --ibsm ./ibsm --record ./record --direct --send ./nothing", "no program send", 4)
-    for words in ("", "rd --lmc 8", "rd --direct --opensm 1", "rd --opensm x", "rd --routing other"):
+    wrong = "rd --lmc 8", "rd --direct --opensm 1", "rd --opensm x", "rd --routing other", "rd --keep-order --routing updown"
+    for words in ("", *wrong):
         room.run(f"round {words}", 2)
 
 
@@ -315,6 +320,48 @@ def directly(room, fab, ends):
         ends("--direct", wanted, "send", "NOT HELD: 1 of 2 that were set")
     for name in ("fails", "ends"):
         (room.path / "fab" / name).unlink()
+
+
+def by_a_kept_order(room, fab, ends):
+    """Checks rounds that keep the order of switches by which they plan."""
+    held = room.text("round.plan")
+    words, holds = "--direct --keep-order --routing balance", "the subnet holds the plan"
+    fab(held=held, ordered="", planned="", stepped="")
+    ends(words, 0, "audit", holds)
+    asked = "order-of rd/now.held rd/now.reports\n"
+    room.check(
+        room.text("fab/ordered") == f"{asked}order --routing balance rd/now.reports\n"
+        and room.text("rd/kept.order") == "0x1\n",
+        "the first order is that of the rule if the held tables tell none",
+    )
+    by = "--routing spread --order rd/kept.order"
+    room.check(
+        room.text("fab/planned").startswith(f"plan {by} rd/now.reports\n")
+        and room.text("fab/stepped").startswith(f"next {by} rd/now.held rd/now.reports\n"),
+        "plans and steps go by it",
+    )
+    fab(held=held, ordered="", told="0x2\n")
+    ends(words, 0, "audit", holds)
+    room.check(
+        room.text("fab/ordered") == "" and room.text("rd/kept.order") == "0x1\n",
+        "it is kept while steps by it have no credit loop",
+    )
+    fab(held=held, turns="credit loop on one lane 0000000000000010/1 0000000000000020/1\n")
+    ends(words, 0, "audit", holds)
+    room.check(
+        room.text("fab/ordered") == asked and room.text("rd/kept.order") == "0x2\n",
+        "else it becomes the one that the held tables tell",
+    )
+    (room.path / "fab/told").unlink()
+    loop = "credit loop on one lane 0000000000000010/1 0000000000000020/1\n"
+    fab(held=held, ordered="", turns=loop, loop=loop)
+    ends(words, 1, "next", "step 1 is not written")
+    room.check(
+        room.text("fab/ordered") == asked and room.text("rd/kept.order") == "0x2\n" and room.text("fab/held") == held,
+        "and stays if they tell none",
+    )
+    (room.path / "rd/kept.order").unlink()
+    fab(loop="credit loop none\n")
 
 
 def told_beside(room, fab, ends):
