@@ -16,6 +16,7 @@ STAGE := out/$(NAME)
 all:
 	./ibsm $(if $(UNPROVED),--unproved,--prove) --version
 	$(MAKE) -C tools/record
+	$(MAKE) -C tools/seat BUILD=../record/out
 
 prove:
 	./ibsm --prove --version

@@ -1,12 +1,17 @@
 """Credit loops, by a search over channels and those that packets take next."""
+from __future__ import annotations
+
 import collections
+from collections.abc import Callable
 
 from built_program import check
-from ibsm_texts import end_in
+from ibsm_texts import End, end_in
+from routes import Channel, Routes
 
 
-def after(ways):
-    """For each channel, a switch and a port of it, those that packets for any LID up to the greatest top take next."""
+def after(ways: Routes) -> dict[Channel, set[Channel]]:
+    """Returns for each channel, a switch and its port, the channels that packets take next, for any LID up to the
+    greatest top."""
     ends, found = ways.ends(), collections.defaultdict(set)
     last = max(*ways.owners, *ways.plan.tops.values())
     unowned = {column for _, column in ways.columns(lid for lid in range(1, last + 1) if lid not in ways.owners)}
@@ -18,8 +23,9 @@ def after(ways):
     return found
 
 
-def count_round(after, first):
-    """How many channels the shortest way from a channel back to itself has, by a search in breadth; 0 where there is none."""
+def count_round(after: dict[Channel, set[Channel]], first: Channel) -> int:
+    """Returns the number of channels in the shortest cycle through `first`, by breadth-first search; 0 if there is
+    none."""
     counts, reached = {first: 1}, [first]
     for near in reached:
         for channel in after.get(near, ()):
@@ -31,12 +37,16 @@ def count_round(after, first):
     return 0
 
 
-def check_told(line, after, channel_of, what):
-    """The loop that a line tells is one, and none has fewer channels; how many it has. `channel_of` an end tells its channel."""
+def check_told(line: str, after: dict[Channel, set[Channel]], channel_of: Callable[[End], Channel], what: str) -> int:
+    """Checks that `line` tells a loop, with the fewest channels of all, and returns its length. `channel_of` maps an
+    end to its channel."""
     least = min(filter(None, (count_round(after, first) for first in list(after))), default=0)
     told = line.split(" ")
     head = ["credit", "loop", "on", "one", "lane"] if least else ["credit", "loop", "none"]
-    check(told[: len(head)] == head and (least or told == head), f"{what}: the shortest loop has {least} channels, and it tells {told}")
+    check(
+        told[: len(head)] == head and (least or told == head),
+        f"{what}: the shortest loop has {least} channels, and it tells {told}",
+    )
     loop = [channel_of(end_in(word)) for word in told[len(head) :]]
     check(len(loop) == least, f"{what}: a loop of {len(loop)} channels, by the search one of {least}")
     for channel, following in zip(loop, loop[1:] + loop[:1]):

@@ -8,8 +8,8 @@ import record_files
 import sample_fabrics
 from built_program import plan_lines
 
-# By fabric the LID of each end port then, and by switch the ports for the LIDs from the least on, as `record --tables`
-# read them.
+# For each fabric, as `record --tables` read it: the LID of each end port, and the ports of each switch for all LIDs
+# from the least on.
 LIDS = {
     "triangle": {("H1", 1): 1, ("H2", 1): 2, ("S1", 0): 3, ("S2", 0): 4, ("S3", 0): 5},
     "triangle-lmc": {("H1", 1): 2, ("H2", 1): 4, ("S1", 0): 6, ("S2", 0): 7, ("S3", 0): 8},
@@ -33,7 +33,7 @@ DOWN = {"triangle": 4, "tree": 4}
 
 
 def wanted(name, cap=1024, generation=1):
-    """The facts and the tables of a fabric at that time."""
+    """Returns the facts and the tables of fabric `name` at the time of its dumps."""
     fabric, lids = FABRICS[name.partition("-")[0]], LIDS[name]
     facts = fabric.facts().replace(" 1024 @1", f" {cap} @1")
     for (node, port), lid in lids.items():
@@ -46,7 +46,7 @@ def wanted(name, cap=1024, generation=1):
 
 
 def turned(room, words, facts, status=0):
-    """What is written is the store file of these facts."""
+    """Checks that from-dumps writes the store file of `facts`."""
     printed = room.run(f"from-dumps {words}", status).encode(errors="surrogateescape")
     room.check(printed == record_files.store_of(facts), f"from-dumps {words}: the facts")
 
@@ -73,7 +73,7 @@ def from_dumps(room):
 
 
 def lmcs(room):
-    """An LMC is told by ibnetdiscover, by the names of dump_fts, or by an option."""
+    """Checks the ways to tell an LMC: by ibnetdiscover, by the names of dump_fts, or by an option."""
     facts, tables = wanted("triangle-lmc")
     dumps = "triangle-lmc.lst triangle-lmc.fdbs --cap 1024 --tables held"
     turned(room, f"{dumps} --lmc 1", facts)
@@ -87,7 +87,7 @@ def lmcs(room):
 
 
 def parts(room):
-    """Tables of one switch alone, a port that is down, a GUID that is not told."""
+    """Checks tables of a single switch, a port that is down, and an unknown GUID."""
     facts, tables = wanted("triangle")
     turned(room, "triangle.lst triangle.ibroute --cap 1024 --tables held", facts, 1)
     head = tables.index("switch ")
@@ -109,7 +109,7 @@ def parts(room):
 
 
 def forms(room):
-    """What else these tools write, and names of nodes that look like something else."""
+    """Checks other forms that the dumping tools write, and node names that look like something else."""
     facts, _ = wanted("triangle")
     text = room.text("triangle.ibnetdiscover")
     grouped = text.replace("\nvendid", "\nNon-Chassis Nodes\n\nvendid", 1).replace("(30)\n", "(30)\t# \n")
@@ -131,7 +131,7 @@ def forms(room):
 
 
 def faults(room):
-    """Lines that are not understood, and dumps that contradict each other: nothing is written."""
+    """Checks that nothing is written if lines are not understood or dumps contradict each other."""
     one, two = f"{0x10:016x}", f"{0x20:016x}"
     for source, old, new, why in (
         ("triangle.ibnetdiscover", "[3]\t", "[3] to ", "line 13 is not understood: [3] to "),
@@ -187,7 +187,7 @@ def faults(room):
 
 
 def contradictions(room):
-    """Two dumps of two times."""
+    """Checks dumps that were taken at two times."""
     moved = room.text("triangle.lst").replace("{S3} LID:0005", "{S3} LID:0006")
     room.put(moved_lst=moved, other_fts=room.text("triangle.fts").replace("0x0001 002", "0x0001 001", 1))
     room.refused(
@@ -206,7 +206,7 @@ def contradictions(room):
     room.check(room.text("held") == "before", "tables of two times are not written")
 
 
-# The triangle for ibsim, where ports claim LIDs 3, 4, 5, 1 and 2.
+# The triangle for ibsim. The ports claim LIDs 3, 4, 5, 1 and 2.
 NETLIST = """# ibsim -s -N 5 -S 3 -P 19 -L 512 FILE
 # and for programs under libumad2sim.so: SIM_HOST="H-0000000000000100"
 
@@ -238,7 +238,7 @@ Switch\t4 "S-0000000000000030"\t\t# "0000000000000030" base port 0 lid 5 lmc 0
 
 
 def netlists(room):
-    """Facts as a netlist of ibsim."""
+    """Checks facts written as a netlist of ibsim."""
     facts = room.text("t.facts").replace(" 1024 @1", " 512 @1")
     for end, lid in (("10/0", 3), ("20/0", 4), ("30/0", 5), ("100/1", 1), ("200/1", 2)):
         claim = f"claim {end.rjust(18, '0')}"

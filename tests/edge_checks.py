@@ -11,7 +11,8 @@ SWITCHES = (0x10, 0), (0x20, 0), (0x30, 0)
 
 
 def triangle_plan(first, second, lmc=0):
-    """Tables of the triangle whose adapters' ports have these LIDs, or ranges that begin there."""
+    """Returns tables of the triangle. `first` and `second` are the LIDs of the adapters' ports, or begin their
+    ranges."""
     lids = {lid: end for lid, end in enumerate(SWITCHES, 1)} | {first: (0x100, 1), second: (0x200, 1)}
     ways = {0x10: (0, 1, 2, 1, 2), 0x20: (1, 0, 2, 3, 2), 0x30: (1, 2, 0, 2, 3)}
     tables = {}
@@ -23,35 +24,46 @@ def triangle_plan(first, second, lmc=0):
 
 
 def greatest_lid(room):
-    """Plans, dumps and differences up to the greatest LID, in tables of 768 blocks, and none above."""
+    """Checks plans, dumps and differences up to the greatest LID, in tables of 768 blocks, and none above it."""
     room.put(wide_facts=room.text("t.facts").replace(" 1024 @1", " 49152 @1"), far_plan=triangle_plan(4, GREATEST)[2])
     room.put(over_plan=triangle_plan(4, GREATEST + 1)[2])
     os.mkdir(room.path / "far")
     said = "3 switches, 5 LIDs, top 49151: 5 ports get their first LID, 0 another\n"
     room.prints("opensm-files write wide.facts far.plan far", 0, said)
-    room.check("\n0xbfff 002 # portguid 0x0000000000000201\n" in room.text("far/plan.lfts"), "the entry of the greatest LID")
+    room.check(
+        "\n0xbfff 002 # portguid 0x0000000000000201\n" in room.text("far/plan.lfts"), "the entry of the greatest LID"
+    )
     room.refused("opensm-files write wide.facts over.plan far", "LID 49152 is no unicast LID")
     lines = room.text("far/plan.lfts").splitlines(True)
     room.check(lines[0].startswith("Unicast lids [0-49151] of switch "), "the range of a table")
     room.put(far_dump="".join(lines), over_dump="".join(lines).replace("[0-49151]", "[0-49152]"))
-    room.check(room.run("opensm-files tables wide.facts far.dump", 0) == room.text("far.plan"), "a dump up to the greatest LID")
+    room.check(
+        room.run("opensm-files tables wide.facts far.dump", 0) == room.text("far.plan"), "a dump up to the greatest LID"
+    )
     room.refused("opensm-files tables wide.facts over.dump", "has no range of LIDs in its head")
 
 
 def several_blocks(room):
-    """Blocks to write are those that differ: the first of several, one in between, and the last."""
-    lids, tables, plan = triangle_plan(4, GREATEST)
-    for entries, blocks in (({GREATEST: 1}, 1), ({1: 3, GREATEST: 1}, 2), ({1: 3, 2: 3, 20000: 3, GREATEST - 63: 3, GREATEST: 1}, 3)):
+    """Checks that the blocks to write are those that differ: the first, one in between, and the last."""
+    lids, tables, _ = triangle_plan(4, GREATEST)
+    for entries, blocks in (
+        ({GREATEST: 1}, 1), ({1: 3, GREATEST: 1}, 2), ({1: 3, 2: 3, 20000: 3, GREATEST - 63: 3, GREATEST: 1}, 3)
+    ):
         room.put(near_plan="\n".join(plan_lines(lids, tables | {0x10: tables[0x10] | entries})) + "\n")
-        told = f"entries {len(entries)} blocks {blocks}\n{len(entries)} entries differ on 1 switches, blocks to write: {blocks}\n"
-        room.check(room.run("compare far.plan near.plan", 1) == f"switch 0000000000000010 {told}", f"{blocks} blocks of many")
+        told = (
+            f"entries {len(entries)} blocks {blocks}\n{len(entries)} entries differ on 1 switches, blocks to write: "
+            f"{blocks}\n"
+        )
+        room.check(
+            room.run("compare far.plan near.plan", 1) == f"switch 0000000000000010 {told}", f"{blocks} blocks of many"
+        )
     room.put(less_plan=triangle_plan(4, 65)[2], more_plan=triangle_plan(4, 64)[2].replace("top 64", "top 65"))
     printed = room.run("compare less.plan more.plan", 1).splitlines()
     room.check(printed[-1] == "6 entries differ on 3 switches, blocks to write: 3", "the second of two blocks")
 
 
 def table_sizes(room):
-    """The sizes that tables have in a topology: from one to 49,152 entries."""
+    """Checks table sizes in a topology: from one to 49,152 entries."""
     for size, status, told in ((1, 0, 1), (49152, 0, 49152), (49153, 1, 1024), (0, 1, 1024)):
         room.put(size_facts=room.text("t.facts").replace("cap 0000000000000020 1024", f"cap 0000000000000020 {size}"))
         printed = room.run("topology size.facts", status)
@@ -61,7 +73,7 @@ def table_sizes(room):
 
 
 def largest_picture(room):
-    """A picture has at most 300 nodes."""
+    """Checks that a picture has at most 300 nodes."""
     for hosts, status in ((200, 0), (201, 3)):
         room.put(many_facts=sample_fabrics.random_fabric(100, 3, hosts).facts())
         text = room.run("draw many.facts --hosts all", status)
@@ -69,7 +81,7 @@ def largest_picture(room):
 
 
 def ranges_planned(room):
-    """A plan without a cable has the LMC of the tables, which switches have none of."""
+    """Checks that a plan without a cable has the LMC of the tables. Switches have none."""
     for lmc in 0, 1, 3:
         plan = triangle_plan(8, 16, lmc)[2]
         room.put(lmc_plan=plan, fake_plan=plan, fake=FAKE, calls="")
@@ -80,7 +92,7 @@ def ranges_planned(room):
 
 
 def parts_of_dumps(room):
-    """A dump of each switch in two parts: its top is the greater, whichever comes first."""
+    """Checks a dump of each switch in two parts: its top is the greater one, in either order."""
     text, _ = dumped(sample_fabrics.triangle(), sample_fabrics.triangle().shortest(), "fts", lmc=1)
     room.put(whole_dump=text)
     whole = room.run("opensm-files tables t.facts whole.dump", 0)
@@ -96,19 +108,20 @@ def parts_of_dumps(room):
 
 
 def means(room):
-    """Means that end in a digit behind a zero, or in zeros: 49 adapters at a switch, and one at another."""
+    """Checks means whose decimals end in a digit behind a zero, or in zeros: 49 adapters at a switch, and one at
+    another."""
     fabric = sample_fabrics.Fabric()
     fabric.switches(2)
     fabric.join("S1", "S2")
     fabric.hosts(["S1"] * 49 + ["S2"])
     room.put(mean_facts=fabric.facts(), mean_plan=fabric.plan(fabric.shortest()))
-    # 49 * 48 packets take two wires, and 98 take three; each channel is taken by 49.
+    # 49 * 48 packets take two wires, and 98 take three. Each channel carries 49.
     told = "hops max 3 mean 2.04\nload max 49 mean 49.00\nunused 0 of 2\n"
     room.check(room.run("balance mean.facts mean.plan", 0) == told, "means with two digits behind the point")
 
 
 def written_through(room):
-    """What a tool writes is on the disk as a whole before it has its name: nothing is empty after a power cut."""
+    """Checks that tools sync a file to disk before they rename it: none is empty after a power cut."""
     fsync, rename = os.fsync, os.rename
 
     def note(*words):

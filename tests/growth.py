@@ -1,6 +1,6 @@
-"""How the cost of commands grows, for `tests/at-scale`: each at a size and at twice the size, by counted instructions. `valgrind` counts
-them where the machine has it, else `perf`. Where neither does, processor time is taken, the least of some runs, and twice as
-much is allowed; the bounds on instructions are left out then."""
+"""How the cost of commands grows, for `tests/at-scale`: each at a size and at twice the size, by counted instructions.
+`valgrind` counts them where the machine has it, else `perf`. Where neither does, processor time is taken, the least of
+some runs, and twice as much is allowed; the bounds on instructions are left out then."""
 import collections
 import concurrent.futures
 import itertools
@@ -14,16 +14,17 @@ from built_program import ENTRIES
 from noted_costs import ALLOCATIONS, INSTRUCTIONS
 from scale import Fabric, Tree, chain, check
 
-# What twice the size may cost: as much again, and a third for what grows by the logarithm; and the square of that.
+# What twice the size may cost: two times as much for linear cost, four times for quadratic, and a third more for
+# logarithmic parts.
 LINEAR, SQUARED = 2 * 4 / 3, 4 * 4 / 3
-# What something may cost that grows by the logarithm at most, in a fabric of four times the size.
+# How many times as much a fabric of four times the size may cost, if the cost grows by the logarithm at most.
 STAYS = 3 / 2
-# How often a run is timed where instructions are not counted, and how much more is allowed then.
+# How many times a run is timed if instructions cannot be counted, and the slack allowed then.
 TIMES, SLACK = 5, 2
 # Processor time that tells nothing, in microseconds.
 LEAST = 20000
 SPREAD = "--routing", "spread"
-# The GUID of a switch that has no wire.
+# The GUID of a switch without wires.
 LONE = 0x8000
 
 
@@ -38,7 +39,7 @@ def ran(command, folder):
 
 
 class Perf:
-    """Instructions by the processor's own counter."""
+    """Instructions, by the processor's own counter."""
 
     name, is_exact = "perf", True
 
@@ -52,7 +53,8 @@ class Perf:
 
 
 class Valgrind:
-    """Instructions by a simulated processor, of the program without what stands in it for debuggers, which valgrind may not read."""
+    """Instructions, by a simulated processor. The program is stripped, since valgrind may fail to read its debug
+    information."""
 
     name, is_exact = "valgrind", True
 
@@ -61,14 +63,16 @@ class Valgrind:
         subprocess.run(["strip", "-o", self.program, program], check=True)
 
     def cost(self, words, log):
-        tool = ["valgrind", "--tool=cachegrind", "--cache-sim=no", "--cachegrind-out-file=/dev/null", f"--log-file={log}"]
+        tool = [
+            "valgrind", "--tool=cachegrind", "--cache-sim=no", "--cachegrind-out-file=/dev/null", f"--log-file={log}"
+        ]
         status = ran([*tool, self.program, *words], self.folder)
         found = re.search(r"I\s+refs:\s+([\d,]+)", log.read_text()) if log.exists() else None
         return status, int(found[1].replace(",", "")) if found else None
 
 
 class Clock:
-    """Microseconds of processor time, the least of some runs."""
+    """Microseconds of processor time, the least of several runs."""
 
     name, is_exact = "processor time", False
 
@@ -87,7 +91,7 @@ class Clock:
 
 
 class Costs:
-    """What runs cost beside starting the program, each run once."""
+    """What runs cost beyond starting the program. Each run is made once."""
 
     def __init__(self, program, folder):
         self.program, self.folder, self.numbers, self.known, self.files = program, folder, itertools.count(1), {}, set()
@@ -104,7 +108,7 @@ class Costs:
         return self.folder / f"cost{next(self.numbers)}"
 
     def put(self, name, make_data):
-        """A file of this name, which is made once."""
+        """Writes a file of this name, once, and returns the name."""
         if name not in self.files:
             self.files.add(name)
             data = make_data()
@@ -117,13 +121,14 @@ class Costs:
         return max(1, (cost or 0) - self.start)
 
     def take(self, runs, ends=None):
-        """Finds what each of these costs, side by side where it does not count how long that takes; `ends` tells which end not with 0."""
+        """Measures each of `runs`, in parallel if the counter does not depend on time; `ends` has the exit statuses
+        other than 0."""
         runs = [words for words in dict.fromkeys(runs) if words not in self.known]
         with concurrent.futures.ThreadPoolExecutor(os.cpu_count() if self.counter.is_exact else 1) as pool:
             self.known.update(zip(runs, pool.map(self.measure, runs, [(ends or {}).get(it, 0) for it in runs])))
 
     def allocations(self, runs):
-        """How often each run asks for memory: what is done twice mostly asks twice."""
+        """Returns how often each run allocates memory: repeated work mostly shows as repeated allocation."""
         library, source = self.folder / "count.so", paths.ROOT / "tests/refuse/refuse.c"
         subprocess.run(["cc", "-O2", "-shared", "-fPIC", "-o", library, source, "-ldl"], check=True)
 
@@ -137,7 +142,7 @@ class Costs:
             return list(pool.map(count, runs))
 
     def at_most(self, cost, other, times, what, spare=0):
-        """A cost is at most so many times another. By processor time more is allowed, and so is what is to spare."""
+        """Checks that a cost is at most `times` another. Processor time gets slack, and `spare` besides."""
         if not self.counter.is_exact:
             times, other = SLACK * times, max(other, LEAST) + spare
         check(cost <= times * other, f"{what}: {cost} in place of {times:.2f} times {other} by {self.counter.name}")
@@ -147,7 +152,7 @@ class Costs:
 
 
 def replies(costs, count):
-    """Replies of so many adapters, each of itself."""
+    """Makes replies of `count` adapters, each about itself."""
     return costs.put(f"replies{count}", lambda: make.reports(
         *(make.node_info(make.START, make.ADAPTER, 1, 16 * it, 16 * it + 1, 1) for it in range(1, count + 1))
     ))
@@ -160,7 +165,7 @@ def claims(costs, count, first=1, floor=1):
 
 
 def tree_of(switches, hosts):
-    """A switch above so many, and so many adapters below each of these."""
+    """Returns a tree: a switch above `switches` others, and `hosts` adapters at each of these."""
     return Tree([0] * switches, [0] + [hosts] * switches)
 
 
@@ -169,9 +174,11 @@ def known(costs, switches, hosts):
 
 
 def strangers(costs, count):
-    """Links from so many nodes to as many others, of which nothing else is told: the first leads to the last."""
+    """Makes links from `count` nodes to as many others that nothing else describes: the first leads to the last."""
     def made():
-        return make.store_of("".join(f"link {it:016x}/1 {2 * count + 1 - it:016x}/2 @1\n" for it in range(1, count + 1)))
+        return make.store_of(
+            "".join(f"link {it:016x}/1 {2 * count + 1 - it:016x}/2 @1\n" for it in range(1, count + 1))
+        )
 
     return costs.put(f"strangers{count}", made)
 
@@ -181,7 +188,7 @@ def planned(costs, switches, hosts, lmc=0):
 
 
 def mesh(costs, switches):
-    """So many switches below some, each with two wires up and an adapter."""
+    """Makes a mesh: `switches` switches, each with an adapter and two wires up to a few others."""
     def made():
         fabric = Fabric(switches // 10, switches, 40, switches)
         path = costs.folder / f"replies_of_mesh{switches}"
@@ -192,19 +199,27 @@ def mesh(costs, switches):
 
 
 def holed(costs, switches, hosts, without=1):
-    """The tables of a tree, of which the last so many switches lead nowhere."""
+    """Makes the tables of a tree. The last `without` switches lead nowhere."""
     def made():
         parts = tree_of(switches, hosts).plan().split(b"switch ")
-        return b"switch ".join([*parts[:-without], *(re.sub(rb"(block \d+ ).*", lambda it: it[1] + b"ff" * ENTRIES, it) for it in parts[-without:])])
+        return b"switch ".join(
+            [
+                *parts[:-without],
+                *(re.sub(rb"(block \d+ ).*", lambda it: it[1] + b"ff" * ENTRIES, it) for it in parts[-without:]),
+            ]
+        )
 
     return costs.put(f"holes{without}of{switches}by{hosts}", made)
 
 
 def claimed(costs, hosts):
-    """What is known of a tree whose adapters' ports claim LIDs from 16,384 on."""
+    """Makes the facts of a tree whose adapters' ports claim LIDs from 16,384 on."""
     def made():
         tree = tree_of(8, hosts)
-        claims = [make.cell(make.CLAIM, guid, port, (16384 + at).to_bytes(2, "big")) for at, (guid, port, _, _) in enumerate(tree.ends)]
+        claims = [
+            make.cell(make.CLAIM, guid, port, (16384 + at).to_bytes(2, "big"))
+            for at, (guid, port, _, _) in enumerate(tree.ends)
+        ]
         cells = tree.cells()
         first = next(at for at, it in enumerate(cells) if it[0] == make.CAP)
         return make.store(*cells[:first], *claims, *cells[first:])
@@ -213,9 +228,13 @@ def claimed(costs, hosts):
 
 
 def apart(costs, switches, hosts):
-    """What is known of a tree, and of a switch that no wire leads to."""
+    """Makes the facts of a tree, and of a switch without wires."""
     def made():
-        more = (make.NODE, bytes([make.SWITCH, 1])), (make.PORT_GUID, LONE.to_bytes(8, "big")), (make.CAP, (49152).to_bytes(2, "big"))
+        more = (
+            (make.NODE, bytes([make.SWITCH, 1])),
+            (make.PORT_GUID, LONE.to_bytes(8, "big")),
+            (make.CAP, (49152).to_bytes(2, "big")),
+        )
         cells = [*tree_of(switches, hosts).cells(), *(make.cell(kind, LONE, 0, value) for kind, value in more)]
         return make.store(*sorted(cells, key=lambda it: (it[0], it[8:16], it[2])))
 
@@ -223,12 +242,14 @@ def apart(costs, switches, hosts):
 
 
 def printed(costs, *words):
-    """What the program prints."""
-    return costs.put("".join(words), lambda: subprocess.run([costs.program, *words], cwd=costs.folder, capture_output=True).stdout)
+    """Makes the file of what the program prints."""
+    return costs.put(
+        "".join(words), lambda: subprocess.run([costs.program, *words], cwd=costs.folder, capture_output=True).stdout
+    )
 
 
 def swept(costs, adapters):
-    """A sweep that comes to adapters at fifty switches in turn, and then to all of them again."""
+    """Makes a sweep that reaches adapters at fifty switches in turn, and then all of them again."""
     def made():
         fabric = Fabric(2, 50, 130, adapters)
         path = costs.folder / f"replies_of_adapters{adapters}"
@@ -240,7 +261,7 @@ def swept(costs, adapters):
 
 
 def row(costs, switches, hosts=0):
-    """So many switches in a row, in which ways are long, and adapters at each."""
+    """Makes a row of switches, for long ways, with adapters at each."""
     return costs.put(f"row{switches}by{hosts}", lambda: make.store(*chain(switches, hosts).cells()))
 
 
@@ -249,28 +270,28 @@ def row_planned(costs, switches, hosts):
 
 
 def roots(costs, count):
-    """The first so many switches of a mesh."""
+    """Makes a text of the first `count` switches of a mesh."""
     return costs.put(f"roots{count}", lambda: "".join(f"0x{0x1000 + it:x}\n" for it in range(count)))
 
 
 def order(costs, count):
-    """All switches of a mesh, the last one first."""
+    """Makes a text of all switches of a mesh, the last one first."""
     return costs.put(f"order{count}", lambda: "".join(f"0x{0x1000 + it:x}\n" for it in reversed(range(count))))
 
 
 def remarks(costs, count):
-    """A text of so many lines of 64 bytes, none of which says anything."""
+    """Makes a text of `count` comment lines of 64 bytes."""
     return costs.put(f"remarks{count}", lambda: ("#" * 63 + "\n") * count)
 
 
 def remarked(costs, count):
-    """The tables of a small tree behind such lines."""
+    """Makes the tables of a small tree behind `count` comment lines."""
     return costs.put(f"remarked{count}", lambda: ("#" * 63 + "\n").encode() * count + tree_of(8, 10).plan())
 
 
-def scheduled(costs, hosts, line, times, ending=""):
-    """A run in a tree of four switches with so many adapters each: managers A, which writes, and B, a standby; and then so many
-    times a line."""
+def scheduled(costs, hosts, line, times):
+    """Makes a run in a tree of four switches with `hosts` adapters each: manager A, which writes, standby B, and then
+    `line` repeated `times` times."""
     tree = tree_of(4, hosts)
     topology = costs.put(f"topology{hosts}", tree.topology)
     seats = [f'manager {name} "H{guid:x}"[1] {priority}' for name, guid, priority in zip("AB", tree.adapters, (2, 1))]
@@ -281,7 +302,7 @@ def scheduled(costs, hosts, line, times, ending=""):
     return "run", topology, costs.put(f"schedule{len(costs.files)}of{hosts}", lambda: text)
 
 
-# A command by a number, which takes so much, and at twice the number so much more; and how it ends.
+# A command: `words` makes it for a size, `limit` bounds its cost at twice that size, `status` is its exit status.
 Row = collections.namedtuple("Row", "title words size limit status", defaults=[0])
 GROWING = (
     Row("facts of replies", lambda c, n: ("facts", replies(c, n)), 4000, LINEAR),
@@ -299,6 +320,7 @@ GROWING = (
     Row("plan by adapters, claimed LIDs", lambda c, n: ("plan", claimed(c, n)), 100, LINEAR),
     Row("plan by switches", lambda c, n: ("plan", mesh(c, n)), 150, SQUARED),
     Row("plan by switches, spread", lambda c, n: ("plan", *SPREAD, mesh(c, n)), 150, SQUARED),
+    Row("plan by switches, balance", lambda c, n: ("plan", "--routing", "balance", mesh(c, n)), 60, SQUARED),
     Row("plan by switches, spread from roots", lambda c, n: ("plan", *SPREAD, "--roots", roots(c, n // 10), mesh(c, n)), 150, SQUARED),
     Row("plan by switches, spread in an order", lambda c, n: ("plan", *SPREAD, "--order", order(c, n), mesh(c, n)), 150, SQUARED),
     Row("order of switches", lambda c, n: ("order", mesh(c, n)), 150, SQUARED),
@@ -313,6 +335,8 @@ GROWING = (
     Row("audit by switches", lambda c, n: ("audit", planned(c, n, 4), known(c, n, 4)), 60, SQUARED),
     Row("audit of links alone", lambda c, n: ("audit", remarks(c, 1), strangers(c, n)), 2000, LINEAR, 1),
     Row("audit of switches in a row", lambda c, n: ("audit", row_planned(c, n, 4), row(c, n, 4)), 40, SQUARED),
+    Row("order-of by adapters", lambda c, n: ("order-of", planned(c, 8, n), known(c, 8, n)), 100, LINEAR),
+    Row("order-of by switches", lambda c, n: ("order-of", planned(c, n, 4), known(c, n, 4)), 60, SQUARED),
     Row("next by adapters", lambda c, n: ("next", planned(c, 8, n), known(c, 8, n)), 100, LINEAR),
     Row("next by adapters of many switches", lambda c, n: ("next", planned(c, 40, n), known(c, 40, n)), 25, LINEAR),
     Row("next by adapters, claimed LIDs", lambda c, n: ("next", printed(c, "plan", claimed(c, n)), claimed(c, n)), 100, LINEAR),
@@ -328,7 +352,7 @@ GROWING = (
     Row("run of a topology of comments", lambda c, n: ("run", remarks(c, n), remarks(c, 1)), 5000, LINEAR),
 )
 
-# Lines of a schedule that cost the same in a fabric of any size, or only what a search among its ports does.
+# Lines of a schedule that cost the same in a fabric of any size, but for a search among its ports.
 STEADY = (
     ("a poll that is answered", "poll B LID/drain 100"),
     ("a floor that is no greater", "floor A 1"),
@@ -344,10 +368,14 @@ STEADY = (
 
 
 def check_all(program, folder, noted):
-    """Checks all, and says by what costs were counted. What each command of the larger size costs is held against what is noted."""
+    """Checks all costs. Returns what counted them and how many runs it measured. `noted` gets the cost of each command
+    at the larger size."""
     costs = Costs(program, folder)
     growing = [(row, row.words(costs, row.size), row.words(costs, 2 * row.size)) for row in GROWING]
-    costs.take([words for _, *both in growing for words in both], {words: row.status for row, *both in growing for words in both})
+    costs.take(
+        [words for _, *both in growing for words in both],
+        {words: row.status for row, *both in growing for words in both},
+    )
     for (row, one, two), count in zip(growing, costs.allocations([two for _, _, two in growing])):
         costs.at_most(costs.known[two], costs.known[one], row.limit, f"{row.title}, of twice the size")
         noted.find(INSTRUCTIONS, row.title, costs.known[two] / 10**6)
@@ -358,7 +386,7 @@ def check_all(program, folder, noted):
 
 
 def check_apart(costs):
-    """A switch more that no wire leads to costs a plan no more than its own table."""
+    """Checks that one more switch without wires adds no more than its own table to the cost of a plan."""
     for options in (), SPREAD:
         one, two = ("plan", *options, known(costs, 40, 25)), ("plan", *options, apart(costs, 40, 25))
         costs.take([one, two])
@@ -367,7 +395,10 @@ def check_apart(costs):
 
 def check_steady(costs):
     few, many, hosts = (250, 500, 25) if costs.counter.is_exact else (1000, 8000, 25)
-    steady = [(title, [[scheduled(costs, size, line, times) for times in (few, many)] for size in (hosts, 4 * hosts)]) for title, line in STEADY]
+    steady = [
+        (title, [[scheduled(costs, size, line, times) for times in (few, many)] for size in (hosts, 4 * hosts)])
+        for title, line in STEADY
+    ]
     costs.take(words for _, rows in steady for row in rows for words in row)
     for title, rows in steady:
         one, two = (costs.known[more] - costs.known[less] for less, more in rows)

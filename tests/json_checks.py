@@ -174,9 +174,15 @@ CUTS_VALUE = {
     ],
     **{"count": 5, "harmless": 1, "uncut": {"entries": 7, "switches": 6}, "names": {TWO: "leaf"}},
 }
-BOTH = CUTS.replace("cable\n", "cables\n").replace(f"{THREE}/2", f"{THREE}/2, {ONE}/1 - {TWO}/3").replace("5 cables", "5 pairs of cables")
-BOTH_VALUE = CUTS_VALUE | {"cables": [CUTS_VALUE["cables"][0] | {"ends": [f"{TWO}/2", f"{THREE}/2", f"{ONE}/1", f"{TWO}/3"]}]}
-AWAY = CUTS.replace("cable\n", "switch\n").replace(f'{TWO}/2 "leaf" - {THREE}/2', f'{TWO} "leaf"').replace("5 cables", "5 switches")
+BOTH = CUTS.replace("cable\n", "cables\n").replace(f"{THREE}/2", f"{THREE}/2, {ONE}/1 - {TWO}/3").replace(
+    "5 cables", "5 pairs of cables"
+)
+BOTH_VALUE = CUTS_VALUE | {
+    "cables": [CUTS_VALUE["cables"][0] | {"ends": [f"{TWO}/2", f"{THREE}/2", f"{ONE}/1", f"{TWO}/3"]}]
+}
+AWAY = CUTS.replace("cable\n", "switch\n").replace(f'{TWO}/2 "leaf" - {THREE}/2', f'{TWO} "leaf"').replace(
+    "5 cables", "5 switches"
+)
 AWAY_VALUE = {
     "form": "what-if",
     "switches": [{"guid": TWO} | {word: value for word, value in CUTS_VALUE["cables"][0].items() if word != "ends"}],
@@ -242,7 +248,7 @@ def as_json(room):
 
 
 def verdicts(room):
-    """`passes` is what the exit status of `ibsm audit` says."""
+    """Checks that `passes` agrees with the exit status of `ibsm audit`."""
     empty = SOUND.replace("25", "0").replace("21", "0").replace("pairs 4 arrive 4", "pairs 0 arrive 0")
     for text, line, is_sound in (
         (SOUND, "", True),
@@ -279,7 +285,7 @@ def gauges(room):
 
 
 def faults(room):
-    """What is cut, of no form or of another one prints nothing."""
+    """Checks that cut texts, and texts of no form or of another one, print nothing."""
     for text, words, why in (
         (SOUND.replace("credit loop none\n", ""), "it", "it: it is no whole text of audit: is it cut?"),
         (SOUND.replace("hops max 3 mean 3.00\n", ""), "it", "no whole text of audit"),
@@ -318,7 +324,7 @@ def faults(room):
 
 
 def named(room):
-    """Names behind GUIDs are a member of their own, whatever is in them."""
+    """Checks that names behind GUIDs become a member of their own, whatever they contain."""
     room.put(map=f'0x{ONE} "the [1] \xfc"\n0x{HOST} "node {TWO}"\n', facts=FACTS)
     room.put(it=room.run("names map", 0, stdin="facts"))
     names = {ONE: "the [1] \xfc", HOST: f"node {TWO}"}
@@ -326,7 +332,7 @@ def named(room):
 
 
 def of_the_tools(room):
-    """What the tools print is taken."""
+    """Checks that texts printed by the tools are taken."""
     for words, status, wanted in (
         ("compare t.facts cut.facts --names all.names", 1, "compare"),
         ("compare t.facts others.facts", 1, "compare"),

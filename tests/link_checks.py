@@ -2,14 +2,14 @@
 import record_files
 import sample_fabrics
 
-# By name the bits of widths, and of speeds with whether they are those of the extended field.
+# By name: the bits of widths, and the bits of speeds with whether they are in the extended field.
 WIDTHS = {"1x": 1, "2x": 16, "4x": 2, "8x": 4, "12x": 8}
 SPEEDS = {"SDR": (1, 0), "DDR": (2, 0), "QDR": (4, 0), "FDR": (1, 1), "EDR": (2, 1), "HDR": (4, 1), "NDR": (8, 1)}
 RATES = {"SDR": 2.5, "DDR": 5, "QDR": 10, "FDR": 14, "EDR": 25, "HDR": 50, "NDR": 100}
 
 
 def info(state, active=None, supported=()):
-    """PortInfo of a port in a state, with its width and speed, and those that it can have."""
+    """Returns the PortInfo of a port in a state, with its active width and speed and the supported ones."""
     value = bytearray(64)
     value[32] = state
     for width, speed in supported:
@@ -24,15 +24,22 @@ def info(state, active=None, supported=()):
 
 
 def recording(fabric, said, generation=1):
-    """A recording of a fabric's links: what each port says of its link, the same for all that `said` lacks."""
+    """Returns a recording of a fabric's links. `said` has the PortInfo of each port, and under None that of all
+    others."""
     records = []
     for (name, port), (far, back) in sorted(fabric.peers.items()):
         kind = record_files.SWITCH if fabric.is_switch(far) else record_files.ADAPTER
         via = record_files.via(fabric.guid(name), port)
-        records.append(record_files.node_info(via, kind, fabric.ports(far), fabric.guid(far), fabric.guid(far), back, generation))
+        records.append(
+            record_files.node_info(via, kind, fabric.ports(far), fabric.guid(far), fabric.guid(far), back, generation)
+        )
         value = said.get((name, port), said[None])
         if value is not None:
-            records.append(record_files.report(record_files.about(fabric.guid(name)), record_files.PORT_INFO, port, value, generation))
+            records.append(
+                record_files.report(
+                    record_files.about(fabric.guid(name)), record_files.PORT_INFO, port, value, generation
+                )
+            )
     return record_files.reports(*records)
 
 
@@ -42,7 +49,9 @@ def links(room):
     edr = info(4, ("4x", "EDR"), can)
     (room.path / "golden").write_bytes(recording(fabric, {None: edr}))
     printed = room.run("links golden --names all.names", 0)
-    room.check(printed.count(" 4x EDR 100 Gb/s\n") == 5 and " below 4x" not in printed, f"all links as they can be: {printed}")
+    room.check(
+        printed.count(" 4x EDR 100 Gb/s\n") == 5 and " below 4x" not in printed, f"all links as they can be: {printed}"
+    )
     room.check(printed.endswith("5 links: 5 of 4x EDR 100 Gb/s; below what both ends can, or not told: 0\n"), "counted")
     room.check('link 0000000000000010/1 "S1" 0000000000000020/1 "S2" 4x EDR' in printed, "names")
     room.check(room.run("links golden --slow", 0).count("\n") == 1, "none is slow")
@@ -53,23 +62,37 @@ def links(room):
     said = {None: edr, slow: one, far: one, adapter: old, fabric.peers[adapter]: info(4, ("4x", "QDR"), can)}
     (room.path / "now").write_bytes(recording(fabric, said, 7))
     printed = room.run("links now --slow", 1)
-    room.check(printed.startswith("link 0000000000000020/2 0000000000000030/2 1x QDR 10 Gb/s below 4x EDR 100 Gb/s\n5 links: "), f"a slow link: {printed}")
+    room.check(
+        printed.startswith(
+            "link 0000000000000020/2 0000000000000030/2 1x QDR 10 Gb/s below 4x EDR 100 Gb/s\n5 links: "
+        ),
+        f"a slow link: {printed}",
+    )
     printed = room.run("links now", 1)
-    room.check("0000000000000020/3 0000000000000100/1 4x QDR 40 Gb/s\n" in printed, "an adapter that can no more is not below")
+    room.check(
+        "0000000000000020/3 0000000000000100/1 4x QDR 40 Gb/s\n" in printed, "an adapter that can no more is not below"
+    )
     printed = room.run("compare golden now --names all.names", 1)
     lines = ['slow cable 0000000000000020/2 "S2" 0000000000000030/2 "S3" 4x EDR 100 Gb/s > 1x QDR 10 Gb/s']
     lines.append('slow cable 0000000000000020/3 "S2" 0000000000000100/1 "H1" 4x EDR 100 Gb/s > 4x QDR 40 Gb/s')
     room.check(printed.splitlines() == [*lines, "slow cable 2"], f"slow cables by a golden recording: {printed}")
     room.put(it=printed)
     told = room.run("json it", 0)
-    room.check('"change": "slow", "what": "cable", "ends": ["0000000000000020/2", ' in told and '"new": "1x QDR 10 Gb/s"' in told, f"as JSON: {told}")
-    room.check(room.run("compare now golden", 1).endswith("fast cable 2\n") and room.run("compare now now", 0) == "equal\n", "and faster, and equal")
+    room.check(
+        '"change": "slow", "what": "cable", "ends": ["0000000000000020/2", ' in told
+        and '"new": "1x QDR 10 Gb/s"' in told,
+        f"as JSON: {told}",
+    )
+    room.check(
+        room.run("compare now golden", 1).endswith("fast cable 2\n") and room.run("compare now now", 0) == "equal\n",
+        "and faster, and equal",
+    )
     odd_links(room, fabric, edr)
     every_rate(room, fabric)
 
 
 def odd_links(room, fabric, edr):
-    """Links that are gone, down, told by one end or by none, and files that are none."""
+    """Checks links that are gone, down, or told by one end or by none, and files that are no recordings."""
     end, far = ("S1", 1), fabric.peers["S1", 1]
     for said, status, last in (
         ({end: info(1)}, 0, "4 links: 4 of 4x EDR 100 Gb/s; below what both ends can, or not told: 0\n"),
@@ -97,7 +120,7 @@ def odd_links(room, fabric, edr):
 
 
 def every_rate(room, fabric):
-    """Each width with each speed."""
+    """Checks each width with each speed."""
     for width in WIDTHS:
         for speed, gigabits in RATES.items():
             (room.path / "odd").write_bytes(recording(fabric, {None: info(4, (width, speed), [(width, speed)])}))

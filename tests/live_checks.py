@@ -10,7 +10,7 @@ import paths
 import record_files
 import sample_fabrics
 
-# Of PortInfo, bytes that a Set of LIDs changes: the LID, the manager's LID, and the LMC with what stands beside it.
+# The bytes of PortInfo that a Set of LIDs changes: the LID, the manager's LID, and the byte that holds the LMC.
 CHANGED = {16, 17, 18, 19, 34}
 PORT_INFO = record_files.PORT_INFO
 
@@ -20,14 +20,14 @@ def send(bench, *words, **how):
 
 
 def one_round(bench, *words):
-    """A round in the folder that OpenSM reads, and what status.json has of it."""
+    """Runs a round in the folder that OpenSM reads. Returns its exit status and what status.json says."""
     programs = ["--ibsm", bench.program, "--record", bench.room / "out/record", "--send", bench.room / "out/send"]
     status = bench.run(sys.executable, paths.TOOLS / "round", "d", *programs, *words, simulated=True)
     return status, json.loads((bench.path / "d/status.json").read_text())
 
 
 def port_infos(path):
-    """Of a recording, each PortInfo by its node and port."""
+    """Returns each PortInfo in a recording, by node and port."""
     data, found = path.read_bytes(), {}
     for at in range(8, len(data), 272):
         record = data[at : at + 272]
@@ -37,11 +37,15 @@ def port_infos(path):
 
 
 def from_nothing(bench):
-    """Into a subnet without LIDs and tables `send` writes a plan, and changes nothing of ports but their LIDs."""
+    """Checks that `send` writes a plan into a subnet without LIDs and tables, and changes nothing in ports but their
+    LIDs."""
     bench.record("-q", "-g", 1, "-T", "none", "none.reports")
     bench.texts("none")
     before = port_infos(bench.path / "none.reports")
-    bench.check(send(bench, "--dry-run", "none.plan") == 0 and "to write: " in bench.printed, f"send --dry-run: {bench.printed.splitlines()[-1]}")
+    bench.check(
+        send(bench, "--dry-run", "none.plan") == 0 and "to write: " in bench.printed,
+        f"send --dry-run: {bench.printed.splitlines()[-1]}",
+    )
     bench.record("-q", "-g", 1, "-T", "dry", "dry.reports")
     bench.check(bench.same("none", "dry") or not (bench.path / "none").read_text().strip(), "it writes nothing")
     bench.check(send(bench, "none.plan") == 0, f"send: {bench.said.strip()}")
@@ -51,27 +55,39 @@ def from_nothing(bench):
     after = port_infos(bench.path / "sent.reports")
     others = {i for key in before for i in range(64) if before[key][i] != after[key][i]} - CHANGED
     bench.check(before.keys() == after.keys() and not others, f"PortInfo is otherwise as it was: {others}")
-    bench.check(send(bench, "none.plan") == 0 and " 0 LIDs, 0 blocks, 0 tops " in bench.said, "again there is nothing to write")
+    bench.check(
+        send(bench, "none.plan") == 0 and " 0 LIDs, 0 blocks, 0 tops " in bench.said, "again there is nothing to write"
+    )
 
 
 def widths(bench):
-    """What ibsim's ports say of their links."""
+    """Checks what ibsim's ports say of their links."""
     status = bench.run(sys.executable, paths.TOOLS / "links", "sent.reports")
     count = len(bench.fabric.peers) // 2
-    bench.check(status in (0, 1) and bench.printed.count("\nlink ") == count - 1 and f"{count} links: " in bench.printed, f"links: {bench.printed.splitlines()[-1]}")
+    bench.check(
+        status in (0, 1) and bench.printed.count("\nlink ") == count - 1 and f"{count} links: " in bench.printed,
+        f"links: {bench.printed.splitlines()[-1]}",
+    )
     status = bench.run(sys.executable, paths.TOOLS / "compare", "none.reports", "sent.reports")
     bench.check(status == 0 and bench.printed == "equal\n", "compare: the same links")
 
 
 def first_round(bench):
-    """A subnet without LIDs and tables, brought to a plan by rounds, of which the second has nothing to do."""
+    """Checks that rounds bring a subnet without LIDs and tables to a plan, and that the second one has nothing to
+    do."""
     for _ in range(2):
         status, told = one_round(bench, "--direct", "--settle", 0)
         bench.check(status == 0 and told["step"] == "audit", f"from nothing: {told['line']}, {told['steps']}")
     bench.check(bench.same("d/after.plan", "d/after.held") and told["steps"] == [], "the fabric holds the plan")
     status, told = one_round(bench, "--direct", "--at-once", "--lmc", 1, "--move-lids")
-    bench.check(status == 0 and bench.same("d/after.plan", "d/after.held"), f"with two LIDs for each port: {told['line']}")
-    name, port = next(end for end, far in bench.fabric.peers.items() if bench.fabric.is_switch(end[0]) and bench.fabric.is_switch(far[0]))
+    bench.check(
+        status == 0 and bench.same("d/after.plan", "d/after.held"), f"with two LIDs for each port: {told['line']}"
+    )
+    name, port = next(
+        end
+        for end, far in bench.fabric.peers.items()
+        if bench.fabric.is_switch(end[0]) and bench.fabric.is_switch(far[0])
+    )
     bench.tell(f'Error "{name}"[{port}] 20')
     bench.record("-q", "-g", 1, "-r", 20, "first.reports")
     bench.texts("first")
@@ -80,7 +96,7 @@ def first_round(bench):
 
 
 def refusals(bench):
-    """What `send` does not write."""
+    """Checks what `send` refuses to write."""
     plan = (bench.path / "none.plan").read_text()
     texts = {
         "cut": (plan[: plan.rindex("block")], "is it cut?"),
@@ -97,28 +113,39 @@ def refusals(bench):
     for name, (text, why) in texts.items():
         (bench.path / f"bad.{name}").write_text(text)
         status = send(bench, f"bad.{name}")
-        bench.check(status == 3 and why in bench.said and text != plan, f"send refuses {name}: {bench.said.splitlines()[0]}")
+        bench.check(
+            status == 3 and why in bench.said and text != plan, f"send refuses {name}: {bench.said.splitlines()[0]}"
+        )
         bench.check(all(line.startswith("send: ") for line in bench.said.splitlines()), "it says so line by line")
     bench.record("-q", "-g", 1, "-T", "kept", "kept.reports")
     bench.check(bench.same("none.plan", "kept"), "none of these writes")
     bench.check(send(bench, "bad.hole", "--holes") == 0 and send(bench, "none.plan") == 0, "with --holes it is written")
-    bench.check(send(bench, "nowhere") == 4 and send(bench) == 2 and send(bench, "-n", 65, "none.plan") == 2, "no file, wrong usage")
+    bench.check(
+        send(bench, "nowhere") == 4 and send(bench) == 2 and send(bench, "-n", 65, "none.plan") == 2,
+        "no file, wrong usage",
+    )
     bench.check(bench.run(bench.room / "out/send", "none.plan") == 4, "no adapter: status 4")
     with open(bench.path / "none.plan") as text:
         bench.check(send(bench, "-", stdin=text) == 0, "TABLES from standard input")
-    moved = plan.replace("lid 4 0000000000000100", "lid 4 000000000000000X").replace("lid 5 0000000000000200", "lid 5 0000000000000100")
+    moved = plan.replace("lid 4 0000000000000100", "lid 4 000000000000000X").replace(
+        "lid 5 0000000000000200", "lid 5 0000000000000100"
+    )
     (bench.path / "swapped").write_text(moved.replace("000000000000000X", "0000000000000200"))
     bench.check(send(bench, "swapped", "--holes") == 3 and "(--move-lids)" in bench.said, "a LID that moves is refused")
 
 
 def seen_on_a_terminal(bench):
-    """Who waits at a terminal for longer than two seconds sees how far `record` is, in a line that is gone at the end."""
+    """Checks that a terminal shows the progress of `record` after two seconds, in a line that is gone at the end."""
     for bend, is_seen in (("slow", True), (None, False)):
         ours, its = os.openpty()
         preload = f"{bench.room}/out/bent_replies.so:{bench.library}"
         environment = bench.environment() | ({"BEND": bend, "LD_PRELOAD": preload} if bend else {})
         process = subprocess.Popen(
-            [bench.room / "out/record", "-n", "1", "seen.reports"], cwd=bench.path, env=environment, stderr=its, stdin=subprocess.DEVNULL
+            [bench.room / "out/record", "-n", "1", "seen.reports"],
+            cwd=bench.path,
+            env=environment,
+            stderr=its,
+            stdin=subprocess.DEVNULL,
         )
         os.close(its)
         said = b""
@@ -133,18 +160,32 @@ def seen_on_a_terminal(bench):
 
 
 def healed(bench):
-    """With --watch a cable that goes is healed without anybody, and so is one that comes back."""
+    """Checks that --watch heals the loss of a cable without help, and also its return."""
     send(bench, "-q", "min.plan")
     programs = ["--ibsm", bench.program, "--record", bench.room / "out/record", "--send", bench.room / "out/send"]
-    words = [sys.executable, paths.TOOLS / "round", "d", *programs, "--direct", "--busier", "--settle", "0.1", "--watch", "0.2"]
+    words = [
+        sys.executable, paths.TOOLS / "round", "d", *programs, "--direct", "--busier", "--settle", "0.1", "--watch",
+        "0.2",
+    ]
     process = subprocess.Popen(
-        [str(word) for word in words], cwd=bench.path, env=bench.environment(), stdout=subprocess.PIPE, text=True, stdin=subprocess.DEVNULL
+        [str(word) for word in words],
+        cwd=bench.path,
+        env=bench.environment(),
+        stdout=subprocess.PIPE,
+        text=True,
+        stdin=subprocess.DEVNULL,
     )
     try:
         bench.check(" status 0 audit: the subnet holds the plan" in next_round(process), "rounds go on")
-        name, port = next(end for end, far in bench.fabric.peers.items() if bench.fabric.is_switch(end[0]) and bench.fabric.is_switch(far[0]))
-        # A cable that comes back heals nothing: where a step towards it has a credit loop, somebody is asked.
-        ends = {"Unlink": (" status 0 audit: ",), "ReLink": (" status 0 audit: ", " status 1 next: step 1 is not written")}
+        name, port = next(
+            end
+            for end, far in bench.fabric.peers.items()
+            if bench.fabric.is_switch(end[0]) and bench.fabric.is_switch(far[0])
+        )
+        # A cable that comes back heals nothing: if a step towards it has a credit loop, the operator decides.
+        ends = {
+            "Unlink": (" status 0 audit: ",), "ReLink": (" status 0 audit: ", " status 1 next: step 1 is not written")
+        }
         for command, word in (("Unlink", "gone cable"), ("ReLink", "come cable")):
             bench.tell(f'{command} "{name}"[{port}]')
             lines = [next_round(process)]
@@ -159,14 +200,15 @@ def healed(bench):
 
 
 def next_round(process):
-    """The line of the next round, without those of its steps."""
+    """Returns the line of the next round, without the lines of its steps."""
     while re.match(r"\S+ step \d+: ", line := process.stdout.readline()):
         pass
     return line
 
 
 def interrupted(bench):
-    """From the plan to minhop's tables: ended half-way, `send` leaves each block old or new, and goes on from there."""
+    """Checks going from the plan to minhop's tables: `send`, if ended half-way, leaves each block old or new, and can
+    go on from there."""
     plan, minhop = ((bench.path / name).read_text().splitlines() for name in ("min.plan", "min.held"))
     told = {
         "stop": (130, "send: stopped: 5 of", "each of a whole block, LID or top"),
@@ -176,18 +218,24 @@ def interrupted(bench):
     for bend, (wanted, *words) in told.items():
         send(bench, "-q", "min.plan")
         status = send(bench, "-n", 1, "min.held", bend=bend)
-        bench.check(status == wanted and all(word in bench.said for word in words), f"send, {bend}: status {status}, {bench.said.strip()}")
+        bench.check(
+            status == wanted and all(word in bench.said for word in words),
+            f"send, {bend}: status {status}, {bench.said.strip()}",
+        )
         bench.record("-q", "-g", 1, "-T", "half", "half.reports")
         half = (bench.path / "half").read_text().splitlines()
         is_either = len(half) == len(plan) and all(line in pair for line, pair in zip(half, zip(plan, minhop)))
-        bench.check(half not in (plan, minhop) and is_either, "each block is the old one or the new one, and it is neither of both")
+        bench.check(
+            half not in (plan, minhop) and is_either,
+            "each block is the old one or the new one, and it is neither of both",
+        )
     bench.check(send(bench, "-q", "min.held") == 0, "it goes on from there")
     bench.record("-q", "-g", 1, "-T", "half", "half.reports")
     bench.check(bench.same("min.held", "half"), "to the tables that were wanted")
 
 
 def to_a_plan(bench):
-    """From OpenSM's minhop to a plan by Sets, while OpenSM runs; and what both at once do."""
+    """Checks going from OpenSM's minhop to a plan by Sets while OpenSM runs, and what both do at once."""
     with bench.opensm("minhop") as opensm:
         bench.record("-q", "-g", 1, "-T", "min.held", "min.reports")
         bench.texts("min")
@@ -195,42 +243,61 @@ def to_a_plan(bench):
         bench.check(status == 0 and told["counts"]["entries"] > 0, f"from minhop: {told['verdict']}")
         status, told = one_round(bench, "--direct", "--loops", "--busier", "--settle", 0)
         bench.check(status == 0 and told["step"] == "audit", f"round --direct: {told['verdict']}, {told['steps']}")
-        bench.check(bench.same("d/after.held", "d/after.plan") and bench.same("d/after.held", "min.plan"), "the fabric holds the plan")
+        bench.check(
+            bench.same("d/after.held", "d/after.plan") and bench.same("d/after.held", "min.plan"),
+            "the fabric holds the plan",
+        )
         before = bench.sweeps()
         status, told = one_round(bench, "--direct")
-        bench.check(status == 0 and told["steps"] == [] and bench.sweeps() == before, "again there is nothing to do, and OpenSM was not asked")
-        # OpenSM writes what is otherwise than it wrote itself, and so nothing now.
+        bench.check(
+            status == 0 and told["steps"] == [] and bench.sweeps() == before,
+            "again there is nothing to do, and OpenSM was not asked",
+        )
+        # OpenSM writes only what differs from what it wrote itself, so it writes nothing.
         bench.check(bench.sweep_again(opensm), "OpenSM sweeps again")
         bench.record("-q", "-g", 1, "-T", "sweep.held", "sweep.reports")
         bench.check(bench.same("sweep.held", "min.plan"), "and leaves the tables")
     with bench.opensm("file,no_fallback", "-U", "d/plan.lfts") as opensm:
         bench.record("-q", "-g", 1, "-T", "again.held", "again.reports")
-        bench.check(bench.same("again.held", "min.plan"), "OpenSM, started anew on the files of the round, keeps the tables")
+        bench.check(
+            bench.same("again.held", "min.plan"), "OpenSM, started anew on the files of the round, keeps the tables"
+        )
         send(bench, "-q", "min.held")
         bench.check(bench.sweep_again(opensm), "other tables are sent, and OpenSM sweeps")
         status, told = one_round(bench, "--opensm", opensm.pid, "--log", "osm.log", "--at-once", "--busier")
-        bench.check(status == 1 and told["step"] == "holds", f"by OpenSM a round does not mend it: {told['verdict'][:60]}")
+        bench.check(
+            status == 1 and told["step"] == "holds", f"by OpenSM a round does not mend it: {told['verdict'][:60]}"
+        )
         status, told = one_round(bench, "--direct", "--loops", "--busier", "--settle", 0)
         bench.check(status == 0, f"by Sets one does: {told['verdict']}")
 
 
 def silent_cable(bench):
-    """A cable that loses packets, some or all, and an adapter that is silent: with --silent a round goes on without."""
+    """Checks a cable that loses some or all packets, and a silent adapter: with --silent a round goes on without
+    them."""
     send(bench, "-q", "min.plan")
     words = ["--direct", "--loops", "--busier", "--settle", 0]
     status, told = one_round(bench, *words)
     bench.check(status == 0, f"before: {told['verdict']}")
-    (name, port), (far, back) = next((end, peer) for end, peer in bench.fabric.peers.items() if bench.fabric.is_switch(end[0]) and bench.fabric.is_switch(peer[0]))
+    (name, port), (far, back) = next(
+        (end, peer)
+        for end, peer in bench.fabric.peers.items()
+        if bench.fabric.is_switch(end[0]) and bench.fabric.is_switch(peer[0])
+    )
     ends = {f"{bench.fabric.guid(node):016x}/{p}" for node, p in ((name, port), (far, back))}
     for percent in (30, 100):
         bench.tell(f'Error "{name}"[{port}] {percent}')
         status, told = one_round(bench, *words)
-        bench.check(percent < 100 or status == 1 and told["step"] == "record", f"{percent} % are lost: {told['verdict'][:60]}")
+        bench.check(
+            percent < 100 or status == 1 and told["step"] == "record", f"{percent} % are lost: {told['verdict'][:60]}"
+        )
         status, told = one_round(bench, *words, "--silent")
         silent = set(told["silent"]["ports"]) if told["silent"] else set()
         bench.check(status == 0 and silent == (ends if percent == 100 else set()), f"--silent: {told['line']}")
     bench.run(bench.program, "audit", "d/after.held", "d/after.reports")
-    bench.check(bench.printed.startswith("pairs ") and len(set(bench.printed.split()[1:4:2])) == 1, "and every packet arrives")
+    bench.check(
+        bench.printed.startswith("pairs ") and len(set(bench.printed.split()[1:4:2])) == 1, "and every packet arrives"
+    )
     bench.tell(f'Error "{name}"[{port}] 0')
     status, told = one_round(bench, *words)
     bench.check(status == 0 and "come cable" in told["line"], f"it answers again: {told['line']}")
@@ -247,7 +314,7 @@ def silent_cable(bench):
     bench.tell(f'Error "{near[0]}"[{near[1]}] 0')
 
 
-# Fabrics on which it is tried, and what.
+# The fabrics and the checks tried on each.
 ROUTED = to_a_plan, interrupted, silent_cable, healed
 SENT = (
     ("triangle", sample_fabrics.triangle, (from_nothing, widths, refusals, seen_on_a_terminal)),

@@ -1,11 +1,12 @@
-"""The made-up fabrics that `tests/measure` measures with: k-ary fat trees and random fabrics, their recordings and topologies."""
+"""The made-up fabrics that `tests/measure` measures with: k-ary fat trees and random fabrics, their recordings and
+topologies."""
 import itertools
 import random
 
 import paths  # noqa: F401
 import record_files as make
 
-# The name of each, its kind, sizes and seed.
+# The name, kind, sizes and seed of each set.
 SETS = {
     "rnd50": ("random", (50, 5, 200), 7000662),
     "ft300": ("tree", (16, 640), 1000542),
@@ -19,7 +20,7 @@ MOST_NODES = 1024
 
 
 class Fabric:
-    """Switches, whose GUIDs are in no order, adapters of one port, and the cables between their ports."""
+    """Switches, whose GUIDs follow no order, adapters of one port, and the cables between their ports."""
 
     def __init__(self, switches, dice):
         guids = [0x10 + 0x10 * i for i in range(switches)]
@@ -41,14 +42,15 @@ class Fabric:
         self.cable(switch, guid)
 
     def ports(self, guid):
-        """Switches have a port to spare."""
+        """Returns the number of the node's ports. A switch has one to spare."""
         return self.used[guid] + (guid < 0x1000000)
 
     def far_ends(self):
         return {a: b for a, b in self.cables} | {b: a for a, b in self.cables}
 
     def recording(self):
-        """The replies about all nodes in breadth from the first adapter on: of a switch by each of its cables."""
+        """Yields the replies of all nodes, breadth first from the first adapter. A switch replies once for each of its
+        cables."""
         far, start = self.far_ends(), self.adapters[0]
         yield make.NO_REPORTS
         yield self.node_info(make.START, start, 1)
@@ -88,7 +90,8 @@ class Fabric:
 
 
 def tree(dice, arity, adapters):
-    """A fat tree of three levels: arity pods, each of half as many edge switches and as many above them, and a core."""
+    """Makes a fat tree of three levels: `arity` pods, each of half as many edge switches and as many above them, and a
+    core."""
     half = arity // 2
     fabric = Fabric(5 * half * half, dice)
     edges, middles = fabric.switches[: arity * half], fabric.switches[arity * half : 2 * arity * half]
@@ -104,7 +107,7 @@ def tree(dice, arity, adapters):
 
 
 def tangle(dice, switches, degree, adapters):
-    """A tree at random, and wires between switches at random up to a mean degree."""
+    """Makes a random tree, and random wires between switches up to a mean degree."""
     fabric = Fabric(switches, dice)
     for number in range(1, switches):
         fabric.cable(fabric.switches[dice.randrange(number)], fabric.switches[number])
@@ -121,7 +124,7 @@ def fabric(name):
 
 
 def put(name, folder):
-    """Writes a set's recording, and its topology where that has few enough nodes, where they are not there yet."""
+    """Writes a set's recording, and its topology if the set has few enough nodes, unless the recording exists."""
     recording, topology = folder / f"{name}.reports", folder / f"{name}.topology"
     if recording.exists():
         return

@@ -1,5 +1,6 @@
-"""Inputs past each size at which a program could stop for want of room in what it counts by, for `tests/at-scale`. What is printed is
-compared as a whole: with what is known of a tree, with the same by another way, or with what has to come of it."""
+"""Inputs past each size at which a program could stop for want of room in what it counts by, for `tests/at-scale`. What
+is printed is compared as a whole: with what is known of a tree, with the same by another way, or with what has to come
+of it."""
 import itertools
 
 import paths  # noqa: F401
@@ -28,7 +29,7 @@ class Room:
         return run.printed()
 
     def prints(self, wanted, *words, status=0):
-        """A run prints this, and nothing else."""
+        """Checks that a run prints `wanted` and nothing else."""
         printed = self.run(*words, status=status)
         wanted = wanted.encode() if isinstance(wanted, str) else wanted
         if printed != wanted:
@@ -39,7 +40,8 @@ class Room:
 
 
 def check_tree(room):
-    """34,272 adapters at 157 switches: over 200,000 facts, a plan of over 10 MB, an audit whose sums are over 2^32, and steps to the plan."""
+    """Checks 34,272 adapters at 157 switches: over 200,000 facts, a plan of over 10 MB, an audit whose sums are over
+    2^32, and steps to the plan."""
     tree = levels(12, 12, 238)
     cells = tree.cells()
     plan = tree.plan()
@@ -52,7 +54,7 @@ def check_tree(room):
     room.prints(audit, "audit", "tree.plan", "tree")
     for tables in "tree.plan", "/dev/null":
         room.prints(plan, "next", tables, "tree")
-    # Parts that overlap, in two groupings.
+    # Overlapping parts, in two groupings.
     names = "part0", "part1", "part2"
     for number, name in enumerate(names):
         room.put(name, make.store(*(cell for place, cell in enumerate(cells) if place % 3 != number)))
@@ -65,7 +67,8 @@ def check_tree(room):
 
 
 def check_floors(room, tree):
-    """Stores of different floors, each of over 65,536 cells, and a floor under which half of them are forgotten."""
+    """Checks stores of different floors, each of over 65,536 cells, and a floor under which half of them are
+    forgotten."""
     cells = tree.cells(lambda place: 3 + place % 2)
     older, newer = cells[::2], cells[1::2]
     room.put("both", make.store(*cells))
@@ -79,27 +82,28 @@ def check_floors(room, tree):
 
 
 def check_ranges(room):
-    """5,000 adapters, under an LMC over 0, and the text of their tables."""
+    """Checks 5,000 adapters under an LMC over 0, and the text of their tables."""
     tree = levels(5, 5, 200)
     room.put("ranges", make.store(*tree.cells()))
     for lmc in 1, 3:
         for rule in "updown", "spread":
             room.prints(tree.plan(lmc), "plan", "--lmc", str(lmc), "--routing", rule, "ranges")
-    # Its tables behind comments that are over 5 MB by themselves.
+    # The tables behind more than 5 MB of comments.
     room.put("long.plan", padded("# ", 80000) + tree.plan())
     room.prints(tree.audit()[2], "audit", "long.plan", "ranges")
     room.prints(tree.plan(), "next", "long.plan", "ranges")
 
 
 def check_cells(room):
-    """A store file of over a million cells."""
+    """Checks a store file of over a million cells."""
     whole = make.store(*(make.cell(make.CLAIM, guid, 1, b"\0\1") for guid in range(CELLS)))
     room.put("million", whole)
     room.prints(whole, "join", "million")
 
 
 def check_switches(room):
-    """1,100 switches by each rule, from 70 roots and in an order: each plan passes, and all give the same LIDs."""
+    """Checks 1,100 switches by each rule, from 70 roots and in a given order: each plan passes, and all plans give the
+    same LIDs."""
     fabric = Fabric(20, 1080, 112, 1080)
     fabric.reports(room.folder / "switches")
     room.put("roots", "".join(f"0x{guid:x}\n" for guid in fabric.switches[:70]))
@@ -118,28 +122,34 @@ def check_switches(room):
 
 
 def check_managers(room):
-    """66 managers at one switch, each of which sees the others."""
+    """Checks 66 managers at one switch, each of which sees the others."""
     tree = chain(1, 66)
     room.put("crowd", tree.topology())
     names = [f"M{number}" for number in range(66)]
     seats = [f'manager {name} "H{guid:x}"[1] {15 if name == "M0" else 1}\n' for name, guid in zip(names, tree.adapters)]
     sweeps = [f"sweep {name}\ndrain 1000000\nprogress {name}\nstate {name}\n" for name in [*names, "M0"]]
     room.put("sweeps", "".join([*seats, *sweeps, "handover M0\nplan M65\n"]))
-    text = "".join(f"progress {name} done unanswered 0 toofar 0\nstate {name} {'master' if name == 'M0' else 'standby'}\n" for name in [*names, "M0"])
+    text = "".join(
+        f"progress {name} done unanswered 0 toofar 0\nstate {name} {'master' if name == 'M0' else 'standby'}\n"
+        for name in [*names, "M0"]
+    )
     room.prints(text.encode() + b"refused Nobody\n" + tree.plan(), "run", "crowd", "sweeps")
 
 
 def check_writing(room):
-    """A writing on 2,009 end ports, adapters' with two LIDs each."""
+    """Checks a writing on 2,009 end ports, with two LIDs for each port of an adapter."""
     tree = Tree([0] * 8, [0] + [250] * 8, 2)
     room.put("wide", tree.topology())
-    room.put("written", f'manager A "H{tree.adapters[0]:x}"[1] 1\nsweep A\ndrain 1000000\nwrite A\ndrain 1000000\ntables\nplan A\n')
+    room.put(
+        "written",
+        f'manager A "H{tree.adapters[0]:x}"[1] 1\nsweep A\ndrain 1000000\nwrite A\ndrain 1000000\ntables\nplan A\n',
+    )
     for lmc in 0, 1:
         room.prints(2 * tree.plan(lmc), "run", "--lmc", str(lmc), "wide", "written")
 
 
 def check_rooted_run(room):
-    """A manager that plans from 70 roots plans what `plan` does from what it knows."""
+    """Checks that a manager that plans from 70 roots plans what `plan` does from the manager's facts."""
     fabric = Fabric(20, 80, 30, 200)
     room.put("hundred", fabric.topology())
     room.put("roots", "".join(f"0x{guid:x}\n" for guid in fabric.switches[10:80]))
@@ -151,8 +161,13 @@ def check_rooted_run(room):
 
 
 def polled(times):
-    """A standby polls a master so many times, and then once more: a line of 64 bytes for each."""
-    lines = ['manager A "H1"[1] 2', 'manager B "H2"[1] 1', *("sweep A", "drain 1000", "write A", "drain 1000", "sweep B", "drain 1000")]
+    """Returns a schedule in which a standby polls a master `times` times, and once more: each poll is a line of 64
+    bytes."""
+    lines = [
+        'manager A "H1"[1] 2',
+        'manager B "H2"[1] 1',
+        *("sweep A", "drain 1000", "write A", "drain 1000", "sweep B", "drain 1000"),
+    ]
     for number in range(times):
         lines.append("poll B 2".ljust(PADDED - 1, "#"))
         if number % 500 == 499:
@@ -161,11 +176,12 @@ def polled(times):
 
 
 def check_lines(room):
-    """A topology and a schedule of over 65,536 lines and over 4 MiB: a standby's polls, each of which is answered."""
+    """Checks a topology and a schedule of over 65,536 lines and over 4 MiB: a standby's polls, each of which is
+    answered."""
     topology = 'Switch 4 "S" guid 0x10\n[1] "H1"[1]\n[2] "H2"[1]\nHca 1 "H1" guid 0x100\nHca 1 "H2" guid 0x200\n'
     room.put("short", topology)
     room.put("long", padded("# ", LINES).decode() + topology)
-    # Each poll and its answer are one packet each.
+    # Each poll is one packet, and so is its answer.
     text = "state B standby\npacket {} \"H2\"\n"
     room.put("few", polled(1000))
     serial = int((room.run("run", "short", "few").split() + [0] * 5)[4])
@@ -174,11 +190,14 @@ def check_lines(room):
 
 
 def padded(text, count):
-    """So many lines of a comment."""
+    """Returns `count` lines, each the same comment."""
     return (text.ljust(PADDED - 1, "-") + "\n").encode() * count
 
 
 def check_all(program, folder, noted):
     room = Room(program, folder, noted)
-    for part in check_tree, check_ranges, check_cells, check_switches, check_managers, check_writing, check_rooted_run, check_lines:
+    for part in (
+        check_tree, check_ranges, check_cells, check_switches, check_managers, check_writing, check_rooted_run,
+        check_lines,
+    ):
         part(room)

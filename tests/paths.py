@@ -4,5 +4,5 @@ import sys
 
 ROOT = pathlib.Path(__file__).resolve().parent.parent
 TOOLS = ROOT / "tools"
-# Behind the folder of the tests.
+# Looked up after the folder of the tests.
 sys.path.insert(1, str(TOOLS))

@@ -6,7 +6,7 @@ import subprocess
 
 import sample_fabrics
 
-# Stands in for `ibsm`: audits and plans by files beside it.
+# Stands in for `ibsm`: takes audits and plans from files beside it.
 FAKE = """#!/bin/sh
 case $1 in
 audit) cat audit.text; grep -q passes audit.ends ;;
@@ -48,18 +48,23 @@ class Balanced(html.parser.HTMLParser):
 
 
 def in_a_browser(room, path):
-    """What the page's script made of it: whether its count of the busiest channels is the table's."""
+    """Checks the page's script in a browser: its count of the busiest channels is that of the table."""
     browser = next((name for name in ("chromium", "chromium-browser", "google-chrome") if shutil.which(name)), None)
     if not browser:
         print("test-files: there is no chromium here, so no page is tried in a browser")
         return
-    words = [browser, "--headless", "--no-sandbox", "--disable-gpu", "--dump-dom", f"--user-data-dir={room.path}/browser"]
+    words = [
+        browser, "--headless", "--no-sandbox", "--disable-gpu", "--dump-dom", f"--user-data-dir={room.path}/browser"
+    ]
     run = subprocess.run([*words, f"file://{path}"], capture_output=True, text=True, timeout=120)
-    room.check(run.stdout.count('data-agrees="true"') == 1, f"the script counts what the table has: {run.stdout[-300:]}{run.stderr[-300:]}")
+    room.check(
+        run.stdout.count('data-agrees="true"') == 1,
+        f"the script counts what the table has: {run.stdout[-300:]}{run.stderr[-300:]}",
+    )
 
 
 def checked(room, name):
-    """A page that needs nothing else."""
+    """Checks that a page needs no other file, and returns its text."""
     text = room.text(name)
     page = Balanced(text)
     room.check(page.fault is None and page.open == [], f"{name}: elements close: {page.fault} {page.open}")
@@ -69,32 +74,68 @@ def checked(room, name):
 
 
 def pages(room):
-    room.put(fake=FAKE, audit_text=SOUND, audit_ends="passes\n", fake_plan=room.text("t.plan"), version_text="commit 1\nproved\n")
+    room.put(
+        fake=FAKE,
+        audit_text=SOUND,
+        audit_ends="passes\n",
+        fake_plan=room.text("t.plan"),
+        version_text="commit 1\nproved\n",
+    )
     (room.path / "fake").chmod(0o755)
     words = "report t.facts t.plan -o t.html --names all.names --ibsm ./fake"
     room.run(words, 0)
     text = checked(room, "t.html")
-    room.check("The tables pass the audit." in text and "Nothing is found." in text and "says that it is proved" in text, "a verdict")
-    for word in ("<td>switches</td><td class=number>3</td>", "<td>cables</td><td class=number>5</td>", "generation 1", "S1", "1 adapter<"):
+    room.check(
+        "The tables pass the audit." in text and "Nothing is found." in text and "says that it is proved" in text,
+        "a verdict",
+    )
+    for word in (
+        "<td>switches</td><td class=number>3</td>",
+        "<td>cables</td><td class=number>5</td>",
+        "generation 1",
+        "S1",
+        "1 adapter<",
+    ):
         room.check(word in text, f"the page has {word}")
-    room.check(text.count("<g data-c=") == 6 and "S2 port 2 \u2192 S3 port 2: 1 pairs" in text, "six channels, and what one carries")
-    room.check("Changes since" not in text and "by both counts" in text, "no changes are asked, and both counts are one")
+    room.check(
+        text.count("<g data-c=") == 6 and "S2 port 2 \u2192 S3 port 2: 1 pairs" in text,
+        "six channels, and what one carries",
+    )
+    room.check(
+        "Changes since" not in text and "by both counts" in text, "no changes are asked, and both counts are one"
+    )
     in_a_browser(room, room.path / "t.html")
     room.check(room.run(words.replace("-o t.html", "-o -"), 0) == text, "on standard output")
-    lost = SOUND.replace("arrive 25", "arrive 24").replace("no-entry 0", "no-entry 1").replace("load max 1", "load max 2")
+    lost = SOUND.replace("arrive 25", "arrive 24").replace("no-entry 0", "no-entry 1").replace(
+        "load max 1", "load max 2"
+    )
     lost = lost.replace("hops", 'lost 0000000000000100/1 5 at 0000000000000020 by 255: no entry\nmore lost 7\nhops')
     room.put(audit_text=lost, audit_ends="no\n", version_text="commit 1\ncompiled without its proofs: nothing\n")
     room.run(f"{words} --was cut.facts", 1)
     text = checked(room, "t.html")
-    for word in ("The tables do not pass the audit.", "packets that are lost on their way", "and 7 more", "nothing on this page is proved", "THE COUNTS DIFFER"):
+    for word in (
+        "The tables do not pass the audit.",
+        "packets that are lost on their way",
+        "and 7 more",
+        "nothing on this page is proved",
+        "THE COUNTS DIFFER",
+    ):
         room.check(word in text, f"a page of tables that do not pass has {word}")
-    room.check("lost 0000000000000100/1 &quot;H1&quot; 5 at 0000000000000020 &quot;S2&quot; by 255" in text, "findings by name")
-    room.check("come cable 0000000000000020/2 &quot;S2&quot; 0000000000000030/2 &quot;S3&quot;" in text, "what changed, by name")
+    room.check(
+        "lost 0000000000000100/1 &quot;H1&quot; 5 at 0000000000000020 &quot;S2&quot; by 255" in text, "findings by name"
+    )
+    room.check(
+        "come cable 0000000000000020/2 &quot;S2&quot; 0000000000000030/2 &quot;S3&quot;" in text,
+        "what changed, by name",
+    )
     loop = SOUND.replace("loop none", "loop on one lane 0000000000000010/1 0000000000000020/1")
     room.put(audit_text=loop, version_text="")
     room.run(words, 1)
     text = checked(room, "t.html")
-    room.check("wait for each other in a circle" in text and "does not tell whether it is proved" in text, "a credit loop is a finding")
+    room.check(
+        "wait for each other in a circle" in text and "does not tell whether it is proved" in text,
+        "a credit loop is a finding",
+    )
     room.put(built="commit 1\ncompiled without its proofs: nothing\n")
     room.run(words, 1)
     room.check("nothing on this page is proved" in checked(room, "t.html"), "a file beside the program tells it too")
@@ -119,7 +160,8 @@ def pages(room):
 
 
 def large(room):
-    """Up to 300 switches are drawn, in less than 2 MB; above, what is around the busiest channel."""
+    """Checks that up to 300 switches are drawn, in less than 2 MB, and of more only the surroundings of the busiest
+    channel."""
     for count, is_part in ((300, False), (301, True)):
         fabric = sample_fabrics.random_fabric(count, 4, 300)
         plan = fabric.plan(fabric.shortest())
@@ -127,7 +169,10 @@ def large(room):
         room.run("report many.facts many.plan -o many.html --rows 3 --ibsm ./fake", 0)
         text = checked(room, "many.html")
         boxes = text.count("<rect class=node")
-        room.check(len(text) < 2_000_000 and (boxes == 300 if not is_part else boxes < 100), f"{count} switches: {len(text)} bytes, {boxes} boxes")
+        room.check(
+            len(text) < 2_000_000 and (boxes == 300 if not is_part else boxes < 100),
+            f"{count} switches: {len(text)} bytes, {boxes} boxes",
+        )
         room.check((f"Of {count} switches those around" in text) == is_part, "a part is told")
         room.check(len(re.findall("<button data-c", text)) == 3, "so many of the busiest channels")
         if is_part:

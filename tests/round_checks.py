@@ -15,7 +15,7 @@ import paths
 import record_files
 import tool_checks
 
-# Stand in for a subnet: what it says and holds is in the folder fab. A recording is there the text of its facts.
+# These scripts stand in for a subnet. The folder fab has what it says and holds; a recording is the text of its facts.
 FAKE_RECORD = """#!/bin/sh
 for word; do tables=$file; file=$word; done
 echo "$*" >>fab/asked
@@ -31,8 +31,11 @@ for word; do last=$word; done
 case $1 in
 facts) case $last in *.store) cat fab/stored ;; *) cat "$last" ;; esac ;;
 plan) echo "$*" >>fab/planned; cat fab/plan ;;
+order) echo "$*" >>fab/ordered; echo 0x1 ;;
+order-of) echo "$*" >>fab/ordered; [ -f fab/told ] && cat fab/told ;;
 next)
     echo "$*" >>fab/stepped
+    case "$*" in *kept.order*) if [ -f fab/turns ]; then cat fab/turns >&2; rm fab/turns; exit 1; fi ;; esac
     for word; do tables=$file; file=$word; done
     if [ -f fab/moves ]; then cat fab/moves >&2; exit 3; fi
     between=
@@ -64,12 +67,12 @@ while :; do sleep 0.02; done
 
 @contextlib.contextmanager
 def fake_opensm(room, *words):
-    """A process that is called opensm and writes what it is told at HUP; it is ended by its id."""
+    """Runs a process named opensm that writes what it is told at HUP, and yields its id."""
     process = subprocess.Popen(
         [room.path / "opensm", *words],
         cwd=room.path,
         stdin=subprocess.DEVNULL,
-        # A shell can't trap what it was started to ignore, as HUP is under nohup.
+        # A shell can't trap a signal that was ignored when it was started, as HUP is under nohup.
         preexec_fn=lambda: signal.signal(signal.SIGHUP, signal.SIG_DFL),
     )
     try:
@@ -85,7 +88,7 @@ def fake_opensm(room, *words):
 
 
 def rounds(room):
-    """Rounds of a subnet that scripts stand in for: how each ends, and what was written by then."""
+    """Checks rounds of a subnet that scripts stand in for: how each ends, and what it has written by then."""
     for name, script in (("record", FAKE_RECORD), ("ibsm", FAKE_IBSM), ("opensm", FAKE_OPENSM), ("send", FAKE_SEND)):
         (room.path / name).write_text(script)
         (room.path / name).chmod(0o755)
@@ -98,11 +101,14 @@ def rounds(room):
             (room.path / "fab" / name).write_text(text)
 
     def ends(words, status, step, verdict, settle=0):
-        """A round ends so, and says so in status.json too."""
-        printed = room.run(f"round rd --ibsm ./ibsm --record ./record --send ./send --log fab/log --settle {settle} {words}", status)
+        """Checks how a round ends, by its output and in status.json, and returns the latter."""
+        printed = room.run(
+            f"round rd --ibsm ./ibsm --record ./record --send ./send --log fab/log --settle {settle} {words}", status
+        )
         told = json.loads(room.text("rd/status.json"))
         steps = [
-            f"step {number}: {step['entries']} entries, {step['blocks']} blocks; {step['told']}; status {step['status']}\n"
+            f"step {number}: {step['entries']} entries, {step['blocks']} blocks; {step['told']}; status "
+            f"{step['status']}\n"
             for number, step in enumerate(told["steps"], 1)
         ]
         wanted = {"status": status, "step": step, "verdict": told["verdict"]}
@@ -196,11 +202,14 @@ def rounds(room):
             f"--opensm {process}",
             1,
             "holds",
-            "the subnet does not hold the plan: 1 entries differ on 1 switches, blocks to write: 1; switch 0000000000000010 entries 1",
+            "the subnet does not hold the plan: 1 entries differ on 1 switches, blocks to write: 1; switch "
+            "0000000000000010 entries 1",
         )
         fab(held=room.text("top.plan"), written=plan, next=room.text("top.plan"))
         told = ends(f"--opensm {process}", 0, "audit", "the subnet holds the plan, but for greater tops on 1 switches")
-        room.check(told["counts"]["tops_above"] == 1 and told["counts"]["differences"] == 0, "a greater top is no difference")
+        room.check(
+            told["counts"]["tops_above"] == 1 and told["counts"]["differences"] == 0, "a greater top is no difference"
+        )
         fab(next=plan)
         by_steps(room, fab, ends, process)
         fab(held=room.text("round.plan"), deaf="")
@@ -210,10 +219,11 @@ def rounds(room):
     ends(f"--opensm {os.getpid()}", 3, "manager", "not opensm")
     ends("--opensm 99999999", 3, "manager", "there is no process 99999999: has OpenSM ended?")
     directly(room, fab, ends)
+    by_a_kept_order(room, fab, ends)
     told_beside(room, fab, ends)
     silence(room, fab, ends)
     other_files(room, fab, ends)
-    by_a_file(room, fab, ends)
+    by_a_file(room, fab)
     watched(room)
     healed(room, fab)
     watched_by_log(room, fab)
@@ -227,12 +237,13 @@ def rounds(room):
     room.refused("round rd --ibsm ./nothing --record ./record", "no program ./nothing", 4)
     room.refused("round rd --ibsm ./ibsm --record ./nothing", "no program record", 4)
     room.refused("round rd --ibsm ./ibsm --record ./record --direct --send ./nothing", "no program send", 4)
-    for words in ("", "rd --lmc 8", "rd --direct --opensm 1", "rd --opensm x", "rd --routing other"):
+    wrong = "rd --lmc 8", "rd --direct --opensm 1", "rd --opensm x", "rd --routing other", "rd --keep-order --routing updown"
+    for words in ("", *wrong):
         room.run(f"round {words}", 2)
 
 
 def by_steps(room, fab, ends, process):
-    """Rounds whose plan is two steps away."""
+    """Checks rounds whose plan is two steps away."""
     facts, plan, held = (room.text(name) for name in ("t.facts", "t.plan", "round.plan"))
     fab(held=held, obeys="", stepped="", log="ready\n", **{"step.1": room.text("hole.plan")})
     told = ends(f"--opensm {process} --lmc 0", 0, "audit", "the subnet holds the plan", settle=0.3)
@@ -252,7 +263,9 @@ def by_steps(room, fab, ends, process):
     fab(held=held, loop="credit loop on one lane 0000000000000010/1 0000000000000020/1\nlids 5 4\n", log="ready\n")
     written = room.text("rd/plan.lfts")
     loop = "credit loop on one lane 0000000000000010/1 0000000000000020/1; lids 5 4 (--loops)"
-    told = ends(f"--opensm {process}", 1, "next", f"step 1 is not written, since packets can wait in a loop meanwhile: {loop}")
+    told = ends(
+        f"--opensm {process}", 1, "next", f"step 1 is not written, since packets can wait in a loop meanwhile: {loop}"
+    )
     room.check(
         told["steps"][0]["status"] == 1 and room.text("fab/held") == held and room.text("rd/plan.lfts") == written,
         "a step with a credit loop is not written",
@@ -269,7 +282,7 @@ def by_steps(room, fab, ends, process):
     fab(plan=room.text("hole.plan"))
     ends(f"--opensm {process}", 3, "write", "opensm-files: nothing is written")
     room.check(room.text("fab/held") == held, "nor is a step to a plan that may not be written")
-    # What is held stays as it is, and a table's size is another at each look.
+    # The held tables never change, and the size of a table differs at each look.
     fab(plan=plan, written=held, flaps=facts.replace("cap 0000000000000010 1024", "cap 0000000000000010 1025"))
     told = ends(f"--opensm {process}", 1, "read-back", "after 14 steps another one is left")
     fab(facts=facts, written=plan)
@@ -278,20 +291,28 @@ def by_steps(room, fab, ends, process):
 
 
 def directly(room, fab, ends):
-    """Rounds that send tables themselves, and leave OpenSM its files."""
+    """Checks rounds that send tables themselves and leave OpenSM its files."""
     plan, held = room.text("t.plan"), room.text("round.plan")
     fab(held=held, sent="", log="ready\n", **{"step.1": room.text("hole.plan")})
     (room.path / "rd/plan.lfts").unlink()
     told = ends("--direct --ca mlx5_0 --m-key 7", 0, "audit", "the subnet holds the plan", settle=0.1)
     sent = "--ca mlx5_0 --m-key 7 --holes --quiet rd/step.tables\n"
-    room.check(len(told["steps"]) == 2 and room.text("fab/sent") == 2 * sent, f"each step is sent: {room.text('fab/sent')}")
+    room.check(
+        len(told["steps"]) == 2 and room.text("fab/sent") == 2 * sent, f"each step is sent: {room.text('fab/sent')}"
+    )
     room.check("settle" in told["seconds"] and "opensm" not in told["seconds"], "with a wait between, and no HUP")
-    room.check("0x0005 002" in room.text("rd/plan.lfts") and room.text("fab/held") == plan, "OpenSM's file is that of the last step")
+    room.check(
+        "0x0005 002" in room.text("rd/plan.lfts") and room.text("fab/held") == plan,
+        "OpenSM's file is that of the last step",
+    )
     room.check(room.text("fab/log") == "ready\n", "OpenSM is not asked")
     (room.path / "fab/step.1").unlink()
     fab(held=held, sent="")
     told = ends("--direct --at-once --holes --move-lids", 0, "audit", "the subnet holds the plan")
-    room.check(room.text("fab/sent") == "--move-lids --holes --quiet rd/now.plan\n" and not told["steps"], "at once the plan is")
+    room.check(
+        room.text("fab/sent") == "--move-lids --holes --quiet rd/now.plan\n" and not told["steps"],
+        "at once the plan is",
+    )
     ends("--direct", 0, "audit", "the subnet holds the plan")
     room.check(room.text("fab/sent").count("\n") == 1, "nothing is sent where nothing differs")
     for status, wanted in (("1", 1), ("3", 3), ("4", 4), ("130", 4)):
@@ -301,12 +322,63 @@ def directly(room, fab, ends):
         (room.path / "fab" / name).unlink()
 
 
+def by_a_kept_order(room, fab, ends):
+    """Checks rounds that keep the order of switches by which they plan."""
+    held = room.text("round.plan")
+    words, holds = "--direct --keep-order --routing balance", "the subnet holds the plan"
+    fab(held=held, ordered="", planned="", stepped="")
+    ends(words, 0, "audit", holds)
+    asked = "order-of rd/now.held rd/now.reports\n"
+    room.check(
+        room.text("fab/ordered") == f"{asked}order --routing balance rd/now.reports\n"
+        and room.text("rd/kept.order") == "0x1\n",
+        "the first order is that of the rule if the held tables tell none",
+    )
+    by = "--routing spread --order rd/kept.order"
+    room.check(
+        room.text("fab/planned").startswith(f"plan {by} rd/now.reports\n")
+        and room.text("fab/stepped").startswith(f"next {by} rd/now.held rd/now.reports\n"),
+        "plans and steps go by it",
+    )
+    fab(held=held, ordered="", told="0x2\n")
+    ends(words, 0, "audit", holds)
+    room.check(
+        room.text("fab/ordered") == "" and room.text("rd/kept.order") == "0x1\n",
+        "it is kept while steps by it have no credit loop",
+    )
+    fab(held=held, turns="credit loop on one lane 0000000000000010/1 0000000000000020/1\n")
+    ends(words, 0, "audit", holds)
+    room.check(
+        room.text("fab/ordered") == asked and room.text("rd/kept.order") == "0x2\n",
+        "else it becomes the one that the held tables tell",
+    )
+    (room.path / "fab/told").unlink()
+    loop = "credit loop on one lane 0000000000000010/1 0000000000000020/1\n"
+    fab(held=held, ordered="", turns=loop, loop=loop)
+    ends(words, 1, "next", "step 1 is not written")
+    room.check(
+        room.text("fab/ordered") == asked and room.text("rd/kept.order") == "0x2\n" and room.text("fab/held") == held,
+        "and stays if they tell none",
+    )
+    (room.path / "rd/kept.order").unlink()
+    fab(loop="credit loop none\n")
+
+
 def told_beside(room, fab, ends):
-    """What changed, how many pairs were lost, and how busy channels are."""
+    """Checks what is told of changes, of the number of lost pairs, and of how busy channels are."""
     facts, plan, held = (room.text(name) for name in ("t.facts", "t.plan", "round.plan"))
-    more = facts.replace("link 0000000000000020/1 ", "link 0000000000000010/3 0000000000000010/4 @1\nlink 0000000000000010/4 0000000000000010/3 @1\nlink 0000000000000020/1 ")
-    more = more.replace("port 0000000000000010/3 down", "port 0000000000000010/3 up").replace("port 0000000000000010/4 down", "port 0000000000000010/4 up")
-    audits = {"audit": "pairs 25 arrive 25\nload max 10 mean 2.00\n", "audit.held": "pairs 25 arrive 20\nload max 3 mean 1.25\n"}
+    more = facts.replace(
+        "link 0000000000000020/1 ",
+        "link 0000000000000010/3 0000000000000010/4 @1\nlink 0000000000000010/4 0000000000000010/3 @1\n"
+        "link 0000000000000020/1 ",
+    )
+    more = more.replace("port 0000000000000010/3 down", "port 0000000000000010/3 up").replace(
+        "port 0000000000000010/4 down", "port 0000000000000010/4 up"
+    )
+    audits = {
+        "audit": "pairs 25 arrive 25\nload max 10 mean 2.00\n",
+        "audit.held": "pairs 25 arrive 20\nload max 3 mean 1.25\n",
+    }
     fab(facts=facts, held=plan, sent="")
     before = ends("--direct", 0, "audit", "the subnet holds the plan")
     room.check(before["lost"] is None and before["changes"] == [] and before["whole"], f"nothing changed: {before}")
@@ -315,24 +387,44 @@ def told_beside(room, fab, ends):
     come = "come cable 0000000000000010/3 0000000000000010/4"
     room.check(told["changes"] == [come] and f"; changed: {come}; " in told["line"], f"what changed: {told['line']}")
     lost = told["lost"]
-    room.check((lost["pairs"], lost["since"], lost["is_back"]) == (5, before["whole"], True), f"pairs were lost: {lost}")
-    room.check(f"; 5 pairs were lost, for {lost['seconds']:.1f} s at most; " in told["line"], f"for how long: {told['line']}")
-    room.check(told["line"].endswith("; busiest channel 3 > 10, mean 1.25 > 2.00"), f"how busy channels are: {told['line']}")
-    room.check(told["load"] == {"plan": {"max": 10, "mean": 2.0}, "held": {"max": 3, "mean": 1.25}}, f"load: {told['load']}")
+    room.check(
+        (lost["pairs"], lost["since"], lost["is_back"]) == (5, before["whole"], True), f"pairs were lost: {lost}"
+    )
+    room.check(
+        f"; 5 pairs were lost, for {lost['seconds']:.1f} s at most; " in told["line"], f"for how long: {told['line']}"
+    )
+    room.check(
+        told["line"].endswith("; busiest channel 3 > 10, mean 1.25 > 2.00"), f"how busy channels are: {told['line']}"
+    )
+    room.check(
+        told["load"] == {"plan": {"max": 10, "mean": 2.0}, "held": {"max": 3, "mean": 1.25}}, f"load: {told['load']}"
+    )
     fab(held=held, loop="credit loop on one lane 0000000000000010/1\nlids 5\n")
     told = ends("--direct", 1, "next", "step 1 is not written")
-    room.check(not told["lost"]["is_back"] and "; 5 pairs are lost, for " in told["line"], f"and are not back: {told['line']}")
+    room.check(
+        not told["lost"]["is_back"] and "; 5 pairs are lost, for " in told["line"], f"and are not back: {told['line']}"
+    )
     (room.path / "rd/status.json").unlink()
     told = ends("--direct", 1, "next", "step 1 is not written")
-    room.check(told["lost"]["seconds"] is None and "; 5 pairs are lost, it is not known for how long; " in told["line"], told["line"])
-    for most, pairs, words, status in ((6, 2, "", 0), (7, 2, "", 1), (7, 2, "--busier", 0), (7, 2, "--look", 0), (12, 4, "", 0)):
+    room.check(
+        told["lost"]["seconds"] is None and "; 5 pairs are lost, it is not known for how long; " in told["line"],
+        told["line"],
+    )
+    for most, pairs, words, status in (
+        (6, 2, "", 0), (7, 2, "", 1), (7, 2, "--busier", 0), (7, 2, "--look", 0), (12, 4, "", 0)
+    ):
         audits = {"audit": pairs, "audit.held": 2}
         for name, count in audits.items():
             load = f"load max {most if name == 'audit' else 5} mean 2.00\n"
             audits[name] = f"pairs 25 arrive 25\nbetween adapters pairs {count} arrive {count}\n{load}"
         fab(held=held, facts=facts, loop="credit loop none\n", **audits)
         verdict = "carries 7 routes, and what is held 5 (--busier)" if status else "the subnet holds the plan"
-        told = ends(f"--direct {words}", status, "compare" if status or "look" in words else "audit", "looked only" if "look" in words else verdict)
+        told = ends(
+            f"--direct {words}",
+            status,
+            "compare" if status or "look" in words else "audit",
+            "looked only" if "look" in words else verdict,
+        )
     fab(held=held, **{"audit.held": "pairs 25 arrive 25\nbetween adapters pairs 0 arrive 0\nload max 0 mean 0.00\n"})
     ends("--direct", 0, "audit", "the subnet holds the plan")
     (room.path / "fab/audit.held").unlink()
@@ -340,7 +432,7 @@ def told_beside(room, fab, ends):
 
 
 def silence(room, fab, ends):
-    """What is silent is left out, and an adapter that was known stays."""
+    """Checks that silent nodes are left out, and that a known adapter stays."""
     facts, plan = room.text("t.facts"), room.text("t.plan")
     claimed = facts.replace("claim 0000000000000200/1 0", "claim 0000000000000200/1 5")
     quiet = "".join(line for line in claimed.splitlines(True) if "0000000000000200" not in line)
@@ -351,36 +443,83 @@ def silence(room, fab, ends):
     told = ends("--direct", 1, "record", "the record has gaps")
     room.check("(--silent goes on without)" in told["verdict"], "it says which option goes on")
     told = ends("--direct --silent", 0, "audit", "the subnet holds the plan")
-    room.check((room.path / "rd/now.store").read_bytes() == record_files.store_of(claimed), "planned is what was known before")
-    room.check(told["silent"] == {"ports": [], "kept": [{"end": "0000000000000200/1", "lid": 5}], "left_out": []}, f"{told['silent']}")
-    room.check(told["line"].endswith("; silent ports that keep their LIDs: 1, as 0000000000000200/1 with 5"), told["line"])
-    room.check(room.text("rd/now.held") == plan and "--retries 20" in room.text("fab/asked"), "its LID is held, and it was asked again")
+    room.check(
+        (room.path / "rd/now.store").read_bytes() == record_files.store_of(claimed), "planned is what was known before"
+    )
+    room.check(
+        told["silent"] == {"ports": [], "kept": [{"end": "0000000000000200/1", "lid": 5}], "left_out": []},
+        f"{told['silent']}",
+    )
+    room.check(
+        told["line"].endswith("; silent ports that keep their LIDs: 1, as 0000000000000200/1 with 5"), told["line"]
+    )
+    room.check(
+        room.text("rd/now.held") == plan and "--retries 20" in room.text("fab/asked"),
+        "its LID is held, and it was asked again",
+    )
     # The cable between two switches is silent: nothing is kept.
-    cut = facts.replace("link 0000000000000020/2 0000000000000030/2 @1\n", "").replace("link 0000000000000030/2 0000000000000020/2 @1\n", "")
+    cut = facts.replace("link 0000000000000020/2 0000000000000030/2 @1\n", "").replace(
+        "link 0000000000000030/2 0000000000000020/2 @1\n", ""
+    )
     fab(facts=cut, held=plan)
     told = ends("--silent --look", 0, "compare", "looked only")
-    room.check(told["silent"]["ports"] == ["0000000000000020/2", "0000000000000030/2"] and not told["silent"]["kept"], f"{told['silent']}")
+    room.check(
+        told["silent"]["ports"] == ["0000000000000020/2", "0000000000000030/2"] and not told["silent"]["kept"],
+        f"{told['silent']}",
+    )
     room.check(not (room.path / "rd/now.store").exists(), "and what was recorded is planned")
-    # A switch without the size of its table is left out, and the adapter that it alone is wired to.
-    left = "".join(line for line in facts.splitlines(True) if "0000000000000030" not in line and "0000000000000200" not in line)
+    # A switch without a known table size is left out, and so is the adapter that has a wire to it alone.
+    left = "".join(
+        line for line in facts.splitlines(True) if "0000000000000030" not in line and "0000000000000200" not in line
+    )
     fab(facts=facts.replace("cap 0000000000000030 1024 @1\n", ""), stored=left, held=plan)
     told = ends("--silent --look", 0, "compare", "looked only")
-    room.check((room.path / "rd/now.store").read_bytes() == record_files.store_of(left), "a switch without its size is left out")
-    room.check(told["silent"]["left_out"] == ["0000000000000030", "0000000000000200"], f"with what it joins: {told['silent']}")
-    # A port must not get the LID that a silent one has.
-    fab(facts=claimed.replace("claim 0000000000000200/1 5", "claim 0000000000000200/1 0").replace("claim 0000000000000030/0 0", "claim 0000000000000030/0 5"), held=plan, status="0")
+    room.check(
+        (room.path / "rd/now.store").read_bytes() == record_files.store_of(left),
+        "a switch without its size is left out",
+    )
+    room.check(
+        told["silent"]["left_out"] == ["0000000000000030", "0000000000000200"], f"with what it joins: {told['silent']}"
+    )
+    # No port may get the LID of a silent one.
+    fab(
+        facts=claimed.replace("claim 0000000000000200/1 5", "claim 0000000000000200/1 0").replace(
+            "claim 0000000000000030/0 0", "claim 0000000000000030/0 5"
+        ),
+        held=plan,
+        status="0",
+    )
     ends("--look --move-lids", 0, "compare", "looked only")
-    fab(facts=facts.replace("cap 0000000000000030 1024 @1\n", ""), stored=left, plan=plan.replace("lid 3 0000000000000030/0\n", ""), status="1")
-    fab(plan=room.text("fab/plan").replace("lid 5 0000000000000200/1", "lid 5 0000000000000100/1").replace("lid 4 0000000000000100/1\n", ""))
-    ends("--silent --look", 1, "lids", "0000000000000100/1 would get LID 5 of 0000000000000030/0, which may be silent alone")
+    fab(
+        facts=facts.replace("cap 0000000000000030 1024 @1\n", ""),
+        stored=left,
+        plan=plan.replace("lid 3 0000000000000030/0\n", ""),
+        status="1",
+    )
+    fab(
+        plan=room.text("fab/plan").replace("lid 5 0000000000000200/1", "lid 5 0000000000000100/1").replace(
+            "lid 4 0000000000000100/1\n", ""
+        )
+    )
+    ends(
+        "--silent --look",
+        1,
+        "lids",
+        "0000000000000100/1 would get LID 5 of 0000000000000030/0, which may be silent alone",
+    )
     fab(facts=facts, plan=plan, held=plan, status="0")
     (room.path / "fab/step.1").unlink()
 
 
 def other_files(room, fab, ends):
-    """An OpenSM that reads other files is told before anything is asked."""
+    """Checks that an OpenSM that reads other files is reported before anything is asked."""
     fab(held=room.text("t.plan"), log="", facts=room.text("t.facts"))
-    for words, is_other in ((("-U", "other.lfts"), 1), (("--lfts_file=x/plan.lfts",), 1), (("-U", "rd/plan.lfts"), 0), (("-Urd/../rd/plan.lfts",), 0)):
+    for words, is_other in (
+        (("-U", "other.lfts"), 1),
+        (("--lfts_file=x/plan.lfts",), 1),
+        (("-U", "rd/plan.lfts"), 0),
+        (("-Urd/../rd/plan.lfts",), 0),
+    ):
         with fake_opensm(room, *words) as process:
             if is_other:
                 told = ends(f"--opensm {process}", 3, "manager", f"OpenSM {process} routes by ")
@@ -390,8 +529,8 @@ def other_files(room, fab, ends):
         fab(log="")
 
 
-def by_a_file(room, fab, ends):
-    """Options in a file, which those of the command line count before."""
+def by_a_file(room, fab):
+    """Checks options in a file. Those of the command line take precedence."""
     room.put(round_conf="# where\ndir rd\nrouting spread  # a rule\nlmc=0\nlook\n\n", bad_conf="dir rd\nsing\n")
     fab(planned="")
     words = "--ibsm ./ibsm --record ./record"
@@ -405,13 +544,16 @@ def by_a_file(room, fab, ends):
 
 
 def started(room, *words):
-    """Rounds that go on, with their lines to read."""
-    words = [sys.executable, paths.TOOLS / "round", "rd", "--ibsm", "./ibsm", "--record", "./record", "--send", "./send", *words]
+    """Starts rounds that go on, and returns the process, whose lines can be read."""
+    words = [
+        sys.executable, paths.TOOLS / "round", "rd", "--ibsm", "./ibsm", "--record", "./record", "--send", "./send",
+        *words,
+    ]
     return subprocess.Popen(words, cwd=room.path, stdout=subprocess.PIPE, text=True, stdin=subprocess.DEVNULL)
 
 
 def healed(room, fab):
-    """With --watch a step with a credit loop is written while packets are lost, and no other one is."""
+    """Checks that --watch writes a step with a credit loop only while packets are lost."""
     held, loop = room.text("round.plan"), "credit loop on one lane 0000000000000010/1\nlids 5\n"
     for arrive, step, end in (
         (20, "; status 1; written all the same, since 5 pairs are lost", "status 0 audit: the subnet holds the plan; "),
@@ -428,7 +570,7 @@ def healed(room, fab):
 
 
 def watched_by_log(room, fab):
-    """Where OpenSM's log is named, a round goes once it tells of a sweep."""
+    """Checks that a round starts only once OpenSM's log, if given, tells of a sweep."""
     fab(log="SUBNET UP\n")
     process = started(room, "--look", "--watch", "0.05", "--log", "fab/log")
     first = process.stdout.readline()
@@ -440,11 +582,14 @@ def watched_by_log(room, fab):
     process.terminate()
     process.communicate()
     at = datetime.datetime.fromisoformat(second.split(" ")[0]).timestamp()
-    room.check(" status 0 compare: " in first and " status 0 compare: " in second and at >= told, f"by the log: {first}{second}")
+    room.check(
+        " status 0 compare: " in first and " status 0 compare: " in second and at >= told,
+        f"by the log: {first}{second}",
+    )
 
 
 def watched(room):
-    """Rounds go on until a signal, one line for each."""
+    """Checks that rounds go on until a signal, with one line each."""
     words = [
         sys.executable,
         paths.TOOLS / "round",

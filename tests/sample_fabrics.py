@@ -1,57 +1,61 @@
 """Fabrics for the tests of the tools: their facts and tables as texts, and as ibsim reads them."""
+from __future__ import annotations
+
 import collections
 import random
+from collections.abc import Iterable
 
 ADAPTER, SWITCH = "ca", "switch"
-# How many entries a forwarding table has: as many as there are LIDs of one port.
+# The number of entries in a forwarding table: LIDs 0 to 0xBFFF.
 ROOM = 49152
+Port = tuple[str, int]
 
 
 class Fabric:
-    def __init__(self):
+    def __init__(self) -> None:
         self.nodes = {}  # name: type, GUID, ports
-        self.peers = {}  # (name, port): the same of the other end
+        self.peers = {}  # (name, port): name and port of the other end
         self.used = collections.Counter()  # name: ports with a cable
 
-    def add(self, kind, name, guid, ports=0):
-        """A node; without a number of ports it gets one for each cable, and a switch one more."""
+    def add(self, kind: str, name: str, guid: int, ports: int = 0) -> str:
+        """Adds a node and returns its name. Without `ports` it gets a port for each cable, and a switch one more."""
         self.nodes[name] = kind, guid, ports
         return name
 
-    def switches(self, count, ports=0):
+    def switches(self, count: int, ports: int = 0) -> list[str]:
         return [self.add(SWITCH, f"S{i}", 16 * i, ports) for i in range(1, count + 1)]
 
-    def hosts(self, switches):
-        """An adapter of one port at each of the switches named."""
+    def hosts(self, switches: Iterable[str]) -> None:
+        """Adds an adapter of one port at each of the switches named."""
         for i, switch in enumerate(switches, 1):
             self.join(self.add(ADAPTER, f"H{i}", 0x1000000 + 16 * i, 1), switch)
 
-    def take(self, name):
+    def take(self, name: str) -> Port:
         self.used[name] += 1
         return name, self.used[name]
 
-    def join(self, one, other):
+    def join(self, one: str, other: str) -> None:
         a, b = self.take(one), self.take(other)
         self.peers[a], self.peers[b] = b, a
 
-    def ports(self, name):
+    def ports(self, name: str) -> int:
         kind, _, ports = self.nodes[name]
         return ports or self.used[name] + (kind == SWITCH)
 
-    def guid(self, name):
+    def guid(self, name: str) -> int:
         return self.nodes[name][1]
 
-    def is_switch(self, name):
+    def is_switch(self, name: str) -> bool:
         return self.nodes[name][0] == SWITCH
 
-    def ends(self):
-        """The end ports, switches first, in the order in which the texts give them LIDs."""
+    def ends(self) -> list[Port]:
+        """Returns the end ports, switches first, in the order in which the texts give them LIDs."""
         adapters = [name for name in self.nodes if not self.is_switch(name)]
         ports = [(name, port) for name in adapters for port in range(1, self.ports(name) + 1)]
         return [(name, 0) for name in self.nodes if self.is_switch(name)] + [end for end in ports if end in self.peers]
 
-    def ibsim(self):
-        """The topology in the form of ibsim, the seat H1 first."""
+    def ibsim(self) -> str:
+        """Returns the topology in the form of ibsim, with the seat H1 first."""
         texts = []
         for name in sorted(self.nodes, key=lambda name: name != "H1"):
             head = "switchguid" if self.is_switch(name) else "hcaguids"
@@ -64,8 +68,8 @@ class Fabric:
             texts.append("\n".join(lines) + "\n")
         return "\n".join(texts)
 
-    def topology(self):
-        """The same for `ibsm run`."""
+    def topology(self) -> str:
+        """Returns the topology in the form of `ibsm run`."""
         lines = []
         for name, (kind, guid, _) in self.nodes.items():
             head = f'{self.ports(name)} "{name}" guid 0x{guid:x}'
@@ -76,8 +80,8 @@ class Fabric:
                     lines.append(f'[{port}] "{far}"[{at}]')
         return "\n".join(lines) + "\n"
 
-    def facts(self):
-        """What `ibsm facts` prints of a first sweep, where there are no LIDs and tables have room for 1,024."""
+    def facts(self) -> str:
+        """Returns what `ibsm facts` prints of a first sweep, without LIDs and with tables that have room for 1,024."""
         found = collections.defaultdict(list)
         for name, (kind, guid, _) in self.nodes.items():
             least = 0 if kind == SWITCH else 1
@@ -97,8 +101,8 @@ class Fabric:
         kinds = ("node", "portguid", "link", "port", "claim", "cap")
         return "".join(f"{kind} {text} @1\n" for kind in kinds for _, _, text in sorted(found[kind]))
 
-    def shortest(self):
-        """Tables by which each packet takes a shortest way: where there are rings, packets can wait."""
+    def shortest(self) -> dict[str, list[int]]:
+        """Returns tables by which each packet takes a shortest way. In rings, packets can wait for each other."""
         tables = {name: [255] * (len(self.ends()) // 64 + 1) * 64 for name in self.nodes if self.is_switch(name)}
         for lid, (name, port) in enumerate(self.ends(), 1):
             at, out = (name, 0) if port == 0 else self.peers[name, port]
@@ -113,13 +117,13 @@ class Fabric:
                         waiting.append(far)
         return tables
 
-    def exits(self, name):
-        """The ports of a switch with a cable to a switch, each with that."""
+    def exits(self, name: str) -> list[tuple[int, str]]:
+        """Returns the ports of a switch with a cable to a switch, each with that switch."""
         ends = ((port, self.peers.get((name, port), ("", 0))[0]) for port in range(1, self.ports(name) + 1))
         return [(port, far) for port, far in ends if far and self.is_switch(far)]
 
-    def some_shortest(self, chance):
-        """The same, and where several ports lead nearer it is left to chance by which of them packets leave."""
+    def some_shortest(self, chance: random.Random) -> dict[str, list[int]]:
+        """Returns tables of shortest ways. If several ports lead nearer, `chance` chooses one."""
         exits = {name: self.exits(name) for name in self.nodes if self.is_switch(name)}
         tables = {name: [255] * (len(self.ends()) // 64 + 1) * 64 for name in exits}
         for lid, (name, port) in enumerate(self.ends(), 1):
@@ -135,8 +139,8 @@ class Fabric:
                 tables[switch][lid] = chance.choice([port for port, far in exits[switch] if steps[far] < steps[switch]])
         return tables
 
-    def plan(self, tables):
-        """What a fabric with these tables holds, in the form of a plan."""
+    def plan(self, tables: dict[str, list[int]]) -> str:
+        """Returns what the fabric holds with these tables, in the form of a plan."""
         ends = self.ends()
         lines = [f"lid {lid} {self.guid(name):016x}/{port}" for lid, (name, port) in enumerate(ends, 1)]
         for name in sorted(tables, key=self.guid):
@@ -146,7 +150,7 @@ class Fabric:
         return "\n".join(lines) + "\n"
 
 
-def triangle():
+def triangle() -> Fabric:
     fabric = Fabric()
     for i in (1, 2, 3):
         fabric.add(SWITCH, f"S{i}", 16 * i, 4)
@@ -157,8 +161,8 @@ def triangle():
     return fabric
 
 
-def random_fabric(count, degree, hosts, seed=7):
-    """A random tree, further cables up to the mean degree, and adapters at random switches."""
+def random_fabric(count: int, degree: int, hosts: int, seed: int = 7) -> Fabric:
+    """Returns a random tree with more cables up to the mean degree, and adapters at random switches."""
     fabric, chance = Fabric(), random.Random(seed)
     switches = fabric.switches(count)
     for i in range(1, count):
@@ -169,8 +173,8 @@ def random_fabric(count, degree, hosts, seed=7):
     return fabric
 
 
-def fat_tree(k, hosts):
-    """Three levels of switches with k ports, and as many adapters as said below each of the lowest."""
+def fat_tree(k: int, hosts: int) -> Fabric:
+    """Returns a fat tree: three levels of switches with `k` ports, and `hosts` adapters at each of the lowest."""
     fabric, half = Fabric(), k // 2
     switches = fabric.switches(5 * half * half)
     low, middle, top = switches[: k * half], switches[k * half : 2 * k * half], switches[2 * k * half :]
@@ -184,8 +188,8 @@ def fat_tree(k, hosts):
     return fabric
 
 
-def line(count):
-    """Switches in a row, and an adapter at the first."""
+def line(count: int) -> Fabric:
+    """Returns a row of switches, with an adapter at the first."""
     fabric = Fabric()
     switches = fabric.switches(count)
     fabric.hosts(switches[:1])
@@ -194,7 +198,7 @@ def line(count):
     return fabric
 
 
-def ring(count):
+def ring(count: int) -> Fabric:
     fabric = Fabric()
     switches = fabric.switches(count)
     fabric.hosts(switches)
@@ -203,8 +207,8 @@ def ring(count):
     return fabric
 
 
-def two_ports(count):
-    """Two rows of switches, joined at one end, and adapters with a port in each."""
+def two_ports(count: int) -> Fabric:
+    """Returns two rows of switches, joined at one end, and adapters with a port in each."""
     fabric = Fabric()
     switches = fabric.switches(2 * count)
     for row in (switches[:count], switches[count:]):
@@ -218,8 +222,8 @@ def two_ports(count):
     return fabric
 
 
-def half_linked(count):
-    """A ring whose adapters have two ports, one of them without a cable."""
+def half_linked(count: int) -> Fabric:
+    """Returns a ring whose adapters have two ports, one of them without a cable."""
     fabric = Fabric()
     switches = fabric.switches(count)
     for i, switch in enumerate(switches):
@@ -229,8 +233,8 @@ def half_linked(count):
     return fabric
 
 
-def torus(rows, columns):
-    """Switches in rows and columns that close to rings, with an adapter at each."""
+def torus(rows: int, columns: int) -> Fabric:
+    """Returns switches in rows and columns that close to rings, with an adapter at each."""
     fabric = Fabric()
     switches = fabric.switches(rows * columns)
     fabric.hosts(switches)
@@ -241,8 +245,9 @@ def torus(rows, columns):
     return fabric
 
 
-def dragonfly(groups, size, hosts):
-    """Groups of switches that are all wired to each other, a cable between any two groups, and adapters at each switch."""
+def dragonfly(groups: int, size: int, hosts: int) -> Fabric:
+    """Returns groups of switches, all wired to each other within a group, with a cable between any two groups, and
+    adapters at each switch."""
     fabric = Fabric()
     for i in range(1, groups * size + 1):
         fabric.add(SWITCH, f"G{(i - 1) // size + 1}S{(i - 1) % size + 1}", 16 * i)
@@ -258,8 +263,8 @@ def dragonfly(groups, size, hosts):
     return fabric
 
 
-def two_levels(low, high, hosts):
-    """Each switch of the lower level wired to each of the higher, and so many adapters at each of the lower."""
+def two_levels(low: int, high: int, hosts: int) -> Fabric:
+    """Returns two levels, each lower switch wired to each higher one, and `hosts` adapters at each lower one."""
     fabric = Fabric()
     switches = fabric.switches(low + high)
     fabric.hosts([switch for switch in switches[:low] for _ in range(hosts)])
@@ -269,8 +274,9 @@ def two_levels(low, high, hosts):
     return fabric
 
 
-def apart():
-    """A ring of five and a ladder of two rings, with no wire between them, and an adapter at every second switch."""
+def apart() -> Fabric:
+    """Returns a ring of five and a ladder of two rings, with no wire between them, and an adapter at every second
+    switch."""
     fabric = Fabric()
     switches = fabric.switches(15)
     fabric.hosts(switches[::2])
@@ -285,8 +291,8 @@ def apart():
     return fabric
 
 
-def without_adapters(count):
-    """Switches in a ring, and further wires between those that stand apart by three."""
+def without_adapters(count: int) -> Fabric:
+    """Returns a ring of switches, with more wires between those three apart."""
     fabric = Fabric()
     switches = fabric.switches(count)
     for step in (1, 3):
@@ -295,8 +301,8 @@ def without_adapters(count):
     return fabric
 
 
-def with_double_wires():
-    """A tree of two levels, each wire of it twice, and a switch with a wire to itself."""
+def with_double_wires() -> Fabric:
+    """Returns a tree of two levels with each wire doubled, and a switch with a wire to itself."""
     fabric = Fabric()
     switches = fabric.switches(6)
     fabric.hosts([switch for switch in switches[:4] for _ in range(3)])

@@ -11,22 +11,22 @@ MOST = 2**32 - 1
 
 
 def changed(data, place, byte):
-    """The file with another byte at a place."""
+    """Returns the file with `byte` at `place`."""
     return data[:place] + bytes([byte]) + data[place + 1 :]
 
 
 # Files -----------------------------------------------------------------------------------------------
 
-# An adapter of one port, asked by that port, and what it tells.
+# An adapter of one port, asked through that port, and what it tells.
 ADAPTER = make.node_info(make.START, make.ADAPTER, 1, 0x100, 0x101, 1)
 ADAPTER_NODE = "node 0000000000000100 ca 1 @1\n"
 ADAPTER_PORT = "portguid 0000000000000100/1 0000000000000101 @1\n"
 ADAPTER_FACTS = ADAPTER_NODE + ADAPTER_PORT
 
-# A claim whose numbers are the greatest that there are.
+# A claim with the greatest of all numbers.
 GREATEST = f"claim ffffffffffffffff/254 65535 @{MOST}\n"
 
-# What the sample fabric says from generation 2 on, once another adapter is in the place of the first.
+# The facts of the sample fabric from generation 2 on, with another adapter in place of the first.
 RENEWED = """\
 floor 2
 node 0000000000000300 ca 1 @2
@@ -39,8 +39,8 @@ claim 0000000000000300/1 0 @2
 
 
 def swept():
-    """The 27 replies of a first sweep of the sample fabric: switches 0x10, 0x20 and 0x30 of four ports in a triangle, and
-    adapters 0x100, where the manager sits, and 0x200 at the second and the third."""
+    """Returns the 27 replies of a first sweep of the sample fabric: switches 0x10, 0x20 and 0x30 of four ports in a
+    triangle, and adapters 0x100, the manager's, and 0x200 at the second and the third."""
     found = [ADAPTER]
     for guid, at, port, local in (
         (0x20, 0x100, 1, 3), (0x10, 0x20, 1, 1), (0x30, 0x20, 2, 2), (0x30, 0x10, 2, 1), (0x10, 0x30, 1, 2),
@@ -55,7 +55,7 @@ def swept():
 
 
 def files(facts):
-    """The files that rows name; `facts` are those of the sample fabric."""
+    """Returns the files that rows name. `facts` are those of the sample fabric."""
     records = swept()
     doubled = make.reports(ADAPTER, ADAPTER)
     cells = [make.cell_of(line) for line in (ADAPTER_NODE, ADAPTER_PORT)]
@@ -67,7 +67,7 @@ def files(facts):
         "DOUBLED": doubled,
         "STORE": make.store(*cells),
         "OLDER": make.older(make.store(*cells)),
-        # The same in two files.
+        # The adapter's two cells, in a file each.
         "NODE": make.older(make.store(cells[0])),
         "PORT_GUID": make.store(cells[1]),
         "GREATEST": make.store_of(GREATEST),
@@ -80,7 +80,7 @@ def files(facts):
         "CUT_CELL": make.NO_CELLS + b"\x01",
         "CUT_HEADER": make.store()[:8],
         "FLOORLESS": make.store(floor=0),
-        # A second record with an attribute that no facts are read from, and one of zeros.
+        # A second record with an attribute that tells no facts, and one of zeros.
         "HALF_BAD": changed(doubled, 280 + 16 + 17, 0x10),
         "HALF_ZERO": make.reports(ADAPTER, bytes(272)),
         "EXCHANGED": make.NO_CELLS + cells[1] + cells[0],
@@ -88,7 +88,7 @@ def files(facts):
         "FABRIC": make.reports(*records),
         "REVERSED": make.reports(*reversed(records)),
         "WHOLE": whole,
-        # Its last record, and its last two cells.
+        # A bad last record, and the last two cells exchanged.
         "LATE_BAD": changed(make.reports(*records), 8 + 26 * 272 + 16 + 7, 64),
         "LATE_EXCHANGED": whole[:-64] + whole[-32:] + whole[-64:-32],
         "RENEWED": make.reports(
@@ -97,7 +97,7 @@ def files(facts):
         ),
         "JOINED": make.store_of(RENEWED),
         **{f"PART_{i}": make.reports(*records[9 * i : 9 * i + 9]) for i in range(3)},
-        # What a switch tells of its table: twice in one sweep, and then in the next.
+        # The table size of a switch: told twice in one sweep, and then in the next.
         "FIRST": make.reports(make.switch_info(0x10, 1024)),
         "OTHER": make.reports(make.switch_info(0x10, 2048)),
         "NEWER": make.reports(make.switch_info(0x10, 4096, generation=2)),
@@ -116,7 +116,7 @@ def files(facts):
 
 
 def taken(held, facts):
-    """Files that are taken, in any order, and what they say together; `held` are the files."""
+    """Yields files that are taken, in any order, and their facts together. `held` has the files."""
     floor_2 = "floor 2\n"
     for files_named, text in (
         ("NO_REPORTS NO_REPORTS", ""),
@@ -169,7 +169,7 @@ def taken(held, facts):
 
 
 def first_faults():
-    """Files of which one is refused: the first is named, and nothing is printed."""
+    """Yields files of which one is refused: the first such is named, and nothing is printed."""
     for files_named, ends in (
         ("EMPTY ADAPTER", refused("EMPTY: bad magic")),
         ("ADAPTER SHORT", refused("SHORT: bad magic")),
@@ -190,7 +190,7 @@ def first_faults():
         ("ADAPTER CUT_HEADER", refused("CUT_HEADER: truncated at 8")),
         ("FLOORLESS HALF_BAD", refused("FLOORLESS: bad floor")),
         ("ADAPTER " * 69 + "EMPTY", refused("EMPTY: bad magic")),
-        # Folders can be opened and not read; all files are opened before one is read.
+        # Folders can be opened and not read. All files are opened before one is read.
         ("NODE . CUT_CELL", says(4, ".: read failed")),
         ("SHORT . missing", says(4, "missing: cannot open")),
         ("missing none", says(4, "missing: cannot open")),
@@ -202,7 +202,8 @@ def first_faults():
 
 
 def schedules():
-    """Two texts are opened, read and judged in this order: both are read before one is judged."""
+    """Returns runs of two texts, which are opened, read and judged in this order: both are read before one is
+    judged."""
     return [
         ("run TOPOLOGY SCHEDULE", prints("progress M never\nrefused NoSuchPacket\n")),
         ("run MANY SCHEDULE", prints("progress M never\nrefused NoSuchPacket\n")),
@@ -225,8 +226,8 @@ def schedules():
 
 
 def cut(data, head, size, lines):
-    """Each beginning of a file with a head and records of these sizes, and how a run over it ends; each record tells these
-    lines."""
+    """Yields each beginning of a file with a head and records of fixed size, and how a run over it ends. Each record
+    tells `lines`."""
     for length in range(len(data) + 1):
         records, rest = divmod(max(0, length - head), size)
         if length < 8:
@@ -247,20 +248,20 @@ def cuts(held):
 
 
 def damages(held):
-    """A store file with another byte at a place."""
+    """Yields a store file with another byte at a place."""
     bad_cell, bad_floor = refused("FILE: bad cell 0"), refused("FILE: bad floor")
     for place, byte, ends in (
-        # The magic: another one, and that of files that tell no floor.
+        # The magic: an unknown one, and that of files without a floor.
         (7, ord("3"), refused("FILE: bad magic")),
         (7, ord("1"), bad_cell),
-        # A floor that the cells are below, none, and each zero byte behind it.
+        # A floor above the cells, a floor of 0, and each zero byte behind it.
         *((place, 1, bad_cell) for place in (8, 9, 10)),
         (8, 255, bad_cell),
         (11, 2, bad_cell),
         (11, 0, bad_floor),
         *((place, byte, bad_floor) for place in (12, 13, 14, 15) for byte in (1, 128, 255)),
-        # Of the first cell: kind; state, also that of a dispute with the value kept; port; zero; generation; node type;
-        # number of ports; zeros. Of the second: kind.
+        # The first cell: kind; state, also disputed with a value kept; port; zero; generation; node type; number of
+        # ports; zeros. The second: kind.
         *((16, byte, bad_cell) for byte in (0, 7, 255)),
         *((17, byte, bad_cell) for byte in (0, 2, 3)),
         (18, 1, bad_cell),
@@ -273,12 +274,12 @@ def damages(held):
         (48, 1, refused("FILE: bad cell 1")),
     ):
         yield changed(held["STORE"], place, byte), ends
-    # Without a floor the first bytes of the first cell are no header.
+    # Without a floor, the first bytes of the first cell are no header.
     yield changed(held["OLDER"], 7, ord("2")), bad_floor
 
 
 def overwritten(file):
-    """The adapter's file with ff at each place."""
+    """Yields the adapter's file with ff at each place."""
     names = {90: "NodeType", 91: "Port", 124: "Port", 24: "BaseVersion", 25: "Class", 26: "ClassVersion", 27: "Method"}
     names |= {28: "Status", 29: "Status", 30: "HopPointer", 31: "HopCount", 40: "Attribute", 41: "Attribute"}
     names |= dict.fromkeys(range(12, 24), "Context")
@@ -289,7 +290,7 @@ def overwritten(file):
         elif place in names:
             ends = refused(f"FILE: bad report 0: {names[place]}")
         else:
-            # The generation, and of the attribute, which begins at 88, the GUIDs of the node and of its port.
+            # The generation and, in the attribute at 88, the GUIDs of the node and of its port.
             at, node, port = (int.from_bytes(data[a:b], "big") for a, b in ((8, 12), (100, 108), (108, 116)))
             ends = prints(f"node {node:016x} ca 1 @{at}\nportguid {node:016x}/1 {port:016x} @{at}\n")
         yield data, ends
@@ -299,16 +300,19 @@ def overwritten(file):
 
 
 def reply(context=make.via(0x100, 1), kind=make.SWITCH, ports=4, local=3, place=None, byte=0, **other):
-    """NodeInfo of the switch 0x20, over its port 3 from port 1 of the adapter, with another byte of the packet."""
+    """Returns a reply with NodeInfo of switch 0x20, over its port 3 from port 1 of the adapter, with another byte of
+    the packet."""
     record = make.node_info(context, kind, ports, 0x20, 0x20, local, **other)
     return record if place is None else changed(record, 16 + place, byte)
 
 
 def node_facts(word="switch", ports=4, port_guid=0, local=3, via="0000000000000100/1"):
-    """What it tells."""
+    """Returns the facts that NodeInfo of the switch 0x20 tells."""
     end = f"0000000000000020/{local}"
     links = [f"link {end} {via} @1", f"link {via} {end} @1"]
-    lines = [f"node 0000000000000020 {word} {ports} @1", f"portguid 0000000000000020/{port_guid} 0000000000000020 @1", *links]
+    lines = [
+        f"node 0000000000000020 {word} {ports} @1", f"portguid 0000000000000020/{port_guid} 0000000000000020 @1", *links
+    ]
     return "".join(f"{line}\n" for line in lines)
 
 
@@ -317,7 +321,7 @@ def port_facts(port, state, lid=0):
 
 
 def told():
-    """A report, and what it tells or why it is refused."""
+    """Yields a report, and what it tells or why it is refused."""
     start, about, via = make.START, make.about(0x20), make.via
     own, table = ADAPTER, make.switch_info(0x10, 1024)
     port = make.port_info(0x10, 0, 0)
@@ -331,7 +335,7 @@ def told():
         (reply(place=7, byte=64), "HopCount"),
         (reply(place=6, byte=3), "HopPointer"),
         *((reply(place=place, byte=0xFE), "DrLid") for place in (32, 33, 34, 35)),
-        # A packet that is not directed, no answers, one on its way out, and those that are not at their end.
+        # A packet that is not directed, no answers, one on its way out, and those not at their end.
         (reply(place=1, byte=0x01), "Class"),
         *((reply(place=3, byte=byte), "Method") for byte in (0x01, 0x02, 0x82)),
         (reply(place=4, byte=0), "Direction"),
@@ -340,7 +344,7 @@ def told():
         (reply(place=4, byte=0x81), "Status"),
         *((reply(place=17, byte=byte), "Attribute") for byte in (0x10, 0x13, 0x14, 0x16, 0x20)),
         (reply(place=16, byte=1), "Attribute"),
-        # Contexts that fit neither the attribute nor the hops, and those that are spelled in no way.
+        # Contexts that fit neither the attribute nor the hops, and those that no form allows.
         *((reply(context=context, hops=1), "Context") for context in (start, about)),
         (reply(place=7, byte=0), "Context"),
         (make.node_info(via(0x20, 3), make.ADAPTER, 1, 0x100, 0x101, 1, hops=0), "Context"),
@@ -350,7 +354,7 @@ def told():
         *((reply(context=(kind, 1, 0x100)), "Context") for kind in (0, 2, 3, 255)),
         (reply(context=(0, 0, 1)), "Context"),
         *((changed(reply(), place, 1), "Context") for place in (6, 7)),
-        # The modifier, which is read of PortInfo alone.
+        # The modifier, which matters in PortInfo alone.
         (reply(place=23, byte=255), node_facts()),
         (changed(port, 16 + 23, 254), port_facts(254, "down")),
         (changed(port, 16 + 23, 255), "Modifier"),
@@ -379,7 +383,7 @@ def told():
 
 
 def cells():
-    """The record of a cell, by kind, port and value, and its line; None where it is spelled in no allowed way."""
+    """Yields a cell by kind, port and value, and its line, or None if it is malformed."""
     end = bytes.fromhex("0123456789abcdef")
     for kind, port, value, line in (
         (make.NODE, 0, b"\1\1", "node 0000000000000010 ca 1"),

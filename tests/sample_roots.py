@@ -1,11 +1,12 @@
-"""Plans and runs by the rule that spreads, texts of roots and of orders for them, and how these end. Faults and plans were worked out from
-docs/FORMATS.md and docs/MODEL.md, apart from the program."""
+"""Plans and runs by the rule that spreads, texts of roots and of orders for them, and how these end. Faults and plans
+were worked out from docs/FORMATS.md and docs/MODEL.md, apart from the program."""
 from built_program import prints, refused, says
 
 THREE = (0x10, 0x20, 0x30)
 TREE = (
     (0x10, 0x20, 0x30, 0x40, 0x50), (0x100, 0x110, 0x120, 0x200, 0x210, 0x300),
-    "10/1-30/1 10/2-40/1 10/3-50/1 20/1-30/2 20/2-40/2 20/3-50/2 30/3-100/1 30/4-110/1 40/3-120/1 40/4-200/1 50/3-210/1 50/4-300/1",
+    "10/1-30/1 10/2-40/1 10/3-50/1 20/1-30/2 20/2-40/2 20/3-50/2 30/3-100/1 30/4-110/1 40/3-120/1 40/4-200/1 "
+    "50/3-210/1 50/4-300/1",
 )
 TREE_LIDS = "1 10/0 2 20/0 3 30/0 4 40/0 5 50/0 6 100/1 7 110/1 8 120/1 9 200/1 10 210/1 11 300/1"
 RINGS = (
@@ -16,12 +17,12 @@ RINGS_LIDS = "1 10/0 2 20/0 3 30/0 4 40/0 5 50/0 6 60/0 7 70/0 8 80/0 9 100/1 10
 
 # The ring of 10 to 50 alone, as a manager in it knows it.
 RING_LIDS = "1 10/0 2 20/0 3 30/0 4 40/0 5 50/0 6 100/1 7 200/1"
-# A manager at the adapter 100 of either, which sweeps and prints its plan.
+# A manager at adapter 100 of the tree or the ring, which sweeps and prints its plan.
 SWEPT = 'manager M "100"[1] 1\nsweep M\ndrain 1000\nplan M\n'
 
 
 def topology(switches, adapters, wires):
-    """The text of a fabric of switches of four ports and adapters of one, whose nodes are named by their GUIDs."""
+    """Returns the text of a fabric of switches of four ports and adapters of one. Nodes are named by their GUIDs."""
     links = {}
     for cable in wires.split():
         (near, port), (far, at) = (end.split("/") for end in cable.split("-"))
@@ -31,11 +32,11 @@ def topology(switches, adapters, wires):
 
 
 def spread(plan):
-    """Subnets whose packets are spread over the wires without roots: the title, switches, adapters, wires, and the plan."""
+    """Yields subnets whose packets are spread over the wires without roots: title, switches, adapters, wires, plan."""
     yield "the triangle", THREE, (0x100, 0x200), "10/1-20/1 10/2-30/1 20/2-30/2 20/3-100/1 30/3-200/1", plan(
         "1 10/0 2 20/0 3 30/0 4 100/1 5 200/1", "10 0 1 2 1 2", "20 1 0 2 3 2", "30 1 2 0 2 3",
     )
-    # In a mesh without adapters each goes to each over a wire of its own, or by its GUID.
+    # In a mesh without adapters each switch sends to each over their own wire, or by GUID.
     yield (
         "no adapters", TREE[0], (),
         "10/1-20/1 10/2-30/1 10/3-40/1 10/4-50/1 20/2-30/2 30/3-40/2 40/3-50/2",
@@ -44,7 +45,7 @@ def spread(plan):
             "10 0 1 2 3 4", "20 1 0 2 2 1", "30 1 2 0 3 1", "40 1 1 2 0 3", "50 1 1 2 2 0",
         ),
     )
-    # Two switches above three that bear adapters: from below LIDs in a row go up by either.
+    # Two switches above three leaf switches: from below, LIDs in a row alternate between the two.
     yield "a tree of two levels", *TREE, plan(
         TREE_LIDS,
         "10 0 1 1 2 3 1 1 2 2 3 3", "20 1 0 1 2 3 1 1 2 2 3 3", "30 1 2 0 2 1 3 4 2 1 2 1",
@@ -61,7 +62,10 @@ def spread(plan):
         plan(one, "10 0 1 - -", "20 1 0 - -", "30 - - 0 1"),
     )
     yield (
-        "a ring of five", TREE[0], (0x100, 0x200), "10/1-20/1 20/2-30/1 30/2-40/1 40/2-50/1 50/2-10/2 10/3-100/1 30/3-200/1",
+        "a ring of five",
+        TREE[0],
+        (0x100, 0x200),
+        "10/1-20/1 20/2-30/1 30/2-40/1 40/2-50/1 50/2-10/2 10/3-100/1 30/3-200/1",
         plan(
             RING_LIDS,
             "10 0 1 1 2 2 3 1", "20 1 0 2 2 1 1 2", "30 1 1 0 2 1 1 3", "40 2 1 1 0 2 2 1", "50 2 2 2 1 0 2 2",
@@ -70,8 +74,8 @@ def spread(plan):
 
 
 def plans(plan):
-    """Each with its title, the subnet, texts of its roots, and its plan."""
-    # From both switches above it grows as from the middle, where it begins without roots too.
+    """Yields titles, subnets, texts of their roots, and their plans."""
+    # From both upper switches the order grows as from the middle, where it begins without roots too.
     middle = (
         "10 0 1 1 2 3 1 1 2 2 3 3", "20 1 0 1 2 3 1 1 2 2 3 3", "30 1 2 0 2 1 3 4 2 1 2 1",
         "40 1 2 2 0 2 1 2 3 4 1 2", "50 1 2 2 1 0 1 2 1 2 3 4",
@@ -99,8 +103,8 @@ def plans(plan):
 
 
 def plans_as_named(plan):
-    """Each with its title, the subnet, texts of an order, and its plan."""
-    # From below, and then by one switch above: so the other one is reached from it by that one leaf switch alone.
+    """Yields titles, subnets, texts of an order, and their plans."""
+    # From below, and then by one upper switch: the other one is reached from it through that single leaf switch.
     below = (
         "10 0 3 1 2 3 1 1 2 2 3 3", "20 3 0 1 2 3 1 1 2 2 3 3", "30 1 2 0 2 1 3 4 2 1 2 1",
         "40 1 2 2 0 2 1 2 3 4 1 2", "50 1 2 2 1 0 1 2 1 2 3 4",
@@ -109,27 +113,31 @@ def plans_as_named(plan):
         "50\n10", "0x50 # a leaf\r\n\r\n0x10\r\n20\r\n30\r\n40", "50", "11\n50\nffffffffffffffff\n100\n1",
     )
     yield "a tree in an order from a switch below", TREE, texts, plan(TREE_LIDS, *below)
-    # The other switch above comes last: nothing goes through it.
+    # The other upper switch comes last: nothing goes through it.
     last = (
         "10 0 1 1 2 3 1 1 2 2 3 3", "20 3 0 1 2 3 1 1 2 2 3 3", "30 1 2 0 1 1 3 4 1 1 1 1",
         "40 1 2 1 0 1 1 1 3 4 1 1", "50 1 2 1 1 0 1 1 1 1 3 4",
     )
     yield "a tree in an order that ends above", TREE, ("50\n10\n40\n30\n20", "50\n10\n40\n30"), plan(TREE_LIDS, *last)
-    # By GUID, where none that is named is a switch: from 10, and from the leaf switch of the least GUID behind it.
+    # By GUID, if nothing named is a switch: from 10, and from the leaf switch of the least GUID behind it.
     least = (
         "10 0 1 1 2 3 1 1 2 2 3 3", "20 1 0 1 2 3 1 1 2 2 3 3", "30 1 2 0 2 1 3 4 2 1 2 1",
         "40 1 2 2 0 2 1 2 3 4 1 2", "50 1 2 2 1 0 1 2 1 2 3 4",
     )
-    yield "a tree by GUID", TREE, ("", "# none\r\n", "11\n100\nffffffffffffffff", "10\n20\n30\n40\n50"), plan(TREE_LIDS, *least)
-    # 20 and 40 are named one behind the other, and 30, which joins them, stands between; 60 and 70 stay by GUID.
+    yield "a tree by GUID", TREE, ("", "# none\r\n", "11\n100\nffffffffffffffff", "10\n20\n30\n40\n50"), plan(
+        TREE_LIDS, *least
+    )
+    # 20 and 40 are named in a row; 30, which joins them, comes between; 60 and 70 stay in order of GUID.
     rings = (
         "10 0 1 1 1 2 - - - 3 1 -", "20 1 0 2 2 1 - - - 1 2 -", "30 1 1 0 2 2 - - - 1 3 -", "40 1 1 1 0 2 - - - 1 1 -",
         "50 2 2 1 1 0 - - - 2 1 -", "60 - - - - - 0 1 2 - - 2", "70 - - - - - 1 0 2 - - 2", "80 - - - - - 2 1 0 - - 3",
     )
-    yield "two rings in an order of some", RINGS, ("40\n20\n80", "80\n40\n20\n30\n10\n50", "41\n40\n42\n80"), plan(RINGS_LIDS, *rings)
+    yield "two rings in an order of some", RINGS, ("40\n20\n80", "80\n40\n20\n30\n10\n50", "41\n40\n42\n80"), plan(
+        RINGS_LIDS, *rings
+    )
 
 
-# Each with the subnet, an option with its text, and the order that is printed, from the first switch on.
+# A subnet, an option with its text, and the order that is printed, from the first switch on.
 ORDERS = (
     (TREE, "", "", "10 30 20 40 50"),
     (TREE, "--roots", "20", "20 30 40 50 10"),
@@ -176,13 +184,14 @@ FAULTS = (
 )
 
 
-# The faults of a text of an order: it may name nothing, and what is no switch.
+# The faults of a text of an order, which may name nothing, and what is no switch.
 FAULTS_OF_ORDERS = tuple((text, said) for text, said in FAULTS if said.startswith("line "))
 
 
 def faulty_files():
-    """Command lines in which more than one file has a fault, with the text of roots and how they end. `SPREAD` is a store file of
-    the tree, `CROWDED` one that leaves room for 10 LIDs in it, `EMPTY` a file that is none, and there is no file `NONE`."""
+    """Yields command lines in which several files have faults, with the text of roots and how they end. `SPREAD` is a
+    store file of the tree, `CROWDED` one that leaves room for 10 LIDs in it, `EMPTY` an empty file. There is no file
+    `NONE`."""
     spread = "plan --routing spread --roots"
     yield f"{spread} NONE SPREAD", "20", says(4, "NONE: cannot open")
     yield f"{spread} NONE NONE", "20", says(4, "NONE: cannot open")
@@ -209,7 +218,7 @@ def faulty_files():
 
 
 def runs(plan):
-    """Each with its title, the subnet, a text of its roots, the options besides, and the plan of a manager at the adapter 100."""
+    """Yields titles, subnets, texts of their roots, further options, and the plan of a manager at adapter 100."""
     for title, of, texts, ends in plans(plan):
         if of is TREE:
             for text in texts:
@@ -221,25 +230,25 @@ def runs(plan):
     )
     lids = "1 10/0 2 20/0 3 30/0 4 40/0 5 50/0 6 100/1 8 110/1 10 120/1 12 200/1 14 210/1 16 300/1"
     yield "a tree from one switch above, two LIDs an adapter port", TREE, "20", "--lmc 1", plan(lids, *one, lmc=1)
-    # What is a switch of the fabric, and stands in a ring that the manager does not reach, changes nothing.
+    # Switches of the fabric in a ring that the manager does not reach change nothing.
     ring = "10 0 1 2 2 2 3 2", "20 1 0 2 2 1 1 2", "30 2 1 0 2 2 2 3", "40 2 1 1 0 2 2 1", "50 2 2 1 1 0 2 1"
     for text in "40", "40\n70", "60\n40":
         yield "a ring from one switch of it", RINGS, text, "", plan(RING_LIDS, *ring)
 
 
 def runs_as_named(plan):
-    """Each with its title, the subnet, a text of an order, and the plan of a manager at the adapter 100."""
+    """Yields titles, subnets, texts of an order, and the plan of a manager at adapter 100."""
     for title, of, texts, ends in plans_as_named(plan):
         if of is TREE:
             for text in texts:
                 yield title, of, text, ends
-    # A switch that the manager does not reach is none to it.
+    # A switch that the manager does not reach is no switch to it.
     ring = "10 0 1 1 1 2 3 1", "20 1 0 2 2 1 1 2", "30 1 1 0 2 2 1 3", "40 1 1 1 0 2 1 1", "50 2 2 1 1 0 2 1"
     for text in "40\n20", "60\n40\n80\n20":
         yield "a ring in an order of some", RINGS, text, plan(RING_LIDS, *ring)
 
 
-# Topologies in which a switch and an adapter have one GUID.
+# Topologies in which a switch and an adapter have the same GUID.
 TWINS = (
     'Switch 1 "S" guid 0x10\nHca 1 "H" guid 0x10\n',
     'Hca 1 "H" guid 0x10\nSwitch 1 "S" guid 0x10\n',
@@ -247,9 +256,9 @@ TWINS = (
 
 
 def run_orders():
-    """Command lines of runs, with the text of roots and how they end. `FABRIC_OF_TREE` is the topology of the tree; the other files
-    are those of `sample_files.py`: `TOPOLOGY` has an adapter alone, `FAULTY` and `BYTES` are refused as either text, `EMPTY` is none's
-    fault, and there is no file `NONE`."""
+    """Yields command lines of runs, with the text of roots and how they end. `FABRIC_OF_TREE` is the topology of the
+    tree. The other files are those of `sample_files.py`: `TOPOLOGY` has only an adapter, `FAULTY` and `BYTES` are
+    refused as either text, `EMPTY` as neither. There is no file `NONE`."""
     spread = "run --routing spread --roots"
     yield f"{spread} NONE TOPOLOGY SCHEDULE", "20", says(4, "NONE: cannot open")
     yield f"{spread} missing NONE NONE", "20", says(4, "missing: cannot open")
@@ -283,7 +292,8 @@ def run_orders():
 
 
 def long_text(count):
-    """So many roots, none of which is a switch, and the same with the last one again, and how both end."""
+    """Yields two texts and how they end: `count` roots, none of which is a switch, and those with the first
+    repeated."""
     lines = [f"0x{number:x}" for number in range(0x10000, 0x10000 + count)]
     yield "\n".join(lines), refused(f"ROOTS: no usable switch {0x10000:016x}")
     yield "\n".join([*lines, lines[0]]), refused(f"ROOTS: line {count + 1}: repeated")

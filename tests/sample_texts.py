@@ -1,8 +1,8 @@
-"""Texts of topologies and of schedules, what is wrong with some of them, and others that are taken. Worked out by hand from
-docs/FORMATS.md."""
+"""Texts of topologies and of schedules, what is wrong with some of them, and others that are taken. Worked out by hand
+from docs/FORMATS.md."""
 import sample_fabrics
 
-# A topology, and the fault of its first line.
+# Topologies, each with a fault in its first line.
 NO_GRAMMAR = (
     'switch 1 "A" guid 0x1', 'Switch 1 "A" guid 0x1 cap', 'Switch 1 "A" guid 0x1 cap 5 6', 'Switch 1 "A" guid 0x1 room 5',
     'Hca 1 "A" guid 0x1 cap 5', 'Hca 1 "A" GUID 0x1', 'Hca 1 "A" guid 0X1', 'Hca 1 "A" guid 1', 'Hca 1 "A" guid 0x',
@@ -45,11 +45,11 @@ TOPOLOGIES = (
     'Ca 2 "A" guid 0x1\n[1] "A"[1]\n[1] "A"[1]\n[2] "B"[1]\nCa 1 "B" guid 0x1\n[1] "A"[2]',
 )
 
-# A switch and two adapters, and two managers.
+# A switch, two adapters and two managers.
 FABRIC = 'Switch 4 "S 1" guid 0x10\n[1] "H1"[1]\nHca 2 "H1" guid 0x100\nHca 1 "H2" guid 0x200\n'
 MANAGERS = 'manager A "H1"[1] 15\nmanager b2 "H2"[01] 0\n'
 
-# Lines behind the managers', and their fault.
+# Lines behind those of the managers, and their fault.
 SCHEDULE_FAULTS = (
     *((line, "line 3: syntax") for line in (
         "Sweep A", "sweep", "sweep A A", 'sweep "A"', "sweep A_", "sweep ABCDEFGHIJKLMNOPQ", "merge A", "merge A A A", "deliver",
@@ -82,7 +82,7 @@ LINES = (
 
 
 def runs():
-    """A topology and a schedule; what the run is refused for, and where, or what it prints."""
+    """Yields a topology and a schedule, the fault and its place, and what the run prints."""
     for text, fault in TOPOLOGY_FAULTS:
         yield text, "tables", f"TOPO: {fault}", None
     for text in TOPOLOGIES:
@@ -93,7 +93,7 @@ def runs():
         yield FABRIC, text, f"LINES: {fault}", None
     for line, printed in LINES:
         yield FABRIC, MANAGERS + line, None, printed.replace("%", "f" * 128)
-    # A path has at most 63 ports, and the last of 64 switches in a row is one further.
+    # A path has at most 63 ports; the last of 64 switches in a row is one too far.
     for count, far in (63, 0), (64, 1):
         swept = 'manager M "H1"[1] 1\nsweep M\ndrain 100000\nprogress M\n'
         yield sample_fabrics.line(count).topology(), swept, None, f"progress M done unanswered 0 toofar {far}\n"

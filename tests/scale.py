@@ -1,23 +1,28 @@
-"""Runs of the program on large inputs, for `tests/at-scale`: what they print and cost, and fabrics whose answers are known."""
+"""Runs of the program on large inputs, for `tests/at-scale`: what they print and cost, and fabrics whose answers are
+known."""
+from __future__ import annotations
+
 import itertools
 import json
 import os
+import pathlib
 import subprocess
 import sys
+from collections.abc import Callable, Sequence
 
 import paths  # noqa: F401
 import record_files as make
 import sample_audits as audits
 from built_program import DIGITS, ENTRIES, NO_WAY
 
-# Processor time below which a run tells nothing of how cost grows: that of starting.
+# Processor time below which a run says nothing about growth: that of starting.
 LEAST_SECONDS = 0.02
-# How often a command is run again where it took too long: the machine may have been busy.
+# How often a slow command is run again, since the machine may have been busy.
 TRIES = 4
 MOST_LIDS = 49151
 
-# Runs a command for each line of words, and tells its exit status, processor time and peak of memory. What starts a process counts to the
-# peak of its memory, so it is a process of its own that stays small.
+# Runs a command for each line of words, and writes its exit status, processor time and peak memory. A new process
+# inherits the peak memory of its parent, so a small process of its own starts them.
 STARTER = """
 import json, os, sys
 for line in sys.stdin:
@@ -32,16 +37,22 @@ starters = []
 failures = []
 
 
-def check(holds, text):
+def check(holds: object, text: str) -> None:
     if not holds:
         failures.append(text)
         print(f"at-scale: FAILED: {text}")
 
 
-def started(command, folder, stdout, stderr):
-    """The exit status of a command, its processor time and the peak of its memory."""
+def started(
+    command: Sequence, folder: str | pathlib.Path, stdout: str | pathlib.Path, stderr: str | pathlib.Path
+) -> tuple[int, float, int]:
+    """Runs a command, and returns its exit status, its processor time and its peak memory."""
     if not starters:
-        starters.append(subprocess.Popen([sys.executable, "-S", "-E", "-c", STARTER], stdin=subprocess.PIPE, stdout=subprocess.PIPE, text=True))
+        starters.append(
+            subprocess.Popen(
+                [sys.executable, "-S", "-E", "-c", STARTER], stdin=subprocess.PIPE, stdout=subprocess.PIPE, text=True
+            )
+        )
     written = os.O_WRONLY | os.O_CREAT | os.O_TRUNC
     streams = (os.devnull, os.O_RDONLY), (str(stdout), written), (str(stderr), written)
     starters[0].stdin.write(json.dumps([[str(it) for it in command], str(folder), *streams]) + "\n")
@@ -52,7 +63,9 @@ def started(command, folder, stdout, stderr):
 class Run:
     """What a command printed, and what it cost."""
 
-    def __init__(self, program, words, room, out, status=0):
+    def __init__(
+        self, program: pathlib.Path, words: Sequence[str], room: pathlib.Path, out: str, status: int = 0
+    ) -> None:
         self.command = [program, *words]
         self.what = " ".join(words)
         self.path = room / out
@@ -60,26 +73,26 @@ class Run:
         self.seconds, self.memory = self.cost()
         self.size = self.path.stat().st_size
 
-    def cost(self):
-        """Runs the command, and tells its processor time and the peak of its memory."""
+    def cost(self) -> tuple[float, int]:
+        """Runs the command, and returns its processor time and its peak memory."""
         said = self.path.with_suffix(".said")
         status, seconds, memory = started(self.command, self.path.parent, self.path, said)
         text = said.read_text(errors="replace").strip()
         is_right = status == self.wanted
         check(is_right, f"{self.what}: exit status {status}; {text[:200]}")
-        # Of the steps here none can make a credit loop.
+        # No step here can make a credit loop.
         said = "credit loop none" if self.command[1] == "next" else ""
         check(not is_right or text == said, f"{self.what}: says on standard error: {text[:200]}")
         return seconds, memory
 
-    def again(self):
+    def again(self) -> None:
         self.seconds = min(self.seconds, self.cost()[0])
 
-    def printed(self):
+    def printed(self) -> bytes:
         return self.path.read_bytes()
 
-    def counts(self):
-        """How many lines begin with each word."""
+    def counts(self) -> dict[str, int]:
+        """Returns how many lines begin with each word."""
         found = {}
         with open(self.path, "rb") as lines:
             for line in lines:
@@ -89,17 +102,17 @@ class Run:
 
 
 class Fabric:
-    """Switches in two levels, each of the lower ones cabled to two of the upper ones, and adapters of one port below."""
+    """Switches in two levels, each lower one cabled to two upper ones, with adapters of one port below."""
 
-    def __init__(self, tops, leaves, ports, adapters):
+    def __init__(self, tops: int, leaves: int, ports: int, adapters: int) -> None:
         self.ports = ports
         self.switches = [0x1000 + i for i in range(tops + leaves)]
         self.adapters = [0x100000 + 16 * i for i in range(adapters)]
         used = dict.fromkeys(self.switches, 0)
-        # Each cable as two ends, the second farther from the first adapter's switch or as far.
+        # Each cable is a pair of ends; the second is at least as far from the first adapter's switch.
         self.cables = []
 
-        def take(guid):
+        def take(guid: int) -> tuple[int, int]:
             used[guid] += 1
             return guid, used[guid]
 
@@ -113,8 +126,8 @@ class Fabric:
             raise ValueError("a switch has too few ports")
         self.peers = {a: b for a, b in self.cables} | {b: a for a, b in self.cables}
 
-    def facts(self):
-        """How many lines of each kind the facts have."""
+    def facts(self) -> dict[str, int]:
+        """Returns the number of lines of each kind in the facts."""
         switches, adapters = len(self.switches), len(self.adapters)
         ends = switches * (self.ports + 1) + adapters
         return {
@@ -126,14 +139,14 @@ class Fabric:
             "cap": switches,
         }
 
-    def plan(self):
-        """The same of the plan."""
+    def plan(self) -> dict[str, int]:
+        """Returns the number of lines of each kind in the plan."""
         lids = len(self.switches) + len(self.adapters)
         blocks = len(self.switches) * (lids // 64 + 1)
         return {"lid": lids, "switch": len(self.switches), "block": blocks}
 
-    def reports(self, path):
-        """Writes the replies of a sweep, and says how many there are."""
+    def reports(self, path: pathlib.Path) -> int:
+        """Writes the replies of a sweep, and returns their number."""
         start = self.adapters[0]
         with open(path, "wb") as file:
             file.write(make.NO_REPORTS)
@@ -157,7 +170,7 @@ class Fabric:
                 count += 1
         return count
 
-    def topology(self):
+    def topology(self) -> str:
         lines = []
         for guid in self.switches:
             lines.append(f'Switch {self.ports} "{guid:x}" guid 0x{guid:x} cap 49152')
@@ -169,26 +182,26 @@ class Fabric:
         return "\n".join(lines) + "\n"
 
 
-def node_info(context, guid, port, ports=1):
-    """A switch has the number of ports that is given, an adapter one."""
+def node_info(context: tuple[int, int, int], guid: int, port: int, ports: int = 1) -> bytes:
+    """Makes NodeInfo: a switch has `ports` ports, an adapter one."""
     if guid < 0x100000:
         return make.node_info(context, make.SWITCH, ports, guid, guid, port)
     return make.node_info(context, make.ADAPTER, 1, guid, guid + port, port)
 
 
 class Tree:
-    """Switches in a tree, and adapters below some of them, numbered switch by switch. Between any two there is one way, so that
-    every rule plans the same, and what a plan and its audit are is known."""
+    """Switches in a tree, and adapters below some of them, numbered switch by switch. There is one way between any two,
+    so every rule plans the same, and the plan and its audit are known."""
 
-    def __init__(self, parents, hosts, ports_of_adapters=1):
-        """The index of each switch's parent but the first's, which has none, and how many wires to adapters each has. An adapter of
-        several ports has them at switches in turn."""
+    def __init__(self, parents: Sequence[int], hosts: Sequence[int], ports_of_adapters: int = 1) -> None:
+        """Takes the index of the parent of each switch but the first, and the number of wires from each to adapters. An
+        adapter of several ports has them at different switches in turn."""
         self.count = len(hosts)
         self.switches = [0x10 + i for i in range(self.count)]
         self.wires, used = [], [0] * self.count
         for child, parent in enumerate(parents, 1):
             self.wires.append(((parent, self.next(used, parent)), (child, self.next(used, child))))
-        # The adapters' ports, each with its switch and the port of that.
+        # The adapters' ports, each with its switch and the port there.
         seats = [switch for switch, count in enumerate(hosts) for _ in range(count)]
         width = len(seats) // ports_of_adapters
         self.ends = []
@@ -203,14 +216,14 @@ class Tree:
         self.exits, self.steps = self.ways()
 
     @staticmethod
-    def next(used, switch):
+    def next(used: list[int], switch: int) -> int:
         used[switch] += 1
         if used[switch] > 254:
             raise ValueError("a switch has too few ports")
         return used[switch]
 
     def ways(self):
-        """For each switch its port towards each switch, and how many wires away that is."""
+        """Returns for each switch its port towards each switch, and the number of wires to it."""
         near = [[] for _ in range(self.count)]
         for (one, port), (other, back) in self.wires:
             near[one].append((port, other))
@@ -230,13 +243,13 @@ class Tree:
         return exits, steps
 
     def links(self):
-        """Each wire from both ends, by GUID and port."""
+        """Returns each wire from both ends, by GUID and port."""
         wires = [((self.switches[a], p), (self.switches[b], q)) for (a, p), (b, q) in self.wires]
         wires += [((self.switches[switch], out), (guid, port)) for guid, port, switch, out in self.ends]
         return sorted(wires + [(b, a) for a, b in wires])
 
-    def cells(self, generation=lambda _: 1):
-        """The records of a store file of its facts; `generation` gives that of the cell at each place."""
+    def cells(self, generation: Callable[[int], int] = lambda _: 1) -> list[bytes]:
+        """Returns the records of a store file of its facts. `generation` maps a cell's index to its generation."""
         links = self.links()
         keys = [(make.NODE, guid, 0, bytes([make.SWITCH, self.ports])) for guid in self.switches]
         keys += [(make.NODE, guid, 0, bytes([make.ADAPTER, self.ports_of_adapters])) for guid in self.adapters]
@@ -247,8 +260,10 @@ class Tree:
         keys += [(make.CAP, guid, 0, (MOST_LIDS + 1).to_bytes(2, "big")) for guid in self.switches]
         return [make.cell(*key, generation(place)) for place, key in enumerate(keys)]
 
-    def topology(self):
-        lines = [f'Switch {self.ports} "S{i}" guid 0x{guid:x} cap {MOST_LIDS + 1}' for i, guid in enumerate(self.switches)]
+    def topology(self) -> str:
+        lines = [
+            f'Switch {self.ports} "S{i}" guid 0x{guid:x} cap {MOST_LIDS + 1}' for i, guid in enumerate(self.switches)
+        ]
         lines = [[line] for line in lines]
         for (one, port), (other, back) in self.wires:
             lines[one].append(f'[{port}] "S{other}"[{back}]')
@@ -257,21 +272,21 @@ class Tree:
         lines.append([f'Hca {self.ports_of_adapters} "H{guid:x}" guid 0x{guid:x}' for guid in self.adapters])
         return "".join(f"{line}\n" for its in lines for line in its)
 
-    def lids(self, lmc=0):
-        """The LIDs of switches, and those at which the ranges of adapters' ports begin."""
+    def lids(self, lmc: int = 0) -> tuple[range, range]:
+        """Returns the LIDs of the switches, and the first LIDs of the adapters' ranges."""
         width = 2**lmc
         first = (self.count // width + 1) * width
         return range(1, self.count + 1), range(first, first + width * len(self.ends), width)
 
-    def plan(self, lmc=0):
-        """The text of its plan."""
+    def plan(self, lmc: int = 0) -> bytes:
+        """Returns the text of its plan."""
         switches, ranges = self.lids(lmc)
         width = 2**lmc
         top = ranges[-1] + width - 1
         lines = [f"lid {lid} {guid:016x}/0" for lid, guid in zip(switches, self.switches)]
         told = f" lmc {lmc}" if lmc else ""
         lines += [f"lid {lid} {guid:016x}/{port}{told}" for lid, (guid, port, _, _) in zip(ranges, self.ends)]
-        # Adapters' ports in a row below one switch, with the first one's LID.
+        # The adapters' ports in a row below one switch, with the first one's LID.
         rows = []
         for home, ends in itertools.groupby(zip(ranges, self.ends), key=lambda it: it[1][2]):
             ends = list(ends)
@@ -291,7 +306,7 @@ class Tree:
         return "".join(f"{line}\n" for line in lines).encode()
 
     def audit(self):
-        """What an audit of its plan prints, of adapters of one port under LMC 0."""
+        """Returns what an audit of its plan prints, for adapters of one port under LMC 0."""
         count, adapters = self.count + len(self.ends), len(self.ends)
         sums, most = 0, 0
         for one in range(self.count):
@@ -300,7 +315,7 @@ class Tree:
                     pairs = self.hosts[one] * (self.hosts[other] - (one == other))
                     sums += pairs * (2 + self.steps[one][other])
                     most = max(most, 2 + self.steps[one][other])
-        # Below each switch but the first, and beyond it.
+        # Below each switch but the first, and on the other side.
         below = list(self.hosts)
         for child in range(self.count - 1, 0, -1):
             below[self.parents[child - 1]] += below[child]
@@ -315,12 +330,12 @@ def hundredths(number):
     return f"{number // 100}.{number % 100:02}"
 
 
-def levels(first, second, hosts):
-    """A switch above some, each above some more, and adapters below these."""
+def levels(first: int, second: int, hosts: int) -> Tree:
+    """Returns a tree: a switch above `first` others, each above `second` others, and adapters below these."""
     parents = [0] * first + [1 + i // second for i in range(first * second)]
     return Tree(parents, [0] * (1 + first) + [hosts] * (first * second))
 
 
-def chain(count, hosts):
-    """Switches in a row, and adapters at each."""
+def chain(count: int, hosts: int) -> Tree:
+    """Returns a row of switches with adapters at each."""
     return Tree(list(range(count - 1)), [hosts] * count)

@@ -1,5 +1,5 @@
-"""The code of crates/*/src without what is only proved or tested (comments, contracts, ghost items, attributes, tests), and what stands
-where in it: for `tests/limits`, which holds places of it against tables."""
+"""The code of crates/*/src without what is only proved or tested (comments, contracts, ghost items, attributes, tests),
+and what stands where in it: for `tests/limits`, which holds places of it against tables."""
 import bisect
 import re
 
@@ -8,14 +8,15 @@ from paths import ROOT
 CRATES = ROOT / "crates"
 CLAUSE = re.compile(r"\b(?:ensures|requires)\b[^{]*(?=\{)")
 GHOST = re.compile(r"\bghost\b")
-WORDS = re.compile(r'\s+|//[^\n]*|b?r(#*)".*?"\1|b?"(?:[^"\\]|\\.)*"|b?\'(?:[^\'\\]|\\[^\']*)\'|\w+|::|=>|->|[=!<>]=|&&|\|\||\.\.=?|.', re.S)
+WORDS = re.compile(
+    r'\s+|//[^\n]*|b?r(#*)".*?"\1|b?"(?:[^"\\]|\\.)*"|b?\'(?:[^\'\\]|\\[^\']*)\'|\w+|::|=>|->|[=!<>]=|&&|\|\||\.\.=?|.',
+    re.S,
+)
 OPENS, CLOSES = "([{", ")]}"
-# What a statement or an arm of a match ends before or behind.
-ENDS = {";", ",", "{", "}"}
 
 
 def past_group(text, at):
-    """The end of the group that opens here."""
+    """Returns the index behind the group that opens at `at`."""
     depth = 0
     while True:
         depth += (text[at] in OPENS) - (text[at] in CLOSES)
@@ -25,14 +26,15 @@ def past_group(text, at):
 
 
 def past_ghost(text, at):
-    """The end of a ghost item, or of a ghost field: its semicolon or comma, outside of all groups."""
+    """Returns the index behind a ghost item or ghost field, which ends with the first semicolon or comma outside of all
+    groups."""
     while text[at] not in ";,":
         at = past_group(text, at) if text[at] in OPENS else at + 1
     return at + 1
 
 
 def words_of(text):
-    """The words of the code of a text, each with where it begins."""
+    """Returns the words of code in a text, each with the index where it begins."""
     found, at = [], 0
     while at < len(text):
         clause = CLAUSE.match(text, at)
@@ -51,7 +53,8 @@ def words_of(text):
 
 
 class Function:
-    """A function of the code: its name with that of its type, what it takes and gives, and the first and last word of its body."""
+    """A function of the code: its name with that of its type, its head, what it returns, and the first and last word of
+    its body."""
 
     def __init__(self, name, head, first, last):
         self.name, self.head, self.first, self.last = name, head, first, last
@@ -59,7 +62,7 @@ class Function:
 
 
 class Code:
-    """A file of sources, word by word, and which group each word stands in."""
+    """A source file, word by word, and the group around each word."""
 
     def __init__(self, path, text):
         self.path = path
@@ -84,17 +87,19 @@ class Code:
         return bisect.bisect(self.lines, self.begins[at]) + 1
 
     def said(self, first, last):
-        """The words from one to another, as they are written, with one space where there is any."""
+        """Returns the words from `first` to `last` as written, with any gap as one space."""
         out = []
         for at in range(first, last + 1):
             word = self.words[at]
             if out and self.begins[at] > self.begins[at - 1] + len(self.words[at - 1]):
                 out.append(" ")
             out.append(word)
-        return re.sub(r",? ([)\]])", r"\1", re.sub(r"([(\[]) ", r"\1", "".join(out))).replace(" .", ".").replace(" ?", "?")
+        return (
+            re.sub(r",? ([)\]])", r"\1", re.sub(r"([(\[]) ", r"\1", "".join(out))).replace(" .", ".").replace(" ?", "?")
+        )
 
     def begin(self, at):
-        """Where the statement or arm begins that this word stands in, within the braces around it."""
+        """Returns the first word of the statement or arm around the word, within the braces around it."""
         while True:
             before = at - 1
             if before < 0:
@@ -104,7 +109,7 @@ class Code:
                 if word == "{":
                     return at
             elif word in CLOSES:
-                # A block before: another statement, unless this goes on with it.
+                # The brace ends a block before: another statement, unless this word continues it.
                 if word == "}" and self.words[at] not in ("else", ".", "?", ",", ")", "=>", "|"):
                     return at
                 before = self.partner[before]
@@ -113,7 +118,7 @@ class Code:
             at = before
 
     def end(self, at):
-        """The last word of that statement or arm."""
+        """Returns the last word of that statement or arm."""
         while at + 1 < len(self.words):
             word = self.words[at]
             if word in OPENS:
@@ -128,7 +133,7 @@ class Code:
         return at is None or self.words[at] == "{"
 
     def heads(self, at, first):
-        """What stands before each brace around a word, from the outermost to the innermost, within a function's body."""
+        """Returns what stands before each brace around a word, from the outermost in, within a function's body."""
         found = []
         while True:
             around = self.parent[at]
@@ -149,10 +154,12 @@ class Code:
             while self.words[brace] not in "{;":
                 brace = self.partner[brace] + 1 if self.words[brace] in "([" else brace + 1
             if self.words[brace] == "{":
-                yield Function(self.owner(at) + self.words[at + 1], self.said(at, brace - 1), brace, self.partner[brace])
+                yield Function(
+                    self.owner(at) + self.words[at + 1], self.said(at, brace - 1), brace, self.partner[brace]
+                )
 
     def owner(self, at):
-        """The type whose method stands here, with `::`, or nothing."""
+        """Returns the type whose method stands here, with `::`, or an empty text."""
         around = self.parent[at]
         if around is None or self.words[around] != "{":
             return ""
@@ -167,7 +174,7 @@ class Code:
 
 
 def codes():
-    """Each file of sources below crates/, tests aside."""
+    """Yields each source file below crates/, without tests."""
     for path in sorted(CRATES.glob("*/src/**/*.rt")):
         if not {"tests", "tests.rt"} & set(path.parts):
             yield Code(path.relative_to(CRATES), path.read_text())

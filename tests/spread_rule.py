@@ -1,16 +1,21 @@
 """The rule of routing that spreads, worked out from its definitions in docs/MODEL.md, apart from the program.
 
-A graph is for each usable switch, by its GUID, the edges of its ports: pairs of a port and the switch that the wire leads
-to, by rising port.
+A graph is for each usable switch, by its GUID, the edges of its ports: pairs of a port and the switch that the wire
+leads to, by rising port.
 """
+from __future__ import annotations
+
 import collections
 import heapq
+from collections.abc import Iterable, Sequence
 
 NO_WAY = 255
+Edge = tuple[int, int]
+Graph = dict[int, list[Edge]]
 
 
-def distances(graph, starts):
-    """How many wires each switch that they reach is from the nearest of these."""
+def distances(graph: Graph, starts: Iterable[int]) -> dict[int, int]:
+    """Returns the number of wires from each switch that is reached to the nearest of `starts`."""
     far = dict.fromkeys(starts, 0)
     waiting = collections.deque(far)
     while waiting:
@@ -22,19 +27,19 @@ def distances(graph, starts):
     return far
 
 
-def class_of(far, bearing, roots):
-    """The class of a switch, by the distances from it."""
+def class_of(far: dict[int, int], leaves: Iterable[int], roots: Iterable[int]) -> int:
+    """Returns the distance class of a switch, given the distances from it."""
     to_roots = [far[root] for root in roots if root in far]
     if to_roots:
         return min(to_roots)
-    to_bearing = [far[switch] for switch in bearing if switch in far]
-    return 4 * sum(to_bearing) // len(to_bearing) if to_bearing else 0
+    to_leaves = [far[switch] for switch in leaves if switch in far]
+    return 4 * sum(to_leaves) // len(to_leaves) if to_leaves else 0
 
 
-def keys_of(graph, bearing, roots):
-    """By class, distance from the first of the component, and GUID."""
+def keys_of(graph: Graph, leaves: Sequence[int], roots: Sequence[int]) -> dict[int, tuple]:
+    """Returns the key of each switch: class, distance from the first of the component, and GUID."""
     far = {switch: distances(graph, [switch]) for switch in graph}
-    classes = {switch: class_of(far[switch], bearing, roots) for switch in graph}
+    classes = {switch: class_of(far[switch], leaves, roots) for switch in graph}
     keys = {}
     for switch in graph:
         first = min(far[switch], key=lambda one: (classes[one], one))
@@ -42,14 +47,14 @@ def keys_of(graph, bearing, roots):
     return keys
 
 
-def keys_as_named(graph, named):
-    """By where a switch stands among those that are named, which comes before all others, and GUID."""
+def keys_as_named(graph: Graph, named: Sequence[int]) -> dict[int, tuple]:
+    """Returns the key of each switch: its index in `named`, with others behind, and GUID."""
     numbers = {switch: number for number, switch in enumerate(named)}
     return {switch: (numbers.get(switch, len(named)), switch) for switch in graph}
 
 
-def places_of(graph, keys):
-    """The place of each switch in the order that grows by these keys."""
+def places_of(graph: Graph, keys: dict[int, tuple]) -> dict[int, int]:
+    """Returns the place of each switch in the order that grows by `keys`."""
     places, left, beside = {}, sorted(graph, key=keys.get, reverse=True), []
     while left:
         switch = heapq.heappop(beside)[1] if beside else left.pop()
@@ -62,8 +67,8 @@ def places_of(graph, keys):
     return places
 
 
-def rounds(graph, places, target):
-    """The round in which each switch that has a way to the target is labelled, and those that are labelled Down."""
+def rounds(graph: Graph, places: dict[int, int], target: int) -> tuple[dict[int, int], set[int]]:
+    """Returns the round in which each switch with a way to the target is labelled, and the switches labelled Down."""
     cost, down, last = {target: 0}, {target}, [target]
     while last:
         found = collections.defaultdict(bool)
@@ -71,7 +76,7 @@ def rounds(graph, places, target):
             for _, before in graph[switch]:
                 if before in cost:
                     continue
-                # From there the wire leads up, or else down to this switch.
+                # From `before` the wire leads up, or down to a switch labelled Down.
                 if places[before] > places[switch]:
                     found[before] = True
                 elif places[before] < places[switch] and switch in down:
@@ -84,32 +89,40 @@ def rounds(graph, places, target):
     return cost, down
 
 
-def candidates(graph, places, cost, down, switch):
-    """The edges that gave a switch its label, by rising port."""
+def candidates(graph: Graph, places: dict[int, int], cost: dict[int, int], down: set[int], switch: int) -> list[Edge]:
+    """Returns the edges that gave a switch its label, by rising port."""
     return [
         (port, to) for port, to in graph[switch]
-        if to in cost and cost[to] < cost[switch] and (places[to] < places[switch] or places[to] > places[switch] and to in down)
+        if to in cost
+        and cost[to] < cost[switch]
+        and (places[to] < places[switch] or places[to] > places[switch] and to in down)
     ]
 
 
-def units_of(graph, heights):
-    """The unit of each height."""
+def weights_of(graph: Graph, levels: dict[int, int]) -> list[int]:
+    """Returns the digit weight of each level."""
     widths = collections.defaultdict(lambda: 1)
     for switch, exits in graph.items():
-        taller = sum(heights[to] > heights[switch] for _, to in exits)
-        widths[heights[switch]] = max(widths[heights[switch]], taller)
-    units = [1]
-    for height in range(max(heights.values(), default=0)):
-        units.append(min(units[-1] * widths[height], 65536))
-    return units
+        higher = sum(levels[to] > levels[switch] for _, to in exits)
+        widths[levels[switch]] = max(widths[levels[switch]], higher)
+    weights = [1]
+    for level in range(max(levels.values(), default=0)):
+        weights.append(min(weights[-1] * widths[level], 65536))
+    return weights
 
 
-def tables(graph, bearing, homes, roots=(), named=None):
-    """The port by which packets for each LID leave each switch. `homes` has the switch of each LID's owner and the port by which
-    packets leave that one. The order grows from roots, or as switches are named."""
-    places = places_of(graph, keys_of(graph, bearing, roots) if named is None else keys_as_named(graph, named))
-    heights = dict.fromkeys(graph, 0) | distances(graph, bearing)
-    units = units_of(graph, heights)
+def tables(
+    graph: Graph,
+    leaves: Sequence[int],
+    homes: dict[int, tuple[int, int]],
+    roots: Sequence[int] = (),
+    named: Sequence[int] | None = None,
+) -> dict[int, dict[int, int]]:
+    """Returns the port by which packets for each LID leave each switch. `homes` has for each LID its owner's switch and
+    the port there. The order grows from `roots`, or as switches are `named`."""
+    places = places_of(graph, keys_of(graph, leaves, roots) if named is None else keys_as_named(graph, named))
+    levels = dict.fromkeys(graph, 0) | distances(graph, leaves)
+    weights = weights_of(graph, levels)
     found = {switch: {} for switch in graph}
     by_home = collections.defaultdict(list)
     for lid, (home, _) in homes.items():
@@ -123,8 +136,8 @@ def tables(graph, bearing, homes, roots=(), named=None):
                 found[switch].update((lid, NO_WAY) for lid in lids)
             else:
                 exits = candidates(graph, places, cost, down, switch)
-                taller = any(heights[to] > heights[switch] for _, to in exits)
-                unit = units[heights[switch]] if taller else 1
+                higher = any(levels[to] > levels[switch] for _, to in exits)
+                weight = weights[levels[switch]] if higher else 1
                 for lid in lids:
-                    found[switch][lid] = exits[(lid // unit + switch % 31) % len(exits)][0]
+                    found[switch][lid] = exits[(lid // weight + switch % 31) % len(exits)][0]
     return found

@@ -4,34 +4,36 @@ from __future__ import annotations
 import re
 
 # The commands of the program, and their options.
-FLOOR, PLANS, ORDERS = "--floor", "--lmc --routing --roots --order", "--roots --order"
+FLOOR, PLANS, ORDERS = "--floor", "--lmc --routing --roots --order", "--routing --roots --order"
 COMMANDS = {
     "facts": FLOOR,
     "join": FLOOR,
     "plan": f"{FLOOR} {PLANS}",
     "order": f"{FLOOR} {ORDERS}",
-    "audit": FLOOR,
+    "audit": f"{FLOOR} --all --max-load",
+    "order-of": FLOOR,
     "next": f"{FLOOR} {PLANS}",
     "run": PLANS,
+    "serve": PLANS,
     "help": "",
 }
-RULES = "updown spread"
+RULES = "updown spread balance"
 
 
 def options_in(text: str) -> str:
-    """The options that a help names, in its order."""
+    """Returns the options that a help names, in its order."""
     return " ".join(dict.fromkeys(re.findall(r"(?<![\w-])--[a-z][a-z-]*", text + " --help --version")))
 
 
 def cases(tools: dict[str, str], indent: str) -> str:
-    """Lines of a shell's `case`: what may stand behind each name, and behind each command of the program."""
+    """Returns the lines of a shell's `case`: what may follow each name, and each command of the program."""
     lines = [f"{indent}ibsm-{name}) words='{options}' ;;" for name, options in sorted(tools.items())]
     lines += [f"{indent}'ibsm {name}') words='{options} --help' ;;" for name, options in COMMANDS.items()]
     return "\n".join([*lines, f"{indent}ibsm*) words='{' '.join(COMMANDS)} --help --version' ;;"])
 
 
 def for_bash(tools: dict[str, str]) -> str:
-    """The text for bash, where `tools` has the options of each tool by its name without ibsm-."""
+    """Returns the text for bash. `tools` has the options of each tool by its name without ibsm-."""
     return f"""# Completion of ibsm and its tools for bash: options, commands, and else files.
 _ibsm() {{
     local words name=${{COMP_WORDS[0]##*/}} now=${{COMP_WORDS[COMP_CWORD]}} before=${{COMP_WORDS[COMP_CWORD-1]}}
@@ -51,7 +53,7 @@ complete -o default -F _ibsm ibsm {' '.join(f'ibsm-{name}' for name in sorted(to
 
 
 def for_zsh(tools: dict[str, str]) -> str:
-    """The same for zsh."""
+    """Returns the text for zsh. `tools` has the options of each tool by its name without ibsm-."""
     return f"""#compdef ibsm {' '.join(f'ibsm-{name}' for name in sorted(tools))}
 # Completion of ibsm and its tools for zsh: options, commands, and else files.
 local words name=$service now=$PREFIX

@@ -1,4 +1,5 @@
-"""Cables and switches taken away in thought: which packets are lost by the tables that are held, and what facts are then."""
+"""Cables and switches taken away in thought: which packets are lost by the tables that are held, and what facts are
+then."""
 from __future__ import annotations
 
 import collections
@@ -10,12 +11,12 @@ from ibsm_texts import End, Facts, Plan, name_of
 from routes import Routes
 
 Cable = tuple[End, End]
-# Of two cables at once, each two of so many are cut.
+# The number of worst cables that are cut two at a time, each with each.
 MOST_IN_TWO = 24
 
 
 class Pairs:
-    """Which pairs of a port and a LID packets serve now, by the cable that they take."""
+    """The pairs of a port and a LID that packets serve now, by the cable that they take."""
 
     def __init__(self, facts: Facts, held: Plan) -> None:
         self.routes = Routes(facts, held)
@@ -26,7 +27,7 @@ class Pairs:
             self.take(is_all)
 
     def seat(self, end: End) -> int | None:
-        """The switch that an end port is at, or is."""
+        """Returns the switch that an end port is at or belongs to."""
         return self.routes.place.get(end[0]) if end[1] == 0 else self.routes.home.get(end, (None,))[0]
 
     def take(self, is_all: int) -> None:
@@ -61,7 +62,7 @@ class Pairs:
         return (min(end, far), max(end, far)) if far else (end, end)
 
     def cut_off(self, cables: Sequence[Cable]) -> int:
-        """Pairs that nothing joins any more without some cables, and does with them."""
+        """Counts the pairs that are joined with some cables, and not without them."""
         cut, found = {end for cable in cables for end in cable}, 0
         # The end ports that the cut leaves on each side, by what was joined before.
         left = {(end[0], 0) if self.facts.is_switch(end[0]) else end for end in cut}
@@ -83,7 +84,8 @@ class Pairs:
         return found
 
     def side(self, start: End, cut: Collection[End]) -> set[End]:
-        """The end ports that one is still joined to without the cables in some ports: adapters carry nothing from port to port."""
+        """Returns the end ports still joined to `start` without the cables in `cut`. Adapters carry nothing from port
+        to port."""
         found, waiting = set(), [start]
         while waiting:
             at = waiting.pop()
@@ -94,7 +96,7 @@ class Pairs:
         return found
 
     def wires_of(self, end: End) -> Iterator[Cable]:
-        """The cables of a switch, or of an adapter's port."""
+        """Yields the cables of a switch, or of an adapter's port."""
         for near in [(end[0], port) for port in range(1, self.facts.nodes[end[0]][1] + 1)] if end[1] == 0 else [end]:
             far = self.facts.wire(near)
             if far:
@@ -102,7 +104,8 @@ class Pairs:
 
 
 class Masks:
-    """How many pairs of adapters, and of all end ports, packets serve over which of some cables, whose numbers are bits."""
+    """Counts of pairs of adapters, and of all end ports, by the set of cables that their packets take. Each cable is a
+    bit."""
 
     def __init__(self, pairs: Pairs, bits: dict[Cable, int]) -> None:
         """Takes the bits of each cable that counts."""
@@ -124,12 +127,12 @@ class Masks:
                 self.both[i, j][is_all] += count
 
     def lost(self, *numbers: int) -> list[int]:
-        """What is lost without one cable, or without two."""
+        """Returns what is lost without one cable, or without two."""
         told = [sum(self.alone[i][k] for i in numbers) for k in (0, 1)]
         return [told[k] - (self.both[numbers][k] if len(numbers) == 2 else 0) for k in (0, 1)]
 
     def masks(self, is_all: int) -> collections.Counter:
-        """How many pairs there are with each set."""
+        """Counts the pairs of each set of cables."""
         pairs, routes, found = self.pairs, self.pairs.routes, collections.Counter()
         senders = [end for end in pairs.count if (is_all or end[1]) and pairs.seat(end) is not None]
         beside = collections.defaultdict(collections.Counter)
@@ -156,7 +159,8 @@ class Masks:
         return found
 
     def on_way(self, home: int, column: bytes, channels: dict[tuple[int, int], int]) -> dict[int, int]:
-        """For each switch from which packets arrive, the bits of the cables between switches that they take."""
+        """Returns, for each switch from which packets arrive, the bits of the cables between switches that they
+        take."""
         routes = self.pairs.routes
         arrives, _ = routes.arrivals(home, column)
         found = {home: 0} if arrives.get(home) else {}
@@ -171,7 +175,7 @@ class Masks:
 
 
 def facts_without(facts: Facts, held: Plan, cut: Collection[End] = (), switches: Sequence[int] = ()) -> str:
-    """The text of the facts without the cables in some ports, and without some switches, with the LIDs that are held."""
+    """Returns the text of the facts without the cables in `cut` and without `switches`, with the LIDs that are held."""
     lines = []
     for line in facts.lines:
         kind, end, *rest = line.split(" ")
@@ -191,7 +195,7 @@ def facts_without(facts: Facts, held: Plan, cut: Collection[End] = (), switches:
 
 
 def changed(old: Plan, new: Plan) -> tuple[int, int]:
-    """How many entries for LIDs of the old tables are otherwise in the new ones, and on how many switches."""
+    """Returns how many entries for LIDs of the old tables differ in the new ones, and on how many switches."""
     counts = [
         sum(old.entry(guid, lid) != new.entry(guid, lid) for lid in old.owners)
         for guid in old.tables
@@ -221,7 +225,7 @@ def cuts_of_cables(facts: Facts, pairs: Pairs, cables: Sequence[Cable]) -> list[
 
 
 def cuts_of_switches(facts: Facts, pairs: Pairs, cables: Sequence[Cable]) -> list[Cut]:
-    """Each switch, with its cables."""
+    """Returns a cut of each switch, with its cables."""
     guids = sorted(guid for guid in facts.nodes if facts.is_switch(guid))
     number = {guid: i for i, guid in enumerate(guids)}
     bits, beside = {}, collections.defaultdict(list)
@@ -234,7 +238,7 @@ def cuts_of_switches(facts: Facts, pairs: Pairs, cables: Sequence[Cable]) -> lis
 
 
 def cuts_of_two(facts: Facts, pairs: Pairs, cables: Sequence[Cable]) -> list[Cut]:
-    """Each two of the worst cables, and the two of each switch that has two to other switches."""
+    """Returns cuts of two cables: any two of the worst, and both of a switch that has two to other switches."""
     cables = [cable for cable in cables if is_between_switches(facts, cable)]
     worst = sorted(cables, key=lambda cable: ([-count for count in pairs.lost[cable]], cable))[:MOST_IN_TWO]
     beside = collections.defaultdict(list)

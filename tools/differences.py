@@ -1,9 +1,14 @@
-"""Where two plans differ, or a plan and what a fabric holds: LIDs, tops and entries; and where two texts of facts do."""
-from ibsm_texts import ENTRIES, NONE, name_of
+"""Where two plans differ, or a plan and what a fabric holds: LIDs, tops and entries; and where two texts of facts
+do."""
+from __future__ import annotations
+
+from collections.abc import Callable, Iterator
+
+from ibsm_texts import ENTRIES, NONE, End, Facts, Plan, name_of
 
 
-def names_differ(plan, held, called=("plan", "fabric")):
-    """The LIDs and tops that differ, where the two are called so."""
+def names_differ(plan: Plan, held: Plan, called: tuple[str, str] = ("plan", "fabric")) -> Iterator[str]:
+    """Yields the LIDs and tops that differ. `called` has the names of the two texts."""
     first, second = called
     for lid in sorted(set(plan.owners) | set(held.owners)):
         one, other = (text.owners.get(lid) for text in (plan, held))
@@ -17,21 +22,22 @@ def names_differ(plan, held, called=("plan", "fabric")):
             yield f"switch {guid:016x}: {first} top {plan.tops[guid]}, {second} {held.tops[guid]}"
 
 
-def apart(one, other):
-    """A byte for each entry of the longer of two rows: 0 where the two are equal, or one ends and the other has none."""
+def apart(one: bytes, other: bytes) -> bytes:
+    """Returns a byte for each entry of the longer of two rows: 0 if the two are equal, or one row has ended and the
+    other has none."""
     length = max(len(one), len(other))
     one, other = (int.from_bytes(row.ljust(length, NONE), "big") for row in (one, other))
     return (one ^ other).to_bytes(length, "big")
 
 
-def blocks_to_write(old, new):
-    """How many blocks of a new table are otherwise than in the old one, as far as its own top."""
+def blocks_to_write(old: bytes, new: bytes) -> int:
+    """Returns how many blocks of a new table differ from those of the old one, up to the new top."""
     if old == new:
         return 0
     return sum(new[i : i + ENTRIES] != old[i : i + ENTRIES] for i in range(0, len(new), ENTRIES))
 
 
-def nodes_apart(old, new):
+def nodes_apart(old: Facts, new: Facts) -> Iterator[str]:
     for guid in sorted(set(old.nodes) | set(new.nodes)):
         one, other = (facts.nodes.get(guid) for facts in (old, new))
         if one != other:
@@ -40,12 +46,12 @@ def nodes_apart(old, new):
             yield f"{word} node {guid:016x} {told}"
 
 
-def cables_of(facts):
+def cables_of(facts: Facts) -> set[tuple[End, End]]:
     return {(end, far) for end, far, kind in facts.cables() if kind == "up"}
 
 
-def facts_apart(old, new):
-    """The lines that tell how facts differ."""
+def facts_apart(old: Facts, new: Facts) -> Iterator[str]:
+    """Yields the lines that tell how facts differ."""
     before, after = cables_of(old), cables_of(new)
     yield from nodes_apart(old, new)
     for word, cables in (("gone", before - after), ("come", after - before)):
@@ -54,7 +60,7 @@ def facts_apart(old, new):
     told = {end for cable in before ^ after for end in cable}
     shared = set(old.nodes) & set(new.nodes)
 
-    def values(word, one, other, spell, about=name_of):
+    def values(word: str, one: dict, other: dict, spell: Callable, about: Callable = name_of) -> Iterator[str]:
         for key in sorted(set(one) & set(other)):
             if (key[0] if isinstance(key, tuple) else key) in shared and one[key] != other[key]:
                 yield f"{word} {about(key)} {spell(one[key])} > {spell(other[key])}"
@@ -68,8 +74,8 @@ def facts_apart(old, new):
         yield f"disputed {kind} {guid:016x}" + ("" if kind in ("node", "cap") else f"/{port}")
 
 
-def plans_apart(old, new):
-    """The lines that tell how plans differ, and how many blocks a manager has to write."""
+def plans_apart(old: Plan, new: Plan) -> tuple[list[str], str]:
+    """Returns the lines that tell how plans differ, and how many blocks a manager has to write."""
     lines = list(names_differ(old, new, ("old", "new")))
     entries, switches, blocks = 0, 0, 0
     for guid in sorted(set(old.tables) | set(new.tables)):

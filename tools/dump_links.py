@@ -30,25 +30,25 @@ STATES = {"NOC": "down", "DWN": "down", "INI": "up", "ARM": "up", "ACT": "up"}
 
 
 def first_of(lines):
-    """Returns the first line that is no comment."""
+    """Returns the first line that is not empty and no comment."""
     return next((line for line in lines if line.strip() and not line.startswith("#")), "")
 
 
 def is_links(lines):
-    """Whether a text is a dump of nodes and cables."""
+    """Returns whether a text is a dump of nodes and cables."""
     return re.match(r"\s*\{|(?:vendid|devid|\w+guid)=0x|Chassis \d|Non-Chassis", first_of(lines)) is not None
 
 
 class Told:
-    """What dumps say of each node and port, and by which line."""
+    """What dumps say of each node and port, and in which line."""
 
     def __init__(self):
         self.values = {}  # kind, GUID, port: the words that a line of facts has for it, or an LMC
-        self.sources = {}  # the same: the dump and the line that told it first
+        self.sources = {}  # kind, GUID, port: the dump and the line that told it first
         self.path, self.number = "", 0
 
     def read(self, path, lines):
-        """Takes in a dump, which is all of one form."""
+        """Takes in a dump, all of one form."""
         self.path, take = path, Netdiscovered(self).line
         if first_of(lines).lstrip().startswith("{"):
             take = self.lst_line
@@ -94,7 +94,8 @@ class Told:
         return int(far, 16), int(at)
 
     def lst_line(self, line):
-        """Takes in a line of a .lst, where all numbers are hex; the state is that of its first end."""
+        """Takes in a line of a .lst, and returns whether it is understood. All numbers are hex; the state is that of
+        the first end."""
         if not line.strip() or line.startswith("#"):
             return True
         form = LST_LINE.fullmatch(line)
@@ -125,7 +126,7 @@ class Told:
 
 
 class Netdiscovered:
-    """The lines of ibnetdiscover: those of GUIDs, then of a node, then of its ports that have a cable."""
+    """The lines of ibnetdiscover: GUIDs, then a node, then its ports that have a cable."""
 
     def __init__(self, told):
         self.told, self.guids, self.at = told, None, None

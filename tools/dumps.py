@@ -5,9 +5,12 @@ Each switch has a head with its range of LIDs and its GUID, a line for each LID 
 GUID of the LID's owner, and a line that counts them. OpenSM reads its own file so for its routing engine `file`. In
 .fdbs a head has no range, the last LID that has a line is the top, and nothing is counted or named.
 """
-import re
+from __future__ import annotations
 
-from ibsm_texts import ENTRIES, GREATEST_LID, NO_WAY, NONE, Refused, each_line, name_of
+import re
+from collections.abc import Iterable, Iterator
+
+from ibsm_texts import ENTRIES, GREATEST_LID, NO_WAY, NONE, End, Facts, Refused, each_line, name_of
 
 # OpenSM reads lines into 1,024 bytes.
 LONGEST_LINE = 1022
@@ -19,37 +22,37 @@ OWNER = re.compile(r"portguid 0x([0-9a-f]+)")
 COUNT = re.compile(r"\d+ (?:valid )?lids dumped")
 FDBS_HEAD = re.compile(r"(?:osm_ucast_mgr_)?dump_ucast_routes: Switch 0x([0-9a-fA-F]{1,16})\s*")
 FDBS_LINE = re.compile(r"0x([0-9a-fA-F]{1,4}) : (?:(\d+) *: \d+ *: .*|UNREACHABLE)\s*")
-# What else stands there: the heads of columns, the warning of dump_lfts, and comments of ibdiagnet.
+# Other lines of dumps: the heads of columns, the warning of dump_lfts, and comments of ibdiagnet.
 BETWEEN = re.compile(r"|#.*|Lid\s+Out\s+Destination\s*|Port\s+Info\s*|LID\s*: Port\s*: Hops\s*: Optimal\s*|\*\*\*.*")
-# Rows of entries have room for so many LIDs more each time.
+# By how many LIDs a row of entries grows at a time.
 ROOM = 4096
 LIDS = 65536
 
 
 class LineRefused(Refused):
-    """A line is none of a dump."""
+    """A line does not belong to a dump."""
 
 
-def is_head(line):
+def is_head(line: str) -> bool:
     return line.startswith(HEAD) or FDBS_HEAD.fullmatch(line) is not None
 
 
-def is_dump(lines):
+def is_dump(lines: Iterable[str]) -> bool:
     return any(is_head(line.lstrip()) for line in lines)
 
 
 class Entries:
-    """The ports of a switch by LID: a byte each, NO_WAY where none is told, and what a byte doesn't hold by itself."""
+    """The ports of a switch by LID: a byte each, NO_WAY if unknown. `others` has what a byte alone cannot tell."""
 
-    def __init__(self):
+    def __init__(self) -> None:
         self.row, self.others = bytearray(), {}
 
-    def get(self, lid):
-        """The port, None where none is told."""
+    def get(self, lid: int) -> int | None:
+        """Returns the port, or None if it is unknown."""
         port = self.row[lid] if lid < len(self.row) else NO_WAY
         return self.others.get(lid) if port == NO_WAY else port
 
-    def put(self, lid, port):
+    def put(self, lid: int, port: int) -> None:
         if port >= NO_WAY or lid >= LIDS:
             self.others[lid] = port
             return
@@ -57,8 +60,8 @@ class Entries:
             self.row += NONE * (lid // ROOM * ROOM + ROOM - len(self.row))
         self.row[lid] = port
 
-    def lacks(self, lids, top):
-        """Those of some LIDs up to a top of which no port is told."""
+    def lacks(self, lids: Iterable[int], top: int) -> list[int]:
+        """Returns those of `lids`, up to a top, whose port is unknown."""
         row = self.row
         return [
             lid
@@ -66,18 +69,18 @@ class Entries:
             if (lid >= len(row) or row[lid] == NO_WAY) and lid <= top and lid not in self.others
         ]
 
-    def led(self):
-        """The LIDs for which packets leave by a port."""
+    def led(self) -> Iterator[int]:
+        """Yields the LIDs for which packets leave by a port."""
         yield from (lid for lid, port in enumerate(self.row) if port != NO_WAY)
         yield from (lid for lid, port in self.others.items() if port != NO_WAY)
 
-    def greatest(self):
-        """The greatest LID of which a port is told, 0 where there is none."""
+    def greatest(self) -> int:
+        """Returns the greatest LID with a known port, or 0."""
         return max(len(self.row.rstrip(NONE)) - 1, 0, *self.others)
 
 
 class Dump:
-    def __init__(self):
+    def __init__(self) -> None:
         self.tables = {}  # GUID: entries
         self.tops = {}  # GUID: the last LID of its range
         self.named = {}  # LID: port GUID
@@ -89,20 +92,20 @@ class Dump:
         self.ports = {f" {port:03d}": port for port in range(NO_WAY)}
         self.begin("")
 
-    def begin(self, path):
+    def begin(self, path: str) -> None:
         self.path, self.at, self.is_fdbs, self.is_dump, self.fault = path, None, False, False, None
 
-    def read(self, path):
-        """Takes in a file, and tells whether it is a dump; the lines of a switch that is there already are added to it.
-        What is no line of a dump is passed over, as OpenSM does."""
+    def read(self, path: str) -> bool:
+        """Takes in a file, and returns whether it is a dump. Adds lines of a known switch to it, and skips lines of no
+        dump, as OpenSM does."""
         self.begin(path)
         each_line(path, self.take_loosely, "replace")
         if self.is_dump and self.fault:
             raise self.fault
         return self.is_dump
 
-    def take_loosely(self, number, line):
-        """Takes in a line of a file that may be no dump; the first fault is kept."""
+    def take_loosely(self, number: int, line: str) -> None:
+        """Takes in a line of a file that may be no dump, and keeps the first fault."""
         if self.is_like_one(line):
             return
         line = line.lstrip()
@@ -113,8 +116,8 @@ class Dump:
             except LineRefused as fault:
                 self.fault, self.at = fault, None
 
-    def is_like_one(self, line):
-        """Takes in a line if it is like one that was read, but for the port, and tells whether it is."""
+    def is_like_one(self, line: str) -> bool:
+        """Takes in a line that differs from one read before only in the port, and returns whether it did."""
         lid = self.lids.get(line[:6])
         port = self.ports.get(line[6:10])
         if lid is None or port is None or self.at is None or self.tails.get(lid) != line[10:]:
@@ -125,16 +128,16 @@ class Dump:
             table.row[lid] = port
         return is_taken
 
-    def read_strictly(self, path, lines):
-        """Takes in the lines of a file, each of which has to be a dump's."""
+    def read_strictly(self, path: str, lines: Iterable[str]) -> None:
+        """Takes in the lines of a file, each of which has to belong to a dump."""
         self.begin(path)
         for number, line in enumerate(lines, 1):
             line = line.lstrip()
             if not self.take(number, line) and not BETWEEN.fullmatch(line):
                 raise LineRefused(f"line {number} is no line of a dump of tables: {line[:60]}")
 
-    def take(self, number, line):
-        """Takes in a line, and tells whether it is a dump's."""
+    def take(self, number: int, line: str) -> bool:
+        """Takes in a line, and returns whether it belongs to a dump."""
         if len(line) > LONGEST_LINE:
             raise LineRefused(f"line {number} is longer than OpenSM reads")
         if is_head(line):
@@ -147,7 +150,7 @@ class Dump:
             return False
         return True
 
-    def head(self, number, line):
+    def head(self, number: int, line: str) -> None:
         fdbs = FDBS_HEAD.fullmatch(line)
         guid = fdbs or GUID.search(line)
         if not guid:
@@ -161,11 +164,11 @@ class Dump:
         elif last := RANGE.match(line):
             self.tops[self.at] = max(self.tops.get(self.at, 0), int(last[1], 16 if last[1].startswith("0x") else 10))
 
-    def elsewhere(self, *key):
-        """Where else it is told."""
+    def elsewhere(self, *key: str | int) -> str:
+        """Returns the words for where else it is told."""
         return "further up" if self.sources[key] == self.path else f"in {self.sources[key]}"
 
-    def put(self, number, lid, port):
+    def put(self, number: int, lid: int, port: int) -> None:
         table = self.tables[self.at]
         before = table.get(lid)
         if before is None:
@@ -173,10 +176,11 @@ class Dump:
         elif before != port:
             place = self.elsewhere("switch", self.at)
             raise LineRefused(
-                f"line {number}: switch {self.at:016x} has another port for LID {lid} {place}: are these dumps of two times?"
+                f"line {number}: switch {self.at:016x} has another port for LID {lid} {place}: are these dumps of two "
+                "times?"
             )
 
-    def entry(self, number, line):
+    def entry(self, number: int, line: str) -> None:
         entry = ENTRY.match(line)
         if not entry:
             raise LineRefused(f"line {number} has no LID and port")
@@ -190,7 +194,7 @@ class Dump:
         if entry.span(1) == (2, 6) and entry.end(2) == 10 and self.lids.get(line[:6]) == lid:
             self.tails[lid] = line[10:]
 
-    def fdbs_entry(self, number, line):
+    def fdbs_entry(self, number: int, line: str) -> None:
         entry = FDBS_LINE.fullmatch(line)
         if not entry:
             raise LineRefused(f"line {number} has no LID and port")
@@ -199,7 +203,7 @@ class Dump:
         if entry[2]:
             self.put(number, lid, int(entry[2]))
 
-    def judge(self):
+    def judge(self) -> None:
         """Refuses what no switch can hold."""
         for guid, table in self.tables.items():
             if guid not in self.tops or table.greatest() > self.tops[guid] or self.tops[guid] > GREATEST_LID:
@@ -208,9 +212,10 @@ class Dump:
                 raise Refused(f"switch {guid:016x} has an entry over {NO_WAY}")
 
 
-def lids_of(facts, dump, lmcs=None):
-    """The first and the last LID of each end port by facts, dumps and the LMCs that are known, and where these do not
-    go together."""
+def lids_of(
+    facts: Facts, dump: Dump, lmcs: dict[End, int] | None = None
+) -> tuple[dict[End, tuple[int, int]], list[str]]:
+    """Returns the first and the last LID of each end port, by facts, dumps and known LMCs, and where these disagree."""
     by_guid, ranges, found = {}, {}, []
     for lid, guid in sorted(dump.named.items()):
         by_guid.setdefault(guid, []).append(lid)
@@ -236,8 +241,8 @@ def lids_of(facts, dump, lmcs=None):
     return ranges, found
 
 
-def lacks(facts, dump, ranges):
-    """What is missing in dumps: the kind, and a line that tells it."""
+def lacks(facts: Facts, dump: Dump, ranges: dict[End, tuple[int, int]]) -> Iterator[tuple[str, str]]:
+    """Yields what dumps lack: the kind, and a line that tells it."""
     owned = sorted(lid for first, last in ranges.values() for lid in range(first, last + 1))
     for guid in sorted(set(facts.nodes) | set(dump.tables)):
         if guid not in dump.tables:

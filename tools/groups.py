@@ -1,4 +1,5 @@
-"""Switches in groups, such as those of a dragonfly or the rows of a torus, and where each stands in a picture of them."""
+"""Switches in groups, such as those of a dragonfly or the rows of a torus, and where each stands in a picture of
+them."""
 from __future__ import annotations
 
 import collections
@@ -8,16 +9,17 @@ from collections.abc import Iterable, Sequence
 
 from ibsm_texts import Names
 
-# The members of each group, the switches at both ends of a cable, and where something stands.
+# The members of each group, the switches at both ends of a cable, and a position.
 Groups, Wire, Spot = dict[str, list[int]], tuple[int, int], tuple[float, float]
-# Where switches stand, the frames of groups, and in which direction adapters stand.
+# The positions of switches, the frames of groups, and the direction of adapters.
 Layout = tuple[dict[int, Spot], dict[str, tuple[float, float, float, float]], dict[int, float]]
-# In inches: how far switches of a group stand apart, and groups from each other.
+# In inches: the distance of switches in a group, and that of groups.
 BESIDE, APART = 1.5, 1.0
 
 
 def by_names(guids: Iterable[int], names: Names) -> dict[int, str]:
-    """The group of each: its name up to the last number but one, or up to its only number, where that leaves something."""
+    """Returns the group of each GUID: its name up to the last number but one, or up to its only number, if that leaves
+    anything."""
     found = {}
     for guid in guids:
         name = names.get(guid, "")
@@ -27,18 +29,23 @@ def by_names(guids: Iterable[int], names: Names) -> dict[int, str]:
 
 
 def in_order(guids: Iterable[int], group_of: dict[int, str], names: Names) -> Groups:
-    """The groups, by name, each with its members by theirs, in which numbers count as such, or by GUID."""
+    """Returns the groups in order of name. Their members are in order of name, with numbers by value, and then of
+    GUID."""
     def place(name: str) -> list[tuple]:
         return [(0, int(part), "") if part.isdigit() else (1, 0, part) for part in re.split(r"(\d+)", name)]
 
     found = collections.defaultdict(list)
     for guid in guids:
         found[group_of[guid]].append(guid)
-    return {name: sorted(found[name], key=lambda guid: (place(names.get(guid, "")), guid)) for name in sorted(found, key=place)}
+    return {
+        name: sorted(found[name], key=lambda guid: (place(names.get(guid, "")), guid))
+        for name in sorted(found, key=place)
+    }
 
 
 def is_grid(groups: Groups, wires: Sequence[Wire]) -> bool:
-    """Whether cables between groups of one size mostly lead to the same place in the other group, as in a torus."""
+    """Returns whether cables between groups of one size mostly lead to the same place in the other group, as in a
+    torus."""
     if len({len(members) for members in groups.values()}) != 1 or len(groups) < 2:
         return False
     place = {guid: (name, i) for name, members in groups.items() for i, guid in enumerate(members)}
@@ -47,14 +54,14 @@ def is_grid(groups: Groups, wires: Sequence[Wire]) -> bool:
 
 
 def placed(groups: Groups, wires: Sequence[Wire]) -> Layout:
-    """Where each switch stands, the boxes of groups (middle, width, height), and in which direction adapters stand.
+    """Returns the positions of switches, the boxes of groups (middle, width, height), and the direction of adapters.
 
     Groups are rows of a grid, or circles on a circle.
     """
     if is_grid(groups, wires):
         return grid(groups)
     sides = {name: 2 * radius_of(len(members)) + BESIDE + APART for name, members in groups.items()}
-    # Frames that stand askew to each other touch at their corners.
+    # Frames at an angle to each other touch at their corners.
     big = circle(len(groups), math.sqrt(2) * max(sides.values()) + APART / 2)
     places, boxes, outwards = {}, {}, {}
     for i, (name, members) in enumerate(groups.items()):
@@ -70,7 +77,8 @@ def placed(groups: Groups, wires: Sequence[Wire]) -> Layout:
 
 
 def grid(groups: Groups) -> Layout:
-    """A row for each group. Rows and columns close to rings mostly, so each is bent: what would run behind others does not."""
+    """Returns a row for each group. Rows and columns mostly close to rings, so each is bent, and no cable runs behind
+    others."""
     places, boxes, outwards = {}, {}, {}
     for i, (name, members) in enumerate(groups.items()):
         y = -(BESIDE + APART) * i
@@ -83,7 +91,7 @@ def grid(groups: Groups) -> Layout:
 
 
 def bend(i: int, count: int) -> float:
-    """From 0 at both ends of a row to 1 in its middle."""
+    """Returns 0 at both ends of a row and 1 in its middle."""
     x = i / (count - 1) if count > 1 else 0
     return 4 * x * (1 - x)
 
@@ -93,7 +101,7 @@ def radius_of(count: int) -> float:
 
 
 def circle(count: int, apart: float) -> float:
-    """The radius of a circle on which so many stand so far apart."""
+    """Returns the radius of a circle on which `count` points are `apart` from each other."""
     return 0 if count < 2 else apart / 2 / math.sin(math.pi / max(count, 2))
 
 
@@ -103,6 +111,6 @@ def spot(i: int, count: int, radius: float, spin: float = math.pi / 2) -> Spot:
 
 
 def beside(place: Spot, direction: float, turn: int) -> Spot:
-    """Where an adapter stands: outwards from its switch, by turns to both sides of that."""
+    """Returns the position of an adapter: outwards from its switch, by turns to both sides."""
     angle = direction + 0.45 * ((turn + 1) // 2) * (-1) ** turn
     return place[0] + 0.8 * math.cos(angle), place[1] + 0.6 * math.sin(angle)

@@ -2,12 +2,16 @@
 
 An end is a pair of a node's GUID and a port. A text that is not whole or not in its form raises `Refused`.
 """
+from __future__ import annotations
+
 import contextlib
 import io
 import os
 import pathlib
 import re
 import sys
+from collections.abc import Callable, Iterable, Iterator
+from typing import BinaryIO, TextIO
 
 import progress
 import version
@@ -15,7 +19,7 @@ import version
 GUID = "([0-9a-f]{16})"
 NUMBER = "([0-9]{1,10})"
 END = f"{GUID}/{NUMBER}"
-# By kind of fact, what it is about and its value.
+# By kind of fact: what it is about, and its value.
 FACTS = {
     "node": (GUID, f"(ca|switch|router) {NUMBER}"),
     "portguid": (END, GUID),
@@ -25,7 +29,7 @@ FACTS = {
     "cap": (GUID, NUMBER),
 }
 FORMS = {kind: re.compile(f"{kind} {about} (?:(disputed)|{value}) @{NUMBER}") for kind, (about, value) in FACTS.items()}
-# The first line, where there is a floor over 1: what is older was forgotten.
+# The first line if the floor is over 1: older facts are forgotten.
 FLOOR = re.compile(f"floor {NUMBER}")
 LID_LINE = re.compile(f"lid {NUMBER} {END}(?: lmc ([1-7]))?")
 SWITCH_LINE = re.compile(f"switch {GUID} top {NUMBER}")
@@ -34,17 +38,18 @@ NO_WAY = 255
 NONE = bytes([NO_WAY])
 ENTRIES = 64
 GREATEST_LID = 0xBFFF
-# A port of a node by GUID and number, and the names of nodes by GUID, for who says what type something has.
+# A node's port by GUID and number, and the names of nodes by GUID, for type hints.
 End, Names = tuple[int, int], dict[int, str]
 
 
 class Refused(Exception):
-    """What a tool was given is not what it takes, or must not be done."""
+    """The input of a tool is not what it takes, or its task must not be done."""
 
 
-def ends(tool, doc, work):
-    """Runs a tool and gives its exit status: work takes the words behind its name. What ends it short is said in one line."""
-    # What stands behind -- is another program's.
+def ends(tool: str, doc: str, work: Callable[[list[str]], int]) -> int:
+    """Runs a tool, and returns its exit status. `work` takes the words behind its name. A failure is said in one
+    line."""
+    # Words behind -- are for another program.
     own = set(sys.argv[1 : sys.argv.index("--")] if "--" in sys.argv else sys.argv[1:])
     try:
         if {"-h", "--help"} & own:
@@ -58,7 +63,7 @@ def ends(tool, doc, work):
             sys.stdout.flush()
         return status
     except BrokenPipeError:
-        # Who read it has seen enough, and Python would say so once more at its end.
+        # The reader has seen enough. Python would report the closed pipe again at exit.
         os.dup2(os.open(os.devnull, os.O_WRONLY), sys.stdout.fileno())
         return 4
     except Refused as fault:
@@ -71,32 +76,32 @@ def ends(tool, doc, work):
     return status
 
 
-def told(fault):
-    """A fault of the operating system with the file's name once; without one it is standard output's."""
+def told(fault: OSError) -> str:
+    """Returns the text of an OSError, with the file's name once. Without a name it is standard output's."""
     if fault.strerror is None:
         return str(fault)
     return f"{fault.filename or 'standard output'}: {fault.strerror}"
 
 
-def as_called(doc):
-    """A tool's help, with the name by which it was installed and called in place of its own."""
+def as_called(doc: str) -> str:
+    """Returns a tool's help, with the name by which it was installed and called."""
     called = pathlib.Path(sys.argv[0])
     return (
         doc if called.resolve().parent.name == "tools" else doc.replace(f"tools/{called.resolve().name}", called.name)
     )
 
 
-def usage_of(doc):
-    """How a tool is used, for its parser."""
+def usage_of(doc: str) -> str:
+    """Returns a tool's usage, for its parser."""
     return as_called(doc).split("usage: ")[1].split("\n\n")[0]
 
 
-def name_of(end):
+def name_of(end: End) -> str:
     return f"{end[0]:016x}/{end[1]}"
 
 
-def end_in(word):
-    """The end that a text `G/p` names, with or without 0x before its hex digits; None where it names none."""
+def end_in(word: str) -> End | None:
+    """Returns the end that a text `G/p` names, with or without 0x before its hex digits, or None."""
     form = re.fullmatch(r"(?:0x)?([0-9a-fA-F]{1,16})/([0-9]{1,3})", word)
     return (int(form[1], 16), int(form[2])) if form else None
 
@@ -104,8 +109,8 @@ def end_in(word):
 _input = []
 
 
-def opened(path, **how):
-    """A text to read; `-` is standard input, which is read once, however often it is opened."""
+def opened(path: str | os.PathLike, **how) -> TextIO:
+    """Opens a text; `-` is standard input, which is read once, however often it is opened."""
     if path != "-":
         return open(path, **how)
     if not _input:
@@ -113,18 +118,21 @@ def opened(path, **how):
     return io.TextIOWrapper(io.BytesIO(_input[0]), **how)
 
 
-def opened_bytes(path, most=-1):
-    """The bytes of a file, or of standard input; no more than so many."""
+def opened_bytes(path: str | os.PathLike, most: int = -1) -> bytes:
+    """Returns the bytes of a file or of standard input, at most `most` of them."""
     if path == "-":
         return sys.stdin.buffer.read(most)
     with open(path, "rb") as file:
         return file.read(most)
 
 
-def each_line(path, take, errors="strict", encoding="ascii"):
-    """Hands a text's lines with their numbers to take, one after the other, so that no text is held.
+def each_line(
+    path: str | os.PathLike, take: Callable[[int, str], object], errors: str = "strict", encoding: str = "ascii"
+) -> None:
+    """Passes each line of a text with its number to `take`, so that the text is never held as a whole.
 
-    What take refuses first holds once all is known to be a text whose last line has an end.
+    The first refusal of `take` is raised at the end, once the whole text is known to be well-formed, with an end to its
+    last line.
     """
     refused, line = None, "\n"
     with opened(path, encoding=encoding, errors=errors) as file:
@@ -145,15 +153,15 @@ def each_line(path, take, errors="strict", encoding="ascii"):
         raise refused
 
 
-def lines_of(path, errors="strict", encoding="ascii"):
-    """The lines of a text, which has to end with one."""
+def lines_of(path: str | os.PathLike, errors: str = "strict", encoding: str = "ascii") -> list[str]:
+    """Returns the lines of a text. The last one must have an end."""
     lines = []
     each_line(path, lambda _, line: lines.append(line), errors, encoding)
     return lines
 
 
-def names_in(path):
-    """The names of a node name map, by GUID."""
+def names_in(path: str | os.PathLike) -> Names:
+    """Returns the names of a node name map, by GUID."""
     found = {}
     with opened(path, encoding="utf-8", errors="replace") as file:
         for line in file:
@@ -165,10 +173,10 @@ def names_in(path):
 NAMED = re.compile(r"\b(?:0x)?([0-9a-f]{16})(?:/[0-9]{1,3})?(?![0-9A-Za-z_])")
 
 
-def with_names(line, names):
-    """A line with names behind its GUIDs and ends."""
+def with_names(line: str, names: Names) -> str:
+    """Returns a line with names behind its GUIDs and ends."""
 
-    def told(found):
+    def told(found: re.Match) -> str:
         name = names.get(int(found[1], 16))
         return found[0] if name is None else f'{found[0]} "{name}"'
 
@@ -176,8 +184,8 @@ def with_names(line, names):
 
 
 @contextlib.contextmanager
-def whole(path):
-    """A file to write bytes to, under another name until all is there, so that it is whole or as it was."""
+def whole(path: str | os.PathLike) -> Iterator[BinaryIO]:
+    """Opens a file for writing bytes under another name until all is there, so that the file is whole or unchanged."""
     if os.path.exists(path) and not os.path.isfile(path):
         raise OSError(f"{path}: it is no regular file")
     temporary = f"{path}.{os.getpid()}"
@@ -195,14 +203,15 @@ def whole(path):
         raise
 
 
-def put(path, text):
-    """Writes a file whole, or leaves it as it was."""
+def put(path: str | os.PathLike, text: str) -> None:
+    """Writes a file whole, or leaves it unchanged."""
     with whole(path) as file:
         file.write(text.encode())
 
 
-def plan_lines(ranges, tops, tables):
-    """The lines of a plan: of each end its first and last LID, of each switch's GUID the top and the entries from LID 0 on."""
+def plan_lines(ranges: dict[End, tuple[int, int]], tops: dict[int, int], tables: dict[int, bytes]) -> Iterator[str]:
+    """Yields the lines of a plan from the first and last LID of each end, and the top and the entries from LID 0 of
+    each switch's GUID."""
     for end, (first, last) in sorted(ranges.items(), key=lambda item: (item[1], item[0])):
         lmc = (last - first + 1).bit_length() - 1
         yield f"lid {first} {name_of(end)}" + (f" lmc {lmc}" if lmc else "")
@@ -213,9 +222,9 @@ def plan_lines(ranges, tops, tables):
 
 
 class Facts:
-    """The text of `ibsm facts`, in a file or in lines; a file's lines are kept where they are wanted."""
+    """The text of `ibsm facts`, from a file or from lines. A file's lines are kept on demand."""
 
-    def __init__(self, path, keeps_lines=False, lines=None):
+    def __init__(self, path: str | os.PathLike, keeps_lines: bool = False, lines: Iterable[str] | None = None) -> None:
         self.nodes = {}  # GUID: type, ports
         self.port_guids = {}
         self.links = {}  # end: far end
@@ -232,7 +241,7 @@ class Facts:
             for number, line in enumerate(lines, 1):
                 self.take_line(number, line)
 
-    def take_line(self, number, line):
+    def take_line(self, number: int, line: str) -> None:
         if self.lines is not None:
             self.lines.append(line)
         floor = FLOOR.fullmatch(line) if number == 1 else None
@@ -241,7 +250,7 @@ class Facts:
         elif not self.take(line):
             raise Refused(f"{self.path}: line {number} is no fact: {line[:60]}")
 
-    def take(self, line):
+    def take(self, line: str) -> bool:
         kind = line.split(" ", 1)[0]
         form = kind in FORMS and FORMS[kind].fullmatch(line)
         if not form:
@@ -266,21 +275,21 @@ class Facts:
             self.caps[guid] = int(words[0])
         return True
 
-    def type_of(self, guid):
+    def type_of(self, guid: int) -> str:
         return self.nodes.get(guid, ("", 0))[0]
 
-    def is_switch(self, guid):
+    def is_switch(self, guid: int) -> bool:
         return self.type_of(guid) == "switch"
 
-    def wire(self, end):
-        """The far end of the cable in a port, where both ends tell of it and are up, and else None."""
+    def wire(self, end: End) -> End | None:
+        """Returns the far end of the cable in a port if both ends tell of it and are up, or else None."""
         far = self.links.get(end)
         if far is None or far == end or self.links.get(far) != end or not (self.up.get(end) and self.up.get(far)):
             return None
         return far
 
-    def cables(self):
-        """Each cable once: its ends, and whether it is `up`, `down`, or told by `one` end."""
+    def cables(self) -> list[tuple[End, End, str]]:
+        """Returns each cable once: its ends, and whether it is `up`, `down`, or told by `one` end."""
         found = {}
         for end, far in sorted(self.links.items()):
             if (far, end) not in found:
@@ -289,15 +298,15 @@ class Facts:
 
 
 class Plan:
-    """The text of `ibsm plan`, or what a fabric holds in the same form: LIDs, and each switch's top and entries."""
+    """The text of `ibsm plan`, or what a fabric holds in that form: LIDs, and each switch's top and entries."""
 
-    def __init__(self, path):
+    def __init__(self, path: str | os.PathLike) -> None:
         self.owners = {}  # LID: end, with each LID of a range
         self.ranges = {}  # end: its first LID, and the last
         self.shared = []  # LIDs that a second end has, with that end
         self.tops = {}
         self.tables = {}  # GUID: entries from LID 0 on, in whole blocks
-        self.last, self.blocks = None, []  # the switch that is read, and its blocks
+        self.last, self.blocks = None, []  # the current switch, and its blocks
         self.path = path
         each_line(path, self.take_line)
         self.close()
@@ -307,7 +316,7 @@ class Plan:
                 blocks = len(table) // ENTRIES
                 raise Refused(f"{path}: switch {guid:016x} has {blocks} blocks for top {self.tops[guid]}: is it cut?")
 
-    def take_line(self, number, line):
+    def take_line(self, number: int, line: str) -> None:
         if line.startswith("block "):
             is_taken = self.take_block(line)
         else:
@@ -315,7 +324,7 @@ class Plan:
         if not is_taken:
             raise Refused(f"{self.path}: line {number} is no line of a plan: {line[:60]}")
 
-    def take_lids(self, line):
+    def take_lids(self, line: str) -> bool:
         form = LID_LINE.fullmatch(line)
         if not form:
             return False
@@ -327,7 +336,7 @@ class Plan:
                 self.shared.append((lid, end))
         return True
 
-    def take_switch(self, line):
+    def take_switch(self, line: str) -> bool:
         form = SWITCH_LINE.fullmatch(line)
         guid = int(form[1], 16) if form else None
         if guid is None or guid in self.tops:
@@ -336,14 +345,14 @@ class Plan:
         self.last, self.tops[guid] = guid, int(form[2])
         return True
 
-    def take_block(self, line):
-        """Takes the next block of the switch that is read."""
+    def take_block(self, line: str) -> bool:
+        """Takes in the next block of the current switch, and returns whether it is well-formed."""
         number, _, digits = line[6:].partition(" ")
         try:
             entries = bytes.fromhex(digits)
         except ValueError:
             return False
-        # Nothing but lower-case digits is spelled as it was read.
+        # Only lower-case digits are spelled as they were read.
         if self.last is None or len(entries) != ENTRIES or entries.hex() != digits:
             return False
         if number != str(len(self.blocks)) and not (BLOCK_NUMBER.fullmatch(number) and int(number) == len(self.blocks)):
@@ -351,15 +360,16 @@ class Plan:
         self.blocks.append(entries)
         return True
 
-    def close(self):
-        """Keeps the table of the switch that was read."""
+    def close(self) -> None:
+        """Keeps the table of the current switch."""
         if self.last is not None:
             self.tables[self.last], self.blocks = b"".join(self.blocks), []
 
-    def entry(self, guid, lid):
-        """By which port a switch sends packets for a LID; NO_WAY above its top, and where there is no such switch."""
+    def entry(self, guid: int, lid: int) -> int:
+        """Returns the port by which a switch sends packets for a LID; NO_WAY above its top, and for an unknown
+        switch."""
         return self.tables[guid][lid] if lid <= self.tops.get(guid, -1) else NO_WAY
 
-    def row(self, guid):
-        """The entries of a switch from LID 0 up to its top."""
+    def row(self, guid: int) -> bytes:
+        """Returns the entries of a switch from LID 0 up to its top."""
         return self.tables[guid][: self.tops[guid] + 1]

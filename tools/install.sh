@@ -30,7 +30,7 @@ if [ "$is_taken_off" ]; then
         exit 1
     }
     while read -r name; do rm -f -- "$root/$name"; done <"$list"
-    # What Python kept of modules.
+    # Compiled Python modules.
     rm -rf -- "$list" "$root/lib/ibsm/__pycache__"
     rmdir -- "$root/lib/ibsm" "$root/share/doc/ibsm" 2>/dev/null || :
     echo "ibsm is taken off $root"
@@ -48,9 +48,10 @@ while read -r name; do
     rm -f -- "$root/$name"
     cp -P --preserve=mode -- "$here/tree/$name" "$root/$name"
 done <"$list.new"
-unit=$root/lib/systemd/system/ibsm-round.service
-sed "s|/usr/local/|$prefix/|" "$here/tree/lib/systemd/system/ibsm-round.service" >"$unit"
-# What an older one had, and this one has not.
+for unit in ibsm-round ibsm-seat; do
+    sed "s|/usr/local/|$prefix/|g" "$here/tree/lib/systemd/system/$unit.service" >"$root/lib/systemd/system/$unit.service"
+done
+# Files of an older version that this one does not have.
 if [ -f "$list" ]; then
     while read -r name; do grep -qxF -- "$name" "$list.new" || rm -f -- "$root/$name"; done <"$list"
 fi

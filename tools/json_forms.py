@@ -2,7 +2,10 @@
 
 A reader takes the lines of a text one by one, and says of each whether it is one of its form.
 """
+from __future__ import annotations
+
 import re
+from collections.abc import Iterable
 
 from ibsm_texts import END, FLOOR, FORMS, GUID, NUMBER
 
@@ -10,45 +13,45 @@ PLACE = "([0-9a-f]{16}/[0-9]{1,3})"
 RATE = r"\d+x [A-Z]+ [0-9.]+ Gb/s"
 KINDS = ("lost", "misdelivered", "round", "unowned", "twice", "unknown", "tableless", "unusable", "lidless", "unjoined")
 MISSED = ("above-top", "no-entry", "no-port", "no-link", "foreign", "misdelivered", "round")
-# A name that is put behind a GUID or an end.
+# A name behind a GUID or an end.
 NAMED = re.compile(r'(?<![0-9A-Za-z_"])(([0-9a-f]{16})(?:/[0-9]{1,3})?) "([^"]*)"')
 
 
-def typed(words):
+def typed(words: str) -> dict[str, str | int]:
     """Returns a node's type and number of ports from the words of a line."""
     kind, ports = words.split(" ")
     return {"type": kind, "ports": int(ports)}
 
 
-def fault_of_lines(reader, lines):
-    """Reads a text; the number of the first line that is none of its form, or 0."""
+def fault_of_lines(reader: Rules, lines: Iterable[str]) -> int:
+    """Reads a text, and returns the number of the first line that is not of its form, or 0."""
     return next((number for number, line in enumerate(lines, 1) if not reader.take(line)), 0)
 
 
 class Rules:
-    """A reader by a table of patterns, each for a whole line, with the method that takes what they caught."""
+    """A reader by a table of patterns, each for a whole line, with the method that takes the groups."""
 
     rules = ()
 
-    def take(self, line):
+    def take(self, line: str) -> bool:
         for pattern, method in self.rules:
             if form := re.fullmatch(pattern, line):
                 return getattr(self, method)(*form.groups()) is not False
         return False
 
-    def lacks(self):
-        """Whether the text ends too early."""
+    def lacks(self) -> bool:
+        """Returns whether the text ends too early."""
         return False
 
 
 class FactsRead(Rules):
     lists = {kind: f"{kind}s" for kind in FORMS}
 
-    def __init__(self):
+    def __init__(self) -> None:
         self.floor, self.is_first = 1, True
         self.found = {name: [] for name in self.lists.values()}
 
-    def take(self, line):
+    def take(self, line: str) -> bool:
         floor, self.is_first = FLOOR.fullmatch(line) if self.is_first else None, False
         if floor:
             self.floor = int(floor[1])
@@ -63,13 +66,13 @@ class FactsRead(Rules):
         self.found[self.lists[kind]].append(told | {"generation": int(form.groups()[-1])})
         return True
 
-    def value(self, kind, value):
+    def value(self, kind: str, value: str) -> dict[str, str | int]:
         if kind == "node":
             return typed(value)
         name = {"portguid": "portguid", "link": "far", "port": "state", "claim": "lid", "cap": "size"}[kind]
         return {name: int(value) if kind in ("claim", "cap") else value}
 
-    def value_of_text(self):
+    def value_of_text(self) -> dict:
         return {"floor": self.floor} | self.found
 
 
@@ -80,7 +83,7 @@ class TablesRead(Rules):
         (rf"block {NUMBER} ([0-9a-f]{{128}})", "block"),
     )
 
-    def __init__(self):
+    def __init__(self) -> None:
         self.lids, self.switches = [], []
 
     def lid(self, lid, end, lmc):
@@ -94,7 +97,7 @@ class TablesRead(Rules):
             return False
         self.switches[-1]["blocks"].append({"block": int(number), "entries": list(bytes.fromhex(digits))})
 
-    def value_of_text(self):
+    def value_of_text(self) -> dict:
         return {"lids": self.lids, "switches": self.switches}
 
 
@@ -116,8 +119,8 @@ class AuditRead(Rules):
         (rf"credit loop (?:none|on one lane ({PLACE}(?: {PLACE})*))", "loop"),
     )
 
-    def __init__(self):
-        self.told, self.counts, self.spreads, self.circle = {}, {"disputed": 0}, {}, None
+    def __init__(self) -> None:
+        self.told, self.counts, self.spreads, self.cycle = {}, {"disputed": 0}, {}, None
         self.found, self.others = {kind: [] for kind in KINDS}, {}
 
     def pairs(self, which, pairs, arrive):
@@ -146,42 +149,43 @@ class AuditRead(Rules):
         self.spreads[kind] = None if most is None else {"max": int(most), "mean": float(mean)}
 
     def loop(self, ends, *_):
-        self.circle = ends.split(" ") if ends else []
+        self.cycle = ends.split(" ") if ends else []
 
-    def lacks(self):
+    def lacks(self) -> bool:
         parts = {"", "between_adapters", "with_a_switch", "missed"}
-        return self.circle is None or set(self.told) != parts or set(self.spreads) != {"hops", "load"}
+        return self.cycle is None or set(self.told) != parts or set(self.spreads) != {"hops", "load"}
 
-    def passes(self):
-        """Whether `ibsm audit` ends with 0. Without end ports there are neither pairs nor ports without a LID."""
+    def passes(self) -> bool:
+        """Returns whether the tables pass. Without end ports there are neither pairs nor ports without a
+        LID."""
         all_pairs, found = self.told[""], self.found
-        arrive = all_pairs["pairs"] == all_pairs["arrive"] and not self.circle
+        arrive = all_pairs["pairs"] == all_pairs["arrive"] and not self.cycle
         have_tables = not found["tableless"] or not all_pairs["pairs"]
         return arrive and have_tables and not found["unusable"] and not found["lidless"]
 
-    def value_of_text(self):
+    def value_of_text(self) -> dict:
         told = {"passes": self.passes()} | self.told[""]
         told |= {name: self.told[name] for name in ("between_adapters", "with_a_switch", "missed")}
-        return told | self.found | {"more": self.others} | self.counts | self.spreads | {"credit_loop": self.circle}
+        return told | self.found | {"more": self.others} | self.counts | self.spreads | {"credit_loop": self.cycle}
 
 
 class NextRead(Rules):
     rules = (AuditRead.rules[-1], (r"lids (\d+(?: \d+)*)", "waiting"))
 
-    def __init__(self):
-        self.circle, self.lids = None, []
+    def __init__(self) -> None:
+        self.cycle, self.lids = None, []
 
     def loop(self, ends, *_):
-        self.circle = ends.split(" ") if ends else []
+        self.cycle = ends.split(" ") if ends else []
 
     def waiting(self, lids):
         self.lids = [int(lid) for lid in lids.split(" ")]
 
-    def lacks(self):
-        return self.circle is None or len(self.circle) != len(self.lids)
+    def lacks(self) -> bool:
+        return self.cycle is None or len(self.cycle) != len(self.lids)
 
-    def value_of_text(self):
-        return {"credit_loop": self.circle, "lids": self.lids}
+    def value_of_text(self) -> dict:
+        return {"credit_loop": self.cycle, "lids": self.lids}
 
 
 class CompareRead(Rules):
@@ -205,10 +209,10 @@ class CompareRead(Rules):
         (r"((?:(?:gone|come|other|slow|fast) (?:node|cable)|[a-z]+) \d+(?:, [a-z]+ ?[a-z]* \d+)*)", "ends"),
     )
 
-    def __init__(self):
+    def __init__(self) -> None:
         self.changes, self.counts, self.end = [], {}, None
 
-    def take(self, line):
+    def take(self, line: str) -> bool:
         return self.end is None and super().take(line)
 
     def change(self, word, what, **told):
@@ -256,10 +260,10 @@ class CompareRead(Rules):
         self.end = line
         return (line == "equal") == (not self.changes)
 
-    def lacks(self):
+    def lacks(self) -> bool:
         return self.end is None
 
-    def value_of_text(self):
+    def value_of_text(self) -> dict:
         return {"equal": self.end == "equal", "changes": self.changes} | self.counts
 
 
@@ -276,7 +280,7 @@ class WhatIfRead(Rules):
         ),
     )
 
-    def __init__(self):
+    def __init__(self) -> None:
         self.rows, self.last, self.kind = [], None, "cables"
 
     def head(self, kind):
@@ -298,16 +302,16 @@ class WhatIfRead(Rules):
     def end(self, *words):
         self.last = [int(word) for word in words]
 
-    def lacks(self):
+    def lacks(self) -> bool:
         return self.last is None
 
-    def value_of_text(self):
+    def value_of_text(self) -> dict:
         count, harmless, entries, switches = self.last
         uncut = {"entries": entries, "switches": switches}
         return {self.kind: self.rows, "count": count, "harmless": harmless, "uncut": uncut}
 
 
-# By the name of a form its reader, and how the first line of such a text begins.
+# By the name of a form: its reader, and how the first line of a text of that form begins.
 READERS = {
     "facts": (FactsRead, r"(floor \d|node |portguid .*@|link |port .*@|claim |cap .*@)"),
     "tables": (TablesRead, r"(lid \d{1,10} [0-9a-f]{16}/|switch [0-9a-f]{16} top )"),
@@ -322,16 +326,16 @@ READERS = {
 }
 
 
-def form_of(line):
-    """The name of the form of a text by its first line; None where it begins none."""
+def form_of(line: str) -> str | None:
+    """Returns the name of a text's form by its first line, or None."""
     return next((name for name, (_, begins) in READERS.items() if re.match(begins, line)), None)
 
 
-def without_names(lines):
-    """The lines without the names behind GUIDs and ends, and these names by GUID."""
+def without_names(lines: Iterable[str]) -> tuple[list[str], dict[str, str]]:
+    """Returns the lines without the names behind GUIDs and ends, and these names by GUID."""
     names = {}
 
-    def taken(found):
+    def taken(found: re.Match) -> str:
         names[found[2]] = found[3]
         return found[1]
 

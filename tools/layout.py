@@ -10,7 +10,7 @@ from rows import ranks
 
 
 def wires_of(facts: Facts) -> dict[int, list[int]]:
-    """For each switch the switches at the other ends of its wires."""
+    """Returns for each switch the switches at the other ends of its wires."""
     wires = {guid: [] for guid in facts.nodes if facts.is_switch(guid)}
     for end in sorted(facts.links):
         far = facts.wire(end)
@@ -20,8 +20,8 @@ def wires_of(facts: Facts) -> dict[int, list[int]]:
 
 
 def rows_of(facts: Facts, wires: dict[int, list[int]], roots: Iterable[int]) -> dict[int, int]:
-    """The row of each switch, from the top of its component down."""
-    bearing = {
+    """Returns the row of each switch, from the top of its component down."""
+    leaves = {
         far[0]
         for end in facts.links
         if not facts.is_switch(end[0])
@@ -31,11 +31,11 @@ def rows_of(facts: Facts, wires: dict[int, list[int]], roots: Iterable[int]) -> 
     for root in roots:
         if root not in wires:
             raise Refused(f"there is no switch {root:016x}, which --roots names")
-    return ranks(wires, bearing, roots)
+    return ranks(wires, leaves, roots)
 
 
 def groups_in(path: str, facts: Facts, names: Names) -> dict[int, str]:
-    """The group of each switch: by names, or by the lines of a file."""
+    """Returns the group of each switch, by names or by the lines of a file."""
     if path == "names":
         return groups.by_names([guid for guid in facts.nodes if facts.is_switch(guid)], names)
     found = {}
@@ -50,7 +50,7 @@ def groups_in(path: str, facts: Facts, names: Names) -> dict[int, str]:
 
 
 def switch_named(facts: Facts, names: Names, word: str) -> int:
-    """The only switch that a GUID or a name names."""
+    """Returns the only switch that a GUID or a name names."""
     form = re.fullmatch("(?:0x)?([0-9a-fA-F]{1,16})", word)
     called = [guid for guid, name in names.items() if name == word and facts.is_switch(guid)]
     if len(called) > 1:
@@ -61,7 +61,7 @@ def switch_named(facts: Facts, names: Names, word: str) -> int:
 
 
 def roots_in(path: str) -> list[int]:
-    """The switches that a text of roots names: a GUID a line, and comments behind `#`."""
+    """Returns the switches in a text of roots: a GUID a line, and comments behind `#`."""
     found = []
     for number, line in enumerate(lines_of(path, "replace"), 1):
         words = line.partition("#")[0].split()

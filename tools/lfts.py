@@ -10,11 +10,11 @@ import sys
 from dumps import GUID, HEAD
 from ibsm_texts import NO_WAY, NONE, Refused
 
-# The hundreds, tens and units of ports: the digit of each port, and what each digit counts.
+# The hundreds, tens and ones of ports: the digit of each port, and the value of each digit.
 WEIGHTS = 100, 10, 1
 DIGITS = [bytes(ord("0") + port // weight % 10 for port in range(256)) for weight in WEIGHTS]
 COUNTS = [bytes(max(0, digit - ord("0")) * weight % 256 for digit in range(256)) for weight in WEIGHTS]
-# Where the digits of ports and LIDs stand in a line.
+# The columns of the digits of ports and LIDs in a line.
 PORT_AT, LID_AT = (7, 8, 9), (2, 3, 4, 5)
 
 
@@ -26,18 +26,18 @@ class Lfts:
         lines = [f"0x{lid:04x} 000 # portguid 0x{facts.port_guids[plan.owners[lid]]:016x}\n" for lid in self.lids]
         self.lines = "".join(lines).encode()
         self.width = len(lines[0])
-        # The LIDs in rows without a gap, as the first of each and the one behind.
+        # The LIDs in runs without a gap, as the first of each and the one behind.
         spans = itertools.groupby(enumerate(self.lids), lambda it: it[1] - it[0])
         rows = [[lid for _, lid in those] for _, those in spans]
         self.spans = [(row[0], row[-1] + 1) for row in rows]
 
     def entries(self, guid):
-        """The entries of a switch for the LIDs, in their order."""
+        """Returns the entries of a switch for the LIDs, in their order."""
         row = self.plan.row(guid)
         return b"".join(row[first:behind].ljust(behind - first, NONE) for first, behind in self.spans)
 
     def section(self, guid):
-        """The lines of a switch."""
+        """Returns the lines of a switch."""
         entries, lines = self.entries(guid), bytearray(self.lines)
         for at, digits in zip(PORT_AT, DIGITS):
             lines[at :: self.width] = entries.translate(digits)
@@ -49,7 +49,7 @@ class Lfts:
         return b"%b%b%d lids dumped\n" % (head.encode(), lines, len(lines) // self.width)
 
     def sections(self):
-        """The lines of all switches, of each those that OpenSM reads as its entries."""
+        """Yields the lines of each switch, checked to be what OpenSM reads as its entries."""
         for guid in sorted(self.plan.tables):
             section, entries = self.section(guid), self.entries(guid)
             lids = self.lids
@@ -60,14 +60,15 @@ class Lfts:
             yield section
 
     def is_held_by(self, path):
-        """Whether a file has these lines, and no others."""
+        """Returns whether a file has exactly these lines."""
         with open(path, "rb") as file:
             sections = map(self.section, sorted(self.plan.tables))
             return all(file.read(len(section)) == section for section in sections) and not file.read(1)
 
 
 def read(section):
-    """The switch, LIDs and ports that OpenSM reads of lines of one length; None where they are in another form."""
+    """Returns the switch, LIDs and ports that OpenSM reads from lines of one length, or None if they have another
+    form."""
     first, last = section.find(b"\n"), section.rfind(b"\n", 0, len(section) - 1)
     head, lines = section[:first], section[first + 1 : last + 1]
     guid = GUID.search(head.decode())
@@ -93,7 +94,7 @@ def read(section):
 
 
 def ports_in(digits):
-    """The ports whose hundreds, tens and units these digits are."""
+    """Returns the ports with these hundreds, tens and ones."""
     if not all(row.isdigit() or not row for row in digits):
         return None
     # A port is at most 254, so no byte of the sum is carried into the next.

@@ -8,13 +8,13 @@ from version import VERSION
 
 
 def escaped(line: str) -> str:
-    """A line as it stands in a page."""
+    """Returns a line as it stands in a page."""
     line = line.replace("\\", "\\e").replace("-", "\\-")
     return f"\\&{line}" if line[:1] in (".", "'") else line
 
 
 def sections(help_text: str) -> tuple[str, str, list[str], list[str]]:
-    """The parts of a help: its first sentence, how it is used, paragraphs, and what statuses it ends with."""
+    """Returns the parts of a help: first sentence, usage, paragraphs, and the statuses."""
     first, _, rest = help_text.strip().partition("\n\n")
     usage, _, rest = rest.partition("\n\n")
     paragraphs = rest.split("\n\n")
@@ -23,7 +23,7 @@ def sections(help_text: str) -> tuple[str, str, list[str], list[str]]:
 
 
 def page_of(name: str, help_text: str, others: Iterable[str]) -> str:
-    """The page of an installed tool, called `name`; `others` are the tools that help names as tools/X."""
+    """Returns the page of an installed tool, called `name`. `others` are the tools that help names as tools/X."""
     text = help_text
     for other in others:
         text = re.sub(rf"tools/{re.escape(other)}\b(?!\.)", f"ibsm-{other}", text)

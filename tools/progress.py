@@ -1,20 +1,24 @@
 """How far a tool is: said on a terminal, in one line that is written over, once somebody has waited for two seconds."""
+from __future__ import annotations
+
 import contextlib
 import os
 import sys
 import threading
+from collections.abc import Callable, Iterable, Iterator
+from typing import IO
 
 # Seconds until something is said, and until it is said anew.
 FIRST, THEN = 2, 0.5
 WIDEST = 100
 
 _lock = threading.Lock()
-_now = [None]  # what is done now: a text, or a function that gives one
+_now = [None]  # what is done now: a text, or a function that returns one
 _is_shown = [False]
 
 
-def at(what):
-    """Notes what is done now, and gives what was done before; None where there is nothing to say of it."""
+def at(what: str | Callable[[], str] | None) -> str | Callable[[], str] | None:
+    """Notes what is done now, None for nothing to say, and returns what was done before."""
     with _lock:
         before, _now[0] = _now[0], what
         if what is None:
@@ -23,7 +27,7 @@ def at(what):
 
 
 @contextlib.contextmanager
-def doing(what):
+def doing(what: str | Callable[[], str]) -> Iterator[None]:
     """Notes what is done meanwhile."""
     before = at(what)
     try:
@@ -32,19 +36,19 @@ def doing(what):
         at(before)
 
 
-def reading(path, file):
-    """Notes meanwhile that a file is read, and of a regular one how far."""
+def reading(path: str | os.PathLike, file: IO) -> contextlib.AbstractContextManager[None]:
+    """Notes meanwhile that a file is read, and how far if it is a regular one."""
     try:
         number = file.fileno()
     except OSError:
-        # It is in memory already.
+        # The file is in memory already.
         return doing(f"reads {path}")
     size = os.fstat(number).st_size
     return doing(lambda: f"reads {path}" + (f", {100 * os.lseek(number, 0, os.SEEK_CUR) // size} %" if size else ""))
 
 
-def counted(what, things, count):
-    """So many things one after the other, with a note of how many are behind."""
+def counted(what: str, things: Iterable, count: int) -> Iterator:
+    """Yields `count` things, and notes meanwhile how many are done."""
     behind = 0
     with doing(lambda: f"{what}, {behind} of {count}"):
         for thing in things:
@@ -52,13 +56,13 @@ def counted(what, things, count):
             behind += 1
 
 
-def _clear():
+def _clear() -> None:
     if _is_shown[0]:
         print("\r\033[K", end="", file=sys.stderr, flush=True)
         _is_shown[0] = False
 
 
-def _tell(tool, ended):
+def _tell(tool: str, ended: threading.Event) -> None:
     seconds = FIRST
     while not ended.wait(seconds):
         seconds = THEN
@@ -69,21 +73,21 @@ def _tell(tool, ended):
                     print(f"\r\033[K{tool}: {what}"[:WIDEST], end="", file=sys.stderr, flush=True)
                     _is_shown[0] = True
             except OSError:
-                # The file is closed by now, or the terminal is gone.
+                # The file is closed, or the terminal is gone.
                 pass
 
 
 @contextlib.contextmanager
-def hidden():
-    """What is printed meanwhile stands in lines of its own."""
+def hidden() -> Iterator[None]:
+    """Hides the progress meanwhile, so that other output has lines of its own."""
     with _lock:
         _clear()
         yield
 
 
 @contextlib.contextmanager
-def told(tool):
-    """Says meanwhile how far the tool is, where standard error is a terminal."""
+def told(tool: str) -> Iterator[None]:
+    """Shows meanwhile how far the tool is, if standard error is a terminal."""
     if not sys.stderr.isatty():
         yield
         return

@@ -1,4 +1,6 @@
 """Recordings and store files, made record by record by docs/FORMATS.md."""
+from __future__ import annotations
+
 import struct
 
 NO_REPORTS, NO_CELLS = b"IBSMREP1", b"IBSMSTO1"
@@ -11,20 +13,23 @@ KINDS = {"node": NODE, "portguid": PORT_GUID, "link": LINK, "port": PORT, "claim
 TYPES = {"ca": ADAPTER, "switch": SWITCH, "router": ROUTER}
 KNOWN, DISPUTED = 1, 2
 
-# What is known of a reply beside its bytes: the number of the context, its port and its GUID.
+Context = tuple[int, int, int]
+# The context of a reply: its kind, port and GUID.
 START = 0, 0, 0
 
 
-def via(guid, port):
+def via(guid: int, port: int) -> Context:
     return 1, port, guid
 
 
-def about(guid):
+def about(guid: int) -> Context:
     return 2, 0, guid
 
 
-def report(context, attribute, modifier, value, generation=1, hops=None):
-    """The record of a reply with status 0 that is back at who asked, over no hop or one."""
+def report(
+    context: Context, attribute: int, modifier: int, value: bytes, generation: int = 1, hops: int | None = None
+) -> bytes:
+    """Returns the record of a reply with status 0 that is back at its sender, over one hop or none."""
     kind, port, guid = context
     if hops is None:
         hops = 0 if context == START else 1
@@ -37,44 +42,57 @@ def report(context, attribute, modifier, value, generation=1, hops=None):
     return struct.pack(">IBBHQ", generation, kind, port, 0, guid) + packet
 
 
-def node_info(context, kind, ports, guid, port_guid, local_port, generation=1, hops=None):
-    """What a node says of itself to a request that came by its local port."""
+def node_info(
+    context: Context,
+    kind: int,
+    ports: int,
+    guid: int,
+    port_guid: int,
+    local_port: int,
+    generation: int = 1,
+    hops: int | None = None,
+) -> bytes:
+    """Returns what a node says of itself to a request that came by its local port."""
     value = struct.pack(">BBBBQQQHHIB", 1, 1, kind, ports, guid, guid, port_guid, 1, 0, 0, local_port)
     return report(context, NODE_INFO, 0, value, generation, hops)
 
 
-def switch_info(guid, room, generation=1):
-    """How many LIDs a switch's table has room for."""
+def switch_info(guid: int, room: int, generation: int = 1) -> bytes:
+    """Returns the record that tells how many LIDs a switch's table has room for."""
     return report(about(guid), SWITCH_INFO, 0, struct.pack(">H", room), generation)
 
 
-def port_info(guid, port, state, lid=0, generation=1):
-    """A port's state and the LID that it claims."""
+def port_info(guid: int, port: int, state: int, lid: int = 0, generation: int = 1) -> bytes:
+    """Returns the record of a port's state and of the LID that it claims."""
     value = bytearray(64)
     value[16:18] = struct.pack(">H", lid)
     value[32] = state
     return report(about(guid), PORT_INFO, port, value, generation)
 
 
-def reports(*records):
+def reports(*records: bytes) -> bytes:
     return NO_REPORTS + b"".join(records)
 
 
-def cell(kind, guid, port, value, generation=1, state=KNOWN):
-    """The record of what is held of one key."""
+def cell(kind: int, guid: int, port: int, value: bytes, generation: int = 1, state: int = KNOWN) -> bytes:
+    """Returns the record of what is held of one key."""
     return struct.pack(">BBBBIQ16s", kind, state, port, 0, generation, guid, value)
 
 
-def cell_of(line):
-    """The record of a line of facts."""
+def cell_of(line: str) -> bytes:
+    """Returns the record of a line of facts."""
     word, place, *value, at = line.split()
     guid, _, port = place.partition("/")
     key = KINDS[word], int(guid, 16), int(port or 0)
-    return cell(*key, b"", int(at[1:]), DISPUTED) if value == ["disputed"] else cell(*key, spelled(word, *value), int(at[1:]))
+    return (
+        cell(*key, b"", int(at[1:]), DISPUTED)
+        if value == ["disputed"]
+        else cell(*key, spelled(word, *value), int(at[1:]))
+    )
 
 
-def spelled(word, first, second=None):
-    """The bytes of a value: the words that stand for it in a line of facts."""
+def spelled(word: str, first: str, second: str | None = None) -> bytes:
+    """Returns the bytes of a value from its words in a line of facts."""
     if word == "node":
         return struct.pack(">BB", TYPES[first], int(second))
     if word == "portguid":
@@ -87,18 +105,18 @@ def spelled(word, first, second=None):
     return struct.pack(">H", int(first))
 
 
-def store(*cells, floor=1):
-    """A store file of these cells, which have to stand in order."""
+def store(*cells: bytes, floor: int = 1) -> bytes:
+    """Returns a store file of these cells, which must be in order."""
     return b"IBSMSTO2" + struct.pack(">II", floor, 0) + b"".join(cells)
 
 
-def store_of(facts):
-    """The store file of what a text of facts says."""
+def store_of(facts: str) -> bytes:
+    """Returns the store file of a text of facts."""
     lines = facts.splitlines()
     floor = int(lines.pop(0).split()[1]) if facts.startswith("floor ") else 1
     return store(*map(cell_of, lines), floor=floor)
 
 
-def older(stored):
-    """The same cells in a file that tells no floor."""
+def older(stored: bytes) -> bytes:
+    """Returns the store file in the older form, which tells no floor."""
     return NO_CELLS + stored[16:]

@@ -9,7 +9,8 @@ from record_files import NO_REPORTS, NODE_INFO, PORT_INFO
 
 RECORD, HEAD, ATTRIBUTE, VIA = 272, 16, 64, 1
 Cable = tuple[End, End]
-# By the bits of PortInfo: lanes, and the name and the rate of a lane in Gb/s. Those of LinkSpeedExtActive count first.
+# By the bits of PortInfo: the number of lanes, and the name and the rate of a lane in Gb/s. LinkSpeedExtActive takes
+# precedence.
 WIDTHS = {1: 1, 16: 2, 2: 4, 4: 8, 8: 12}
 SPEEDS = {1: ("SDR", 2.5), 2: ("DDR", 5), 4: ("QDR", 10)}
 FAST = {1: ("FDR", 14), 2: ("EDR", 25), 4: ("HDR", 50), 8: ("NDR", 100)}
@@ -17,7 +18,7 @@ FAST = {1: ("FDR", 14), 2: ("EDR", 25), 4: ("HDR", 50), 8: ("NDR", 100)}
 
 @dataclasses.dataclass(frozen=True, order=True)
 class Rate:
-    """What a link carries: sorted by this."""
+    """The rate of a link; the sort order is by rate."""
 
     gigabits: float
     lanes: int
@@ -48,7 +49,7 @@ class Port:
 
 
 class Recording:
-    """The links that a recording tells of, each once, with what both ends say of it; of each the newest generation counts."""
+    """The links in a recording, each once, with what both ends say of it in the newest generation."""
 
     def __init__(self, path: str) -> None:
         data = opened_bytes(path)
@@ -78,7 +79,7 @@ class Recording:
             known[key], self.ages[id(known), key] = value, age
 
     def links(self) -> dict[Cable, list[Port]]:
-        """Each link that is up, by its lesser end: its ends, and what ports say of it."""
+        """Returns each link that is up, by its lesser end, with what its ports say of it."""
         found = {}
         for end, far in sorted(self.fars.items()):
             known = [port for it in (end, far) if (port := self.ports.get(it))]
@@ -87,17 +88,18 @@ class Recording:
         return found
 
     def rates(self) -> dict[Cable, tuple[Rate | None, Rate | None]]:
-        """Each link with its rate, None where no end tells it, and the greatest that both ends can have."""
+        """Returns each link with its rate, None if no end tells it, and the greatest rate that both ends can have."""
         return {cable: (rate_of(known), most_of(known)) for cable, known in self.links().items()}
 
 
 def rate_of(known: list[Port]) -> Rate | None:
-    """The least of what both ends tell."""
+    """Returns the least rate that the ends tell."""
     return min((rate for port in known if (rate := port.rate())), default=None)
 
 
 def most_of(known: list[Port]) -> Rate | None:
-    """The greatest width and speed that both ends have; None where one of them does not tell, or nothing fits."""
+    """Returns the greatest width and speed that both ends have, or None if one of them does not tell or nothing
+    fits."""
     widths = set.intersection(*(port.widths for port in known))
     speeds = set.intersection(*(port.speeds for port in known))
     if len(known) < 2 or not widths or not speeds:
@@ -110,7 +112,8 @@ def is_recording(path: str) -> bool:
 
 
 def rates_apart(old: Recording, new: Recording) -> Iterator[str]:
-    """The lines that tell where links of two recordings differ: those that are gone, have come, or are slower or faster."""
+    """Yields the lines that tell where links of two recordings differ: those that are gone, have come, or are slower or
+    faster."""
     before, after = old.rates(), new.rates()
     for word, cables in (("gone", before.keys() - after.keys()), ("come", after.keys() - before.keys())):
         for end, far in sorted(cables):

@@ -10,7 +10,7 @@ from collections.abc import Container, Iterable, Sequence
 from report_picture import Picture
 
 HERE = pathlib.Path(__file__).resolve().parent
-# What the lines of an audit mean, by their first words.
+# The meaning of an audit's lines, by their first words.
 FINDINGS = {
     "lost": "packets that are lost on their way",
     "misdelivered": "packets that come to another port",
@@ -31,7 +31,7 @@ def escaped(text: object) -> str:
 
 
 def table(head: Sequence[str], rows: Iterable[Sequence], numbers: Container[int] = ()) -> str:
-    """A table, whose columns with these places hold numbers."""
+    """Returns a table. `numbers` are the indices of columns that hold numbers."""
 
     def cell(tag: str, i: int, value: object) -> str:
         text = value if isinstance(value, Raw) else escaped(value)
@@ -62,7 +62,7 @@ def verdict(parts: dict) -> str:
 
 
 def audit(parts: dict) -> str:
-    """The lines of the audit: its counts, and findings by kind."""
+    """Returns the lines of the audit: its counts, and findings by kind."""
     counts, found = [], {}
     for line in parts["audit"]:
         kind = line.split(" ", 1)[0]
@@ -92,7 +92,9 @@ def changes(parts: dict) -> str:
 
 def what_if(parts: dict) -> str:
     if parts["cuts"] is None:
-        return section("What if a cable goes", paragraph("Facts are disputed, or nothing has a LID: no cable is cut in thought."))
+        return section(
+            "What if a cable goes", paragraph("Facts are disputed, or nothing has a LID: no cable is cut in thought.")
+        )
     rows, count, harmless = parts["cuts"]
     head = ("cable", "pairs of adapters lost", "all pairs lost", "cut off", "entries", "on switches")
     told = f"{count} cables between switches; without {harmless} of them no packet is lost."
@@ -107,30 +109,32 @@ def channel_name(picture: Picture, channel: tuple[int, int]) -> str:
 
 
 def share(picture: Picture, channel: tuple[int, int]) -> float:
-    """How busy a channel is, from 0 to 1."""
+    """Returns how busy a channel is, from 0 to 1."""
     most = max(picture.loads.values(), default=0)
     return picture.loads[channel] / most if most else 0
 
 
 def color(part: float) -> str:
-    """From blue, which is quiet, over yellow to red."""
+    """Returns a colour from blue, for quiet, over yellow to red."""
     return f"hsl({215 - 215 * part:.0f} 75% {52 - 4 * part:.0f}%)"
 
 
 def box(kind: str, x: float, y: float, width: float, height: float) -> str:
-    """A rectangle around a middle."""
+    """Returns a rectangle around a middle."""
     place = f'x="{x - width / 2:.1f}" y="{y - height / 2:.1f}"'
     return f'<rect class={kind} {place} width="{width:.1f}" height="{height:.1f}" rx=6 />'
 
 
 def svg(picture: Picture) -> str:
-    """The picture: frames, channels, switches."""
+    """Returns the picture: frames, channels, switches."""
     if not picture.places:
         return paragraph("There is no switch.")
     boxes = [(x, y, picture.width(i), 48) for i, (x, y) in picture.places.items()] + list(picture.frames.values())
-    left, right = min(x - width / 2 for x, _, width, _ in boxes) - 12, max(x + width / 2 for x, _, width, _ in boxes) + 12
+    left, right = (
+        min(x - width / 2 for x, _, width, _ in boxes) - 12, max(x + width / 2 for x, _, width, _ in boxes) + 12
+    )
     top, low = min(y - high / 2 for _, y, _, high in boxes) - 12, max(y + high / 2 for _, y, _, high in boxes) + 12
-    # So wide that names can be read; what does not fit is scrolled.
+    # Wide enough for names to be read; wider pictures scroll.
     style = f'style="min-width:{max(600, 0.6 * (right - left)):.0f}px"'
     lines = [f'<svg id=net viewBox="{left:.0f} {top:.0f} {right - left:.0f} {low - top:.0f}" {style} role=img>']
     for name, (x, y, width, height) in picture.frames.items():
@@ -147,7 +151,9 @@ def svg(picture: Picture) -> str:
         lines.append(box("node", x, y, width, 34))
         lines.append(f'<text x="{x:.1f}" y="{y - 2 if count else y + 4:.1f}">{escaped(picture.name(i))}</text>')
         if count:
-            lines.append(f'<text class=count x="{x:.1f}" y="{y + 11:.1f}">{count} adapter{"" if count == 1 else "s"}</text>')
+            lines.append(
+                f'<text class=count x="{x:.1f}" y="{y + 11:.1f}">{count} adapter{"" if count == 1 else "s"}</text>'
+            )
     return "".join(lines) + "</svg>"
 
 
@@ -160,10 +166,17 @@ def picture_section(parts: dict) -> str:
         told += f" Of {len(picture.routes.guids)} switches those around the busiest channel are shown."
     most = max(picture.loads.values(), default=0)
     legend = f"<p class=legend><span>0</span><i></i><span>{most} pairs</span></p>"
-    asks = "Choose a channel, in the picture or in the table." if data else "The tables are too large to be followed on this page."
+    asks = (
+        "Choose a channel, in the picture or in the table."
+        if data
+        else "The tables are too large to be followed on this page."
+    )
     head = ("channel", "pairs")
     rows = [
-        (Raw(f'<button data-c="{i}/{port}">{escaped(channel_name(picture, (i, port)))}</button>'), picture.loads[i, port])
+        (
+            Raw(f'<button data-c="{i}/{port}">{escaped(channel_name(picture, (i, port)))}</button>'),
+            picture.loads[i, port],
+        )
         for i, port in picture.busiest
     ]
     unused = sum(not load for load in picture.loads.values())
@@ -181,16 +194,17 @@ def picture_section(parts: dict) -> str:
 
 
 def as_script(value: object) -> str:
-    """JSON that no end of a script stands in."""
+    """Returns JSON in which no end of a script can stand."""
     return json.dumps(value, separators=(",", ":")).replace("<", "\\u003c")
 
 
 PROVED = {
-    True: "The program that printed the audit says that it is proved: then what the audit says of these facts and tables is so "
-    "(docs/PROVED.md has the theorems), of unicast, on one virtual lane, with agents that do what docs/FORMATS.md says.",
+    True: "The program that printed the audit says that it is proved: then what the audit says of these facts and "
+    "tables is so (docs/PROVED.md has the theorems), of unicast, on one virtual lane, with agents that do what "
+    "docs/FORMATS.md says.",
     False: "The program that printed the audit was compiled without its proofs: nothing on this page is proved.",
-    None: "The program that printed the audit does not tell whether it is proved. If it is, what the audit says of these facts and "
-    "tables is so, of unicast, on one virtual lane, with agents that do what docs/FORMATS.md says.",
+    None: "The program that printed the audit does not tell whether it is proved. If it is, what the audit says of "
+    "these facts and tables is so, of unicast, on one virtual lane, with agents that do what docs/FORMATS.md says.",
 }
 
 
@@ -200,9 +214,11 @@ def proved(parts: dict) -> str:
         agrees = "The busiest channel and the mean are the same by both counts"
     rows = (
         "That the subnet answered truly, and is still as it was recorded. An audit speaks of the recording.",
-        f"The picture, what channels carry, and what a cut loses: counted by tools that are tested, not proved. {agrees}.",
+        "The picture, what channels carry, and what a cut loses: counted by tools that are tested, not proved. "
+        f"{agrees}.",
         "Names, changes, and how this page reads the audit.",
-        "What else loses packets: multicast, adaptive routing, several virtual lanes, full buffers, faults of hardware.",
+        "What else loses packets: multicast, adaptive routing, several virtual lanes, full buffers, faults of "
+        "hardware.",
     )
     body = "<h3>Not proved</h3><ul>" + "".join(f"<li>{escaped(row)}</li>" for row in rows) + "</ul>"
     return section("What is proved of this", paragraph(PROVED[parts["proved"]]), body)

@@ -1,4 +1,5 @@
-"""The picture of a page of `tools/report`: where switches stand, what each channel carries, and tables to follow packets by."""
+"""The picture of a page of `tools/report`: where switches stand, what each channel carries, and tables to follow
+packets by."""
 from __future__ import annotations
 
 import base64
@@ -9,19 +10,22 @@ import groups
 from ibsm_texts import NO_WAY, End, Facts, Names, Plan
 from layout import rows_of, wires_of
 from round_parts import Audit
-from routes import Routes
+from routes import Channel, Routes
 from rows import distances, ordered, places
 from ways import hundredths
 
-Channel = tuple[int, int]
-# Above so many switches the surroundings of the busiest channel are shown alone; above so many entries no tables are handed on.
+# Above this many switches only the surroundings of the busiest channel are shown; above this many entries the page gets
+# no tables.
 MOST_SWITCHES, MOST_ENTRIES = 300, 1_200_000
-# In units of the picture: how wide a letter is, how far channels of one cable and of further ones stand apart.
+# In units of the SVG picture: the width of a letter, the distances between channels of one cable and between others.
 LETTER, LINE, BESIDE, ROW, INCH = 7, 5, 26, 130, 90
 
 
 class Picture:
-    def __init__(self, facts: Facts, held: Plan, routes: Routes, names: Names, group_of: dict[int, str] | None, roots: Iterable[int], most: int) -> None:
+    def __init__(
+        self, facts: Facts, held: Plan, routes: Routes, names: Names, group_of: dict[int, str] | None,
+        roots: Iterable[int], most: int,
+    ) -> None:
         self.facts, self.held, self.routes, self.names = facts, held, routes, names
         self.loads = routes.carried()
         self.ends = routes.ends()
@@ -32,13 +36,13 @@ class Picture:
         self.places = self.in_groups(group_of) if group_of is not None else self.in_rows(roots)
 
     def agrees(self, audit: Audit) -> bool:
-        """Whether the busiest channel and the mean are those of an audit."""
+        """Returns whether the busiest channel and the mean are those of an audit."""
         loads = self.loads.values()
         told = (max(loads), hundredths(sum(loads), len(loads))) if loads else (None, None)
         return told == (audit.busiest, audit.mean)
 
     def which(self) -> tuple[list[int], bool]:
-        """The places of the switches that are shown, and whether these are a part."""
+        """Returns the indices of the switches that are shown, and whether these are a part."""
         count = len(self.routes.guids)
         if count <= MOST_SWITCHES:
             return list(range(count)), False
@@ -55,7 +59,7 @@ class Picture:
         return self.names.get(guid, f"{guid:x}")
 
     def cables(self) -> list[tuple[Channel, Channel]]:
-        """Each cable between switches that are shown: both channels, each once."""
+        """Returns each cable between shown switches once, as both channels."""
         shown, found = set(self.shown), []
         for (i, port), far in sorted(self.ends.items()):
             back = self.routes.far[i][port][1]
@@ -86,7 +90,8 @@ class Picture:
 
     @staticmethod
     def sag(place: int, count: int) -> float:
-        """Rows hang a little, so that cables within one do not run behind its switches."""
+        """Returns how far a switch sags: rows hang a little, so that cables within one do not run behind its
+        switches."""
         x = (place + 0.5) / count
         return 4 * x * (1 - x)
 
@@ -96,11 +101,14 @@ class Picture:
         found = groups.in_order(shown, {guid: group_of.get(guid, "?") for guid in shown}, self.names)
         wires = [(guids[one[0]], guids[other[0]]) for one, other in self.cables()]
         where, frames, _ = groups.placed(found, wires) if found else ({}, {}, {})
-        self.frames = {name: tuple(INCH * it for it in (x, -y, width, height)) for name, (x, y, width, height) in frames.items()}
+        self.frames = {
+            name: tuple(INCH * it for it in (x, -y, width, height)) for name, (x, y, width, height) in frames.items()
+        }
         return {shown[guid]: (INCH * x, -INCH * y) for guid, (x, y) in where.items()}
 
     def lines(self) -> Iterator[tuple[Channel, tuple[float, float, float, float]]]:
-        """Each channel that is shown, with both ends of its line; those of one cable, and cables of one pair, stand apart."""
+        """Yields each shown channel with both ends of its line. Channels of one cable, and cables of one pair, are
+        apart."""
         beside = collections.Counter()
         for one, other in self.cables():
             i, far = one[0], other[0]
@@ -116,7 +124,7 @@ class Picture:
                 yield channel, ends if side == 1 else (*ends[2:], *ends[:2])
 
     def data(self) -> dict | None:
-        """What the page follows packets by: names, cables and entries; None where these are too many."""
+        """Returns what the page follows packets by: names, cables and entries, or None if these are too many."""
         routes, width = self.routes, self.held.greatest + 1
         if len(routes.guids) * width > MOST_ENTRIES:
             return None

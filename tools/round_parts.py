@@ -51,7 +51,8 @@ class Audit:
         self.busiest, self.mean = (int(load[1]), load[2]) if load else (None, None)
 
     def is_busier_than(self, other: "Audit") -> bool:
-        """Whether the busiest channel carries more than a fifth more than that of other tables, for as many pairs of adapters."""
+        """Returns whether the busiest channel carries over a fifth more than that of `other`, for as many pairs of
+        adapters."""
         if None in (self.busiest, other.busiest) or not other.busiest:
             return False
         here, there = self.of_adapters or 1, other.of_adapters or 1
@@ -66,7 +67,7 @@ def name_of_process(process: int) -> str:
 
 
 def file_of_tables(process: int) -> str | None:
-    """The file of tables that the command line of an OpenSM names, or None where it names none."""
+    """Returns the file of tables in the command line of an OpenSM, or None."""
     words = pathlib.Path(f"/proc/{process}/cmdline").read_bytes().decode(errors="surrogateescape").split("\0")
     for i, word in enumerate(words[:-1]):
         name = words[i + 1] if word in ("-U", "--lfts_file") else None
@@ -79,7 +80,7 @@ def file_of_tables(process: int) -> str | None:
 
 
 def judge_opensm(process: int, plan: str | pathlib.Path) -> None:
-    """Ends where a process is no OpenSM, or one that reads other tables than these."""
+    """Ends the round if a process is no OpenSM, or one that reads other tables than these."""
     if (name := name_of_process(process)) != "opensm":
         raise Ended(3, f"process {process} is {name}, not opensm")
     try:
@@ -105,24 +106,26 @@ def ask_for_sweep(process: int, log: str, seconds: float) -> None:
             if not os.path.exists(f"/proc/{process}"):
                 raise Ended(3, f"OpenSM {process} has ended meanwhile")
             time.sleep(0.05)
-    raise Ended(1, f"{log} does not say SUBNET UP within {seconds:g} seconds; without -d 2 OpenSM keeps its log in memory")
+    raise Ended(
+        1, f"{log} does not say SUBNET UP within {seconds:g} seconds; without -d 2 OpenSM keeps its log in memory"
+    )
 
 
 class Log:
-    """OpenSM's log, by which a round goes only once OpenSM has swept anew."""
+    """OpenSM's log, which holds a round back until OpenSM has swept anew."""
 
     def __init__(self, path: str | pathlib.Path) -> None:
         self.path, self.at = path, 0
 
     def note(self) -> None:
-        """Of what is said from here on, sweeps are news."""
+        """Takes later sweeps in the log as news."""
         try:
             self.at = os.path.getsize(self.path)
         except OSError:
             self.at = 0
 
     def has_news(self) -> bool:
-        """Whether a sweep was told since; true where the log cannot be read."""
+        """Returns whether a sweep was told since `note`; True if the log cannot be read."""
         try:
             if os.path.getsize(self.path) < self.at:
                 self.at = 0
@@ -134,7 +137,8 @@ class Log:
 
 
 def words_of(path: str | pathlib.Path) -> list[str]:
-    """The words of a file of options: a line each, a word as on the command line without its --, and its value."""
+    """Returns the words of a file of options: a line each, a word as on the command line without its --, and its
+    value."""
     words = []
     with open(path, encoding="utf-8") as file:
         for line in file:

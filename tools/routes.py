@@ -3,20 +3,24 @@
 Switches are numbered by their GUIDs' order. The entries of all switches for one LID are a *column*, one byte each. LIDs
 whose owners sit at one switch mostly have the same column but for that switch, so each column is walked once.
 """
+from __future__ import annotations
+
 import collections
 import functools
 import itertools
 import operator
+from collections.abc import Iterable, Iterator
 
 import progress
-from ibsm_texts import ENTRIES, NO_WAY, NONE, name_of
+from ibsm_texts import ENTRIES, NO_WAY, NONE, Facts, Plan, name_of
 
-# Of what is wrong, no more than this is said.
+# The most faults that are said.
 MOST_SAID = 20
+Channel = tuple[int, int]
 
 
 class Routes:
-    def __init__(self, facts, plan):
+    def __init__(self, facts: Facts, plan: Plan) -> None:
         self.plan, self.owners, self.guids = plan, plan.owners, sorted(plan.tables)
         self.place = {guid: i for i, guid in enumerate(self.guids)}
         self.far = [{} for _ in self.guids]  # port: far end
@@ -30,8 +34,9 @@ class Routes:
                 if end[0] not in self.place:
                     self.home[end] = i, port
 
-    def columns(self, lids):
-        """Each of some rising LIDs with its column. No more than a block of each switch is put together at a time."""
+    def columns(self, lids: Iterable[int]) -> Iterator[tuple[int, bytes]]:
+        """Yields each of some rising LIDs with its column. Puts together no more than a block of each switch at a
+        time."""
         for number, those in itertools.groupby(lids, lambda lid: lid // ENTRIES):
             start = number * ENTRIES
             stripe = b"".join(
@@ -41,11 +46,10 @@ class Routes:
             for lid in those:
                 yield lid, stripe[lid - start :: ENTRIES]
 
-    def owned(self):
-        """Each LID that somebody owns, rising, with its owner's switch and the column.
+    def owned(self) -> Iterator[tuple[int, int | None, bytes]]:
+        """Yields each owned LID, rising, with its owner's switch and the column.
 
-        At the owner's switch the column has 0 where packets leave it for the owner; the switch is None where they do
-        not.
+        At the owner's switch the column has 0 if packets leave it for the owner; if they do not, the switch is None.
         """
         for lid, entries in self.columns(sorted(self.owners)):
             owner, column = self.owners[lid], bytearray(entries)
@@ -57,15 +61,15 @@ class Routes:
             yield lid, at, bytes(column)
 
     @functools.cached_property
-    def groups(self):
-        """The LIDs of each switch of owners and column."""
+    def groups(self) -> dict[tuple[int | None, bytes], list[int]]:
+        """Returns the LIDs of each pair of the owners' switch and column."""
         found = collections.defaultdict(list)
         for lid, at, column in self.owned():
             found[at, column].append(lid)
         return found
 
-    def step(self, at, home, column):
-        """Where a packet goes on from a switch: the next switch, or how it ends and what is wrong with that."""
+    def step(self, at: int, home: int | None, column: bytes) -> tuple[int | None, bool, str | None]:
+        """Returns where a packet goes on from a switch: the next switch, or how it ends and what is wrong with that."""
         port = column[at]
         if at == home:
             return None, True, None
@@ -81,8 +85,8 @@ class Routes:
             return None, False, f"port {port} of switch {self.guids[at]:016x} leads to {far}, which does not own it"
         return self.place[end[0]], None, None
 
-    def arrivals(self, home, column):
-        """Whether packets arrive from each switch, and what is wrong, by one column."""
+    def arrivals(self, home: int | None, column: bytes) -> tuple[dict[int, bool | None], list[str]]:
+        """Returns whether packets arrive from each switch by one column, and what is wrong."""
         arrives, wrong = {}, []
         for start in range(len(self.guids)):
             at, passed = start, []
@@ -104,10 +108,10 @@ class Routes:
                 arrives[at] = ended
         return arrives, wrong
 
-    def faults(self):
-        """What is wrong with the ways of LIDs, and how many pairs of a switch and a LID have no way.
+    def faults(self) -> tuple[list[str], int]:
+        """Returns what is wrong with the ways of LIDs, and how many pairs of a switch and a LID have no way.
 
-        Where nothing is wrong with a column no switch is looked at alone. A LID whose column is that of the LID before it at
+        Looks at single switches only if something is wrong with a column. A LID with the column of the LID before it at
         the same switch is not followed again.
         """
         nexts, last, odd, without = self.nexts(), {}, collections.defaultdict(list), 0
@@ -127,8 +131,9 @@ class Routes:
             found += [f"a packet for LID {lids[0]}{alike}: {fault}" for fault in wrong[:MOST_SAID]]
         return found, without
 
-    def nexts(self):
-        """For each switch and entry the next switch; behind the switches stand an arrival, no way, and a fault."""
+    def nexts(self) -> list[list[int]]:
+        """Returns for each switch and entry the next switch. Numbers above the switches stand for an arrival, no way,
+        and a fault."""
         count = len(self.guids)
         found = []
         for ports in self.far:
@@ -140,10 +145,11 @@ class Routes:
             found.append(row)
         return found
 
-    def lost(self, nexts, home, column):
-        """From how many switches packets have no way by a column; None where one goes round or ends with a fault.
+    def lost(self, nexts: list[list[int]], home: int | None, column: bytes) -> int | None:
+        """Returns from how many switches packets have no way by a column, or None if one goes round or ends with a
+        fault.
 
-        All packets go on at once, each round twice as far as before, until none does so any more.
+        All packets advance at once, each round twice as far as before, until none does any more.
         """
         count = len(self.guids)
         at = [*map(operator.getitem, nexts, column), count, count + 1, count + 2]
@@ -156,13 +162,14 @@ class Routes:
         without = count + 1 - at.count(count)
         return without if not without or at.count(count + 1) - 1 == without else None
 
-    def ends(self):
-        """The channels, each a switch and a port of it with a cable to another switch, with that switch."""
+    def ends(self) -> dict[Channel, int]:
+        """Returns the channels, each a switch and its port with a cable to another switch, with that switch."""
         return {(i, port): self.place[end[0]] for i, ports in enumerate(self.far) for port, end in ports.items()
                 if end[0] in self.place}
 
-    def carried(self):
-        """For each channel how many routes it carries, of each adapter port's packets to each LID of each other one."""
+    def carried(self) -> dict[Channel, int]:
+        """Returns for each channel the number of routes that it carries: one for each adapter port and each LID of
+        another one."""
         ends = self.ends()
         carried = dict.fromkeys(ends, 0)
         sources = collections.Counter(self.home[end][0] for end in set(self.owners.values()) if end in self.home)
@@ -172,8 +179,16 @@ class Routes:
                 self.carry(home, column, ends, sources, count, carried)
         return carried
 
-    def carry(self, home, column, ends, sources, count, carried):
-        """Adds the routes of one column, from the switches that no other one sends to on."""
+    def carry(
+        self,
+        home: int,
+        column: bytes,
+        ends: dict[Channel, int],
+        sources: collections.Counter,
+        count: int,
+        carried: dict[Channel, int],
+    ) -> None:
+        """Adds the routes of one column to `carried`, beginning with the switches that no other one sends to."""
         ahead = [ends.get((at, port)) if at != home else None for at, port in enumerate(column)]
         waits = collections.Counter(ahead)
         routes = [sources[at] for at in range(len(column))]

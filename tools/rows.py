@@ -1,12 +1,15 @@
 """Switches and adapters in rows, from the top switches down, each row in an order in which few cables cross."""
-import collections
+from __future__ import annotations
 
-# How often rows are ordered by their neighbours, from above and from below.
+import collections
+from collections.abc import Collection, Iterable, Iterator, Sequence
+
+# How often neighbours determine the order of rows, from above and from below.
 SWEEPS = 6
 
 
-def distances(beside, starts):
-    """How many cables each node that can be reached is away from the nearest of these."""
+def distances(beside: dict[int, list[int]], starts: Iterable[int]) -> dict[int, int]:
+    """Returns how many cables each reachable node is away from the nearest of `starts`."""
     found = dict.fromkeys(starts, 0)
     waiting = collections.deque(found)
     while waiting:
@@ -18,8 +21,8 @@ def distances(beside, starts):
     return found
 
 
-def components(beside, nodes):
-    """The parts of some nodes that cables join, each sorted, by their least nodes."""
+def components(beside: dict[int, list[int]], nodes: Collection[int]) -> list[list[int]]:
+    """Returns the parts of some nodes that cables join, each sorted, in order of their least nodes."""
     left, found = set(nodes), []
     for node in sorted(nodes):
         if node in left:
@@ -33,35 +36,37 @@ def components(beside, nodes):
     return found
 
 
-def tops(beside, bearing, roots=()):
-    """Of each component the switches at its top: the roots that are named, else those furthest from switches with adapters,
-    else the switch with the least way to the furthest."""
-    heights = distances(beside, sorted(bearing))
+def tops(beside: dict[int, list[int]], leaves: Iterable[int], roots: Collection[int] = ()) -> Iterator[list[int]]:
+    """Yields the top switches of each component: the named roots, or those furthest from switches with adapters, or the
+    switch with the shortest way to the furthest."""
+    levels = distances(beside, sorted(leaves))
     for part in components(beside, beside):
         named = [switch for switch in part if switch in roots]
-        high = max((heights.get(switch, 0) for switch in part), default=0)
+        high = max((levels.get(switch, 0) for switch in part), default=0)
         if named:
             yield named
         elif high:
-            yield [switch for switch in part if heights.get(switch, 0) == high]
+            yield [switch for switch in part if levels.get(switch, 0) == high]
         else:
             yield [min(part, key=lambda switch: (max(distances(beside, [switch]).values()), switch))]
 
 
-def ranks(beside, bearing, roots=()):
-    """The row of each switch: how many cables it is below the top of its component."""
-    return distances(beside, [switch for part in tops(beside, bearing, roots) for switch in part])
+def ranks(beside: dict[int, list[int]], leaves: Iterable[int], roots: Collection[int] = ()) -> dict[int, int]:
+    """Returns the row of each switch: how many cables it is below the top of its component."""
+    return distances(beside, [switch for part in tops(beside, leaves, roots) for switch in part])
 
 
-def nested(beside, rank, nodes, row, order):
+def nested(
+    beside: dict[int, list[int]], rank: dict[int, int], nodes: Collection[int], row: int, order: list[int]
+) -> None:
     """Orders nodes so that what is joined below a row stands together in all rows below it."""
     order += [node for node in nodes if rank[node] == row]
     for part in components(beside, [node for node in nodes if rank[node] > row]):
         nested(beside, rank, part, min(rank[node] for node in part), order)
 
 
-def crossings(rows, beside, place):
-    """How many pairs of cables between neighbouring rows cross."""
+def crossings(rows: Sequence[Sequence[int]], beside: dict[int, list[int]], place: dict[int, float]) -> int:
+    """Counts the pairs of cables between neighbouring rows that cross."""
     count = 0
     for upper, lower in zip(rows, rows[1:]):
         there = set(lower)
@@ -73,20 +78,20 @@ def crossings(rows, beside, place):
     return count
 
 
-def places(rows):
-    """How far to the right each node stands: the nodes of a row are spread over the whole width."""
+def places(rows: Iterable[Sequence[int]]) -> dict[int, float]:
+    """Returns how far to the right each node stands. The nodes of a row are spread over the whole width."""
     return {node: (i + 0.5) / len(row) for row in rows for i, node in enumerate(row)}
 
 
-def by_neighbours(rows, beside, is_down):
-    """Each row, from the top or from the bottom, in the order of the middle of its neighbours in the row before."""
+def by_neighbours(rows: Sequence[Sequence[int]], beside: dict[int, list[int]], is_down: bool) -> list[list[int]]:
+    """Orders each row, from the top or from the bottom, by the mean position of its neighbours in the row before."""
     found = [list(row) for row in rows]
     steps = range(1, len(found)) if is_down else range(len(found) - 2, -1, -1)
     for i in steps:
         place = places(found)
         before = set(found[i - 1 if is_down else i + 1])
 
-        def middle(node):
+        def middle(node: int) -> float:
             near = [place[far] for far in beside[node] if far in before]
             return sum(near) / len(near) if near else place[node]
 
@@ -94,8 +99,8 @@ def by_neighbours(rows, beside, is_down):
     return found
 
 
-def ordered(beside, rank):
-    """The rows of nodes, each in its order."""
+def ordered(beside: dict[int, list[int]], rank: dict[int, int]) -> list[list[int]]:
+    """Returns the rows of nodes, each in its order."""
     order, best = [], None
     for part in components(beside, rank):
         nested(beside, rank, part, min(rank[node] for node in part), order)
@@ -112,9 +117,9 @@ def ordered(beside, rank):
     return best[1]
 
 
-def sags(rows, beside):
-    """How far each node stands below its row, from 0 to 1. Where a component has cables between nodes of a row that are not
-    neighbours there, its part of the row is an arc, so that they do not run behind others."""
+def sags(rows: Iterable[Sequence[int]], beside: dict[int, list[int]]) -> dict[int, float]:
+    """Returns how far each node stands below its row, from 0 to 1. If cables of a component join nodes of a row that
+    are not neighbours there, its part of the row is an arc, so that the cables do not run behind others."""
     part_of = {node: i for i, part in enumerate(components(beside, beside)) for node in part}
     found = {}
     for row in rows:

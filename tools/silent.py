@@ -1,4 +1,5 @@
-"""Facts of a recording in which something was silent, with what was known before of adapters that are still plugged in."""
+"""Facts of a recording in which something was silent, with what was known before of adapters that are still plugged
+in."""
 from __future__ import annotations
 
 from collections.abc import Container
@@ -9,24 +10,26 @@ from record_files import KINDS
 
 
 def key_of(line: str) -> tuple[int, int, int]:
-    """What a fact is about, in the order of a text."""
+    """Returns what a fact is about, in the order of a text."""
     kind, about = line.split(" ", 2)[:2]
     guid, _, port = about.partition("/")
     return KINDS[kind], int(guid, 16), int(port or 0)
 
 
 class Completed:
-    """What is to be planned.
+    """The facts to plan from.
 
-    A switch whose table or whose table's size is not known is left out, with what is joined by it alone. An adapter that
-    does not answer, in a port that is up and where it was before, is kept as it was.
+    A switch without a known table or table size is left out, with what is joined by it alone. A silent adapter is kept
+    if it is in a port that is up, where it was before.
     """
 
     def __init__(self, facts: Facts, before: Facts | None, tables: Container[int]) -> None:
         """Takes facts, older ones or None, both with their lines, and the switches whose tables are known."""
         self.facts, self.before = facts, before
         self.lines = {key_of(line): line for line in facts.lines if not line.startswith("floor ")}
-        lacking = [guid for guid in facts.nodes if facts.is_switch(guid) and not (guid in facts.caps and guid in tables)]
+        lacking = [
+            guid for guid in facts.nodes if facts.is_switch(guid) and not (guid in facts.caps and guid in tables)
+        ]
         self.left_out = sorted(lacking)
         self.leave_out(set(lacking))
         self.kept = {}
@@ -37,7 +40,7 @@ class Completed:
         self.ports = sorted(end for end in ups if end[1] and end not in links)
 
     def leave_out(self, lacking: set[int]) -> None:
-        """Takes off nodes, and the nodes all of whose wires led to them."""
+        """Removes nodes, and other nodes whose every wire led to them."""
         beside = {}
         for end, far in self.facts.links.items():
             beside.setdefault(end[0], set()).add(far[0])
@@ -51,7 +54,8 @@ class Completed:
         self.lines = {
             key: line
             for key, line in self.lines.items()
-            if f"{key[1]:016x}" not in about and not (key[0] == KINDS["link"] and line.split(" ")[2].split("/")[0] in about)
+            if f"{key[1]:016x}" not in about
+            and not (key[0] == KINDS["link"] and line.split(" ")[2].split("/")[0] in about)
         }
 
     def keep(self) -> None:
@@ -63,7 +67,9 @@ class Completed:
             now, is_up = self.facts.links.get(end), self.facts.up.get(end)
             if not is_up or now not in (None, far) or self.facts.links.get(far, end) != end or far in self.facts.up:
                 continue
-            about = [("node", far[0], 0), *((kind, *far) for kind in ("portguid", "link", "port", "claim")), ("link", *end)]
+            about = [
+                ("node", far[0], 0), *((kind, *far) for kind in ("portguid", "link", "port", "claim")), ("link", *end)
+            ]
             for kind, *place in about:
                 key = (KINDS[kind], *place)
                 if key in old:
@@ -78,7 +84,7 @@ class Completed:
         return "".join(f"{line}\n" for line in [*floor, *(self.lines[key] for key in sorted(self.lines))])
 
     def told(self) -> dict:
-        """What is silent, for status.json."""
+        """Returns what is silent, for status.json."""
         return {
             "ports": list(map(name_of, self.ports)),
             "kept": [{"end": name_of(end), "lid": lid} for end, lid in sorted(self.kept.items())],
@@ -87,7 +93,7 @@ class Completed:
 
 
 def line_of(told: dict) -> str:
-    """The same in a line."""
+    """Returns what is silent, as a line."""
     parts = []
     if ports := told["ports"]:
         parts.append(f"ports to what is silent: {len(ports)}, as {ports[0]}")
@@ -99,7 +105,7 @@ def line_of(told: dict) -> str:
 
 
 def add_lids(path: Path, kept: dict[End, int], lmc: int | None) -> None:
-    """Writes into held tables the LIDs of ports that are kept, which they can't tell now."""
+    """Writes the LIDs of kept ports, which they can't tell now, into held tables."""
     with open(path) as file:
         lines = file.read().splitlines(True)
     lids = [line for line in lines if line.startswith("lid ")]

@@ -1,15 +1,18 @@
 """How evenly routes spread, by a count of all ways: the figures of an audit, and channels that no route takes."""
+from __future__ import annotations
+
 import collections
 
 from ibsm_texts import NO_WAY
+from routes import Routes
 
 
-def hundredths(total, count):
+def hundredths(total: int, count: int) -> str:
     return f"{total // count}.{100 * total // count % 100:02}"
 
 
-def hops_of(ways):
-    """How many packets between adapter ports take so many wires."""
+def hops_of(ways: Routes) -> collections.Counter:
+    """Counts the packets between adapter ports by the number of wires that they take."""
     hops = collections.Counter()
     sources = collections.Counter(ways.home[end][0] for end in set(ways.owners.values()) if end in ways.home)
     for (home, column), lids in ways.groups.items():
@@ -24,8 +27,8 @@ def hops_of(ways):
     return +hops
 
 
-def told_of_ways(ways):
-    """The lines `hops` and `load` of an audit."""
+def told_of_ways(ways: Routes) -> str:
+    """Returns the lines `hops` and `load` of an audit."""
     hops, loads = hops_of(ways), ways.carried().values()
     pairs, wires = sum(hops.values()), sum(number * count for number, count in hops.items())
     told = f"max {max(hops)} mean {hundredths(wires, pairs)}" if pairs else "none"
@@ -33,7 +36,7 @@ def told_of_ways(ways):
     return f"hops {told}\nload {load}\n"
 
 
-def told_of_unused(ways):
-    """How many channels carry no route."""
+def told_of_unused(ways: Routes) -> str:
+    """Returns the line that counts channels without a route."""
     loads = ways.carried().values()
     return f"unused {sum(not load for load in loads)} of {len(loads)}\n"

@@ -1,12 +1,21 @@
 /*
- * A library to be loaded before a program (LD_PRELOAD): it refuses one of the program's calls, or cuts it short.
+ * A library to load before a program (LD_PRELOAD): it refuses one of the program's calls, or cuts it short.
  *
- * REFUSE names what, and REFUSE_AT the number of the call, from 1, or `K+N`, N calls from the K-th on, or `every`: `alloc` has an allocation answer that there
- * is no memory, `memory-open` an opening, `read`, `write` and `open` fail, `again-read` and `again-write` fail since they would have to wait, `late-read`
- * and `late-write` since they took too long, `interrupted-read` and `interrupted-write` are interrupted before a byte is
- * moved, `empty-write` takes none, `short-read` and `short-write` move one byte. What is written is standard output; `say`,
- * `again-say`, `late-say`, `interrupted-say`, `empty-say` and `short-say` are the same of standard error. At the end the number of calls
- * of that kind is written to the file REFUSE_COUNT. Threads are not looked after.
+ * REFUSE names the kind of call. REFUSE_AT names the call: its number from 1, or `K+N` for N calls from the K-th on, or
+ * `every`. The kinds:
+ *   alloc               an allocation answers that there is no memory
+ *   memory-open         opening a file answers that there is no memory
+ *   read, write, open   the call fails
+ *   again-read, again-write, late-read, late-write
+ *                       the call fails since it would have to wait, or since it took too long
+ *   interrupted-read, interrupted-write
+ *                       the call is interrupted before a byte is moved
+ *   empty-write         a write takes no byte
+ *   short-read, short-write
+ *                       the call moves one byte
+ * Writes are those to standard output. `say`, `again-say`, `late-say`, `interrupted-say`, `empty-say` and `short-say`
+ * are the kinds of writes to standard error. At the end the number of calls of the kind is written to the file
+ * REFUSE_COUNT. Threads are not considered.
  */
 #define _GNU_SOURCE
 #include <dlfcn.h>
@@ -35,7 +44,7 @@ static const char *kind(void)
 	return text ? text : "";
 }
 
-/* Whether this is the call to refuse. */
+/* Returns whether this is the call to refuse. */
 static int is_now(const char *wanted)
 {
 	const char *at = getenv("REFUSE_AT");
@@ -96,7 +105,7 @@ int posix_memalign(void **into, size_t align, size_t size)
 	return 0;
 }
 
-/* How a call fails, and the error that it tells. */
+/* The ways in which a call fails, with their errors. */
 enum { FAILURES = 4 };
 static const int errors[FAILURES] = { EIO, EAGAIN, ETIMEDOUT, EINTR };
 
@@ -116,7 +125,7 @@ ssize_t read(int fd, void *into, size_t count)
 	return real(fd, into, count);
 }
 
-/* How a write is answered: as it is asked, with one of the failures, by none of its bytes, or by one. */
+/* How a write ends: as asked, with one of the failures, with no byte written, or with one. */
 enum answer { AS_ASKED, FAILS, TAKES_NONE = FAILS + FAILURES, TAKES_ONE };
 
 static enum answer answer_to_write(int fd, size_t count)

@@ -1,8 +1,8 @@
 /*
  * Requests, and their replies in the order of the requests.
  *
- * Some requests are out at a time. Replies come in any order and wait for their turn, so what is asked next, and what
- * is written, doesn't depend on which was faster.
+ * Several requests are out at a time. Replies come in any order and wait for their turn, so what is asked next, and
+ * what is written, doesn't depend on which was faster.
  */
 #include <errno.h>
 #include <signal.h>
@@ -31,41 +31,14 @@ static uint32_t number = 1;
 static int umad = -1, agent;
 static volatile sig_atomic_t is_stopped;
 
-/* The port's name, where it can carry requests. */
-static const char *usable_port(void)
-{
-	static char name[UMAD_CA_NAME_LEN + 16];
-	umad_port_t port;
-
-	if (umad_get_port(options.adapter, options.port, &port))
-		end(NO_FABRIC, "there is no InfiniBand port%s%s%s; `ibstat` lists those there are",
-		    options.adapter ? " of adapter " : "", options.adapter ? options.adapter : "",
-		    options.port ? " with that number" : "");
-	snprintf(name, sizeof name, "%s port %d", port.ca_name, port.portnum);
-	if (port.link_layer[0] && strcmp(port.link_layer, "InfiniBand") && strcmp(port.link_layer, "IB"))
-		end(NO_FABRIC, "%s is %s, not InfiniBand", name, port.link_layer);
-	if (port.state == 1)
-		end(NO_FABRIC, "%s is down, with no fabric behind it", name);
-	umad_release_port(&port);
-	return name;
-}
-
 void open_port(void)
 {
-	char adapters[UMAD_MAX_DEVICES][UMAD_CA_NAME_LEN];
-	const char *name;
+	struct own_port port;
 
-	if (umad_init() < 0 || umad_get_cas_names(adapters, UMAD_MAX_DEVICES) <= 0)
-		end(NO_FABRIC, "this machine has no InfiniBand devices");
-	name = usable_port();
-	umad = umad_open_port(options.adapter, options.port);
-	if (umad == -EACCES || umad == -EPERM)
-		end(NO_FABRIC, "cannot open %s: %s (only root may, mostly)", name, strerror(-umad));
-	if (umad < 0)
-		end(NO_FABRIC, "cannot open %s: %s", name, strerror(-umad));
+	umad = open_own_port(&port);
 	agent = umad_register(umad, DIRECTED_CLASS, 1, 0, NULL);
 	if (agent < 0)
-		end(NO_FABRIC, "cannot register for directed routes at %s: %s", name, strerror(-agent));
+		end(NO_FABRIC, "cannot register for directed routes at %s: %s", port.name, strerror(-agent));
 }
 
 void close_port(void)
@@ -145,7 +118,7 @@ static int answers(const uint8_t *packet, const struct request *request)
 	       packet[7] == request->path.hops;
 }
 
-/* A packet that the kernel hands over: a reply, or a request that it hands back with a status since none came. */
+/* Takes a packet from the kernel: a reply, or an unanswered request that comes back with a status. */
 static void sort_in(const uint8_t *packet, int status)
 {
 	unsigned i;
@@ -182,7 +155,7 @@ static void receive(void)
 		return;
 	if (fault != ETIMEDOUT && fault != EWOULDBLOCK && fault != EAGAIN)
 		end(NO_FABRIC, "cannot receive: %s", strerror(fault));
-	for (i = 0; i < out; i++)	/* the kernel said nothing of these, which counts as no answer */
+	for (i = 0; i < out; i++)	/* the kernel returned nothing for these: no answer */
 		if (slot_at(i)->state == WAITS)
 			no_answer(slot_at(i));
 }

@@ -9,27 +9,48 @@
  *   stop      the fifth Set comes with an interrupt
  *   other     the answer to the fifth Set tells another first entry
  *   refuse    the fifth Set is refused with status 0x001C
+ * Each packet is appended to the file that the variable PACKETS names, as a line: `out` or `in`, and its hex digits.
  */
 #define _GNU_SOURCE
 #include <dlfcn.h>
 #include <signal.h>
 #include <stdint.h>
+#include <stdio.h>
 #include <stdlib.h>
 #include <string.h>
 #include <unistd.h>
 #include <infiniband/umad.h>
 
-enum { SET = 2, FIFTH = 5 };
+enum { SET = 2, FIFTH = 5, PACKET = 256 };
 
 static int sets;
-static uint64_t fifth;	/* its number */
+static uint64_t fifth;	/* its TransactionID */
+
+static void keep_packet(const char *word, const uint8_t *packet)
+{
+	static FILE *file;
+	const char *name = getenv("PACKETS");
+	int i;
+
+	if (!name)
+		return;
+	if (!file && !(file = fopen(name, "a")))
+		abort();
+	fprintf(file, "%s ", word);
+	for (i = 0; i < PACKET; i++)
+		fprintf(file, "%02x", packet[i]);
+	fprintf(file, "\n");
+	fflush(file);
+}
 
 int umad_send(int port, int agent, void *buffer, int length, int timeout_ms, int tries)
 {
-	int (*real)(int, int, void *, int, int, int) = (int (*)(int, int, void *, int, int, int)) dlsym(RTLD_NEXT, "umad_send");
+	int (*real)(int, int, void *, int, int, int) =
+		(int (*)(int, int, void *, int, int, int)) dlsym(RTLD_NEXT, "umad_send");
 	uint8_t *packet = umad_get_mad(buffer);
 	const char *bend = getenv("BEND");
 
+	keep_packet("out", packet);
 	if (packet[3] == SET && ++sets == FIFTH) {
 		memcpy(&fifth, packet + 8, sizeof fifth);
 		if (bend && !strcmp(bend, "stop"))
@@ -50,6 +71,8 @@ int umad_recv(int port, void *buffer, int *length, int timeout_ms)
 	uint8_t *packet = umad_get_mad(buffer);
 	const char *bend = getenv("BEND");
 
+	if (agent >= 0 && !umad_status(buffer))
+		keep_packet("in", packet);
 	if (agent < 0 || !bend)
 		return agent;
 	if (!strcmp(bend, "slow"))

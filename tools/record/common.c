@@ -1,4 +1,4 @@
-/* What record and send share beside requests: how they end, what they say, numbers, memory. */
+/* What record and send share besides requests: how they end, what they say, numbers, memory. */
 #include <errno.h>
 #include <inttypes.h>
 #include <stdarg.h>
@@ -9,7 +9,7 @@
 #include "record.h"
 
 enum { FEW_LINES = 20, WIDEST = 100 };
-/* Seconds until somebody who waits at a terminal is told how far it is, and until he is told anew. */
+/* Seconds until a terminal shows progress, and until it shows it anew. */
 #define FIRST_LINE 2.0
 #define NEXT_LINE 0.5
 
@@ -31,7 +31,7 @@ void clear_line(void)
 	is_shown = 0;
 }
 
-/* By _exit: a simulator's library that stands in for libibumad waits for ever in exit while a port is open. */
+/* Ends by _exit: in exit, a simulator's library in place of libibumad waits for ever while a port is open. */
 void end(int status, const char *format, ...)
 {
 	va_list values;
@@ -86,11 +86,11 @@ void put(uint8_t *bytes, int count, uint64_t value)
 
 static const char *name_of(uint16_t attribute)
 {
-	return attribute == NODE_DESCRIPTION ? "NodeDescription" : attribute == NODE_INFO ? "NodeInfo" : attribute == SWITCH_INFO ? "SwitchInfo" :
-	       attribute == PORT_INFO ? "PortInfo" : "LinearForwardingTable";
+	return attribute == NODE_DESCRIPTION ? "NodeDescription" : attribute == NODE_INFO ? "NodeInfo" :
+	       attribute == SWITCH_INFO ? "SwitchInfo" : attribute == PORT_INFO ? "PortInfo" : "LinearForwardingTable";
 }
 
-/* Names a request by its path, in the form that smpquery -D takes. */
+/* Says `what` of a request, named by its path in the form that smpquery -D takes. */
 void say_of(const struct request *request, const char *what)
 {
 	unsigned long long guid = request->guid;
@@ -151,7 +151,7 @@ uint64_t number_in(const char *text, const char *what, uint64_t least, uint64_t 
 	return value;
 }
 
-/* With the name by which it was called, which an installed copy has otherwise. */
+/* Prints the usage with the name by which the program was called. An installed copy has another one. */
 void print_usage(FILE *file, const char *text)
 {
 	const char *name = strrchr(called, '/');

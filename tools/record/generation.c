@@ -1,11 +1,11 @@
-/* The newest generation in a recording or in a store file, so that the next recording counts as newer. */
+/* The newest generation in a recording or a store file, so that the next recording counts as newer. */
 #include <errno.h>
 #include <string.h>
 #include "record.h"
 
 enum { MAGIC = 8, REPORT = 272, CELL = 32, HEADER = 8 };
 
-/* Where the first record begins, how long one is, and where in it its generation stands. */
+/* The offset of the first record, the length of a record, and the offset of the generation in it. */
 struct form {
 	const char *magic;
 	int first, size, generation;
@@ -44,7 +44,7 @@ uint32_t newest_in(const char *name)
 	if (form->first > MAGIC) {
 		if (fread(bytes, HEADER, 1, file) != 1)
 			end(NO_FABRIC, "%s is cut", name);
-		newest = get(bytes, 4);	/* its floor: what is older does not count */
+		newest = get(bytes, 4);	/* its floor: older facts do not count */
 	}
 	while ((count = fread(bytes, 1, form->size, file)) == (size_t) form->size) {
 		generation = get(bytes + form->generation, 4);

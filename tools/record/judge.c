@@ -1,4 +1,4 @@
-/* Why tables must not be written into a subnet: they are not its own, not whole, or lead packets astray. */
+/* Why tables must not be written into a subnet: they are another one's, not whole, or lead packets astray. */
 #include <stdlib.h>
 #include <string.h>
 #include "send.h"
@@ -11,11 +11,11 @@ static unsigned long reasons;
 #define reason(...) (++reasons <= MOST_SAID ? say(__VA_ARGS__) : (void) 0)
 #define LONG(guid) ((unsigned long long) (guid))
 
-/* A switch that packets go through, by its place among the switches. */
+/* A switch that packets go through, by its index among the switches. */
 struct hop {
 	struct node *node;
 	const struct table *table;
-	int32_t next[NO_WAY + 1];	/* by port: the place of the next switch; NO_CABLE, or ADAPTER_THERE */
+	int32_t next[NO_WAY + 1];	/* by port: the index of the next switch; NO_CABLE, or ADAPTER_THERE */
 };
 
 enum { NO_CABLE = -1, ADAPTER_THERE = -2 };
@@ -55,7 +55,8 @@ static void judge_switch(const struct node *node, const struct wanted *wanted)
 	if (!table && !node->lacks)
 		reason("switch %016llx has no table", LONG(node->guid));
 	if (table && table->top < wanted->greatest)
-		reason("switch %016llx has top %u, and the greatest LID is %u: is it cut?", LONG(node->guid), table->top, wanted->greatest);
+		reason("switch %016llx has top %u, and the greatest LID is %u: is it cut?", LONG(node->guid), table->top,
+		       wanted->greatest);
 	for (lid = wanted->greatest + 1; table && lid <= table->top; lid++)
 		if (table->entries[lid] != NO_WAY) {
 			reason("switch %016llx has an entry for LID %u, above the greatest", LONG(node->guid), lid);
@@ -77,7 +78,8 @@ static void judge_range(const struct range *range)
 	if (choices.silent && (!port || !port->has_info))
 		return;
 	if (!is_end_port(node, range->port) || !port->has_info) {
-		reason("LID %u: there is no end port %016llx/%u: are these tables of this subnet?", range->first, LONG(range->guid), range->port);
+		reason("LID %u: there is no end port %016llx/%u: are these tables of this subnet?", range->first,
+		       LONG(range->guid), range->port);
 		return;
 	}
 	old = get(port->info + 16, 2);
@@ -125,7 +127,7 @@ static int32_t place_of_hop(const struct node *node)
 	return NO_CABLE;
 }
 
-/* The switches with a table, and for each port where a packet that leaves by it comes to. */
+/* Lists the switches with a table, and for each port where a packet that leaves by it arrives. */
 static void lay_out(const struct wanted *wanted)
 {
 	int32_t *place = more(NULL, known_nodes() + 1, sizeof *place);
@@ -150,7 +152,7 @@ static void lay_out(const struct wanted *wanted)
 	free(place);
 }
 
-/* The switch that a LID's owner is at or is, and the port by which packets leave it there. */
+/* Returns the switch that a LID's owner is or is wired to; `port` gets the port by which packets leave it there. */
 static int32_t home_of(const struct range *range, uint8_t *port)
 {
 	struct node *node = find(range->guid), *far;
@@ -168,7 +170,7 @@ static int32_t home_of(const struct range *range, uint8_t *port)
 	return far->type == SWITCH ? place_of_hop(far) : NO_CABLE;
 }
 
-/* Whether and how a packet for a LID ends at a switch; OPEN where it goes on to *next. */
+/* Returns how a packet for a LID ends at a switch, or OPEN if it goes on to *next. */
 static enum fate ends_at(size_t at, uint32_t lid, int is_home, uint8_t home_port, int32_t *next)
 {
 	uint8_t port = hops[at].table->entries[lid];
@@ -190,7 +192,7 @@ static enum fate ends_at(size_t at, uint32_t lid, int is_home, uint8_t home_port
 	return ASTRAY;
 }
 
-/* Follows packets for a LID from every switch; how many have no way. */
+/* Follows packets for a LID from every switch, and returns how many have no way. */
 static unsigned long follow(const struct range *range, uint32_t lid, uint8_t *fate, uint32_t *passed)
 {
 	uint8_t home_port;
@@ -219,7 +221,7 @@ static unsigned long follow(const struct range *range, uint32_t lid, uint8_t *fa
 	return lost;
 }
 
-/* What is silent has LIDs, and entries, that cannot be judged. */
+/* Returns whether a range can be judged. That of a silent port cannot. */
 static int is_judged(const struct range *range)
 {
 	const struct port *port = port_of(find(range->guid), range->port);

@@ -2,7 +2,7 @@
 #include <string.h>
 #include "record.h"
 
-/* What would end the name or the line, and what is not ASCII, as \xHH. */
+/* Prints a name, with \xHH for what would end the name or the line and for what is not ASCII. */
 static void print_escaped(FILE *file, const uint8_t *name)
 {
 	for (; *name; name++)
@@ -12,7 +12,7 @@ static void print_escaped(FILE *file, const uint8_t *name)
 			putc(*name, file);
 }
 
-/* A name that other nodes have too is followed by the GUID, so that it is told apart. */
+/* Prints a line of a map. A shared name is followed by the GUID, so that it is unique. */
 void print_name(FILE *file, uint64_t guid, const uint8_t *name, int is_shared)
 {
 	fprintf(file, "0x%016llx \"", (unsigned long long) guid);

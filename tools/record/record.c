@@ -50,8 +50,8 @@ static void on_signal(int number)
 
 static const struct option words[] = {
 	{ "ca", 1, 0, 'C' }, { "port", 1, 0, 'P' }, { "generation", 1, 0, 'g' }, { "outstanding", 1, 0, 'n' },
-	{ "timeout", 1, 0, 't' }, { "retries", 1, 0, 'r' }, { "m-key", 1, 0, 'k' }, { "tables", 1, 0, 'T' }, { "names", 1, 0, 'N' }, { "after", 1, 0, 'a' },
-	{ "partial", 0, 0, 'p' },
+	{ "timeout", 1, 0, 't' }, { "retries", 1, 0, 'r' }, { "m-key", 1, 0, 'k' }, { "tables", 1, 0, 'T' },
+	{ "names", 1, 0, 'N' }, { "after", 1, 0, 'a' }, { "partial", 0, 0, 'p' },
 	{ "quiet", 0, 0, 'q' }, { "verbose", 0, 0, 'v' }, { "help", 0, 0, 'h' }, { "version", 0, 0, 'V' }, { 0 }
 };
 
@@ -86,13 +86,14 @@ static void parse(int count, char **texts)
 	if (optind + 1 != count)
 		take_option('?');
 	options.file = texts[optind];
-	if (is_same(options.tables, options.file) || is_same(options.names, options.file) || is_same(options.tables, options.names))
+	if (is_same(options.tables, options.file) || is_same(options.names, options.file) ||
+	    is_same(options.tables, options.names))
 		end(USAGE, "the recording, the tables and the names cannot be one file");
 	if (options.after && options.generation)
 		end(USAGE, "--after and --generation both number the sweep");
 }
 
-/* What is given counts, then what comes after a file, then the clock. */
+/* Numbers the sweep: by the option, above a file's generation, or by the clock. */
 static void number_sweep(void)
 {
 	uint32_t clock = time(NULL), newest;
@@ -135,7 +136,7 @@ static int record(struct whole_file *tables, struct whole_file *names)
 	if (options.tables)
 		has_tables = read_tables() || options.partial;
 	if (options.names)
-		read_names();	/* last, since what has no name is no gap in the tables */
+		read_names();	/* last: a missing name is no gap in the tables */
 	if (has_tables)
 		print_tables(tables->file);
 	if (options.names)

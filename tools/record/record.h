@@ -1,4 +1,4 @@
-/* What the parts of record and send share. Numbers in packets stand most significant byte first. */
+/* What the parts of record and send share. Numbers in packets have their most significant byte first. */
 #ifndef RECORD_H
 #define RECORD_H
 
@@ -23,9 +23,9 @@ struct request {
 	uint16_t attribute;
 	uint32_t modifier;
 	uint8_t context, via_port;
-	uint64_t guid;		/* the node that is asked about, or before the last hop */
+	uint64_t guid;		/* the node that is asked about, or the one before the last hop */
 	uint8_t arrival, type;	/* of the node that is asked about: the port that was reached, and its type */
-	const uint8_t *value;	/* of a Set, 64 bytes that stay where they are until it is answered; NULL of a Get */
+	const uint8_t *value;	/* 64 bytes of a Set, which must stay in place until it is answered; NULL for a Get */
 };
 
 struct options {
@@ -41,11 +41,11 @@ struct counts {
 
 extern struct options options;
 extern struct counts counts;
-extern const char *tool;	/* by which name it speaks */
+extern const char *tool;	/* the name under which it speaks */
 extern const char *called;	/* the first word of its command line */
-extern const char *stage;	/* what it does now, for who waits */
+extern const char *stage;	/* what it does now, to show as progress */
 
-/* common.c: says why, removes what was begun, and ends. */
+/* common.c: says why, removes the files that were begun, and ends. */
 void end(int status, const char *format, ...) __attribute__((noreturn, format(printf, 2, 3)));
 void say(const char *format, ...) __attribute__((format(printf, 1, 2)));
 void clear_line(void);
@@ -55,26 +55,35 @@ void progress(size_t nodes, size_t waiting);
 double now(void);
 uint64_t number_in(const char *text, const char *what, uint64_t least, uint64_t most);
 void print_usage(FILE *file, const char *text);
-/* Takes an option of both; 0 where it is none. */
+/* Takes an option that both have; returns 0 if it is none. */
 int take_shared_option(int letter, const char *text);
 uint64_t get(const uint8_t *bytes, int count);
 void put(uint8_t *bytes, int count, uint64_t value);
+
+/* port.c: the port of this machine that the options name, or the first that is up. */
+struct own_port {
+	char name[64], adapter[32];
+	uint64_t guid;
+	int number;
+};
+/* Opens the port, or ends; returns libibumad's number of it. */
+int open_own_port(struct own_port *port);
 
 /* ask.c: requests, and their replies in the order of the requests. */
 void open_port(void);
 void close_port(void);
 struct request *ask(const struct path *path, uint16_t attribute, uint32_t modifier, uint64_t guid);
 size_t asked_and_waiting(void);
-/* Sends all that was asked, and what `take` asks; a reply is 0 where none came. */
+/* Sends all requests, and those that `take` adds; a reply is NULL if none came. */
 void ask_all(void (*take)(const struct request *request, uint8_t *reply));
-/* Of what waits nothing more is sent; may be called by a signal handler. */
+/* Sends none of the waiting requests; a signal handler may call it. */
 void stop_asking(void);
 
 /* report.c: files that are whole or absent. */
 struct whole_file {
 	FILE *file;
 	char *name, *temporary;
-	char *text;	/* of standard output, with its size */
+	char *text;	/* the text of standard output, with its size */
 	size_t size;
 };
 void begin_file(struct whole_file *file, char *name);
@@ -87,33 +96,33 @@ void keep(struct whole_file *file, const struct request *request, const uint8_t 
 struct node {
 	uint64_t guid;
 	uint8_t type;
-	struct path path;	/* the first that reached it */
-	uint16_t top;		/* of a switch, and its table in whole blocks up to there */
+	struct path path;	/* the first path that reached it */
+	uint16_t top;		/* a switch's top, and its table in whole blocks up to there */
 	uint8_t *table;
-	uint8_t lacks;		/* a reply about it is missing: 1 about a port, 2 about its table */
-	uint8_t asked[256];	/* of an adapter: ports whose PortInfo was asked */
-	uint8_t *name;		/* ends with 0; NULL where it was not asked or told */
+	uint8_t lacks;		/* a missing reply about it: 1 about a port, 2 about its table */
+	uint8_t asked[256];	/* an adapter's ports whose PortInfo was asked */
+	uint8_t *name;		/* ends with 0; NULL if it was not asked or told */
 	int is_shared;		/* another node has this name too */
 	struct shape *shape;	/* what send knows of it */
 };
-/* Asks all nodes, and hands each reply that is taken to seen. */
+/* Asks all nodes, and passes each reply that is taken to `seen`. */
 void sweep(void (*seen)(const struct request *request, const uint8_t *reply));
 size_t known_nodes(void);
 struct node *node_at(size_t place);
 struct node *find(uint64_t guid);
-/* Whether there is a reply that ibsm takes; says why not. */
+/* Returns whether there is a reply that ibsm takes, or says why not. */
 int is_good(const struct request *request, uint8_t *reply);
-/* Reads the forwarding tables; 0 where a reply about a node that is known is missing. */
+/* Reads the forwarding tables; returns 0 if a reply about a known node is missing. */
 int read_tables(void);
 void print_tables(FILE *file);
-/* Asks each node for its name; one that does not answer has none. */
+/* Asks each node for its name; a silent node has none. */
 void read_names(void);
 void print_names(FILE *file);
 
 /* names.c */
 void print_name(FILE *file, uint64_t guid, const uint8_t *name, int is_shared);
 
-/* generation.c: the newest generation of a recording or a store file, its floor among them; 0 where it has none. */
+/* generation.c: returns the newest generation of a recording or a store file, including its floor; 0 if it has none. */
 uint32_t newest_in(const char *name);
 
 #endif

@@ -11,7 +11,7 @@ enum { MOST_FILES = 3, MOST_PORTS = 254, CLASS = 0x81, ANSWER = 0x81, RECORD_HEA
 
 static char *begun[MOST_FILES];
 
-/* Runs in signal handlers too. */
+/* Removes files that were begun. Signal handlers call it too. */
 void remove_begun_files(void)
 {
 	int i;
@@ -30,7 +30,7 @@ static char **place_of(const char *temporary)
 	return &begun[i];
 }
 
-/* What goes to standard output is kept until it is whole, since who reads it could not tell that it is cut. */
+/* Keeps standard output until it is whole, since a reader could not tell that it is cut. */
 static void begin_output(struct whole_file *file)
 {
 	file->name = "standard output";
@@ -54,7 +54,7 @@ void begin_file(struct whole_file *file, char *name)
 	file->name = name;
 	file->temporary = more(NULL, size, 1);
 	snprintf(file->temporary, size, "%s.%ld", name, (long) getpid());
-	sigfillset(&all);	/* no signal may end it between the file and the note that it is there */
+	sigfillset(&all);	/* no signal may come between making the file and noting it */
 	sigprocmask(SIG_BLOCK, &all, &before);
 	file->file = fopen(file->temporary, "wbx");
 	if (file->file)
@@ -93,8 +93,8 @@ static const char *fault_of_node(const struct request *request, const uint8_t *i
 }
 
 /*
- * Why ibsm would refuse the reply, by the names of docs/FORMATS.md; NULL where it takes it. It would refuse the whole
- * file for one such record.
+ * Returns why ibsm would refuse the reply, by the names of docs/FORMATS.md, or NULL if it would take it. ibsm refuses
+ * a whole file for one bad record.
  */
 const char *fault_of(const struct request *request, const uint8_t *reply)
 {

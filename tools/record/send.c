@@ -1,5 +1,5 @@
 /*
- * send: writes tables into an InfiniBand subnet by directed Sets, where it holds others.
+ * send: writes tables into an InfiniBand subnet by directed Sets, where they differ from what it holds.
  *
  * It reads the subnet first, as record does, judges the tables, and sets LIDs, then blocks, then tops, each once all
  * before is answered. The manual page, send.1, has the options and exit statuses.
@@ -40,7 +40,7 @@ static const char usage_text[] =
 "is wrong; 3 where TABLES are refused, and nothing is written; 4 without a subnet, or where it or TABLES cannot be read;\n"
 "5 without memory; 128 and the signal's number where one ended it.\n";
 
-/* What is to be set, with what it was and what is read back. */
+/* What to set, with the old value and the one that is read back. */
 struct order {
 	struct path path;
 	uint64_t guid;
@@ -116,8 +116,8 @@ static struct order *add(const struct node *node, const struct path *path, uint1
 }
 
 /*
- * The LID of the subnet's manager, as this machine's own port tells it, or its new one in TABLES; 0 where nobody tells.
- * The first node that a sweep finds is this machine's.
+ * Returns the LID of the subnet's manager, as this machine's port tells it, or its new one in TABLES; 0 if unknown. The
+ * first node that a sweep finds is this machine's.
  */
 static uint16_t manager_lid(const struct wanted *wanted)
 {
@@ -138,8 +138,8 @@ static uint16_t manager_lid(const struct wanted *wanted)
 }
 
 /*
- * A Set of PortInfo carries on what was read, but for the LID, the LMC and the manager's LID, and for fields in which what is
- * read is no value to write: there it says that nothing changes.
+ * Sets the LID, the LMC and the manager's LID in PortInfo as it was read. Fields whose value when read is none to write
+ * say "no change".
  */
 static void change_port(uint8_t *info, const struct range *range, uint16_t manager)
 {
@@ -184,7 +184,7 @@ static void order_lids(const struct wanted *wanted)
 	}
 }
 
-/* A block above the top that is held was not read, and is written whatever it holds. */
+/* Orders the blocks that differ. A block above the held top was not read, and is always written. */
 static void order_blocks(const struct wanted *wanted)
 {
 	uint32_t block;
@@ -210,7 +210,7 @@ static void order_blocks(const struct wanted *wanted)
 	}
 }
 
-/* PortStateChange stays as it is: it is the manager's to clear. */
+/* Orders the tops that differ. PortStateChange stays, since only the manager clears it. */
 static void order_tops(const struct wanted *wanted)
 {
 	struct order *order;
@@ -231,7 +231,7 @@ static void order_tops(const struct wanted *wanted)
 	}
 }
 
-/* Whether an attribute is what was to be set: of PortInfo and SwitchInfo in what was changed. */
+/* Returns whether an attribute has the value to set; of PortInfo and SwitchInfo only the changed fields count. */
 static int is_as_ordered(const struct order *order, const uint8_t *value)
 {
 	if (order->attribute == FORWARDING_TABLE)
@@ -241,7 +241,7 @@ static int is_as_ordered(const struct order *order, const uint8_t *value)
 	return get(value + 16, 2) == order->will && (value[34] & 7) == (order->value[34] & 7);
 }
 
-/* Requests are answered in their order, and these are all of the orders from first on. */
+/* The order of the next answer. Answers come in the order of the requests. */
 static size_t next_order;
 
 static void take_answer(const struct request *request, uint8_t *reply)
@@ -253,16 +253,17 @@ static void take_answer(const struct request *request, uint8_t *reply)
 	if (!is_good(request, reply)) {
 		faults++;
 	} else if (!is_as_ordered(order, reply + ATTRIBUTE)) {
-		say_of(request, request->value ? "the answer is otherwise than what was set" : "it is held otherwise than it was set");
+		say_of(request, request->value ? "the answer is otherwise than what was set" :
+		       "it is held otherwise than it was set");
 		faults++;
 	} else {
 		written += request->value != NULL;
 	}
 	if (request->value && faults)
-		stop_asking();	/* what follows may be worth nothing without it */
+		stop_asking();	/* later orders may be worth nothing without it */
 }
 
-/* Sends the orders from first up to last, and waits for all answers; of a Set until one fails. */
+/* Sends the orders from `first` up to `last`, and waits for all answers; Sets stop at the first failure. */
 static void send_orders(size_t first, size_t last, int is_set)
 {
 	struct request *request;
@@ -308,7 +309,8 @@ static void write_and_read_back(size_t lids, size_t blocks)
 		send_orders(blocks, order_count, 1);
 	is_writing = 0;
 	if (stopped_by)
-		end(SIGNALLED + stopped_by, "stopped: %lu of %zu Sets are answered, each of a whole block, LID or top", written, order_count);
+		end(SIGNALLED + stopped_by, "stopped: %lu of %zu Sets are answered, each of a whole block, LID or top", written,
+		    order_count);
 	if (faults)
 		end(NOT_WHOLE, "NOT WRITTEN: %lu of %zu Sets are answered", written, order_count);
 	stage = "reads back";

@@ -6,11 +6,11 @@
 
 enum { MOST_PORTS = 254, NO_WAY = 255, GREATEST_LID = 0xbfff };
 
-/* A port of a node: of an adapter those that were reached, of a switch all. */
+/* A port of a node: all ports of a switch, and those of an adapter that were reached. */
 struct port {
-	struct path path;	/* by which it is asked and set */
-	uint64_t guid;		/* of an end port; 0 where it is not known */
-	uint64_t far_guid;	/* what is joined to it: that port is 0 where nothing tells */
+	struct path path;	/* the path by which it is asked and set */
+	uint64_t guid;		/* of an end port; 0 if unknown */
+	uint64_t far_guid;	/* the port at the far end; far_port is 0 if unknown */
 	uint8_t far_port;
 	uint8_t has_info;
 	uint8_t info[BLOCK];	/* PortInfo as it was read */
@@ -42,8 +42,8 @@ struct wanted {
 	struct range *ranges;
 	struct table *tables;
 	size_t range_count, table_count;
-	uint32_t greatest;	/* the greatest LID, 0 where there is none */
-	uint16_t shared;	/* a LID that two lines give, or that is out of order; 0 where none is */
+	uint32_t greatest;	/* the greatest LID, or 0 */
+	uint16_t shared;	/* a LID that two lines give, or that is out of order, or 0 */
 };
 
 struct choices {
@@ -54,11 +54,11 @@ extern struct choices choices;
 
 /* subnet.c: what replies tell, for judging and setting. */
 void note_reply(const struct request *request, const uint8_t *reply);
-/* The first that was told in two ways; NULL where nothing was. */
+/* Returns the first fact that was told in two ways, or NULL. */
 const char *what_is_disputed(void);
 struct port *port_of(const struct node *node, uint8_t port);
 int is_up(const struct port *port);
-/* The port at the other end of the cable in a port, where both ends tell of it and are up, with its node; NULL else. */
+/* Returns the far end of the cable in a port, and its node, if both ends tell of it and are up, or else NULL. */
 struct port *across(const struct node *node, uint8_t port, struct node **far);
 
 /* wanted.c: TABLES, or why they are refused. */

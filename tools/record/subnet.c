@@ -1,4 +1,4 @@
-/* What a sweep tells beside the nodes: their ports, what is joined to them, and the attributes that Sets carry on. */
+/* What a sweep tells besides the nodes: their ports, the far ends, and the attributes that Sets carry on. */
 #include <stdlib.h>
 #include <string.h>
 #include "send.h"

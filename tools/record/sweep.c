@@ -13,7 +13,7 @@ struct lid {
 
 static struct node *nodes;
 static size_t node_count, node_room;
-static uint32_t *index_of, index_room;	/* open addressing: place in nodes + 1 */
+static uint32_t *index_of, index_room;	/* open addressing: index in nodes, plus 1 */
 static struct lid *lids;
 static size_t lid_count, lid_room;
 static void (*seen)(const struct request *request, const uint8_t *reply);
@@ -81,7 +81,7 @@ static void ask_port(const struct request *request, uint64_t guid, uint8_t type,
 	asked->type = type;
 }
 
-/* A switch is asked for all its ports, an adapter for the one that was reached, by its number: 0 would mean it too. */
+/* Asks a switch for all its ports, and an adapter for the port that was reached, by its number; 0 would mean it too. */
 static void on_node_info(const struct request *request, const uint8_t *info)
 {
 	uint64_t guid = get(info + 12, 8);
@@ -156,7 +156,7 @@ int is_good(const struct request *request, uint8_t *reply)
 	}
 	/*
 	 * A request over no hops never leaves the machine. Linux raises its hop pointer to 1 on the way to the local
-	 * agent, and drivers with an agent in software hand the answer back so; where a path ends, the standard has 0.
+	 * agent, and drivers with an agent in software return the answer like this; the standard has 0 at the end.
 	 */
 	if (reply[7] == 0 && reply[6] == 1) {
 		reply[6] = 0;
@@ -276,7 +276,7 @@ static int by_name(const void *one, const void *other)
 	return strcmp((const char *) (*a)->name, (const char *) (*b)->name);
 }
 
-/* Sorts the nodes, so that none is found by its GUID afterwards. */
+/* Prints the names of nodes. Sorts the nodes, so none is found by its GUID afterwards. */
 void print_names(FILE *file)
 {
 	struct node **named = more(NULL, node_count, sizeof *named);
@@ -296,7 +296,10 @@ void print_names(FILE *file)
 			print_name(file, nodes[i].guid, nodes[i].name, nodes[i].is_shared);
 }
 
-/* In the form of a plan, without switches whose table is not known whole. Sorts the nodes, so that none is found by its GUID afterwards. */
+/*
+ * Prints tables in the form of a plan, without switches whose table is not known whole. Sorts the nodes, so none is
+ * found by its GUID afterwards.
+ */
 void print_tables(FILE *file)
 {
 	size_t i;

@@ -14,7 +14,7 @@ static void refuse(const char *line)
 	end(REFUSED, "%s: line %lu is no line of a plan: %.60s", name, line_number, line);
 }
 
-/* A decimal number up to most at *text, which then stands behind it. */
+/* Reads a decimal number of at most `most` at *text, and moves *text behind it. */
 static int number_at(const char **text, unsigned long most, unsigned long *value)
 {
 	const char *first = *text;
@@ -59,8 +59,8 @@ static int take_lids(struct wanted *wanted, const char *line)
 	unsigned long lid, port, lmc = 0, last;
 	uint64_t guid;
 
-	if (!word_at(&line, "lid ") || !number_at(&line, GREATEST_LID, &lid) || !word_at(&line, " ") || !guid_at(&line, &guid) ||
-	    !word_at(&line, "/") || !number_at(&line, MOST_PORTS, &port))
+	if (!word_at(&line, "lid ") || !number_at(&line, GREATEST_LID, &lid) || !word_at(&line, " ") ||
+	    !guid_at(&line, &guid) || !word_at(&line, "/") || !number_at(&line, MOST_PORTS, &port))
 		return 0;
 	if (word_at(&line, " lmc ") && (!number_at(&line, MOST_LMC, &lmc) || !lmc))
 		return 0;

@@ -75,7 +75,7 @@ entries_of info =
     ∷ record { field = local_port_num; number = info.local_port_num }
     ∷ record { field = vendor_id; number = info.vendor_id } ∷ []
 
--- the 64 bytes that spell it; the bytes behind the last field are reserved and 0
+-- the 64 bytes that spell `info`; the bytes behind the last field are reserved and 0
 abbrev pub node_info_bytes : NodeInfo → List ℕ
 node_info_bytes info = image (entries_of info)
 

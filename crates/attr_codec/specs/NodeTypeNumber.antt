@@ -8,6 +8,6 @@ number_of_type ChannelAdapter = 1
 number_of_type Switch = 2
 number_of_type Router = 3
 
--- the type of that number; other numbers are reserved
+-- the type with this number; other numbers are reserved
 abbrev pub type_of_number : ℕ → Option NodeType
 type_of_number number = find (λ kind. number == number_of_type kind) (ChannelAdapter ∷ Switch ∷ Router ∷ [])

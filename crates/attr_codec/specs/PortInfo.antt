@@ -38,14 +38,14 @@ m_key_protect_bits = record { at = 34; shift = 6; width = 2 }
 abbrev pub lmc : Bits
 lmc = record { at = 34; shift = 0; width = 3 }
 
--- the LID and the LMC that a payload spells
+-- the LID and the LMC in `payload`
 abbrev pub range_in : List ℕ → ℕ × ℕ
 range_in payload = (number_in base_lid payload, bits_in lmc payload)
 
 abbrev pub port_state : Bits
 port_state = record { at = 32; shift = 0; width = 4 }
 
--- whether a subnet manager sits at the port: IsSM, bit 1 of the capability mask
+-- IsSM, bit 1 of the capability mask: a subnet manager sits at the port
 abbrev pub is_sm_bit : Bits
 is_sm_bit = record { at = 23; shift = 1; width = 1 }
 
@@ -56,7 +56,7 @@ number_of_state Initialize = 2
 number_of_state Armed = 3
 number_of_state Active = 4
 
--- the state of that number; other numbers are reserved
+-- the state with this number; other numbers are reserved
 abbrev pub state_of_number : ℕ → Option PortState
 state_of_number number =
     find (λ state. number == number_of_state state) (NoChange ∷ Down ∷ Initialize ∷ Armed ∷ Active ∷ [])

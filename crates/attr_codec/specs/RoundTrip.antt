@@ -1,4 +1,4 @@
--- What an attribute's value is spelled as is read as that value.
+-- An attribute's value is read again from the bytes that spell it.
 use Rattle.std.proofs.Common.{◌≡◌, ℕ, zero, suc, ◌<◌, ◌^◌, ◌∙◌, List, [], ◌∷◌, refl, sym, subst, true, replicate, length, get_or, arith}
 use Rattle.std.specs.Prelude.{Some, slice_get}
 use Rattle.smp_bytes.specs.Field.{Field, Entry, are_apart, bits_in, number_in, replaced, with_bits}
@@ -10,7 +10,7 @@ use Rattle.attr_codec.specs.declared.sm_info.SmInfo.{SmInfo}
 use Rattle.attr_codec.specs.SmInfo.{FitsSmInfo, guid, sm_key, act_count, priority, sm_state, sm_info_in, sm_info_bytes, sm_info_entries}
 use Rattle.attr_codec.specs.NodeInfo.{FitsNodeInfo, node_info_in, node_info_bytes, entries_of}
 
--- of numbers that all fit each one does
+-- if all entries fit, the i-th one does
 fits_at : (entries : List Entry) (i : ℕ) (e : Entry) → AllFit entries → slice_get entries i ≡ Some e → e.number
     < 256 ^ e.field.len
 fits_at [] i e fits there = cc
@@ -42,7 +42,7 @@ node_info_reads_back info fits =
       vendor_id = number_in-image (entries_of info) fits 11 _ refl refl j;
     }
 
--- the byte with the priority and the state is 0 before they are written
+-- the byte with the priority and the state is 0 before these are written
 blank : (info : SmInfo) → get_or (image (sm_info_entries info)) 20 0 ≡ 0
 blank info = sym (byte-number_in 20 (image (sm_info_entries info)))
     ∙ number_in-with_numbers_apart 64 (record { at = 20; len = 1 }) (sm_info_entries info) (replicate 64 0) refl refl

@@ -37,7 +37,7 @@ sm_info_entries info =
     record { field = guid; number = info.guid } ∷ record { field = sm_key; number = info.sm_key }
     ∷ record { field = act_count; number = info.act_count } ∷ []
 
--- the 64 bytes that spell it; the bytes behind the last field are reserved and 0
+-- the 64 bytes that spell `info`; the bytes behind the last field are reserved and 0
 abbrev pub sm_info_bytes : SmInfo → List ℕ
 sm_info_bytes info = with_bits sm_state info.state (with_bits priority info.priority (image (sm_info_entries info)))
 

@@ -1,4 +1,4 @@
--- What the 64 bytes of an attribute are to the value that they spell.
+-- How the 64 bytes of an attribute relate to the value that they spell.
 use Rattle.std.specs.Prelude.{◌≡◌, ℕ, ◌-◌, ◌<◌, ◌++◌, List, All, drop, length, replicate, take}
 
 -- 64 bytes, each a number below 256
@@ -6,22 +6,23 @@ pub record Are64Bytes (bytes : List ℕ) : Type 0 where
   pub count : length bytes ≡ 64
   pub bytes_fit : All (λ byte. byte < 256) bytes
 
--- whatever is read is spelled again as it stood
+-- any 64 bytes are spelled again as they were read
 abbrev pub KeepsAllBytes : {V : Type 0} → (List ℕ → V) → (V → List ℕ) → Type 0
 KeepsAllBytes value_in bytes_of = (bytes : List ℕ) → Are64Bytes bytes → bytes_of (value_in bytes) ≡ bytes
 
--- so are the first bytes of whatever is read; those behind are reserved, and are spelled as 0
+-- the first `count` of any 64 bytes are spelled again as they were read; those behind are reserved, and are spelled as
+-- 0
 abbrev pub KeepsFirstBytes : {V : Type 0} → ℕ → (List ℕ → V) → (V → List ℕ) → Type 0
 KeepsFirstBytes count value_in bytes_of =
     (bytes : List ℕ) → Are64Bytes bytes → bytes_of (value_in bytes) ≡ take count bytes ++ replicate (64 - count) 0
 
--- 64 bytes in which each field of a value stands with its number, and 0 behind the fields
+-- 64 bytes that hold each field of `value`, and 0 behind the first `count` bytes
 pub record Spells {V : Type 0} (count : ℕ) (value_in : List ℕ → V) (value : V) (bytes : List ℕ) : Type 0 where
   pub whole : length bytes ≡ 64
   pub fields : value_in bytes ≡ value
   pub reserved : drop count bytes ≡ replicate (64 - count) 0
 
--- each value is spelled so
+-- `bytes_of` spells each value, with 0 behind the first `count` bytes
 abbrev pub SpellsEachValue : {V : Type 0} → ℕ → (List ℕ → V) → (V → List ℕ) → (V → Type 0) → Type 0
 SpellsEachValue {V = V} count value_in bytes_of is_value =
     (value : V) → is_value value → Spells count value_in value (bytes_of value)

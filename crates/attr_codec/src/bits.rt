@@ -1,10 +1,10 @@
-//! Some bits of one byte of an attribute, at an offset that const parameters name.
+//! Some bits of one byte of an attribute, at an offset that const parameters give.
 ghost use Rattle.std.specs.Prelude.{◌≡◌, ◌+◌, ◌^◌, ◌<◌, ◌≤◌};
 ghost use Rattle.smp_bytes.specs.Field.{bits_in, with_bits};
 
 use smp_bytes::wire::{bits_at, put_bits};
 
-/// The number that `WIDTH` bits of the byte at `AT` stand for, of which the lowest is bit `SHIFT`.
+/// Returns the number in `WIDTH` bits of the byte at `AT`. The lowest of them is bit `SHIFT`.
 pub fn bits<const AT: usize, const SHIFT: u32, const WIDTH: u32>(bytes: &[u8; 64]) -> u8
     requires offset { AT < 64 }
     requires some { 1 ≤ WIDTH }
@@ -15,7 +15,7 @@ pub fn bits<const AT: usize, const SHIFT: u32, const WIDTH: u32>(bytes: &[u8; 64
     bits_at(bytes, AT, SHIFT, WIDTH)
 }
 
-/// Writes a number into those bits; all others stay.
+/// Writes `number` into `WIDTH` bits of the byte at `AT`, the lowest of which is bit `SHIFT`. All other bits stay.
 pub fn with_bits<const AT: usize, const SHIFT: u32, const WIDTH: u32>(
     bytes: &mut [u8; 64],
     number: u8,

@@ -1,4 +1,4 @@
-//! The fields of an attribute: numbers that stand at an offset which a const parameter names.
+//! The fields of an attribute: numbers at an offset that a const parameter gives.
 ghost use Rattle.std.specs.Prelude.{◌≡◌, ℕ, ◌+◌, ◌^◌, ◌<◌, ◌≤◌};
 ghost use Rattle.smp_bytes.specs.Field.{number_in, with_number};
 
@@ -9,12 +9,12 @@ use smp_bytes::wire::{
 };
 use smp_bytes::{Guid, Lid, PortNum};
 
-/// A type that fields have: a number of a fixed count of bytes.
+/// The type of a field: a number with a fixed count of bytes.
 pub trait FieldType: Copy {
-    /// How many bytes a field of this type has.
+    /// The number of bytes of a field of this type.
     ghost len: { ℕ };
 
-    /// The number that a value is.
+    /// The number of a value.
     ghost number: { Self → ℕ };
 
     fn read_at(bytes: &[u8; 64], at: usize) -> Self

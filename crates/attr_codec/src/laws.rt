@@ -1,4 +1,4 @@
-//! The laws of attributes: what is spelled is read again, and what was read is spelled again.
+//! The laws of attributes: decoding undoes encoding, and encoding keeps what was decoded.
 ghost use Rattle.std.specs.Prelude.{◌≡◌};
 ghost use Rattle.attr_codec.specs.NodeTypeNumber.{number_of_type, type_of_number};
 ghost use Rattle.attr_codec.specs.Numbering.{AreInverse};
@@ -13,7 +13,7 @@ use crate::port_info::PortInfo;
 use crate::sm_info::SmInfo;
 use crate::switch_info::SwitchInfo;
 
-/// What a value of an attribute is spelled as is read as that value.
+/// A value of an attribute is read again from the bytes that spell it.
 pub fn decode_undoes_encode<A: Attribute>()
     ensures { (value : A) → A.is_value value → A.value_in (A.bytes_of value) ≡ value }
 {}

@@ -4,9 +4,9 @@ use crate::attribute::Attribute;
 use smp_bytes::{AttributeId, PortNum};
 use std::marker::Model;
 
-/// A block of a linear forwarding table (subnet management, LinearForwardingTable): a port for each of 64 LIDs, where
-/// entry `i` of block `b` is for LID 64 `b` + `i`. Contracts see the list of ports. Tables, agents and steps hold the
-/// entries as packets carry them, `[u8; 64]`: they go in and out whole.
+/// A block of a linear forwarding table (subnet management, LinearForwardingTable): a port for each of 64 LIDs. Entry
+/// `i` of block `b` is for LID 64 `b` + `i`. Contracts see the list of ports. Tables, agents and steps hold the entries
+/// as packets carry them, `[u8; 64]`, since blocks are read and written whole.
 #[derive(Clone, Copy, Debug, PartialEq, Eq)]
 pub struct LftBlock {
     ports: [u8; 64],
@@ -23,7 +23,7 @@ impl Model for LftBlock {
 }
 
 impl LftBlock {
-    /// The port of entry `i`.
+    /// Returns the port of entry `i`.
     pub fn port(&self, i: usize) -> PortNum
         requires { i < 64 }
         ensures { result ≡ slice_index self.now i }

@@ -1,4 +1,4 @@
-//! The attributes that subnet management packets carry: 64 bytes and what they say.
+//! The attributes that subnet management packets carry: 64 bytes and what they spell.
 #![tactic(auto)]
 
 mod attribute;

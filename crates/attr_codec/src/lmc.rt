@@ -2,8 +2,8 @@ ghost use Rattle.std.specs.Prelude.{◌≡◌, ◌<◌, ◌≤◌, ◌^◌, ◌�
 
 use std::marker::Model;
 
-/// The LID mask control of a subnet, 0 to 7: an adapter's port has 2^LMC LIDs, which follow one another
-/// (addressing; subnet management, PortInfo: LMC).
+/// The LID mask control of a subnet, 0 to 7: an adapter's port has 2^LMC consecutive LIDs (addressing; subnet
+/// management, PortInfo: LMC).
 #[derive(Clone, Copy, Debug, PartialEq, Eq)]
 pub struct Lmc(u8);
 
@@ -20,10 +20,10 @@ impl Model for Lmc {
 }
 
 impl Lmc {
-    /// One LID a port.
+    /// The LMC with one LID for each port.
     pub const ZERO: Self = Lmc(0);
 
-    /// None over 7.
+    /// Returns `None` if `number` is over 7.
     pub fn new(number: u8) -> Option<Self>
         ensures fits { IsSome result ↔ (number < 8) }
         ensures value { IfSome result (λ lmc. lmc ≡ number) }
@@ -45,7 +45,7 @@ impl Lmc {
         self.0
     }
 
-    /// How many LIDs an adapter's port has, 1 to 128.
+    /// Returns the number of LIDs of an adapter's port, 1 to 128.
     pub fn width(self) -> u16
         ensures value { result ≡ 2 ^ self }
         ensures some { 1 ≤ result }

@@ -2,7 +2,7 @@ use crate::attribute::Attribute;
 use smp_bytes::AttributeId;
 use std::marker::Model;
 
-/// What an operator calls a node: 64 bytes of text, with zeros after it (subnet management, NodeDescription). All of
+/// The operator's name for a node: 64 bytes of text, padded with zeros (subnet management, NodeDescription). All of
 /// them are carried. Contracts see the bytes.
 #[derive(Clone, Copy, Debug, PartialEq, Eq)]
 pub struct NodeDescription {

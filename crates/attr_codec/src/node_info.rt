@@ -7,17 +7,17 @@ use crate::node_type_number::NodeTypeNumber;
 use crate::vendor_id::VendorId;
 use smp_bytes::{AttributeId, Guid, PortNum};
 
-/// What a node is, and by which port the request came to it (subnet management, NodeInfo).
+/// What a node is, and the port by which the request came (subnet management, NodeInfo).
 #[derive(Clone, Copy, Debug, PartialEq, Eq)]
 pub struct NodeInfo {
     pub base_version: u8,
     pub class_version: u8,
     pub node_type: NodeTypeNumber,
-    /// How many ports the node has, port 0 of a switch apart.
+    /// The number of ports, without port 0 of a switch.
     pub num_ports: u8,
     pub system_image_guid: Guid,
     pub node_guid: Guid,
-    /// The GUID of the port that was asked; at a switch that of port 0.
+    /// The GUID of the port that was asked; for a switch, that of port 0.
     pub port_guid: Guid,
     pub partition_cap: u16,
     pub device_id: u16,

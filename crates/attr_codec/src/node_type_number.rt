@@ -4,7 +4,7 @@ ghost use Rattle.attr_codec.specs.NodeTypeNumber.{number_of_type, type_of_number
 use smp_bytes::NodeType;
 use std::marker::Model;
 
-/// The type of a node as NodeInfo spells it: a number, which may be a reserved one.
+/// The type of a node as NodeInfo spells it: a number, possibly a reserved one.
 #[derive(Clone, Copy, Debug, PartialEq, Eq)]
 pub struct NodeTypeNumber(u8);
 
@@ -31,7 +31,7 @@ impl NodeTypeNumber {
         self.0
     }
 
-    /// The type, or None where the number is reserved.
+    /// Returns the type, or `None` if the number is reserved.
     pub fn node_type(self) -> Option<NodeType>
         ensures { result ≡ type_of_number self }
     {

@@ -14,8 +14,8 @@ use crate::port_state::PortState;
 use smp_bytes::{AttributeId, Lid, PortNum};
 use std::marker::Model;
 
-/// What a port is and does (subnet management, PortInfo): 64 bytes, of which those without a name are carried as they
-/// are. Contracts see the bytes.
+/// What a port is and does (subnet management, PortInfo): 64 bytes. Those without a name are carried as they are.
+/// Contracts see the bytes.
 #[derive(Clone, Copy, Debug, PartialEq, Eq)]
 pub struct PortInfo {
     bytes: [u8; 64],
@@ -56,7 +56,8 @@ impl Attribute for PortInfo {
     ghost reads_back = { λ _ _. refl };
 }
 
-/// Each named field: of whole bytes its type and first byte; of bits their byte, the lowest bit and how many they are.
+/// Each named field: for whole bytes the type and the first byte; for bits their byte, the lowest bit and the number of
+/// bits.
 macro_rules! port_info {
     ($access:ident m_key $args:tt) => { field_type::$access::<u64, 0> $args };
     ($access:ident gid_prefix $args:tt) => { field_type::$access::<u64, 8> $args };
@@ -74,7 +75,7 @@ macro_rules! port_info {
 }
 
 impl PortInfo {
-    /// M_Key.
+    /// Returns M_Key.
     pub fn m_key(&self) -> u64
         ensures { result ≡ number_in m_key self.now }
     {
@@ -87,7 +88,7 @@ impl PortInfo {
         port_info!(write m_key (to, &mut self.bytes));
     }
 
-    /// GIDPrefix.
+    /// Returns GIDPrefix.
     pub fn gid_prefix(&self) -> u64
         ensures { result ≡ number_in gid_prefix self.now }
     {
@@ -100,7 +101,7 @@ impl PortInfo {
         port_info!(write gid_prefix (to, &mut self.bytes));
     }
 
-    /// BaseLID.
+    /// Returns BaseLID.
     pub fn base_lid(&self) -> Lid
         ensures number { result ≡ number_in base_lid self.now }
         ensures fits { result < 2 ^ 16 }
@@ -114,7 +115,7 @@ impl PortInfo {
         port_info!(write base_lid (to, &mut self.bytes));
     }
 
-    /// MasterSMLID.
+    /// Returns MasterSMLID.
     pub fn master_sm_lid(&self) -> Lid
         ensures { result ≡ number_in master_sm_lid self.now }
     {
@@ -127,7 +128,7 @@ impl PortInfo {
         port_info!(write master_sm_lid (to, &mut self.bytes));
     }
 
-    /// CapabilityMask.
+    /// Returns CapabilityMask.
     pub fn capability_mask(&self) -> u32
         ensures { result ≡ number_in capability_mask self.now }
     {
@@ -140,7 +141,7 @@ impl PortInfo {
         port_info!(write capability_mask (to, &mut self.bytes));
     }
 
-    /// LocalPortNum: the port by which the request came.
+    /// Returns LocalPortNum: the port by which the request came.
     pub fn local_port_num(&self) -> PortNum
         ensures { result ≡ number_in local_port_num self.now }
     {
@@ -153,7 +154,7 @@ impl PortInfo {
         port_info!(write local_port_num (to, &mut self.bytes));
     }
 
-    /// LinkSpeedSupported, 4 bits.
+    /// Returns LinkSpeedSupported, 4 bits.
     pub fn link_speed_supported(&self) -> u8
         ensures number { result ≡ bits_in link_speed_supported self.now }
         ensures fits { result < 2 ^ 4 }
@@ -168,7 +169,7 @@ impl PortInfo {
         port_info!(with_bits link_speed_supported (&mut self.bytes, to));
     }
 
-    /// PortPhysicalState, 4 bits.
+    /// Returns PortPhysicalState, 4 bits.
     pub fn port_physical_state(&self) -> u8
         ensures number { result ≡ bits_in port_physical_state self.now }
         ensures fits { result < 2 ^ 4 }
@@ -183,7 +184,7 @@ impl PortInfo {
         port_info!(with_bits port_physical_state (&mut self.bytes, to));
     }
 
-    /// LinkDownDefaultState, 4 bits.
+    /// Returns LinkDownDefaultState, 4 bits.
     pub fn link_down_default_state(&self) -> u8
         ensures number { result ≡ bits_in link_down_default_state self.now }
         ensures fits { result < 2 ^ 4 }
@@ -198,7 +199,7 @@ impl PortInfo {
         port_info!(with_bits link_down_default_state (&mut self.bytes, to));
     }
 
-    /// M_KeyProtectBits, 2 bits.
+    /// Returns M_KeyProtectBits, 2 bits.
     pub fn m_key_protect_bits(&self) -> u8
         ensures number { result ≡ bits_in m_key_protect_bits self.now }
         ensures fits { result < 2 ^ 2 }
@@ -213,7 +214,7 @@ impl PortInfo {
         port_info!(with_bits m_key_protect_bits (&mut self.bytes, to));
     }
 
-    /// LMC: the port has 2^LMC LIDs, from BaseLID on.
+    /// Returns LMC: the port has 2^LMC LIDs, from BaseLID on.
     pub fn lmc(&self) -> Lmc
         ensures { result ≡ bits_in lmc self.now }
     {
@@ -226,7 +227,7 @@ impl PortInfo {
         port_info!(with_bits lmc (&mut self.bytes, to.number()));
     }
 
-    /// PortState, or None where its number is reserved.
+    /// Returns PortState, or `None` if its number is reserved.
     pub fn port_state(&self) -> Option<PortState>
         ensures { result ≡ state_of_number (bits_in port_state self.now) }
     {
@@ -239,7 +240,7 @@ impl PortInfo {
         port_info!(with_bits port_state (&mut self.bytes, to.number()));
     }
 
-    /// IsSM of the capability mask: a subnet manager sits at the port.
+    /// Returns IsSM of the capability mask: whether a subnet manager sits at the port.
     pub fn is_sm(&self) -> bool
         ensures { IsTrue result ↔ (bits_in is_sm_bit self.now ≡ 1) }
     {

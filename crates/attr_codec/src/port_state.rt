@@ -1,7 +1,7 @@
 ghost use Rattle.std.specs.Prelude.{◌≡◌, ◌<◌};
 ghost use Rattle.attr_codec.specs.PortInfo.{number_of_state, state_of_number};
 
-/// The state of a port's link, or in a Set that it is to stay (subnet management, PortInfo: PortState).
+/// The state of a port's link; in a Set, `NoChange` keeps it (subnet management, PortInfo: PortState).
 #[derive(Clone, Copy, Debug, PartialEq, Eq)]
 pub enum PortState {
     NoChange,
@@ -21,7 +21,7 @@ const STATES: [PortState; 5] = [
 ];
 
 impl PortState {
-    /// The state of a number, or None for the reserved numbers, 5 and above.
+    /// Returns the state with this number, or `None` for the reserved numbers, 5 and above.
     pub fn from_number(number: u8) -> Option<Self>
         ensures { result ≡ state_of_number number }
     {

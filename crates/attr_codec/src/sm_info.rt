@@ -6,13 +6,13 @@ use crate::priority::Priority;
 use crate::sm_state_number::SmStateNumber;
 use smp_bytes::{AttributeId, Guid};
 
-/// What a subnet manager tells of itself (subnet management, SMInfo).
+/// What a subnet manager reports of itself (subnet management, SMInfo).
 #[derive(Clone, Copy, Debug, PartialEq, Eq)]
 pub struct SmInfo {
-    /// The GUID of the port that the manager sits at.
+    /// The GUID of the manager's port.
     pub guid: Guid,
     pub sm_key: u64,
-    /// Counts up while the manager is active.
+    /// A counter that rises while the manager is active.
     pub act_count: u32,
     pub priority: Priority,
     pub state: SmStateNumber,

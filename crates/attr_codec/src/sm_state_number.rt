@@ -2,7 +2,7 @@ ghost use Rattle.std.specs.Prelude.{◌≡◌, ◌<◌, ◌↔◌, IsSome, IfSom
 
 use std::marker::Model;
 
-/// The state of a subnet manager as SMInfo spells it: a number from 0 to 15, which may be a reserved one.
+/// The state of a subnet manager as SMInfo spells it: a number from 0 to 15, possibly a reserved one.
 #[derive(Clone, Copy, Debug, PartialEq, Eq, PartialOrd, Ord)]
 pub struct SmStateNumber(u8);
 
@@ -19,7 +19,7 @@ impl Model for SmStateNumber {
 }
 
 impl SmStateNumber {
-    /// None over 15.
+    /// Returns `None` if `number` is over 15.
     pub fn new(number: u8) -> Option<Self>
         ensures fits { IsSome result ↔ (number < 16) }
         ensures value { IfSome result (λ state. state ≡ number) }

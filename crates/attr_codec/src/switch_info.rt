@@ -12,8 +12,8 @@ use crate::field_type;
 use smp_bytes::{AttributeId, Lid, PortNum};
 use std::marker::Model;
 
-/// What a switch is and does (subnet management, SwitchInfo): 64 bytes, of which those without a name are carried as
-/// they are. Contracts see the bytes.
+/// What a switch is and does (subnet management, SwitchInfo): 64 bytes. Those without a name are carried as they are.
+/// Contracts see the bytes.
 #[derive(Clone, Copy, Debug, PartialEq, Eq)]
 pub struct SwitchInfo {
     bytes: [u8; 64],
@@ -54,7 +54,8 @@ impl Attribute for SwitchInfo {
     ghost reads_back = { λ _ _. refl };
 }
 
-/// Each named field: of whole bytes its type and first byte; of bits their byte, the lowest bit and how many they are.
+/// Each named field: for whole bytes the type and the first byte; for bits their byte, the lowest bit and the number of
+/// bits.
 macro_rules! switch_info {
     ($access:ident linear_fdb_cap $args:tt) => { field_type::$access::<u16, 0> $args };
     ($access:ident random_fdb_cap $args:tt) => { field_type::$access::<u16, 2> $args };
@@ -70,7 +71,7 @@ macro_rules! switch_info {
 }
 
 impl SwitchInfo {
-    /// LinearFDBCap: how many LIDs the forwarding table has room for.
+    /// Returns LinearFDBCap: how many LIDs the forwarding table has room for.
     pub fn linear_fdb_cap(&self) -> u16
         ensures { result ≡ number_in linear_fdb_cap self.now }
     {
@@ -83,7 +84,7 @@ impl SwitchInfo {
         switch_info!(write linear_fdb_cap (to, &mut self.bytes));
     }
 
-    /// RandomFDBCap.
+    /// Returns RandomFDBCap.
     pub fn random_fdb_cap(&self) -> u16
         ensures { result ≡ number_in random_fdb_cap self.now }
     {
@@ -96,7 +97,7 @@ impl SwitchInfo {
         switch_info!(write random_fdb_cap (to, &mut self.bytes));
     }
 
-    /// MulticastFDBCap.
+    /// Returns MulticastFDBCap.
     pub fn multicast_fdb_cap(&self) -> u16
         ensures { result ≡ number_in multicast_fdb_cap self.now }
     {
@@ -109,7 +110,7 @@ impl SwitchInfo {
         switch_info!(write multicast_fdb_cap (to, &mut self.bytes));
     }
 
-    /// LinearFDBTop: the greatest LID that the switch forwards.
+    /// Returns LinearFDBTop: the greatest LID that the switch forwards.
     pub fn linear_fdb_top(&self) -> Lid
         ensures { result ≡ number_in linear_fdb_top self.now }
     {
@@ -122,7 +123,7 @@ impl SwitchInfo {
         switch_info!(write linear_fdb_top (to, &mut self.bytes));
     }
 
-    /// DefaultPort.
+    /// Returns DefaultPort.
     pub fn default_port(&self) -> PortNum
         ensures { result ≡ number_in default_port self.now }
     {
@@ -135,7 +136,7 @@ impl SwitchInfo {
         switch_info!(write default_port (to, &mut self.bytes));
     }
 
-    /// DefaultMulticastPrimaryPort.
+    /// Returns DefaultMulticastPrimaryPort.
     pub fn default_multicast_primary_port(&self) -> PortNum
         ensures { result ≡ number_in default_multicast_primary_port self.now }
     {
@@ -148,7 +149,7 @@ impl SwitchInfo {
         switch_info!(write default_multicast_primary_port (to, &mut self.bytes));
     }
 
-    /// DefaultMulticastNotPrimaryPort.
+    /// Returns DefaultMulticastNotPrimaryPort.
     pub fn default_multicast_not_primary_port(&self) -> PortNum
         ensures { result ≡ number_in default_multicast_not_primary_port self.now }
     {
@@ -161,7 +162,7 @@ impl SwitchInfo {
         switch_info!(write default_multicast_not_primary_port (to, &mut self.bytes));
     }
 
-    /// LIDsPerPort.
+    /// Returns LIDsPerPort.
     pub fn lids_per_port(&self) -> u16
         ensures { result ≡ number_in lids_per_port self.now }
     {
@@ -174,7 +175,7 @@ impl SwitchInfo {
         switch_info!(write lids_per_port (to, &mut self.bytes));
     }
 
-    /// PartitionEnforcementCap.
+    /// Returns PartitionEnforcementCap.
     pub fn partition_enforcement_cap(&self) -> u16
         ensures { result ≡ number_in partition_enforcement_cap self.now }
     {
@@ -187,7 +188,7 @@ impl SwitchInfo {
         switch_info!(write partition_enforcement_cap (to, &mut self.bytes));
     }
 
-    /// LifeTimeValue, 5 bits.
+    /// Returns LifeTimeValue, 5 bits.
     pub fn life_time_value(&self) -> u8
         ensures number { result ≡ bits_in life_time_value self.now }
         ensures fits { result < 2 ^ 5 }
@@ -202,7 +203,7 @@ impl SwitchInfo {
         switch_info!(with_bits life_time_value (&mut self.bytes, to));
     }
 
-    /// PortStateChange: the state of a port has changed.
+    /// Returns PortStateChange: whether the state of a port has changed.
     pub fn port_state_change(&self) -> bool
         ensures { IsTrue result ↔ (bits_in port_state_change self.now ≡ 1) }
     {

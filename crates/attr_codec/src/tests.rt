@@ -1,4 +1,4 @@
-//! Attributes typed byte for byte from the format.
+//! Tests with attributes typed byte for byte from the format.
 use crate::{
     Attribute, NodeInfo, NodeTypeNumber, PortInfo, PortState, Priority, SmInfo, SmStateNumber,
     SwitchInfo, VendorId,
@@ -6,7 +6,7 @@ use crate::{
 use smp_bytes::{Guid, NodeType, PortNum};
 use std::test::Fail;
 
-/// Numbers that differ in each byte of each field.
+/// Returns NodeInfo whose bytes differ in each byte of each field.
 fn node_info_bytes() -> [u8; 64] {
     let mut bytes = [0; 64];
     bytes[..4].copy_from_slice(&[1, 2, 3, 4]);

@@ -1,4 +1,4 @@
--- Where packets for the LID of an end port end, by what the walks from the switches come to.
+-- Where packets for the LID of an end port end, by the walks from the switches.
 use Rattle.std.specs.Prelude.{◌≡◌, ℕ, Bool, false, ◌&&◌, List, Option, None, Some, length, map, slice_index_or}
 use Rattle.std.specs.List.{list_all}
 use Rattle.subnet_view.specs.declared.end_port.EndPort.{EndPort}
@@ -10,30 +10,29 @@ use Rattle.audit.specs.NextHops.{first_hop, is_at}
 use Rattle.held_tables.specs.Owners.{is_sole}
 use Rattle.audit.specs.WalkEnds.{end_of, onward}
 
--- where they end, for each end port that sends one, in their order; None is that it goes round for ever
+-- for each end port, in order, where its packet ends; None if it loops for ever
 pub record Ended : Type 0 where
   pub port : EndPort
   pub ends : List (Option End)
 
--- where the packet of a source ends
+-- where the packet of `source` ends
 abbrev pub end_from : List EndPort → List NextHop → Sender → Option End
 end_from owners walks source = end_of (onward walks (first_hop owners source))
 
--- whether what each walk comes to is the port
+-- for each walk, whether it ends at `port`
 abbrev pub arrivals : EndPort → List NextHop → List Bool
 arrivals port walks = map (λ walk. is_at port (end_of walk)) walks
 
--- whether the walk from a switch does
+-- whether the walk from the switch ends at the port
 abbrev pub comes_by : Option ℕ → List Bool → Bool
 comes_by None arrive = false
 comes_by (Some index) arrive = slice_index_or arrive index false
 
--- all packets come first to a switch, each walk comes to the port, and no other end port holds the LID
+-- all packets first reach a switch, each walk ends at the port, and no other end port holds the LID
 abbrev pub all_come : Bool → List Bool → Bool → Bool
 all_come begin arrive sole = begin && sole && list_all (λ arrives. arrives) arrive
 
--- the switches to which packets come first, whether the walk from each switch comes to the port, and what is seen by
--- these
+-- the first switches of the packets, whether the walk from each switch ends at the port, and what these show
 pub record AreEnds (port : EndPort) (sources : List Sender) (firsts : List (Option ℕ)) (owners : List EndPort)
     (walks : List NextHop) (arrive : List Bool)
     (sole all : Bool) : Type 0 where

@@ -1,6 +1,6 @@
--- When facts describe a fabric that holds tables, and what then becomes of packets there. InfiniBand
--- Architecture Specification, Volume 1: subnet management, PortInfo (LID), SwitchInfo (LinearFDBTop) and
--- LinearForwardingTable; switches, unicast forwarding by the linear forwarding table.
+-- When facts describe a fabric that holds tables, and what then becomes of packets there. InfiniBand Architecture
+-- Specification, Volume 1: subnet management, PortInfo (LID), SwitchInfo (LinearFDBTop) and LinearForwardingTable;
+-- switches, unicast forwarding by the linear forwarding table.
 use Rattle.std.specs.Prelude.{◌≡◌, ◌≤◌, ℕ, List, Option, None, Some, IsTrue}
 use Rattle.fabric_model.specs.declared.cable.NodePort.{NodePort}
 use Rattle.smp_bytes.specs.NodeType.{is_switch}
@@ -16,29 +16,29 @@ use Rattle.audit.specs.declared.end.End.TheVariants.{Taken, Lost}
 use Rattle.audit.specs.NextHops.{IsBrought}
 use Rattle.held_tables.specs.Tables.{owners_of, is_owner, counted, entry_for}
 
--- an end port owns a LID where a line says that it holds it; the entry of a switch that counts, by the top and the
--- table of its agent, is the one that counts by its lines: 255 for LIDs over the top of these, and for those of a block
--- without a line. What else its table has is open
+-- an end port owns a LID if a line says that it holds it; the effective entry of a switch, by the top and the table of
+-- its agent, is the one by its lines, which is 255 for LIDs over the top and for those of a block without a line; the
+-- rest of its table is open
 pub record HoldsTables (held : HeldPlan) (f : Fabric) : Type 0 where
   pub lids : (port : NodePort) (node : Node) (lid : ℕ) → IsNodeAt f port.node node → IsEndPort f port → 1 ≤ lid
       → owns f port lid ≡ is_owner (owners_of held lid) (record { node = node.guid; port = port.port })
   pub entries : (id : ℕ) (node : Node) (lid : ℕ) → IsNodeAt f id node → IsTrue (is_switch node.kind)
       → counted lid (f.top id) (f.entry id lid) ≡ entry_for held lid node.guid
 
--- a fabric that the facts describe exactly, and that holds the tables
+-- a fabric that the facts describe exactly and that holds the tables
 pub record IsSeen (cells : Cells) (held : HeldPlan) (f : Fabric) : Type 0 where
   pub is_fabric : IsFabric f
   pub agrees : AgreesOn WholeFabric cells f
   pub holds : HoldsTables held f
 
--- the same of the end ports and the switches of a part
+-- the end ports and switches of the part hold the tables
 pub record HoldsTablesIn (part : Part) (held : HeldPlan) (f : Fabric) : Type 0 where
   pub lids : (port : NodePort) (node : Node) (lid : ℕ) → IsEndPortIn part f port node → 1 ≤ lid
       → owns f port lid ≡ is_owner (owners_of held lid) (record { node = node.guid; port = port.port })
   pub entries : (port : NodePort) (node : Node) (lid : ℕ) → IsEndPortIn part f port node → IsTrue (is_switch node.kind)
       → counted lid (f.top port.node) (f.entry port.node lid) ≡ entry_for held lid node.guid
 
--- a fabric of which the facts describe a part, whatever else they tell, which holds the tables
+-- a fabric in which the facts describe the part, whatever else they tell, and the part holds the tables
 pub record IsSeenIn (part : Part) (cells : Cells) (held : HeldPlan) (f : Fabric) : Type 0 where
   pub is_fabric : IsFabric f
   pub covers : Covers part cells f
@@ -51,7 +51,7 @@ EndsAs f lid source (Some (Taken e)) =
 EndsAs f lid source (Some (Lost g cause)) = (hops : List Hop) × (id : ℕ) × IsLost f lid source hops id
 EndsAs f lid source None = (hops : List Hop) × (id : ℕ) × IsLost f lid source hops id
 
--- in each such fabric the packets of each end port end as the facts and the tables tell
+-- in each fabric that is seen, packets of each end port end as the facts and the tables tell
 abbrev pub PacketsEndAsTold : Type 0
 PacketsEndAsTold = (facts : Facts) (held : HeldPlan) (f : Fabric) → IsSeen (cells_of facts) held f
     → (source : NodePort) (node : Node) (lid : ℕ) (end : Option End) → IsNodeAt f source.node node → IsEndPort f source
@@ -59,8 +59,8 @@ PacketsEndAsTold = (facts : Facts) (held : HeldPlan) (f : Fabric) → IsSeen (ce
     → IsBrought (cells_of facts) held lid (record { node = node.guid; port = source.port }) end
     → EndsAs f lid source end
 
--- and so do those of the end ports that are joined to one, if the facts describe what is joined to it, and that holds
--- the tables
+-- packets of the end ports that are joined to `origin` end as the facts and the tables tell, if the facts describe that
+-- part and it holds the tables
 abbrev pub PacketsEndAsToldInParts : Type 0
 PacketsEndAsToldInParts = (facts : Facts) (held : HeldPlan) (f : Fabric) (origin : NodePort) → IsEndPort f origin
     → IsSeenIn (IsJoinedTo f origin) (cells_of facts) held f
@@ -69,7 +69,7 @@ PacketsEndAsToldInParts = (facts : Facts) (held : HeldPlan) (f : Fabric) (origin
     → IsBrought (cells_of facts) held lid (record { node = node.guid; port = source.port }) end
     → EndsAs f lid source end
 
--- a packet from the one end port to the LID of the other is delivered there
+-- a packet for `lid` from `source` is delivered at `target`
 pub record ArrivesAt (f : Fabric) (source target : NodePort) (lid : ℕ) : Type 0 where
   pub hops : List Hop
   pub delivered : IsDelivered f lid source hops target

@@ -6,17 +6,17 @@ use Rattle.audit.specs.declared.lid_set.LidSet.{LidSet}
 abbrev pub no_lids : LidSet
 no_lids = record { bits = 0 }
 
--- with the LID at an index more
+-- the set with the LID at `index` added
 abbrev pub with_lid : LidSet → ℕ → LidSet
 with_lid set index = record { bits = bit_or set.bits (1 * 2 ^ index % 2 ^ 64) }
 
--- those that are in one or the other, and in both
+-- the LIDs that are in either set, and in both
 abbrev pub either : LidSet → LidSet → LidSet
 either set other = record { bits = bit_or set.bits other.bits }
 
 abbrev pub both : LidSet → LidSet → LidSet
 both set other = record { bits = bit_and set.bits other.bits }
 
--- whether the LID at an index is among them
+-- whether the set has the LID at `index`
 unfoldable pub has : LidSet → ℕ → Bool
 has set index = bit_at set.bits index == 1

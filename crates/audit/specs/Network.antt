@@ -29,8 +29,8 @@ seen_code = code_by (Facts
     × HeldPlan) (coded× facts_code (held.the_row).coded) (λ s. (s.facts, s.held)) (λ p.
     record { facts = p.0; held = p.1 }) (λ _. refl)
 
--- the usable switches by rising GUID, the end ports as sources, in their order, the switches to which their packets
--- come first, whether each has one, the chains of the blocks' numbers, the LIDs that are held, and who holds each
+-- what a network has: the usable switches by rising GUID, the end ports as senders in their order, the first switches
+-- of their packets, whether each has one, the chains of the blocks' numbers, the held LIDs, and who holds each
 pub record IsNetwork (cells : Cells) (held : HeldPlan) (nodes : List AuditedSwitch) (sources : List Sender)
     (firsts : List (Option ℕ)) (begin : Bool) (chains : Chains) (lines : List HeldLid) (owners : List Owner) : Type 0
   where

@@ -1,52 +1,52 @@
--- Walks of packets from switch to switch, by what each does with them.
+-- Walks of packets from switch to switch, by their next hops.
 use Rattle.std.specs.Prelude.{◌≡◌, ◌⊎◌, ◌<◌, ℕ, zero, suc, Bool, true, false, List, Option, None, Some, length, slice_index_or}
 use Rattle.audit.specs.declared.end.End.{End}
 use Rattle.audit.specs.declared.next_hop.NextHop.{NextHop}
 use Rattle.audit.specs.declared.next_hop.NextHop.TheVariants.{To, Ends}
 
--- the next step, by those of the switches
+-- the step after the given one, by the steps of the switches
 abbrev pub onward : List NextHop → NextHop → NextHop
 onward steps (To i) = slice_index_or steps i (To i)
 onward steps (Ends e) = Ends e
 
--- so many steps further
+-- the step that is n steps after the given one
 abbrev pub after : ℕ → List NextHop → NextHop → NextHop
 after zero steps s = s
 after (suc n) steps s = after n steps (onward steps s)
 
--- where the walk ends; None is that it goes on for ever
+-- where the walk from `s` ends; None if it goes on for ever
 abbrev pub IsEndOf : List NextHop → NextHop → Option End → Type 0
 IsEndOf steps s (Some e) = (n : ℕ) × (after n steps s ≡ Ends e)
 IsEndOf steps s None = (n : ℕ) → (i : ℕ) × (after n steps s ≡ To i)
 
--- it comes to a switch
+-- the step leads to a switch
 abbrev pub is_to : NextHop → Bool
 is_to (To i) = true
 is_to (Ends e) = false
 
--- what a walk has come to, where those that have come to a switch go on for ever
+-- where a walk has ended; None if it has come to a switch, and goes on for ever
 abbrev pub end_of : NextHop → Option End
 end_of (To i) = None
 end_of (Ends e) = Some e
 
--- what the walks from the switches have come to, when those that have not ended go on for ever
+-- `ends` has the ends of the walks from the switches
 pub record HaveEnded (steps ends : List NextHop) : Type 0 where
   pub as_many : length ends ≡ length steps
   pub ended : (s : NextHop) → IsEndOf steps s (end_of (onward ends s))
 
--- each is so many steps further
+-- each of `jumps` is `n` steps further than the switch itself
 pub record AreAfter (steps jumps : List NextHop) (n : ℕ) : Type 0 where
   pub as_many : length jumps ≡ length steps
   pub onward_is : (s : NextHop) → onward jumps s ≡ after n steps s
 
--- the walk from a switch has gone on from where it had come: to where the next one had come, or to where that has come
--- if it went on before
+-- the walk from the switch at `i` has gone on from where it had come: to where the next one had come, or to where that
+-- one has come if it went on before
 abbrev pub IsFurther : List NextHop → List NextHop → ℕ → Type 0
 IsFurther old new i =
     (onward new (To i) ≡ onward old (onward old (To i)))
     ⊎ ((j : ℕ) × (j < i) × (onward old (To i) ≡ To j) × (onward new (To i) ≡ onward new (To j)))
 
--- those of all switches, one after the other
+-- the walks from all switches have gone on, one after the other
 pub record AreFurther (old new : List NextHop) : Type 0 where
   pub as_many : length new ≡ length old
   pub each : (i : ℕ) → i < length old → IsFurther old new i

@@ -13,7 +13,7 @@ use smp_bytes::Lid;
 use std::alloc::{AllocError, Global};
 use subnet_view::EndPort;
 
-/// LIDs of a block for which one switch sends packets on to another.
+/// The LIDs of a block for which one switch forwards packets to another.
 #[derive(Clone, Copy)]
 pub(crate) struct Exit {
     pub(crate) from: usize,
@@ -21,27 +21,27 @@ pub(crate) struct Exit {
     pub(crate) lids: LidSet,
 }
 
-/// What is seen of the packets for those LIDs of a block that one end port alone holds.
+/// What is seen of the packets for the LIDs of a block that a single end port holds.
 #[derive(Drop)]
 pub(crate) struct BlockWalks {
-    /// For each switch the LIDs whose packets are seen to come from there to their end port.
+    /// For each switch, the LIDs whose packets are seen to get from there to their end port.
     pub(crate) arrived: Vec<LidSet>,
-    /// What switches send on.
+    /// Which switches forward to which, and for which LIDs.
     pub(crate) exits: Vec<Exit>,
-    /// For each switch the index of the last exit that leads there, if one does.
+    /// For each switch, the index of the last exit that leads there, or 0.
     slots: Vec<usize>,
 }
 
 /// Blocks from this number on have no LIDs.
 const NUMBERS: u16 = 0x400;
 
-/// In so many rounds walks are followed: those that are longer than this are seen to arrive if not too many of their
-/// switches stand behind those that come after them.
+/// The most rounds in which walks are followed. A walk with more switches is seen to arrive only if few of its switches
+/// have exits listed before those of the switches after them.
 const MOST_ROUNDS: usize = 64;
 
-/// The LIDs of a number for which packets are seen to come from each switch to the end port that alone holds the LID.
-/// Takes a step for each switch and LID, and in each round one for each two switches of which one sends packets on to
-/// the other: there are no more rounds than the longest walk has switches, nor more than 64.
+/// Returns the LIDs of the block `number` for which packets are seen to get from each switch to the only end port that
+/// holds the LID. Takes a step for each switch and LID, and in each round one for each two switches of which one
+/// forwards packets to the other. There are at most as many rounds as the longest walk has switches, and at most 64.
 pub(crate) fn delivered(
     alloc: Global,
     nodes: &[AuditedSwitch],
@@ -63,7 +63,7 @@ pub(crate) fn delivered(
 }
 
 impl BlockWalks {
-    /// Nothing, over so many switches.
+    /// Returns walks of which nothing is seen, over `count` switches.
     fn none(alloc: Global, count: usize) -> Result<Self, AllocError>
         ensures arrived { IfOk result (λ walks. walks.arrived.items ≡ replicate count no_lids) }
         ensures exits { IfOk result (λ walks. walks.exits.items ≡ []) }
@@ -75,7 +75,7 @@ impl BlockWalks {
         })
     }
 
-    /// What the switch at an index does with packets for each LID of a number.
+    /// Adds what the switch at index `switch` does with packets for each LID of the block.
     fn add_switch(
         &mut self,
         nodes: &[AuditedSwitch],
@@ -101,7 +101,7 @@ impl BlockWalks {
         Ok(())
     }
 
-    /// What it does with packets for the LID at an index, which it sends on to no other.
+    /// Adds what the switch does with packets for the LID at `index`, given that it forwards them to no switch.
     fn add_last(
         &mut self,
         nodes: &[AuditedSwitch],
@@ -126,7 +126,7 @@ impl BlockWalks {
         Ok(())
     }
 
-    /// What becomes at a switch of packets for the LID at an index, which a port alone holds.
+    /// Adds what becomes at the switch of packets for the LID at `index`; `port` is the only end port that holds it.
     fn add_hop(
         &mut self,
         switch: usize,
@@ -150,7 +150,7 @@ impl BlockWalks {
     }
 }
 
-/// The LID at an index of a number.
+/// Returns the LID at `index` of the block `number`.
 fn lid_at(number: u16, index: usize) -> Lid
     requires number { number < 1024 }
     requires index { index < 64 }
@@ -159,7 +159,7 @@ fn lid_at(number: u16, index: usize) -> Lid
     Lid::new(64 * number + index as u16)
 }
 
-/// That a switch sends packets for the LID at an index on to another.
+/// Adds that the switch `from` forwards packets for the LID at `index` to the switch `to`.
 fn add_exit(
     exits: &mut Vec<Exit>,
     slots: &mut Vec<usize>,
@@ -188,7 +188,7 @@ fn add_exit(
     Ok(())
 }
 
-/// The LIDs of the exit at a slot, where it leads from the one switch to the other.
+/// Returns the LIDs of the exit at `slot`, if that leads from `from` to `to`.
 fn lids_of(exits: &[Exit], slot: usize, from: usize, to: usize) -> Option<LidSet>
     ensures { IfSome result (IsExit exits.now slot from to) }
 {
@@ -200,7 +200,7 @@ fn lids_of(exits: &[Exit], slot: usize, from: usize, to: usize) -> Option<LidSet
     }
 }
 
-/// The slot of a switch.
+/// Returns the slot of a switch, or 0 if there is no such switch.
 fn slot_at(slots: &[usize], switch: usize) -> usize {
     match slots.get(switch) {
         Some(slot) => *slot,
@@ -208,14 +208,14 @@ fn slot_at(slots: &[usize], switch: usize) -> usize {
     }
 }
 
-/// Puts the slot of a switch.
+/// Sets the slot of a switch, if there is such a switch.
 fn put_slot(slots: &mut Vec<usize>, switch: usize, slot: usize) {
     if switch < slots.len() {
         slots[switch] = slot;
     }
 }
 
-/// That packets for the LID at an index come from a switch to the LID's end port.
+/// Adds that packets for the LID at `index` get from the switch to the LID's end port.
 fn add_lid(arrived: &mut Vec<LidSet>, switch: usize, index: usize)
     requires { index < 64 }
     ensures { arrived.new.items ≡ arrived_more arrived.old.items switch index }
@@ -224,7 +224,7 @@ fn add_lid(arrived: &mut Vec<LidSet>, switch: usize, index: usize)
     put_lids(arrived, switch, lids);
 }
 
-/// The LIDs whose packets are seen to arrive from a switch.
+/// Returns the LIDs whose packets are seen to arrive from a switch.
 fn lids_at(arrived: &[LidSet], switch: usize) -> LidSet
     ensures { result ≡ lids_at arrived.now switch }
 {
@@ -234,7 +234,7 @@ fn lids_at(arrived: &[LidSet], switch: usize) -> LidSet
     }
 }
 
-/// Puts those of a switch.
+/// Sets the LIDs whose packets are seen to arrive from a switch, if there is such a switch.
 fn put_lids(arrived: &mut Vec<LidSet>, switch: usize, lids: LidSet)
     ensures { arrived.new.items ≡ slice_set arrived.old.items switch lids }
 {
@@ -243,7 +243,8 @@ fn put_lids(arrived: &mut Vec<LidSet>, switch: usize, lids: LidSet)
     }
 }
 
-/// From a switch that sends packets on to another those arrive that do from there: in some rounds, until no more do.
+/// Carries arrivals back along the exits, in rounds until nothing changes: packets that a switch forwards arrive if
+/// they arrive from the next switch.
 fn go_back(arrived: &mut Vec<LidSet>, exits: &[Exit])
     ensures { AreAfterRounds exits.now arrived.old.items arrived.new.items }
 {
@@ -254,7 +255,7 @@ fn go_back(arrived: &mut Vec<LidSet>, exits: &[Exit])
     }
 }
 
-/// One round; answers whether more arrive.
+/// Carries arrivals back along each exit once. Returns whether more LIDs arrive.
 fn go_back_once(arrived: &mut Vec<LidSet>, exits: &[Exit]) -> bool
     ensures { arrived.new.items ≡ back_by exits.now arrived.old.items }
 {
@@ -270,7 +271,7 @@ fn go_back_once(arrived: &mut Vec<LidSet>, exits: &[Exit]) -> bool
     more
 }
 
-/// The LIDs whose packets arrive from each switch; none where there is no switch.
+/// Returns the LIDs whose packets arrive from every switch; none if there is no switch.
 fn from_each(arrived: &[LidSet]) -> LidSet
     ensures { result ≡ from_each arrived.now }
 {

@@ -1,11 +1,12 @@
-//! For which LIDs of a block packets arrive, whichever switch they come from.
+//! The LIDs of a block for which packets arrive, whichever switch they come from.
 ghost use Rattle.std.specs.Prelude.{◌≡◌};
 ghost use Rattle.audit.specs.Deliveries.{is_delivered};
 
 use crate::lid_set::LidSet;
 use smp_bytes::Lid;
 
-/// LIDs of a block for which packets are seen to come from each usable switch to the one end port that holds the LID.
+/// The LIDs of a block for which packets are seen to get from each usable switch to the only end port that holds the
+/// LID.
 #[derive(Clone, Copy, Debug, PartialEq, Eq)]
 pub struct Deliveries {
     /// The block's number.
@@ -14,7 +15,7 @@ pub struct Deliveries {
 }
 
 impl Deliveries {
-    /// Whether a LID is one of these. Takes one step.
+    /// Returns whether `lid` is one of them. Takes one step.
     pub fn has(&self, lid: Lid) -> bool
         ensures { result ≡ is_delivered self.now lid }
     {

@@ -1,21 +1,21 @@
 use smp_bytes::Guid;
 use subnet_view::EndPort;
 
-/// Where a packet ends that does not go round for ever.
+/// Where a packet ends that does not loop for ever.
 #[derive(Clone, Copy, Debug, PartialEq, Eq)]
 pub enum End {
-    /// It is delivered at this port.
+    /// The packet is delivered at this port.
     Taken(EndPort),
-    /// It goes no further at the node with this GUID, for this cause.
+    /// The packet is dropped at the node with this GUID, for this cause.
     Lost(Guid, Cause),
 }
 
-/// Why a packet goes no further at a node: at a switch the first of the first four that is so.
+/// Why a packet is dropped at a node: at a switch, the first of the first four causes that applies.
 #[derive(Clone, Copy, Debug, PartialEq, Eq)]
 pub enum Cause {
     /// The LID is above the switch's top.
     AboveTop,
-    /// The entry is 255, as where no block is held.
+    /// The entry is 255, as it is if no block is held.
     NoEntry,
     /// The entry is above the number of the switch's ports.
     NoPort,

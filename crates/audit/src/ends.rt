@@ -15,23 +15,23 @@ use std::alloc::{AllocError, Global};
 use std::marker::Model;
 use subnet_view::EndPort;
 
-/// Where packets for the LID of an end port end, for each end port that sends one, in their order.
+/// For each end port, in order, where the packet that it sends for the LID of an end port ends.
 #[derive(Drop)]
 pub struct Ends<'a> {
-    /// The end port.
+    /// The end port whose LID it is.
     port: EndPort,
     sources: &'a [Sender],
-    /// For each source the index of the switch to which its packet comes first.
+    /// For each source, the index of the first switch that its packet reaches.
     firsts: &'a [Option<usize>],
     /// The end ports that hold the LID.
     owners: Vec<EndPort>,
-    /// What the walks from the switches come to.
+    /// The ends of the walks from the switches.
     walks: Vec<NextHop>,
-    /// Whether that is the end port.
+    /// For each switch, whether that end is the end port.
     arrive: Vec<bool>,
     /// Whether no other end port holds the LID.
     sole: bool,
-    /// Whether all packets are seen to end at the end port by these.
+    /// Whether the other fields show that all packets end at the end port.
     all: bool,
 }
 
@@ -48,7 +48,7 @@ impl<'a> Model for Ends<'a> {
 }
 
 impl<'a> Ends<'a> {
-    /// By the end ports that hold the LID, and what the walks from the switches come to.
+    /// Builds the ends from the owners of the LID and the ends of the walks from the switches.
     pub(crate) fn new(
         alloc: Global,
         port: EndPort,
@@ -78,14 +78,15 @@ impl<'a> Ends<'a> {
         })
     }
 
-    /// Where the packet of the end port at an index ends; None is that it goes round for ever. Takes some steps.
+    /// Returns where the packet of the end port at `index` ends, or `None` if it loops for ever. Takes some steps.
     pub fn at(&self, index: usize) -> Option<End>
         ensures { result ≡ slice_index_or self.now.ends index None }
     {
         end_at(&self.owners, &self.walks, self.sources, index)
     }
 
-    /// Whether it ends at the port. Takes a step or two where it does, and no other end port holds the LID.
+    /// Returns whether the packet of the end port at `index` arrives at the port. Takes a step or two if it arrives and
+    /// no other end port holds the LID.
     pub fn arrives(&self, index: usize) -> bool
         ensures { result ≡ is_at self.now.port (slice_index_or self.now.ends index None) }
     {
@@ -95,9 +96,9 @@ impl<'a> Ends<'a> {
         is_at(&self.port, &self.at(index))
     }
 
-    /// The index of the first that does not end at the port; None where all do. Takes one step where all come first to
-    /// a switch, each walk from a switch comes to the port, and no other end port holds the LID; else what `arrives`
-    /// does for each.
+    /// Returns the index of the first end port whose packet does not end at the port, or `None` if all do. Takes one
+    /// step if all packets first reach a switch, each walk from a switch ends at the port, and no other end port holds
+    /// the LID. Otherwise takes what `arrives` does for each end port.
     pub fn first_elsewhere(&self) -> Option<usize>
         ensures { result ≡ position (λ end. not (is_at self.now.port end)) self.now.ends }
     {
@@ -107,7 +108,7 @@ impl<'a> Ends<'a> {
         self.look_elsewhere()
     }
 
-    /// The same, by looking at each.
+    /// Returns the index of the first end port whose packet does not end at the port, looking at each.
     fn look_elsewhere(&self) -> Option<usize>
         ensures { result ≡ position (λ end. not (is_at self.now.port end)) self.now.ends }
     {
@@ -119,7 +120,7 @@ impl<'a> Ends<'a> {
         None
     }
 
-    /// How many there are.
+    /// Returns the number of end ports.
     fn count(&self) -> usize
         ensures { result ≡ length self.now.ends }
     {
@@ -128,7 +129,7 @@ impl<'a> Ends<'a> {
 }
 
 #[tactic(auto, using(crate::proofs::Arrivals::found_there, crate::proofs::Arrivals::none_there))]
-/// Where the packet of the source at an index ends, and None where there is none.
+/// Returns where the packet of the source at `index` ends; `None` also if there is no such source.
 fn end_at(owners: &[EndPort], walks: &[NextHop], sources: &[Sender], index: usize) -> Option<End>
     ensures { result ≡ slice_index_or (map (end_from owners.now walks.now) sources.now) index None }
 {
@@ -139,28 +140,28 @@ fn end_at(owners: &[EndPort], walks: &[NextHop], sources: &[Sender], index: usiz
     }
 }
 
-/// Where the packet of a source ends.
+/// Returns where the packet of `source` ends.
 fn end_from(owners: &[EndPort], walks: &[NextHop], source: &Sender) -> Option<End>
     ensures { result ≡ end_from owners.now walks.now source.now }
 {
     end_of(onward(walks, first_hop(owners, source)))
 }
 
-/// Whether the walk from the first switch comes to the port, which alone holds the LID.
+/// Returns whether the port alone holds the LID and the packet of the source at `index` reaches it by way of a switch.
 fn comes_there(sole: bool, firsts: &[Option<usize>], arrive: &[bool], index: usize) -> bool
     ensures { result ≡ (sole && comes_by (slice_index_or firsts.now index None) arrive.now) }
 {
     sole && comes_by(first_at(firsts, index), arrive)
 }
 
-/// The index of the switch to which the packet of the source at an index comes first.
+/// Returns the index of the first switch that the packet of the source at `index` reaches.
 fn first_at(firsts: &[Option<usize>], index: usize) -> Option<usize>
     ensures { result ≡ slice_index_or firsts.now index None }
 {
     firsts.get(index).copied().flatten()
 }
 
-/// Whether the walk from a switch comes to the port, by what each does.
+/// Returns whether the walk from the switch `first` ends at the port.
 fn comes_by(first: Option<usize>, arrive: &[bool]) -> bool
     ensures { result ≡ comes_by first arrive.now }
 {
@@ -170,7 +171,7 @@ fn comes_by(first: Option<usize>, arrive: &[bool]) -> bool
     }
 }
 
-/// Whether what each walk comes to is the port.
+/// Returns, for each walk, whether it ends at `port`.
 fn arrivals(alloc: Global, port: &EndPort, walks: &[NextHop]) -> Result<Vec<bool>, AllocError>
     ensures { IfOk result (λ arrive. arrive.items ≡ arrivals port.now walks.now) }
 {
@@ -180,28 +181,28 @@ fn arrivals(alloc: Global, port: &EndPort, walks: &[NextHop]) -> Result<Vec<bool
         .collect(alloc)
 }
 
-/// Whether no other end port is one of these.
+/// Returns whether all `owners` are `port`.
 fn is_sole(port: &EndPort, owners: &[EndPort]) -> bool
     ensures { result ≡ is_sole port.now owners.now }
 {
     owners.iter().all(|owner| is_same_end(port, owner))
 }
 
-/// Whether all packets are seen to end at the port.
+/// Returns whether all packets are seen to end at the port.
 fn all_come(begin: bool, arrive: &[bool], sole: bool) -> bool
     ensures { result ≡ all_come begin arrive.now sole }
 {
     begin && sole && all_arrive(arrive)
 }
 
-/// Whether all walks come to the port.
+/// Returns whether all walks end at the port.
 fn all_arrive(arrive: &[bool]) -> bool
     ensures { result ≡ list_all (λ arrives. arrives) arrive.now }
 {
     arrive.iter().all(|arrives| *arrives)
 }
 
-/// Whether a packet ends at a port. Takes one step.
+/// Returns whether a packet that ends at `end` is delivered at `port`. Takes one step.
 pub fn is_at(port: &EndPort, end: &Option<End>) -> bool
     ensures { result ≡ is_at port.now end.now }
 {

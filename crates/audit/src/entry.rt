@@ -7,7 +7,7 @@ use held_tables::{index_of, top_at};
 use plan_file::{Held, HeldBlock};
 use smp_bytes::{Guid, Lid};
 
-/// The entry that counts of a switch for a LID.
+/// Returns the switch's effective entry for `lid`: 255 for LID 0 and above the top.
 pub(crate) fn entry_for(held: &Held, switch: Guid, lid: Lid) -> u8
     ensures { result ≡ entry_for held.now lid switch }
 {
@@ -15,7 +15,7 @@ pub(crate) fn entry_for(held: &Held, switch: Guid, lid: Lid) -> u8
     counted(lid, top_at(held, index), entry_at(held, index, lid))
 }
 
-/// The entry of the switch at an index.
+/// Returns the entry for `lid` of the switch at `index` of the held switches; 255 if none is held.
 fn entry_at(held: &Held, index: Option<usize>, lid: Lid) -> u8
     ensures { result ≡ entry_at held.now index lid }
 {
@@ -28,7 +28,7 @@ fn entry_at(held: &Held, index: Option<usize>, lid: Lid) -> u8
     }
 }
 
-/// The last block of a number of the switch at an index.
+/// Returns the last held block `number` of the switch at `index`.
 fn block_at(held: &Held, index: usize, number: u16) -> Option<HeldBlock>
     ensures { result ≡ block_at held.now index number }
 {
@@ -39,7 +39,7 @@ fn block_at(held: &Held, index: usize, number: u16) -> Option<HeldBlock>
         .find(|block| is_block_of(index, number, block))
 }
 
-/// Whether a block is of a number and of the switch at an index.
+/// Returns whether `block` has this number and belongs to the switch at `index`.
 fn is_block_of(index: usize, number: u16, block: &HeldBlock) -> bool
     ensures { result ≡ is_block_of index number block.now }
 {

@@ -2,21 +2,21 @@
 ghost use Rattle.std.specs.Prelude.{◌≡◌, ◌<◌};
 ghost use Rattle.audit.specs.LidSets.{both, either, has, no_lids, with_lid};
 
-/// Some of the LIDs of a block: a bit for each, by its index there.
+/// Some of the LIDs of a block: a bit for each, at its index in the block.
 #[derive(Clone, Copy, Debug, PartialEq, Eq)]
 pub(crate) struct LidSet {
     pub(crate) bits: u64,
 }
 
 impl LidSet {
-    /// No LID.
+    /// Returns the empty set.
     pub(crate) fn none() -> Self
         ensures { result ≡ no_lids }
     {
         LidSet { bits: 0 }
     }
 
-    /// With the LID at an index more.
+    /// Returns the set with the LID at `index` added.
     pub(crate) fn with(self, index: usize) -> Self
         requires { index < 64 }
         ensures { result ≡ with_lid self index }
@@ -26,7 +26,7 @@ impl LidSet {
         }
     }
 
-    /// Those that are in one or the other.
+    /// Returns the LIDs that are in either set.
     pub(crate) fn or(self, other: LidSet) -> Self
         ensures { result ≡ either self other }
     {
@@ -35,7 +35,7 @@ impl LidSet {
         }
     }
 
-    /// Those that are in both.
+    /// Returns the LIDs that are in both sets.
     pub(crate) fn and(self, other: LidSet) -> Self
         ensures { result ≡ both self other }
     {
@@ -44,7 +44,7 @@ impl LidSet {
         }
     }
 
-    /// Whether the LID at an index is among them.
+    /// Returns whether the set has the LID at `index`.
     pub(crate) fn has(self, index: usize) -> bool
         requires { index < 64 }
         ensures { result ≡ has self index }

@@ -38,15 +38,15 @@ pub struct Network<'a> {
     held: &'a Held,
     /// The usable switches, by rising GUID.
     nodes: Vec<AuditedSwitch>,
-    /// The end ports, in their order.
+    /// The end ports as senders, in their order.
     sources: Vec<Sender>,
-    /// For each source the index of the switch to which its packets come first.
+    /// For each sender, the index of the first switch that its packets reach.
     firsts: Vec<Option<usize>>,
-    /// Whether each has one.
+    /// Whether each sender's packets first reach a switch.
     begin: bool,
-    /// Where the next block of each number is among those that are held.
+    /// For each held block, the next one with its number.
     chains: Chains,
-    /// The LIDs that are held, with each end port of one once.
+    /// The held LIDs, each with every end port that holds it once.
     lines: Vec<HeldLid>,
     /// Who holds each LID.
     owners: Vec<Owner>,
@@ -70,13 +70,13 @@ impl<'a> Model for Network<'a> {
 #[derive(Drop)]
 pub struct Blocks {
     pub(crate) number: u16,
-    /// By the indices of their switches among those that are held.
+    /// The entries of the block, by the indices of the held switches.
     pub(crate) rows: Vec<[u8; 64]>,
 }
 
 impl<'a> Network<'a> {
-    /// The usable switches and the end ports of the view, with these tables. Takes two searches for each port of
-    /// a switch and each end port, and a walk over the switches for each wire.
+    /// Builds the network of the view's usable switches and end ports, with the tables `held`. Takes two searches for
+    /// each port of a switch and each end port, and a walk over the switches for each wire.
     pub fn of(alloc: Global, store: &'a Store, held: &'a Held) -> Result<Self, Refused>
         ensures facts { IfOk result (λ network. network.facts ≡ store.now) }
         ensures held { IfOk result (λ network. network.held ≡ held.now) }
@@ -99,8 +99,8 @@ impl<'a> Network<'a> {
         })
     }
 
-    /// The blocks of a number: LIDs from 64 times the number on. Takes a step for each switch that is held and each
-    /// of these blocks.
+    /// Returns the blocks with this number, which have the 64 LIDs from 64 times the number on. Takes a step for each
+    /// held switch and each of these blocks.
     pub fn blocks(&self, alloc: Global, number: u16) -> Result<Blocks, AllocError>
         ensures { IfOk result (λ blocks. AreBlocks self.now.held blocks.number blocks.rows.items
             × (blocks.number ≡ number)) }
@@ -109,7 +109,7 @@ impl<'a> Network<'a> {
         Ok(Blocks { number, rows })
     }
 
-    /// The blocks of a LID's number, by those of another or the same.
+    /// Returns the blocks for `lid`: `blocks` itself if it has the right number.
     pub fn blocks_for(&self, alloc: Global, blocks: Blocks, lid: Lid) -> Result<Blocks, AllocError>
         requires { AreBlocks self.now.held blocks.number blocks.rows.items }
         ensures { IfOk result (λ blocks. AreBlocks self.now.held blocks.number blocks.rows.items
@@ -121,9 +121,9 @@ impl<'a> Network<'a> {
         self.blocks(alloc, lid.block())
     }
 
-    /// Where forwarding brings a packet for the LID of a line, for each end port that sends it, in their order; None is
-    /// that it goes round for ever. Takes for each switch some steps, by the number of digits of the longest way's
-    /// length; and where several end ports hold the LID, a walk over the LIDs that are held.
+    /// Returns where packets for the LID of `line` end, for each end port that sends one, in order; `None` if the
+    /// packet loops for ever. Takes some steps for each switch, by the number of digits of the longest way's length. If
+    /// several end ports hold the LID, also takes a walk over the held LIDs.
     pub fn ends<'s>(
         &'s self,
         alloc: Global,
@@ -149,8 +149,8 @@ impl<'a> Network<'a> {
         )
     }
 
-    /// The entry of each usable switch for a LID, by rising GUID, and what the switch does by it. Takes a step for each
-    /// switch; and where several end ports hold the LID, a walk over the LIDs that are held.
+    /// Returns the entry of each usable switch for `lid`, by rising GUID, and what the switch does by it. Takes a step
+    /// for each switch. If several end ports hold the LID, also takes a walk over the held LIDs.
     pub fn switch_steps(
         &self,
         alloc: Global,
@@ -166,7 +166,8 @@ impl<'a> Network<'a> {
         switch_steps(alloc, &self.nodes, &owners, &blocks.rows, lid)
     }
 
-    /// The entry of each usable switch for a LID, by rising GUID; 255 is none. Takes a step for each switch.
+    /// Returns the entry of each usable switch for `lid`, by rising GUID; 255 means no entry. Takes a step for each
+    /// switch.
     pub fn entries(&self, alloc: Global, blocks: &Blocks, lid: Lid) -> Result<Vec<u8>, AllocError>
         requires held { AreBlocks self.now.held blocks.now.number blocks.now.rows.items }
         requires number { blocks.now.number ≡ lid / 64 }
@@ -176,10 +177,10 @@ impl<'a> Network<'a> {
         entries(alloc, &self.nodes, &blocks.rows, lid)
     }
 
-    /// The LIDs of a block for which packets are seen to come from each usable switch to the one end port that holds
-    /// the LID. Takes a step for each switch and LID, and in each round one for each two switches of which one sends
-    /// some of these packets on to the other: there are no more rounds than the longest way has switches, and at most
-    /// 64.
+    /// Returns the LIDs of a block for which packets are seen to get from each usable switch to the only end port that
+    /// holds the LID. Takes a step for each switch and LID, and in each round one for each two switches of which one
+    /// forwards some of these packets to the other. There are at most as many rounds as the longest way has switches,
+    /// and at most 64.
     pub fn deliveries(&self, alloc: Global, blocks: &Blocks) -> Result<Deliveries, AllocError>
         requires { AreBlocks self.now.held blocks.now.number blocks.now.rows.items }
         ensures { IfOk result (AreDeliveries (cells_of self.now.facts) self.now.held) }
@@ -197,7 +198,7 @@ impl<'a> Network<'a> {
         })
     }
 
-    /// Those of the number of these blocks, by those of another or the same.
+    /// Returns the deliveries of `blocks`: `deliveries` itself if it has the right number.
     pub fn deliveries_for(
         &self,
         alloc: Global,
@@ -214,8 +215,8 @@ impl<'a> Network<'a> {
         self.deliveries(alloc, blocks)
     }
 
-    /// Whether it is seen that the packets which end ports send to the LID of a line all come to its port. Takes a step
-    /// or two where the LID has not several end ports.
+    /// Returns whether all packets which end ports send to the line's LID are seen to arrive at the line's port. Takes
+    /// a step or two, unless several end ports hold the LID.
     pub fn all_arrive(&self, deliveries: &Deliveries, line: &HeldLid) -> bool
         requires { AreDeliveries (cells_of self.now.facts) self.now.held deliveries.now }
         ensures { result ≡ true → LineArrives (cells_of self.now.facts) self.now.held line.now }
@@ -223,45 +224,45 @@ impl<'a> Network<'a> {
         self.begin && deliveries.has(line.lid) && self.is_sole_owner(line)
     }
 
-    /// The end ports that hold a LID. Takes a step or two where there are not several, and else a walk over the LIDs
-    /// that are held.
+    /// Returns the end ports that hold `lid`. Takes a step or two if at most one does, and else a walk over the held
+    /// LIDs.
     pub fn owners(&self, alloc: Global, lid: Lid) -> Result<Vec<EndPort>, AllocError>
         ensures { IfOk result (λ owners. owners.items ≡ owners_of self.now.held lid) }
     {
         owners_of(alloc, &self.lines, &self.owners, lid)
     }
 
-    /// Whether no other end port holds the LID of a line. It takes no memory, and a step or two where there are not
-    /// several, and else a walk over the LIDs that are held.
+    /// Returns whether no end port but the line's holds the line's LID. Takes no memory. Takes a step or two if at most
+    /// one holds it, and else a walk over the held LIDs.
     pub fn is_sole_owner(&self, line: &HeldLid) -> bool
         ensures { result ≡ is_sole line.now.port (owners_of self.now.held line.now.lid) }
     {
         is_sole_owner(&self.lines, &self.owners, line)
     }
 
-    /// Whether more than one port holds a LID. It takes no memory, and a step or two if the LID is below 49152.
+    /// Returns whether more than one port holds `lid`. Takes no memory, and a step or two if the LID is below 49152.
     pub fn is_told_twice(&self, lid: Lid) -> bool
         ensures { result ≡ is_told_twice (lines_of self.now.held) lid }
     {
         is_told_twice(&self.lines, &self.owners, lid)
     }
 
-    /// What the view says of the subnet.
+    /// Returns the store, whose view says what the subnet is.
     pub fn store(&self) -> &Store
         ensures { result.now ≡ self.now.facts }
     {
         self.store
     }
 
-    /// The tables that its switches hold.
+    /// Returns the tables that the switches hold.
     pub fn held(&self) -> &Held
         ensures { result.now ≡ self.now.held }
     {
         self.held
     }
 
-    /// The top of the usable switch at an index, by rising GUID, and 0 where there is none or it is not held. Takes one
-    /// step.
+    /// Returns the top of the usable switch at `index`, by rising GUID; 0 if there is no such switch or no top is held.
+    /// Takes one step.
     pub fn top(&self, index: usize) -> Lid
         ensures { result
             ≡ option_map_or (top_of self.now.held) (slice_get (switches (cells_of self.now.facts)) index) 0 }
@@ -272,8 +273,8 @@ impl<'a> Network<'a> {
         }
     }
 
-    /// For each usable switch, by rising GUID, the port by which it sends packets for a LID on to another usable
-    /// switch, with that one's index; None where it does not. Takes a step for each switch.
+    /// Returns, for each usable switch by rising GUID, the port by which it forwards packets for `lid` to another
+    /// usable switch, and that switch's index; `None` if it does not. Takes a step for each switch.
     pub fn edges(
         &self,
         alloc: Global,
@@ -287,22 +288,22 @@ impl<'a> Network<'a> {
         edges(alloc, &self.nodes, &blocks.rows, lid)
     }
 
-    /// How many usable switches there are.
+    /// Returns the number of usable switches.
     pub fn switch_count(&self) -> usize
         ensures { result ≡ length (switches (cells_of self.now.facts)) }
     {
         self.nodes.len()
     }
 
-    /// The greatest of the tops of the usable switches, and 0 where there is none: for no LID above it does one send
-    /// packets on to another. Takes a step for each switch.
+    /// Returns the greatest top of a usable switch, or 0 if there is none. No switch forwards packets for a LID above
+    /// it to another switch. Takes a step for each switch.
     pub fn greatest_top(&self) -> Lid
         ensures { result ≡ greatest_top (cells_of self.now.facts) self.now.held }
     {
         greatest_top(&self.nodes)
     }
 
-    /// The GUID of the usable switch at an index, by rising GUID. Takes one step.
+    /// Returns the GUID of the usable switch at `index`, by rising GUID. Takes one step.
     pub fn switch(&self, index: usize) -> Option<Guid>
         ensures { result ≡ slice_get (switches (cells_of self.now.facts)) index }
     {
@@ -310,8 +311,8 @@ impl<'a> Network<'a> {
         Some(node.guid)
     }
 
-    /// Where the wire in a port of a usable switch leads: of the number 256 times the switch's index, and the port.
-    /// Takes one step.
+    /// Returns where the wire in a port of a usable switch leads. `number` is 256 times the switch's index, plus the
+    /// port. Takes one step.
     pub fn far(&self, number: usize) -> Far
         ensures { result ≡ far_by (cells_of self.now.facts) number }
     {
@@ -321,23 +322,22 @@ impl<'a> Network<'a> {
         }
     }
 
-    /// The end ports as sources, in their order.
+    /// Returns the end ports as senders, in their order.
     pub fn sources(&self) -> &[Sender]
         ensures { result.now ≡ map (sender_of (cells_of self.now.facts)) (end_ports (cells_of self.now.facts)) }
     {
         &self.sources
     }
 
-    /// The LIDs that are held, each with the end ports that hold it, which are told once each, in the order of the
-    /// lines.
+    /// Returns the held LIDs in the order of the lines, each with every end port that holds it once.
     pub fn lids(&self) -> &[HeldLid]
         ensures { result.now ≡ lines_of self.now.held }
     {
         &self.lines
     }
 
-    /// The entry by which a usable switch forwards packets for a LID, where 255 is none; None for another node. Takes
-    /// two searches, a walk over the switches that are held and one over their blocks.
+    /// Returns the entry by which a usable switch forwards packets for `lid` (255 means no entry), or `None` for
+    /// another node. Takes two searches, a walk over the held switches and one over their blocks.
     pub fn entry(&self, node: Guid, lid: Lid) -> Option<u8>
         ensures { result ≡ entry_by (cells_of self.now.facts) self.now.held node lid }
     {
@@ -348,7 +348,7 @@ impl<'a> Network<'a> {
     }
 }
 
-/// The usable switches by rising GUID, and the end ports as sources, in their order.
+/// Returns the usable switches by rising GUID, and the end ports as senders, in their order.
 fn nodes_and_sources(
     alloc: Global,
     store: &Store,
@@ -366,7 +366,7 @@ fn nodes_and_sources(
     Ok((nodes, sources))
 }
 
-/// The end ports as sources, in their order.
+/// Returns the end ports as senders, in their order.
 fn sources_of(alloc: Global, wires: &Wires, guids: &[Guid]) -> Result<Vec<Sender>, Refused>
     requires { guids.now ≡ switches (cells_of wires.now) }
     ensures { IfOk result (λ sources.
@@ -376,7 +376,7 @@ fn sources_of(alloc: Global, wires: &Wires, guids: &[Guid]) -> Result<Vec<Sender
     Ok(sources(alloc, wires, guids, &ports)?)
 }
 
-/// The LIDs that are held, with each end port of one once, and who holds each.
+/// Returns the held LIDs, each with every end port that holds it once, and who holds each LID.
 fn lines_and_owners(alloc: Global, held: &Held) -> Result<(Vec<HeldLid>, Vec<Owner>), AllocError>
     ensures lines { IfOk result (λ both. both.0.items ≡ lines_of held.now) }
     ensures owners { IfOk result (λ both. AreOwners both.0.items both.1.items) }
@@ -386,7 +386,7 @@ fn lines_and_owners(alloc: Global, held: &Held) -> Result<(Vec<HeldLid>, Vec<Own
     Ok((lines, owners))
 }
 
-/// The greatest of the switches' tops, and 0 where there is none.
+/// Returns the greatest top, or 0 if there are no switches.
 fn greatest_top(nodes: &[AuditedSwitch]) -> Lid
     ensures { result ≡ greatest (map (λ node. node.top) nodes.now) }
 {

@@ -1,6 +1,6 @@
 use crate::end::End;
 
-/// What becomes of a packet at a switch: it comes to the switch of an index, or ends.
+/// What becomes of a packet at a switch: it reaches the switch at an index, or it ends.
 #[derive(Clone, Copy, Debug, PartialEq, Eq)]
 pub enum NextHop {
     To(usize),

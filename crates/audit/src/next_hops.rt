@@ -14,7 +14,7 @@ use smp_bytes::{Guid, Lid, PortNum};
 use std::alloc::{AllocError, Global};
 use subnet_view::EndPort;
 
-/// Whether an end port is one of these.
+/// Returns whether `port` is one of `owners`.
 pub(crate) fn is_owner(owners: &[EndPort], port: &EndPort) -> bool
     ensures { result ≡ is_owner owners.now port.now }
 {
@@ -23,7 +23,7 @@ pub(crate) fn is_owner(owners: &[EndPort], port: &EndPort) -> bool
         .any(|owner| owner.node == port.node && owner.port == port.port)
 }
 
-/// What each switch does.
+/// Returns the next hop of each switch.
 pub(crate) fn steps(
     alloc: Global,
     nodes: &[AuditedSwitch],
@@ -39,7 +39,7 @@ pub(crate) fn steps(
         .collect(alloc)
 }
 
-/// What a switch does.
+/// Returns the next hop of a switch.
 pub(crate) fn step_at(
     owners: &[EndPort],
     rows: &[[u8; 64]],
@@ -51,7 +51,7 @@ pub(crate) fn step_at(
     step_by(owners, lid, node, entry_of(rows, lid, node))
 }
 
-/// What a switch does by its entry.
+/// Returns the next hop of a switch by its entry.
 fn step_by(owners: &[EndPort], lid: Lid, node: &AuditedSwitch, entry: u8) -> NextHop
     ensures { result ≡ next_hop_by owners.now lid node.now entry }
 {
@@ -71,7 +71,7 @@ fn step_by(owners: &[EndPort], lid: Lid, node: &AuditedSwitch, entry: u8) -> Nex
     }
 }
 
-/// The entry of each switch, and what it does.
+/// Returns the entry of each switch, and its next hop.
 pub(crate) fn switch_steps(
     alloc: Global,
     nodes: &[AuditedSwitch],
@@ -87,7 +87,7 @@ pub(crate) fn switch_steps(
         .collect(alloc)
 }
 
-/// The entry of a switch, and what it does.
+/// Returns the entry of a switch, and its next hop.
 fn switch_step_at(
     owners: &[EndPort],
     rows: &[[u8; 64]],
@@ -104,7 +104,7 @@ fn switch_step_at(
     }
 }
 
-/// Why a switch with so many ports and this top does not send a packet on by its entry.
+/// Returns why a switch with `ports` ports and this top does not forward a packet by its entry.
 fn cause_by(ports: u8, top: Lid, lid: Lid, entry: u8) -> Cause
     ensures { result ≡ cause_by ports top lid entry }
 {
@@ -119,7 +119,7 @@ fn cause_by(ports: u8, top: Lid, lid: Lid, entry: u8) -> Cause
     }
 }
 
-/// The entry of each switch.
+/// Returns the entry of each switch.
 pub(crate) fn entries(
     alloc: Global,
     nodes: &[AuditedSwitch],
@@ -134,14 +134,14 @@ pub(crate) fn entries(
         .collect(alloc)
 }
 
-/// The entry of a switch.
+/// Returns the effective entry of a switch.
 pub(crate) fn entry_of(rows: &[[u8; 64]], lid: Lid, node: &AuditedSwitch) -> u8
     ensures { result ≡ node_entry rows.now lid node.now }
 {
     counted(lid, node.top, entry_among(rows, node.index, lid))
 }
 
-/// The entry of the switch at an index.
+/// Returns the entry for `lid` in the row at `index`; 255 if there is no row.
 fn entry_among(rows: &[[u8; 64]], index: Option<usize>, lid: Lid) -> u8
     ensures { result ≡ entry_among rows.now index lid }
 {
@@ -154,7 +154,7 @@ fn entry_among(rows: &[[u8; 64]], index: Option<usize>, lid: Lid) -> u8
     }
 }
 
-/// The entry that counts.
+/// Returns the effective entry: 255 for LID 0 and above the top, and else `entry`.
 pub(crate) fn counted(lid: Lid, top: Lid, entry: u8) -> u8
     ensures { result ≡ counted lid top entry }
 {
@@ -165,7 +165,7 @@ pub(crate) fn counted(lid: Lid, top: Lid, entry: u8) -> u8
     }
 }
 
-/// By which port each switch sends packets on to another usable switch.
+/// Returns, for each switch, the port by which it forwards packets to another usable switch, if it does.
 pub(crate) fn edges(
     alloc: Global,
     nodes: &[AuditedSwitch],
@@ -188,7 +188,7 @@ pub(crate) fn edges(
     Ok(edges)
 }
 
-/// The index of the usable switch to which a switch sends packets on by an entry.
+/// Returns the index of the usable switch to which a switch forwards packets by `entry`.
 pub(crate) fn switch_by(node: &AuditedSwitch, entry: u8) -> Option<usize>
     ensures { result ≡ switch_by node.now.row entry }
 {
@@ -198,7 +198,8 @@ pub(crate) fn switch_by(node: &AuditedSwitch, entry: u8) -> Option<usize>
     node.row.switch(entry)
 }
 
-/// What becomes of a packet that leaves a node by a port, where it is lost for a cause if no wire is in the port.
+/// Returns what becomes of a packet that leaves a node by a port whose wire leads to `far`; without a wire it is lost
+/// for `cause`.
 fn over(owners: &[EndPort], node: Guid, cause: Cause, far: Far) -> NextHop
     ensures { result ≡ over owners.now node cause far }
 {
@@ -209,7 +210,7 @@ fn over(owners: &[EndPort], node: Guid, cause: Cause, far: Far) -> NextHop
     }
 }
 
-/// What becomes of a packet that comes to an adapter port.
+/// Returns what becomes of a packet that reaches an adapter port.
 fn at_port(owners: &[EndPort], port: &EndPort) -> End
     ensures { result ≡ at_port owners.now port.now }
 {
@@ -220,7 +221,7 @@ fn at_port(owners: &[EndPort], port: &EndPort) -> End
     }
 }
 
-/// Where a source's packet begins.
+/// Returns where the packet of `source` begins.
 pub(crate) fn first_hop(owners: &[EndPort], source: &Sender) -> NextHop
     ensures { result ≡ first_hop owners.now source.now }
 {

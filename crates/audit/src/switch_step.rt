@@ -5,7 +5,7 @@ use smp_bytes::Guid;
 #[derive(Clone, Copy, Debug, PartialEq, Eq)]
 pub struct SwitchStep {
     pub switch: Guid,
-    /// The entry that counts; 255 is none.
+    /// The effective entry; 255 means no entry.
     pub entry: u8,
     /// What becomes of a packet there.
     pub hop: NextHop,

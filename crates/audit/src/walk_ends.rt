@@ -1,13 +1,13 @@
-//! Where walks from switch to switch end: in each round each goes on from where it has come.
+//! The ends of walks from switch to switch: in each round each walk goes on from where it has come.
 ghost use Rattle.std.specs.Prelude.{◌≡◌, count_by};
 ghost use Rattle.audit.specs.WalkEnds.{AreFurther, HaveEnded, end_of, is_to, onward};
 
 use crate::end::End;
 use crate::next_hop::NextHop;
 
-/// What the walks from the switches come to, by what each switch does: those that have not ended then go on
-/// for ever. A round takes a step for each switch, and there are at most as many rounds as the longest walk's length
-/// has binary digits, and one more where some go round for ever.
+/// Returns the ends of the walks from the switches; a walk that has not ended then goes on for ever. A round takes a
+/// step for each switch. There are at most as many rounds as the longest walk's length has binary digits, and one more
+/// if some walk loops for ever.
 pub fn ends(steps: Vec<NextHop>) -> Vec<NextHop>
     ensures { HaveEnded steps.items result.items }
 {
@@ -23,7 +23,7 @@ pub fn ends(steps: Vec<NextHop>) -> Vec<NextHop>
     jumps
 }
 
-/// Each walk goes on from where it has come, one after the other; answers how many have not ended then.
+/// Takes each walk on from where it has come, one after the other. Returns how many have not ended then.
 fn go_further(jumps: &mut Vec<NextHop>) -> usize
     ensures further { AreFurther jumps.old.items jumps.new.items }
     ensures left { result ≡ count_by is_to jumps.new.items }
@@ -39,14 +39,14 @@ fn go_further(jumps: &mut Vec<NextHop>) -> usize
     left
 }
 
-/// Whether it comes to a switch.
+/// Returns whether the step leads to a switch.
 pub fn is_to(step: &NextHop) -> bool
     ensures { result ≡ is_to step.now }
 {
     matches!(step, NextHop::To(_))
 }
 
-/// The next step, by those of the switches.
+/// Returns the step after `step`, by the steps of the switches.
 pub fn onward(steps: &[NextHop], step: NextHop) -> NextHop
     ensures { result ≡ onward steps.now step }
 {
@@ -56,7 +56,7 @@ pub fn onward(steps: &[NextHop], step: NextHop) -> NextHop
     }
 }
 
-/// Where the walk ends that goes on from a step; None where it goes on for ever.
+/// Returns where a walk ends that has come to `step`, or `None` if it goes on for ever.
 pub fn end_of(step: NextHop) -> Option<End>
     ensures { result ≡ end_of step }
 {

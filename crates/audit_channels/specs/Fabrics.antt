@@ -1,6 +1,5 @@
--- The channels that packets take in a fabric, and their numbers.
--- InfiniBand Architecture Specification, Volume 1: switches, unicast forwarding by the linear forwarding table; link
--- layer, flow control by credits.
+-- The channels that packets take in a fabric, and their numbers. InfiniBand Architecture Specification, Volume 1:
+-- switches, unicast forwarding by the linear forwarding table; link layer, flow control by credits.
 use Rattle.std.specs.Prelude.{◌≡◌, ◌<◌, ◌≤◌, ◌+◌, ◌*◌, ℕ, List, Some, IsTrue, slice_get, slice_index_or}
 use Rattle.fabric_model.specs.declared.cable.NodePort.{NodePort}
 use Rattle.smp_bytes.specs.NodeType.{is_switch}
@@ -15,8 +14,8 @@ use Rattle.audit.specs.Fabrics.{IsSeenIn}
 use Rattle.held_tables.specs.Switches.{index_in}
 use Rattle.audit_channels.specs.Waiting.{RiseOnWays}
 
--- a wire from one switch to another, taken that way: its channel is that of the port by which it leaves the usable
--- switch of an index
+-- `hop` goes from one switch to another; its channel is that of the port by which it leaves the usable switch at an
+-- index
 pub record IsChannel (cells : Cells) (f : Fabric) (hop : Hop) (channel : ℕ) : Type 0 where
   pub wire : IsWire f hop.out hop.into
   pub from : Node
@@ -29,7 +28,7 @@ pub record IsChannel (cells : Cells) (f : Fabric) (hop : Hop) (channel : ℕ) : 
   pub index_is : index_in (switches cells) from.guid ≡ Some index
   pub channel_is : channel ≡ 256 * index + hop.out.port
 
--- two wires that a packet takes in turn, both channels
+-- two wires that a packet takes in turn, both of them channels
 pub record TakeInTurn (cells : Cells) (f : Fabric) (hops : List Hop) (channel next : ℕ) : Type 0 where
   pub nth : ℕ
   pub hop : Hop
@@ -39,7 +38,7 @@ pub record TakeInTurn (cells : Cells) (f : Fabric) (hops : List Hop) (channel ne
   pub channel_is : IsChannel cells f hop channel
   pub next_is : IsChannel cells f later next
 
--- a packet from an end port of the part for a LID has taken these wires so far
+-- a packet for some LID, from an end port of the part, has taken these wires
 pub record Travels (part : Part) (f : Fabric) (hops : List Hop) : Type 0 where
   pub source : NodePort
   pub node : Node
@@ -49,8 +48,8 @@ pub record Travels (part : Part) (f : Fabric) (hops : List Hop) : Type 0 where
   pub end : Standing
   pub goes : Goes f lid (sent_from source) hops end
 
--- if the facts describe what is joined to an end port, and that holds the tables, the numbers rise from each channel
--- to the next
+-- numbers rise from each channel that a packet takes to the next, if they rise on ways by facts and tables, the facts
+-- describe what is joined to an end port, and that holds the tables
 abbrev pub ChannelsRise : Type 0
 ChannelsRise =
     (facts : Facts) (held : HeldPlan) (f : Fabric) (origin : NodePort) (numbers : List ℕ) → IsEndPort f origin

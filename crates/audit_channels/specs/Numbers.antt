@@ -1,27 +1,27 @@
--- While numbers are given: those that have one, and those that wait for one that has none.
+-- Numbers while they are given: channels that have one, and channels that wait for one that has none.
 use Rattle.std.specs.Prelude.{◌≡◌, ◌≢◌, ◌<◌, ℕ, ◌==◌, ◌&&◌, not, true, Bool, List, [], length, slice_index_or, if◌then◌else◌}
 use Rattle.std.specs.List.{list_any}
 use Rattle.audit_channels.specs.Orders.{Follows}
 
--- a channel with the number 0 has none yet
+-- `channel` has the number 0, so none yet
 abbrev pub has_none : List ℕ → ℕ → Bool
 has_none numbers channel = slice_index_or numbers channel 1 == 0
 
--- a channel that follows has none yet
+-- a channel that follows has no number yet
 abbrev pub is_held_up : List ℕ → List ℕ → Bool
 is_held_up numbers following = list_any (has_none numbers) following
 
--- the number of a channel: another where it has none and each that follows it has one
+-- the number of a channel: `number` if it has none and each channel that follows it has one, else `old`
 abbrev pub next_number : List ℕ → List ℕ → ℕ → ℕ → ℕ
 next_number following numbers old number = if old == 0 && not (is_held_up numbers following) then number else old
 
--- that of each channel
+-- each channel has its next number
 pub record AreFurther (waits : List (List ℕ)) (numbers : List ℕ) (number : ℕ) (next : List ℕ) : Type 0 where
   pub as_many : length next ≡ length numbers
   pub each : (c : ℕ) → c < length numbers
       → slice_index_or next c 0 ≡ next_number (slice_index_or waits c []) numbers (slice_index_or numbers c 0) number
 
--- numbers rise as far as they are given, and behind each channel without one is another such
+-- numbers rise as far as they are given, and a channel without a number is followed by another one without
 pub record AreGiven (waits : List (List ℕ)) (numbers : List ℕ) : Type 0 where
   pub as_many : length numbers ≡ length waits
   pub rises : (channel next : ℕ) → slice_index_or numbers channel 0 ≢ 0 → Follows waits channel next

@@ -1,38 +1,38 @@
--- Channels that follow each other: numbers that rise, and cycles. Of each channel there is a list of those that follow
+-- Channels that follow each other: numbers that rise, and cycles. For each channel there is a list of those that follow
 -- it.
 use Rattle.std.specs.Prelude.{◌≡◌, ◌↔◌, ◌⊎◌, ◌<◌, ◌≤◌, ℕ, List, [], ◌∷◌, Contains, length, slice_index_or}
 use Rattle.audit_channels.specs.declared.order.ChannelOrder.{ChannelOrder}
 use Rattle.audit_channels.specs.declared.order.ChannelOrder.TheVariants.{Rises, Cycle}
 
--- one channel follows another
+-- `next` follows `channel`
 abbrev pub Follows : List (List ℕ) → ℕ → ℕ → Type 0
 Follows waits channel next = Contains (slice_index_or waits channel []) next
 
--- whatever follows is a channel
+-- each number that follows a channel is a channel
 abbrev pub LeadToChannels : List (List ℕ) → Type 0
 LeadToChannels waits = (channel next : ℕ) → Follows waits channel next → next < length waits
 
--- the same channels, and another
+-- `new` has the channels of `old` and `channel`
 abbrev pub AreWith : List ℕ → ℕ → List ℕ → Type 0
 AreWith old channel new = (c : ℕ) → Contains new c ↔ (Contains old c ⊎ (c ≡ channel))
 
--- the same, and that one channel follows another
+-- `new` is `old`, and `next` follows `channel`
 pub record IsWith (old : List (List ℕ)) (channel next : ℕ) (new : List (List ℕ)) : Type 0 where
   pub as_many : length new ≡ length old
   pub follows : (a b : ℕ) → Follows new a b ↔ (Follows old a b ⊎ ((a ≡ channel) × (b ≡ next)))
 
--- each channel has a number, and those that follow it have greater ones
+-- each channel has a number, less than those of the channels that follow it
 pub record Rise (waits : List (List ℕ)) (numbers : List ℕ) : Type 0 where
   pub as_many : length numbers ≡ length waits
   pub rises : (channel next : ℕ) → Follows waits channel next → slice_index_or numbers channel 0
       < slice_index_or numbers next 0
 
--- each of some channels follows the one before, and the last is followed by another
+-- each channel follows the one before, from `channel` on, and `last` follows the last one
 abbrev pub GoesOn : List (List ℕ) → ℕ → List ℕ → ℕ → Type 0
 GoesOn waits channel [] last = Follows waits channel last
 GoesOn waits channel (next ∷ later) last = Follows waits channel next × GoesOn waits next later last
 
--- channels of which each follows the one before, and the first follows the last
+-- each channel follows the one before, and the first follows the last
 abbrev pub IsCycle : List (List ℕ) → List ℕ → Type 0
 IsCycle waits [] = ⊥
 IsCycle waits (channel ∷ later) = GoesOn waits channel later channel
@@ -46,12 +46,12 @@ abbrev pub IsOrder : List (List ℕ) → ChannelOrder → Type 0
 IsOrder waits (Rises numbers) = Rise waits numbers.items
 IsOrder waits (Cycle channels) = IsCycle waits channels.items
 
--- where it is a cycle, none has fewer channels
+-- if it is a cycle, no cycle has fewer channels
 abbrev pub IsShortest : List (List ℕ) → ChannelOrder → Type 0
 IsShortest waits (Rises numbers) = Unit {0}
 IsShortest waits (Cycle channels) = NoneShorter waits channels.items
 
--- where numbers rise there is no cycle
+-- there is no cycle if numbers rise
 abbrev pub NoCycleWhereNumbersRise : Type 0
 NoCycleWhereNumbersRise =
     (waits : List (List ℕ)) (numbers cycle : List ℕ) → Rise waits numbers → ¬ (IsCycle waits cycle)

@@ -1,34 +1,34 @@
--- Searches in breadth from a channel over those without a number: what was reached, in its order, each marked with the
--- channel's number and one.
+-- Breadth-first searches from a channel over those without a number: the reached channels, in order, each marked with
+-- the number of the first one plus 1.
 use Rattle.std.specs.Prelude.{◌≡◌, ◌<◌, ◌≤◌, ◌+◌, ℕ, List, [], ◌∷◌, length, slice_index_or}
 use Rattle.audit_channels.specs.declared.shortest.Visited.{Visited}
 use Rattle.audit_channels.specs.Orders.{Follows, GoesOn, IsCycle}
 
--- what was reached at an index
+-- the entry of `reached` at `index`
 abbrev pub at_index : List Visited → ℕ → Visited
 at_index reached index = slice_index_or reached index (record { channel = 0; from = 0; count = 0 })
 
--- a channel was reached by a way of so many channels, or fewer
+-- `channel` was reached by a way of at most `count` channels
 pub record HasReached (reached : List Visited) (channel count : ℕ) : Type 0 where
   pub index : ℕ
   pub there : index < length reached
   pub is : (at_index reached index).channel ≡ channel
   pub within : (at_index reached index).count ≤ count
 
--- one was reached from an earlier one, which it follows
+-- `next` was reached from an earlier channel, which it follows
 pub record IsStep (waits : List (List ℕ)) (reached : List Visited) (next : Visited) (index : ℕ) : Type 0 where
   pub earlier : next.from < index
   pub follows : Follows waits (at_index reached next.from).channel next.channel
   pub one_more : next.count ≡ (at_index reached next.from).count + 1
 
--- the first, and others by ways from it
+-- the search reached `first`, and each other channel by a step from an earlier one
 pub record AreWays (waits : List (List ℕ)) (first : ℕ) (reached : List Visited) : Type 0 where
   pub some : 0 < length reached
   pub begins : (at_index reached 0).channel ≡ first
   pub one : (at_index reached 0).count ≡ 1
   pub steps : (i : ℕ) → 0 < i → i < length reached → IsStep waits reached (at_index reached i) i
 
--- what a search has reached, and its marks: no way to a channel has more than so many
+-- what a search from `first` has reached, and its marks; no way to a channel has more than `count` channels
 pub record IsSearch (waits : List (List ℕ)) (first count : ℕ) (reached : List Visited) (marks : List ℕ) : Type 0 where
   pub ways : AreWays waits first reached
   pub rises : (i k : ℕ) → i ≤ k → k < length reached → (at_index reached i).count ≤ (at_index reached k).count
@@ -37,16 +37,17 @@ pub record IsSearch (waits : List (List ℕ)) (first count : ℕ) (reached : Lis
   pub as_many : length marks ≡ length waits
   pub most : (c : ℕ) → slice_index_or marks c 0 ≤ first + 1
 
--- the same and more
+-- `new` begins with `old`
 pub record Grows (old new : List Visited) : Type 0 where
   pub longer : length old ≤ length new
   pub same : (i : ℕ) → i < length old → at_index new i ≡ at_index old i
 
--- no cycle from a channel on has fewer channels
+-- no cycle through `first` has fewer than `count` channels
 abbrev pub NoneBelow : List (List ℕ) → ℕ → ℕ → Type 0
 NoneBelow waits first count = (later : List ℕ) → GoesOn waits first later first → count ≤ length later + 1
 
--- a shortest cycle from a channel on, or none, where none has fewer channels than this
+-- a shortest cycle through `first`, of at most `least` channels; or the empty list, if no cycle through it has fewer
+-- than `least`
 abbrev pub IsLeast : List (List ℕ) → ℕ → ℕ → List ℕ → Type 0
 IsLeast waits first least [] = NoneBelow waits first least
 IsLeast waits first least (c ∷ later) =

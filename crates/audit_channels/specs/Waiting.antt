@@ -1,4 +1,4 @@
--- Channels that packets take in turn by the tables held, and the order of channels. InfiniBand Architecture
+-- Channels that packets take in turn by the held tables, and the order of channels. InfiniBand Architecture
 -- Specification, Volume 1: switches, unicast forwarding by the linear forwarding table; link layer, flow control by
 -- credits.
 use Rattle.std.specs.Prelude.{◌≡◌, ◌↔◌, ◌<◌, ◌≤◌, ◌*◌, ℕ, List, [], ◌∷◌, Option, length, slice_index_or}
@@ -11,34 +11,34 @@ use Rattle.subnet_view.specs.Reading.{Cells, switches}
 use Rattle.plan_file.specs.Held.{HeldPlan}
 use Rattle.audit.specs.Edges.{edges_of}
 
--- a packet for a LID leaves a switch by one channel, and the next switch by another; whether an end port holds the LID
--- is nothing to the switches
+-- a packet for some LID leaves a switch by `channel`, and the next switch by `next`; whether an end port holds the LID
+-- does not matter
 pub record WaitsFor (cells : Cells) (held : HeldPlan) (channel next : ℕ) : Type 0 where
   pub lid : ℕ
   pub is_lid : 1 ≤ lid
   pub switch : ℕ
   pub takes : TakesInTurn (edges_of cells held lid) switch channel next
 
--- of each channel of each switch, those that packets take next
+-- `waits` has, for each channel, those that packets take next
 pub record AreWaits (cells : Cells) (held : HeldPlan) (waits : List (List ℕ)) : Type 0 where
   pub as_many : length waits ≡ 256 * length (switches cells)
   pub follows : (a b : ℕ) → Follows waits a b ↔ WaitsFor cells held a b
 
--- the channels that packets take in turn by a column follow each other
+-- channels that packets take in turn by `column` follow each other
 abbrev pub IsAdded : List (Option Edge) → List (List ℕ) → Type 0
 IsAdded column waits = (switch channel next : ℕ) → TakesInTurn column switch channel next → Follows waits channel next
 
--- each channel of each switch has a number, and those that packets take next have greater ones
+-- each channel of each switch has a number, less than those of the channels that packets take next
 pub record RiseOnWays (cells : Cells) (held : HeldPlan) (numbers : List ℕ) : Type 0 where
   pub as_many : length numbers ≡ 256 * length (switches cells)
   pub rises : (a b : ℕ) → WaitsFor cells held a b → slice_index_or numbers a 0 < slice_index_or numbers b 0
 
--- each of some channels waits for the next, and the last for another
+-- each channel waits for the next, from `channel` on, and the last one waits for `last`
 abbrev pub WaitOn : Cells → HeldPlan → ℕ → List ℕ → ℕ → Type 0
 WaitOn cells held channel [] last = WaitsFor cells held channel last
 WaitOn cells held channel (next ∷ later) last = WaitsFor cells held channel next × WaitOn cells held next later last
 
--- channels of which each waits for the next, and the last for the first
+-- each channel waits for the next, and the last for the first
 abbrev pub WaitInCycle : Cells → HeldPlan → List ℕ → Type 0
 WaitInCycle cells held [] = ⊥
 WaitInCycle cells held (channel ∷ later) = WaitOn cells held channel later channel
@@ -48,16 +48,16 @@ abbrev pub IsOrderOf : Cells → HeldPlan → ChannelOrder → Type 0
 IsOrderOf cells held (Rises numbers) = RiseOnWays cells held numbers.items
 IsOrderOf cells held (Cycle channels) = WaitInCycle cells held channels.items
 
--- no cycle has fewer channels than these
+-- no cycle has fewer channels than `channels`
 abbrev pub NoneShorter : Cells → HeldPlan → List ℕ → Type 0
 NoneShorter cells held channels = (cycle : List ℕ) → WaitInCycle cells held cycle → length channels ≤ length cycle
 
--- where it is a cycle, none has fewer channels
+-- if it is a cycle, no cycle has fewer channels
 abbrev pub IsShortestOf : Cells → HeldPlan → ChannelOrder → Type 0
 IsShortestOf cells held (Rises numbers) = Unit {0}
 IsShortestOf cells held (Cycle channels) = NoneShorter cells held channels.items
 
--- where numbers rise there is no cycle
+-- there is no cycle if numbers rise
 abbrev pub NeverBoth : Type 0
 NeverBoth = (cells : Cells) (held : HeldPlan) (numbers cycle : List ℕ) → RiseOnWays cells held numbers
     → ¬ (WaitInCycle cells held cycle)

@@ -7,9 +7,9 @@ use crate::waits::Waits;
 use port_graph::Edge;
 use std::alloc::AllocError;
 
-/// That the channels by which packets for a LID leave follow each other, by the edge of each vertex for it. The channel
-/// of a vertex's edge has the number 256 times the vertex, and the edge's port. Takes a step for each vertex, and a
-/// walk over the channels that follow its own where the next is not known to.
+/// Adds that channels which packets for a LID take in turn follow each other; `column` has the edge by which the
+/// packets leave each vertex. The channel of a vertex's edge has the number 256 times the vertex, plus the edge's port.
+/// Takes a step for each vertex, and a walk over the channels that follow its own if the next one is not known to.
 pub fn add_column(waits: &mut Waits, column: &[Option<Edge>]) -> Result<(), AllocError>
     requires channels { length waits.old ≡ 256 * length column.now }
     requires room { 256 * length column.now < 2 ^ 64 }
@@ -19,7 +19,8 @@ pub fn add_column(waits: &mut Waits, column: &[Option<Edge>]) -> Result<(), Allo
 }
 
 #[tactic(auto, using(crate::proofs::Columns::none_so_far))]
-/// The same where packets leave a vertex by its edge in one column, and the next by its edge in another.
+/// Adds that channels which packets take in turn follow each other, if they leave a vertex by its edge in `before` and
+/// the next vertex by its edge in `now`.
 pub fn add_across(
     waits: &mut Waits,
     before: &[Option<Edge>],
@@ -38,7 +39,7 @@ pub fn add_across(
     Ok(())
 }
 
-/// Whether two columns are one. Takes a step for each vertex, up to the first where they differ.
+/// Returns whether two columns are equal. Takes a step for each vertex, up to the first at which they differ.
 pub fn is_same_column(column: &[Option<Edge>], other: &[Option<Edge>]) -> bool
     ensures { IsTrue result ↔ (column.now ≡ other.now) }
 {
@@ -60,7 +61,8 @@ struct Turn {
     next: usize,
 }
 
-/// The channel by which a packet leaves a vertex by one column, and that by which it leaves the next by another.
+/// Returns the channel by which a packet leaves `vertex` by `before`, and the channel by which it leaves the next
+/// vertex by `now`; `None` if either has no edge.
 fn turn_at(before: &[Option<Edge>], now: &[Option<Edge>], vertex: usize) -> Option<Turn>
     requires before { 256 * length before.now < 2 ^ 64 }
     requires now { 256 * length now.now < 2 ^ 64 }
@@ -74,14 +76,14 @@ fn turn_at(before: &[Option<Edge>], now: &[Option<Edge>], vertex: usize) -> Opti
     Some(Turn { channel, next })
 }
 
-/// The edge of a vertex, if it has one. Takes one step.
+/// Returns the edge of `vertex`, if it has one. Takes one step.
 pub fn edge_of(column: &[Option<Edge>], vertex: usize) -> Option<Edge>
     ensures { result ≡ slice_index_or column.now vertex None }
 {
     column.get(vertex).copied().flatten()
 }
 
-/// The number of the channel of a vertex's edge.
+/// Returns the number of the channel of `edge`, an edge of `vertex`.
 fn number_of(vertex: usize, edge: Edge) -> usize
     requires { 256 * vertex + 256 < 2 ^ 64 + 1 }
     ensures is { result ≡ number_of vertex edge }

@@ -7,7 +7,7 @@ use crate::numbers::has_none;
 use crate::waits::Waits;
 use std::alloc::{AllocError, Global};
 
-/// The cycle to which a way over channels without a number leads.
+/// Returns the cycle that a walk from `first` over channels without a number runs into.
 pub(crate) fn cycle_from(
     alloc: Global,
     waits: &Waits,
@@ -29,14 +29,14 @@ pub(crate) fn cycle_from(
     Ok(cycle)
 }
 
-/// Whether one channel follows another.
+/// Returns whether `next` follows `channel`.
 pub(crate) fn follows(waits: &Waits, channel: usize, next: usize) -> bool
     ensures { IsTrue result ↔ Follows waits.now channel next }
 {
     is_on(waits.at(channel), next)
 }
 
-/// The first of these channels that has no number.
+/// Returns the first channel of `following` that has no number.
 fn first_held_up(following: &[usize], numbers: &[usize]) -> Option<usize>
     ensures { result ≡ find (has_none numbers.now) following.now }
 {
@@ -46,14 +46,14 @@ fn first_held_up(following: &[usize], numbers: &[usize]) -> Option<usize>
         .find(|next| has_none(numbers, *next))
 }
 
-/// Whether a channel is on a way.
+/// Returns whether `channel` is on the walk `way`.
 fn is_on(way: &[usize], channel: usize) -> bool
     ensures { result ≡ list_any (λ c. channel == c) way.now }
 {
     way.iter().any(|c| channel == *c)
 }
 
-/// The index of a channel on a way.
+/// Returns the index of `channel` on the walk `way`.
 fn index_of(way: &[usize], channel: usize) -> Option<usize>
     ensures { result ≡ position (λ c. channel == c) way.now }
 {

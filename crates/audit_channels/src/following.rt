@@ -1,4 +1,4 @@
-//! The channels that follow one.
+//! The channels that follow a channel.
 ghost use Rattle.std.specs.Prelude.{◌≡◌, ◌==◌, [], ℕ, OnErr, OnOk, true};
 ghost use Rattle.std.specs.List.{list_any};
 ghost use Rattle.audit_channels.specs.Known.{Knows};
@@ -7,7 +7,7 @@ ghost use Rattle.audit_channels.specs.Orders.{AreWith};
 use crate::known::Known;
 use std::alloc::{AllocError, Global};
 
-/// Channels in the order in which they came. Some of them are known, and found with no walk.
+/// Channels in the order in which they were added. Some are known, and found without a walk.
 #[derive(Drop)]
 pub(crate) struct Following {
     channels: Vec<usize>,
@@ -16,7 +16,7 @@ pub(crate) struct Following {
 }
 
 impl Following {
-    /// No channel.
+    /// Returns an empty list.
     pub(crate) fn new(alloc: Global) -> Self
         ensures { result.channels.items ≡ [] }
     {
@@ -26,14 +26,14 @@ impl Following {
         }
     }
 
-    /// The channels. Takes one step.
+    /// Returns the channels. Takes one step.
     pub(crate) fn channels(&self) -> &[usize]
         ensures { result.now ≡ self.now.channels.items }
     {
         &self.channels
     }
 
-    /// That a channel follows. Takes one step where it is known, and else a walk over all.
+    /// Adds `channel`, unless it is there already. Takes one step if it is known, and else a walk over all.
     pub(crate) fn add(&mut self, channel: usize) -> Result<(), AllocError>
         ensures added { OnOk result (AreWith self.old.channels.items channel self.new.channels.items) }
         ensures kept { OnErr result (self.new.channels.items ≡ self.old.channels.items) }
@@ -47,7 +47,7 @@ impl Following {
     }
 }
 
-/// Puts a channel behind others, where it is not among them.
+/// Appends `channel`, unless it is there already.
 fn put(channels: &mut Vec<usize>, channel: usize) -> Result<(), AllocError>
     ensures added { OnOk result (AreWith channels.old.items channel channels.new.items) }
     ensures kept { OnErr result (channels.new.items ≡ channels.old.items) }
@@ -58,7 +58,7 @@ fn put(channels: &mut Vec<usize>, channel: usize) -> Result<(), AllocError>
     Ok(())
 }
 
-/// Whether a channel is one of these.
+/// Returns whether `channel` is one of `channels`.
 fn is_among(channels: &[usize], channel: usize) -> bool
     ensures { result ≡ list_any (λ c. channel == c) channels.now }
 {

@@ -1,8 +1,8 @@
-//! Some channels of one row of 64, as the bits of a word.
+//! A few known channels of one row of 64, as the bits of a word.
 ghost use Rattle.std.specs.Prelude.{◌≡◌, ◌↔◌, ◌⊎◌, ◌/◌, ℕ, IsTrue};
 ghost use Rattle.audit_channels.specs.Known.{Knows};
 
-/// Channels of which each is known: those of a row of 64 at whose indices the bits of a word are set.
+/// Known channels: those of a row of 64 at whose indices the bits of a word are set.
 #[derive(Clone, Copy)]
 pub(crate) struct Known {
     row: usize,
@@ -10,21 +10,22 @@ pub(crate) struct Known {
 }
 
 impl Known {
-    /// No channel.
+    /// Returns an empty set.
     pub(crate) fn none() -> Self
         ensures { (channel : ℕ) → ¬ (Knows result channel) }
     {
         Known { row: 0, bits: 0 }
     }
 
-    /// Whether a channel is known. Takes one step.
+    /// Returns whether `channel` is known. Takes one step.
     pub(crate) fn has(self, channel: usize) -> bool
         ensures { IsTrue result ↔ Knows self channel }
     {
         self.row == channel / 64 && (self.bits >> (channel % 64)) & 1 == 1
     }
 
-    /// The same, and a channel where it is of their row, or none was known.
+    /// Returns the set with `channel` added, if that is of the set's row or the set was empty, and else the unchanged
+    /// set.
     pub(crate) fn with(self, channel: usize) -> Self
         ensures kept { (other : ℕ) → Knows self other → Knows result other }
         ensures only { (other : ℕ) → Knows result other → Knows self other ⊎ (other ≡ channel) }

@@ -3,19 +3,19 @@ ghost use Rattle.audit_channels.specs.Fabrics.{ChannelsRise};
 ghost use Rattle.audit_channels.specs.Orders.{NoCycleWhereNumbersRise};
 ghost use Rattle.audit_channels.specs.Waiting.{NeverBoth};
 
-/// Where channels have numbers that rise, there is no cycle.
+/// There is no cycle of channels if channels have numbers that rise.
 pub fn no_cycle_where_numbers_rise()
     ensures law { NoCycleWhereNumbersRise }
 {}
 
-/// Where numbers of channels rise along the ways of all packets, no channels wait for each other in a cycle.
+/// No channels wait for each other in a cycle if numbers of channels rise along the ways of all packets.
 pub fn never_both()
     ensures law { NeverBoth }
 {}
 
-/// Where numbers of channels rise by facts and tables, and the facts describe what is joined to an end port of a
-/// fabric, which holds the tables, each packet that is sent there for any LID takes channels whose numbers rise, wire
-/// after wire.
+/// The channels that a packet takes have rising numbers, wire after wire, if numbers of channels rise by facts and
+/// tables, the facts describe what is joined to an end port of a fabric, that holds the tables, and the packet is sent
+/// from an end port there, for any LID.
 pub fn channels_rise()
     ensures law { ChannelsRise }
 {}

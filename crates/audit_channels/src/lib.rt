@@ -16,5 +16,6 @@ mod waits;
 
 pub use column::{add_across, add_column, edge_of, is_same_column};
 pub use network_order::channel_order;
+pub use network_waits::channel_waits;
 pub use order::{ChannelOrder, order_channels};
 pub use waits::Waits;

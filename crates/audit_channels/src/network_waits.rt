@@ -9,14 +9,16 @@ use port_graph::Edge;
 use smp_bytes::Lid;
 use std::alloc::{AllocError, Global};
 
-/// For each channel those that packets take next, LID by LID up to the greatest top: above it no switch sends them on.
-pub(crate) fn waits(alloc: Global, network: &Network) -> Result<Waits, AllocError>
+/// Returns, for each channel, those that packets take next by the tables of `network`. Channels are numbered as in
+/// `channel_order`. Costs what `channel_order` takes without the ordering.
+pub fn channel_waits(alloc: Global, network: &Network) -> Result<Waits, AllocError>
     ensures { IfOk result (λ waits. AreWaits (cells_of network.now.facts) network.now.held waits) }
 {
     let count = network.switch_count().checked_mul(256).ok_or(AllocError)?;
     let mut waits = Waits::new(alloc, count)?;
     let mut blocks = network.blocks(alloc, 0)?;
     let mut before = Vec::new(alloc);
+    // No switch forwards packets above the greatest top.
     for below in 0..network.greatest_top().number() {
         let lid = Lid::new(below + 1);
         blocks = network.blocks_for(alloc, blocks, lid)?;
@@ -27,7 +29,7 @@ pub(crate) fn waits(alloc: Global, network: &Network) -> Result<Waits, AllocErro
     Ok(waits)
 }
 
-/// Adds a column, unless it is the one before, which has been added.
+/// Adds `column`, unless it equals `before`, which has been added.
 fn add_after(
     waits: &mut Waits,
     before: &[Option<Edge>],

@@ -1,12 +1,12 @@
-//! Numbers are given to channels behind which all have one, the greatest first.
+//! Numbers of channels, given from the greatest down; a channel gets one once all that follow it have theirs.
 ghost use Rattle.std.specs.Prelude.{◌≡◌, ◌==◌, ◌<◌, IfOk, count_by, length, position};
 ghost use Rattle.audit_channels.specs.Numbers.{is_held_up, has_none, AreGiven, AreFurther, next_number};
 
 use crate::waits::Waits;
 use std::alloc::{AllocError, Global};
 
-/// A number for each channel that comes before no cycle, and 0 for the others. A round takes a step for each
-/// channel and each that follows it, and there are as many rounds as channels follow each other in the longest way.
+/// Returns a number for each channel that does not lead to a cycle, and 0 for the others. A round takes a step for each
+/// channel and each that follows it, and there are as many rounds as channels on the longest walk.
 pub(crate) fn numbers(alloc: Global, waits: &Waits) -> Result<Vec<usize>, AllocError>
     ensures { IfOk result (λ numbers. AreGiven waits.now numbers.items) }
 {
@@ -24,7 +24,7 @@ pub(crate) fn numbers(alloc: Global, waits: &Waits) -> Result<Vec<usize>, AllocE
     Ok(numbers)
 }
 
-/// The same with this number for each channel behind which all have one.
+/// Returns the numbers, with `number` for each channel that has none and whose followers all have one.
 fn further(
     alloc: Global,
     waits: &Waits,
@@ -41,7 +41,7 @@ fn further(
     Ok(next)
 }
 
-/// The number of a channel, by those of the channels that follow it.
+/// Returns the number of a channel: `number` if it has none and each channel that follows it has one, and else `old`.
 fn next_number(following: &[usize], numbers: &[usize], old: usize, number: usize) -> usize
     ensures { result ≡ next_number following.now numbers.now old number }
 {
@@ -52,14 +52,14 @@ fn next_number(following: &[usize], numbers: &[usize], old: usize, number: usize
     }
 }
 
-/// Whether a channel that follows has no number.
+/// Returns whether a channel of `following` has no number.
 fn is_held_up(following: &[usize], numbers: &[usize]) -> bool
     ensures { result ≡ is_held_up numbers.now following.now }
 {
     following.iter().any(|next| has_none(numbers, *next))
 }
 
-/// Whether a channel has no number.
+/// Returns whether `channel` has no number.
 pub(crate) fn has_none(numbers: &[usize], channel: usize) -> bool
     ensures { result ≡ has_none numbers.now channel }
 {
@@ -69,14 +69,14 @@ pub(crate) fn has_none(numbers: &[usize], channel: usize) -> bool
     }
 }
 
-/// How many channels have no number.
+/// Returns how many channels have no number.
 fn count_without(numbers: &[usize]) -> usize
     ensures { result ≡ count_by (λ n. n == 0) numbers.now }
 {
     numbers.iter().filter(|number| **number == 0).count()
 }
 
-/// The first channel without a number.
+/// Returns the first channel without a number.
 pub(crate) fn first_without(numbers: &[usize]) -> Option<usize>
     ensures { result ≡ position (λ n. n == 0) numbers.now }
 {

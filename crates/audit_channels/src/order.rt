@@ -10,17 +10,19 @@ use std::alloc::{AllocError, Global};
 /// Whether packets can wait for each other in a credit loop.
 #[derive(Debug, Drop)]
 pub enum ChannelOrder {
-    /// The number of each channel: those of the channels that follow it are greater.
+    /// The number of each channel, less than those of the channels that follow it.
     Rises(Vec<usize>),
-    /// Channels of which each follows the one before, and the first follows the last. No such cycle has fewer of them,
-    /// so none comes twice.
+    /// A shortest cycle: each channel follows the one before, and the first follows the last. No cycle has fewer
+    /// channels, so none occurs twice.
     Cycle(Vec<usize>),
 }
 
-/// Numbers that rise, where the channels have such, or else a shortest cycle of channels: there is never both. Takes a
-/// step for each channel and each that follows it, as often as channels follow each other in the longest way; where
-/// there is a cycle also the square of the channels that are walked until one comes again, and for each channel
-/// without a number a search in breadth over those that a way of fewer channels than that cycle leads to.
+/// Returns numbers that rise, or a shortest cycle of channels if there are none.
+///
+/// A round takes a step for each channel and each that follows it, and there are as many rounds as channels on the
+/// longest walk. If there is a cycle, finding one takes the square of the channels walked until one recurs, and then
+/// each channel without a number costs a breadth-first search over the channels that it reaches by fewer channels than
+/// that cycle has.
 pub fn order_channels(alloc: Global, waits: &Waits) -> Result<ChannelOrder, AllocError>
     ensures order { IfOk result (λ found. IsOrder waits.now found) }
     ensures shortest { IfOk result (λ found. IsShortest waits.now found) }

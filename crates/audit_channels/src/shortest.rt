@@ -1,4 +1,4 @@
-//! Of cycles of channels a shortest one, by a search in breadth from each channel without a number.
+//! A shortest cycle of channels, by a breadth-first search from each channel without a number.
 ghost use Rattle.std.specs.Prelude.{◌≡◌, ◌<◌, ◌≤◌, ◌+◌, ◌^◌, ℕ, true, None, IfOk, IfSome, OnOk, length};
 ghost use Rattle.std.specs.Prelude.{slice_index_or};
 ghost use Rattle.audit_channels.specs.Numbers.{has_none, AreGiven};
@@ -11,8 +11,8 @@ use crate::numbers::has_none;
 use crate::waits::Waits;
 use std::alloc::{AllocError, Global};
 
-/// A cycle of the fewest channels, where one is known; that one, where none is shorter. Marks are shared by the
-/// searches, one from each channel, so that each costs what it reaches.
+/// Returns a cycle with the fewest channels; `known` itself if none is shorter. The searches, one from each channel,
+/// share the marks, so that each costs only what it reaches.
 pub(crate) fn shortest_cycle(
     alloc: Global,
     waits: &Waits,
@@ -32,7 +32,7 @@ pub(crate) fn shortest_cycle(
     Ok(shortest)
 }
 
-/// The known cycle, or one of fewer channels, where one leads through this channel.
+/// Returns a shorter cycle than `known` that passes through `first`, if there is one, and else `known`.
 fn shorter_from(
     alloc: Global,
     waits: &Waits,
@@ -70,13 +70,13 @@ pub(crate) struct Visited {
     channel: usize,
     /// The index of the channel that it was reached from.
     from: usize,
-    /// How many channels the way to it has.
+    /// The number of channels on the way to it.
     count: usize,
 }
 
-/// The channels of a shortest cycle from a channel on, where they are fewer than this, or none. Takes a step for each
-/// channel that a way of so few channels leads to, and each that follows that. What is reached is marked with the
-/// channel and one.
+/// Returns a shortest cycle through `first` if it has fewer than `least` channels, and else an empty list. Takes a step
+/// for each channel to which fewer than `least` channels lead, and each that follows it. Marks what it reaches with
+/// `first` + 1.
 fn cycle_of(
     alloc: Global,
     waits: &Waits,
@@ -122,7 +122,7 @@ fn cycle_of(
     Ok(Vec::new(alloc))
 }
 
-/// What was reached at an index, where a cycle from there would be of fewer channels than this.
+/// Returns the channel reached at `index`, if a cycle that closes there has fewer than `least` channels.
 fn in_turn(reached: &[Visited], index: usize, least: usize) -> Option<Visited>
     ensures some { IfSome result (λ here. (index < length reached.now) × (here ≡ at_index reached.now index)
         × (here.count < least)) }
@@ -132,8 +132,8 @@ fn in_turn(reached: &[Visited], index: usize, least: usize) -> Option<Visited>
     if here.count < least { Some(here) } else { None }
 }
 
-/// Reaches those of the channels that follow one which have no number and no mark of this search, where a cycle from
-/// there would still be of fewer channels than this.
+/// Adds each channel that follows `here` and has no number and no mark of this search, unless a cycle that closes there
+/// would have `least` channels or more.
 fn reach_on(
     waits: &Waits,
     numbers: &[usize],
@@ -170,7 +170,7 @@ fn reach_on(
     Ok(())
 }
 
-/// Reaches a channel, where it has no number and no mark of this search.
+/// Adds `next`, if its channel has no number and no mark of this search.
 fn reach(
     waits: &Waits,
     numbers: &[usize],
@@ -195,7 +195,7 @@ fn reach(
     Ok(())
 }
 
-/// The cycle of the way to what was reached at an index, which the first channel follows.
+/// Returns the cycle that consists of the way to the channel reached at `index`, which `first` follows.
 fn way_back(
     alloc: Global,
     waits: &Waits,

@@ -5,7 +5,7 @@ use crate::following::Following;
 use std::alloc::{AllocError, Global};
 use std::marker::Model;
 
-/// For each channel those that follow it: a packet that holds the channel can wait for them. Channels are the
+/// For each channel, the channels that follow it: a packet that holds the channel can wait for them. Channels are the
 /// numbers from 0 on.
 #[derive(Drop)]
 pub struct Waits {
@@ -24,7 +24,7 @@ impl Model for Waits {
 }
 
 impl Waits {
-    /// So many channels, none of which follows another.
+    /// Returns `count` channels, none of which follows another.
     pub fn new(alloc: Global, count: usize) -> Result<Self, AllocError>
         ensures { IfOk result (λ waits. waits ≡ replicate count []) }
     {
@@ -35,7 +35,7 @@ impl Waits {
         Ok(Waits { channels })
     }
 
-    /// How many channels there are.
+    /// Returns the number of channels.
     pub fn len(&self) -> usize
         ensures count { result ≡ length self.now }
         ensures channels { LeadToChannels self.now }
@@ -43,7 +43,7 @@ impl Waits {
         self.channels.len()
     }
 
-    /// The channels that follow a channel. Takes one step.
+    /// Returns the channels that follow `channel`. Takes one step.
     pub fn at(&self, channel: usize) -> &[usize]
         ensures { result.now ≡ slice_index_or self.now channel [] }
     {
@@ -53,7 +53,8 @@ impl Waits {
         }
     }
 
-    /// That one channel follows another. Takes one step where that is known, and else a walk over those that follow it.
+    /// Adds that `next` follows `channel`. Takes one step if that is known, and else a walk over the channels that
+    /// follow it.
     pub fn add(&mut self, channel: usize, next: usize) -> Result<(), AllocError>
         requires channel { channel < length self.old }
         requires next { next < length self.old }

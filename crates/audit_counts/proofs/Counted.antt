@@ -74,20 +74,21 @@ causes_more packets packet old new h w =
     λ i. record { above_top = above_top i; no_entry = no_entry i; no_port = no_port i; no_link = no_link i; foreign = foreign i }
 
 -- told with those of its kind
-told_more : (p : SentPacket → Bool) (packets : List SentPacket) (packet : SentPacket) (old new : Listed SentPacket) → old ≡ listed_of p packets
-    → new ≡ cond (p packet) (listed old packet) old → new ≡ listed_of p (packets ++ packet ∷ [])
-told_more p packets packet old new h e = e ∙ ap (λ (o : Listed SentPacket). cond (p packet) (listed o packet) o) h ∙ sym (listed_more p packets packet)
+told_more : (most : ℕ) (p : SentPacket → Bool) (packets : List SentPacket) (packet : SentPacket) (old new : Listed SentPacket)
+    → old ≡ listed_of most p packets → new ≡ cond (p packet) (listed old packet) old → new ≡ listed_of most p (packets ++ packet ∷ [])
+told_more most p packets packet old new h e =
+    e ∙ ap (λ (o : Listed SentPacket). cond (p packet) (listed o packet) o) h ∙ sym (listed_more most p packets packet)
 
 -- a packet more is counted
-pub tally_more : (packets : List SentPacket) (old new : PacketTally) (packet : SentPacket) → IsTally packets old → IsWith old packet new
-    → IsTally (packets ++ packet ∷ []) new
-tally_more packets old new packet h w = record {
+pub tally_more : (most : ℕ) (packets : List SentPacket) (old new : PacketTally) (packet : SentPacket) → IsTally most packets old → IsWith old packet new
+    → IsTally most (packets ++ packet ∷ []) new
+tally_more most packets old new packet h w = record {
   all = pairs_more packets packet old.all new.all h.all w.all;
   between = pairs_if is_between packets packet old.between new.between (is_between packet) refl h.between w.between;
   causes = causes_more packets packet old.causes new.causes h.causes w.told.causes;
-  lost = told_more is_lost packets packet old.lost new.lost h.lost w.told.lost;
-  misdelivered = told_more is_misdelivered packets packet old.misdelivered new.misdelivered h.misdelivered w.told.misdelivered;
-  round = told_more goes_round packets packet old.round new.round h.round w.told.round;
+  lost = told_more most is_lost packets packet old.lost new.lost h.lost w.told.lost;
+  misdelivered = told_more most is_misdelivered packets packet old.misdelivered new.misdelivered h.misdelivered w.told.misdelivered;
+  round = told_more most goes_round packets packet old.round new.round h.round w.told.round;
 }
 
 -- what arrives is of no kind that is told
@@ -145,14 +146,14 @@ none_counted p h packets (x ∷ more) all =
     let zero_is : ◌≡◌ {A = ℕ} (cond (p x) 1 0) 0 = ap (λ t. cond t 1 0) (h x parts.0) in
     omega (arith, none, split, first, zero_is)
 
-same_listed : (p : SentPacket → Bool) → ((packet : SentPacket) → arrives packet ≡ true → p packet ≡ false) → (packets more : List SentPacket)
+same_listed : (most : ℕ) (p : SentPacket → Bool) → ((packet : SentPacket) → arrives packet ≡ true → p packet ≡ false) → (packets more : List SentPacket)
     → list_all arrives more ≡ true
-    → listed_of p packets ≡ listed_of p (packets ++ more)
-same_listed p h packets more all =
-    let first : first_of p packets ≡ first_of p (packets ++ more) =
-    sym (ap (λ xs. take 20 xs) (filter-append p packets more ∙ ap (λ xs. filter p packets ++ xs) (none_told p h more all) ∙ append-nil (filter p packets))) in
+    → listed_of most p packets ≡ listed_of most p (packets ++ more)
+same_listed most p h packets more all =
+    let first : first_of most p packets ≡ first_of most p (packets ++ more) =
+    sym (ap (λ xs. take most xs) (filter-append p packets more ∙ ap (λ xs. filter p packets ++ xs) (none_told p h more all) ∙ append-nil (filter p packets))) in
     let count = none_counted p h packets more all in
-    λ i. record { first = first i; count = count i }
+    λ i. record { most = most; first = first i; count = count i }
 
 same_causes : (packets more : List SentPacket) → list_all arrives more ≡ true → causes_of packets ≡ causes_of (packets ++ more)
 same_causes packets more all =
@@ -193,15 +194,16 @@ pairs_arrived packets more old new count h all is w =
       arrived = omega (arith, sum_by-append (λ (p : SentPacket). cond (arrives p) 1 0) packets more, all_counted more all);
     }
 
-pub tally_arrived : (packets more : List SentPacket) (old new : PacketTally) (count between : ℕ) → IsTally packets old → list_all arrives more ≡ true
-    → count ≡ length more → between ≡ length (filter is_between more) → IsWithArrived old count between new → IsTally (packets ++ more) new
-tally_arrived packets more old new count between h all is some w = record {
+pub tally_arrived : (most : ℕ) (packets more : List SentPacket) (old new : PacketTally) (count between : ℕ) → IsTally most packets old
+    → list_all arrives more ≡ true → count ≡ length more → between ≡ length (filter is_between more) → IsWithArrived old count between new
+    → IsTally most (packets ++ more) new
+tally_arrived most packets more old new count between h all is some w = record {
   all = pairs_arrived packets more old.all new.all count h.all all is w.all;
   between = subst (λ (ps : List SentPacket). ArePairs ps new.between) (sym (filter-append is_between packets more))
       (pairs_arrived (filter is_between packets) (filter is_between more) old.between new.between between h.between
       (passing_arrive is_between more all) some w.between);
   causes = w.causes ∙ h.causes ∙ same_causes packets more all;
-  lost = w.lost ∙ h.lost ∙ same_listed is_lost (λ packet a. (of_none packet a).lost) packets more all;
-  misdelivered = w.misdelivered ∙ h.misdelivered ∙ same_listed is_misdelivered (λ packet a. (of_none packet a).misdelivered) packets more all;
-  round = w.round ∙ h.round ∙ same_listed goes_round (λ packet a. (of_none packet a).round) packets more all;
+  lost = w.lost ∙ h.lost ∙ same_listed most is_lost (λ packet a. (of_none packet a).lost) packets more all;
+  misdelivered = w.misdelivered ∙ h.misdelivered ∙ same_listed most is_misdelivered (λ packet a. (of_none packet a).misdelivered) packets more all;
+  round = w.round ∙ h.round ∙ same_listed most goes_round (λ packet a. (of_none packet a).round) packets more all;
 }

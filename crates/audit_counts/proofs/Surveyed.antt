@@ -36,10 +36,10 @@ module _ (cells : Cells) (held : HeldPlan) (line : HeldLid) where
 
   -- they are counted besides those before
   pub record AreCounted (old : PacketTally) (n : ℕ) (new : PacketTally) : Type 0 where
-    pub counted : (packets : List SentPacket) → IsTally packets old → IsTally (packets ++ sent_by n) new
+    pub counted : (most : ℕ) (packets : List SentPacket) → IsTally most packets old → IsTally most (packets ++ sent_by n) new
 
   pub none_counted : (tally : PacketTally) → AreCounted tally 0 tally
-  none_counted tally = record { counted = λ packets h. subst (λ (ps : List SentPacket). IsTally ps tally) (sym (append-nil packets)) h }
+  none_counted tally = record { counted = λ most packets h. subst (λ (ps : List SentPacket). IsTally most ps tally) (sym (append-nil packets)) h }
 
   -- the packets of one end port more
   sent_more : (n : ℕ) (e : EndPort) → n < length (end_ports cells) → e ≡ get_or (end_ports cells) n e
@@ -59,27 +59,27 @@ module _ (cells : Cells) (held : HeldPlan) (line : HeldLid) where
       → e ≡ get_or (end_ports cells) n e → in_one_component cells e line.port ≡ true → packet ≡ packet_of cells held line e → IsWith tally packet new
       → AreCounted old (n + 1) new
   one_counted old tally new n e packet h less is joined packet_is w = record {
-    counted = λ packets before.
+    counted = λ most packets before.
         let more = sent_more n e less is ∙ ap (λ t. sent_by n ++ cond t (packet_of cells held line e ∷ []) []) joined
         ∙ ap (λ p. sent_by n ++ p ∷ []) (sym packet_is) in
-        subst (λ (ps : List SentPacket). IsTally ps new) (append_assoc packets (sent_by n) (packet ∷ []) ∙ ap (λ ps. packets ++ ps) (sym more))
-        (tally_more (packets ++ sent_by n) tally new packet (h.counted packets before) w);
+        subst (λ (ps : List SentPacket). IsTally most ps new) (append_assoc packets (sent_by n) (packet ∷ []) ∙ ap (λ ps. packets ++ ps) (sym more))
+        (tally_more most (packets ++ sent_by n) tally new packet (h.counted most packets before) w);
   }
 
   pub none_more : (old tally : PacketTally) (n : ℕ) (e : EndPort) → AreCounted old n tally → n < length (end_ports cells)
       → e ≡ get_or (end_ports cells) n e → in_one_component cells e line.port ≡ false → AreCounted old (n + 1) tally
   none_more old tally n e h less is joined = record {
-    counted = λ packets before.
+    counted = λ most packets before.
         let more = sent_more n e less is ∙ ap (λ t. sent_by n ++ cond t (packet_of cells held line e ∷ []) []) joined ∙ append-nil (sent_by n) in
-        subst (λ (ps : List SentPacket). IsTally ps tally) (ap (λ ps. packets ++ ps) (sym more)) (h.counted packets before);
+        subst (λ (ps : List SentPacket). IsTally most ps tally) (ap (λ ps. packets ++ ps) (sym more)) (h.counted most packets before);
   }
 
   pub all_counted : (old tally : PacketTally) (n : ℕ) → AreCounted old n tally → length (end_ports cells) ≤ n
-      → (packets : List SentPacket) → IsTally packets old → IsTally (packets ++ sent_to cells held line) tally
-  all_counted old tally n h past packets before =
+      → (most : ℕ) (packets : List SentPacket) → IsTally most packets old → IsTally most (packets ++ sent_to cells held line) tally
+  all_counted old tally n h past most packets before =
       let all : sent_by n ≡ sent_to cells held line =
       ap (λ xs. map (packet_of cells held line) (filter (λ e. in_one_component cells e line.port) xs)) (take_all n (end_ports cells) past) in
-      subst (λ (ps : List SentPacket). IsTally ps tally) (ap (λ ps. packets ++ ps) all) (h.counted packets before)
+      subst (λ (ps : List SentPacket). IsTally most ps tally) (ap (λ ps. packets ++ ps) all) (h.counted most packets before)
 
   -- the end that is found for an end port's packet
   pub end_there : (ends : List (Option End)) (n : ℕ) (e : EndPort) (end : Option End) → AreBrought cells held line.lid ends → n < length (end_ports cells)
@@ -175,13 +175,13 @@ module _ (cells : Cells) (held : HeldPlan) (line : HeldLid) where
 -- line by line --------------------------------------------------------------------------
 
 -- those of the first lines
-pub record AreSurveyed (cells : Cells) (held : HeldPlan) (lines : List HeldLid) (number : ℕ) (rows : List (List ℕ)) (n : ℕ) (tally : PacketTally) : Type 0 where
+pub record AreSurveyed (most : ℕ) (cells : Cells) (held : HeldPlan) (lines : List HeldLid) (number : ℕ) (rows : List (List ℕ)) (n : ℕ) (tally : PacketTally) : Type 0 where
   pub blocks : AreBlocks held number rows
-  pub counted : IsTally (flat_map (packets_for cells held) (take n lines)) tally
+  pub counted : IsTally most (flat_map (packets_for cells held) (take n lines)) tally
 
-module _ (cells : Cells) (held : HeldPlan) (lines : List HeldLid) where
-  pub none_surveyed : (number : ℕ) (rows : List (List ℕ)) (tally : PacketTally) → AreBlocks held number rows → IsTally [] tally
-      → AreSurveyed cells held lines number rows 0 tally
+module _ (most : ℕ) (cells : Cells) (held : HeldPlan) (lines : List HeldLid) where
+  pub none_surveyed : (number : ℕ) (rows : List (List ℕ)) (tally : PacketTally) → AreBlocks held number rows → IsTally most [] tally
+      → AreSurveyed most cells held lines number rows 0 tally
   none_surveyed number rows tally b h = record { blocks = b; counted = h }
 
   lines_more : (n : ℕ) (line : HeldLid) → n < length lines → line ≡ get_or lines n line
@@ -192,30 +192,30 @@ module _ (cells : Cells) (held : HeldPlan) (lines : List HeldLid) where
       ∙ ap (λ ps. flat_map (packets_for cells held) (take n lines) ++ ps) (append-nil (packets_for cells held line))
 
   pub line_surveyed : (before number : ℕ) (old rows : List (List ℕ)) (n : ℕ) (line : HeldLid) (tally new : PacketTally)
-      → AreSurveyed cells held lines before old n tally → AreBlocks held number rows → n < length lines → line ≡ get_or lines n line
+      → AreSurveyed most cells held lines before old n tally → AreBlocks held number rows → n < length lines → line ≡ get_or lines n line
       → is_owner (end_ports cells) line.port ≡ true
-      → ((packets : List SentPacket) → IsTally packets tally → IsTally (packets ++ sent_to cells held line) new)
-      → AreSurveyed cells held lines number rows (n + 1) new
+      → ((packets : List SentPacket) → IsTally most packets tally → IsTally most (packets ++ sent_to cells held line) new)
+      → AreSurveyed most cells held lines number rows (n + 1) new
   line_surveyed before number old rows n line tally new h b less is there add = record {
     blocks = b;
     counted =
         let more = lines_more n line less is ∙ ap (λ t. flat_map (packets_for cells held) (take n lines) ++ cond t (sent_to cells held line) []) there in
-        subst (λ (ps : List SentPacket). IsTally ps new) (sym more) (add (flat_map (packets_for cells held) (take n lines)) h.counted);
+        subst (λ (ps : List SentPacket). IsTally most ps new) (sym more) (add (flat_map (packets_for cells held) (take n lines)) h.counted);
   }
 
   pub line_passed : (before number : ℕ) (old rows : List (List ℕ)) (n : ℕ) (line : HeldLid) (tally : PacketTally)
-      → AreSurveyed cells held lines before old n tally → AreBlocks held number rows → n < length lines → line ≡ get_or lines n line
-      → is_owner (end_ports cells) line.port ≡ false → AreSurveyed cells held lines number rows (n + 1) tally
+      → AreSurveyed most cells held lines before old n tally → AreBlocks held number rows → n < length lines → line ≡ get_or lines n line
+      → is_owner (end_ports cells) line.port ≡ false → AreSurveyed most cells held lines number rows (n + 1) tally
   line_passed before number old rows n line tally h b less is there = record {
     blocks = b;
     counted =
         let more =
         lines_more n line less is ∙ ap (λ t. flat_map (packets_for cells held) (take n lines) ++ cond t (sent_to cells held line) []) there
         ∙ append-nil (flat_map (packets_for cells held) (take n lines)) in
-        subst (λ (ps : List SentPacket). IsTally ps tally) (sym more) h.counted;
+        subst (λ (ps : List SentPacket). IsTally most ps tally) (sym more) h.counted;
   }
 
-  pub all_surveyed : (number : ℕ) (rows : List (List ℕ)) (n : ℕ) (tally : PacketTally) → AreSurveyed cells held lines number rows n tally
-      → lines ≡ lines_of held → length lines ≤ n → IsTally (packets_of cells held) tally
+  pub all_surveyed : (number : ℕ) (rows : List (List ℕ)) (n : ℕ) (tally : PacketTally) → AreSurveyed most cells held lines number rows n tally
+      → lines ≡ lines_of held → length lines ≤ n → IsTally most (packets_of cells held) tally
   all_surveyed number rows n tally h are past =
-      subst (λ (ls : List HeldLid). IsTally (flat_map (packets_for cells held) ls) tally) (take_all n lines past ∙ are) h.counted
+      subst (λ (ls : List HeldLid). IsTally most (flat_map (packets_for cells held) ls) tally) (take_all n lines past ∙ are) h.counted

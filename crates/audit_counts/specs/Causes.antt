@@ -15,7 +15,7 @@ is_cause NoLink NoLink = true
 is_cause Foreign Foreign = true
 is_cause _ _ = false
 
--- a packet is lost for a cause
+-- a packet with this end is lost for `cause`
 abbrev pub is_lost_end_for : Cause → Option End → Bool
 is_lost_end_for cause None = false
 is_lost_end_for cause (Some (Taken e)) = false
@@ -24,7 +24,7 @@ is_lost_end_for cause (Some (Lost g why)) = is_cause cause why
 abbrev pub is_lost_for : Cause → SentPacket → Bool
 is_lost_for cause packet = is_lost_end_for cause packet.end
 
--- how many of these packets are
+-- how many of `packets` are lost for each cause
 abbrev pub causes_of : List SentPacket → Causes
 causes_of packets = record {
   above_top = count_by (is_lost_for AboveTop) packets;
@@ -34,7 +34,7 @@ causes_of packets = record {
   foreign = count_by (is_lost_for Foreign) packets;
 }
 
--- one more by what it is lost for
+-- each count is one more if `is_for` holds of its cause
 pub record AreCausesIf (old : Causes) (is_for : Cause → Bool) (new : Causes) : Type 0 where
   pub above_top : new.above_top ≡ old.above_top + (if is_for AboveTop then 1 else 0)
   pub no_entry : new.no_entry ≡ old.no_entry + (if is_for NoEntry then 1 else 0)
@@ -42,6 +42,6 @@ pub record AreCausesIf (old : Causes) (is_for : Cause → Bool) (new : Causes) :
   pub no_link : new.no_link ≡ old.no_link + (if is_for NoLink then 1 else 0)
   pub foreign : new.foreign ≡ old.foreign + (if is_for Foreign then 1 else 0)
 
--- one more is lost for a cause
+-- one more packet is lost for the cause `why`
 abbrev pub AreCausesWith : Causes → Cause → Causes → Type 0
 AreCausesWith old why new = AreCausesIf old (λ cause. is_cause cause why) new

@@ -1,4 +1,4 @@
--- Facts that are disputed.
+-- Disputed facts.
 use Rattle.std.specs.Prelude.{ℕ, Bool, true, false, count_by}
 use Rattle.fact_join.specs.declared.cell.Cell.{Cell}
 use Rattle.fact_join.specs.declared.cell.Cell.TheVariants.{Known, Disputed}
@@ -6,7 +6,7 @@ use Rattle.reply_facts.specs.declared.key.Key.{Key}
 use Rattle.reply_facts.specs.declared.value.Value.{Value}
 use Rattle.subnet_view.specs.Reading.{Cells}
 
--- different values were told at the newest generation
+-- different values were told in the newest generation
 abbrev pub is_disputed_cell : Cell Value → Bool
 is_disputed_cell (Known generation value) = false
 is_disputed_cell (Disputed generation) = true
@@ -14,6 +14,6 @@ is_disputed_cell (Disputed generation) = true
 abbrev pub is_disputed : Key × Cell Value → Bool
 is_disputed sighting = is_disputed_cell sighting.1
 
--- how many cells are
+-- the number of disputed cells
 abbrev pub disputed : Cells → ℕ
 disputed cells = count_by is_disputed cells

@@ -1,4 +1,4 @@
--- What is counted of packets.
+-- The counts of packets.
 use Rattle.std.specs.Prelude.{◌≡◌, ℕ, true, List, filter, if◌then◌else◌}
 use Rattle.audit_counts.specs.declared.sent_packet.SentPacket.{SentPacket}
 use Rattle.audit_counts.specs.declared.packet_tally.PacketTally.{PacketTally}
@@ -7,17 +7,17 @@ use Rattle.audit_counts.specs.Packets.{arrives, goes_round, is_between, is_lost,
 use Rattle.audit_counts.specs.Pairs.{ArePairs, ArePairsIf, ArePairsWithArrived}
 use Rattle.audit_counts.specs.FirstFew.{listed, listed_of}
 
--- how many packets there are, how many of them and of those between adapter ports arrive, for what others are lost, and
--- how many of each kind do not, with the first
-pub record IsTally (packets : List SentPacket) (tally : PacketTally) : Type 0 where
+-- the tally of `packets`: how many there are and how many arrive, of all and between adapter ports; how many are lost
+-- for each cause; and how many of each kind do not arrive, with the first `most` of them
+pub record IsTally (most : ℕ) (packets : List SentPacket) (tally : PacketTally) : Type 0 where
   pub all : ArePairs packets tally.all
   pub between : ArePairs (filter is_between packets) tally.between
   pub causes : tally.causes ≡ causes_of packets
-  pub lost : tally.lost ≡ listed_of is_lost packets
-  pub misdelivered : tally.misdelivered ≡ listed_of is_misdelivered packets
-  pub round : tally.round ≡ listed_of goes_round packets
+  pub lost : tally.lost ≡ listed_of most is_lost packets
+  pub misdelivered : tally.misdelivered ≡ listed_of most is_misdelivered packets
+  pub round : tally.round ≡ listed_of most goes_round packets
 
--- told with those of its kind
+-- `packet` is added to those of its kind, if it does not arrive
 pub record IsTold (old : PacketTally) (packet : SentPacket) (new : PacketTally) : Type 0 where
   pub causes : AreCausesIf old.causes (λ cause. is_lost_for cause packet) new.causes
   pub lost : new.lost ≡ (if is_lost packet then listed old.lost packet else old.lost)
@@ -25,13 +25,13 @@ pub record IsTold (old : PacketTally) (packet : SentPacket) (new : PacketTally) 
       ≡ (if is_misdelivered packet then listed old.misdelivered packet else old.misdelivered)
   pub round : new.round ≡ (if goes_round packet then listed old.round packet else old.round)
 
--- told, and not counted
+-- `packet` is added to those of its kind, and `all` and `between` stay
 pub record IsMissed (old : PacketTally) (packet : SentPacket) (new : PacketTally) : Type 0 where
   pub told : IsTold old packet new
   pub all : new.all ≡ old.all
   pub between : new.between ≡ old.between
 
--- counted by whether it arrives, and not told
+-- `packet` is counted in `all` and `between`, and the rest stays
 pub record IsCountedWith (old : PacketTally) (packet : SentPacket) (new : PacketTally) : Type 0 where
   pub all : ArePairsIf old.all true (arrives packet) new.all
   pub between : ArePairsIf old.between (is_between packet) (arrives packet) new.between
@@ -40,13 +40,13 @@ pub record IsCountedWith (old : PacketTally) (packet : SentPacket) (new : Packet
   pub misdelivered : new.misdelivered ≡ old.misdelivered
   pub round : new.round ≡ old.round
 
--- a packet more
+-- `packet` is added to the tally
 pub record IsWith (old : PacketTally) (packet : SentPacket) (new : PacketTally) : Type 0 where
   pub told : IsTold old packet new
   pub all : ArePairsIf old.all true (arrives packet) new.all
   pub between : ArePairsIf old.between (is_between packet) (arrives packet) new.between
 
--- so many packets more, of which so many are between adapter ports, which arrive
+-- `count` packets that arrive are added, of which `adapters` are between adapter ports
 pub record IsWithArrived (old : PacketTally) (count adapters : ℕ) (new : PacketTally) : Type 0 where
   pub all : ArePairsWithArrived old.all count new.all
   pub between : ArePairsWithArrived old.between adapters new.between

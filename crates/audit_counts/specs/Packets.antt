@@ -1,4 +1,4 @@
--- The packets that end ports send to the LIDs of their component, and what becomes of them.
+-- The packets that end ports send to the LIDs of their component, and where they end.
 use Rattle.std.specs.Prelude.{Bool, true, false, ◌&&◌, not, List, [], Option, None, Some, filter, map, if◌then◌else◌}
 use Rattle.std.specs.List.{flat_map}
 use Rattle.subnet_view.specs.declared.end_port.EndPort.{EndPort}
@@ -13,28 +13,28 @@ use Rattle.held_tables.specs.Tables.{is_owner, lines_of}
 use Rattle.audit_counts.specs.declared.sent_packet.SentPacket.{SentPacket}
 use Rattle.audit_counts.specs.Sites.{are_adapters, in_one_component}
 
--- a packet for the LID of a line
+-- the packet from `e` for the LID of `line`
 abbrev pub packet_of : Cells → HeldPlan → HeldLid → EndPort → SentPacket
 packet_of cells held line e = record { line = line; source = e; end = end_for cells held line.lid e }
 
--- one from each end port of the component in which the LID's end port lies
+-- a packet for the LID of `line` from each end port of the component in which the line's end port lies
 abbrev pub sent_to : Cells → HeldPlan → HeldLid → List SentPacket
 sent_to cells held line =
     map (packet_of cells held line) (filter (λ e. in_one_component cells e line.port) (end_ports cells))
 
--- where that is an end port of the facts
+-- the packets for the LID of `line` if the line's port is an end port of the facts, else none
 abbrev pub packets_for : Cells → HeldPlan → HeldLid → List SentPacket
 packets_for cells held line = if is_owner (end_ports cells) line.port then sent_to cells held line else []
 
--- for each LID that is held
+-- the packets for all held LIDs
 abbrev pub packets_of : Cells → HeldPlan → List SentPacket
 packets_of cells held = flat_map (packets_for cells held) (lines_of held)
 
--- it is delivered at the end port that holds its LID
+-- the packet is delivered at the end port that holds its LID
 abbrev pub arrives : SentPacket → Bool
 arrives packet = is_at packet.line.port packet.end
 
--- it ends at a node that does not take it
+-- the packet ends at a node that does not take it
 abbrev pub is_lost_end : Option End → Bool
 is_lost_end None = false
 is_lost_end (Some (Taken e)) = false
@@ -43,7 +43,7 @@ is_lost_end (Some (Lost g cause)) = true
 abbrev pub is_lost : SentPacket → Bool
 is_lost packet = is_lost_end packet.end
 
--- a port takes it that does not hold its LID on this line
+-- a port takes the packet that does not hold its LID on the packet's line
 abbrev pub is_taken_end : Option End → Bool
 is_taken_end None = false
 is_taken_end (Some (Taken e)) = true
@@ -52,7 +52,7 @@ is_taken_end (Some (Lost g cause)) = false
 abbrev pub is_misdelivered : SentPacket → Bool
 is_misdelivered packet = is_taken_end packet.end && not (arrives packet)
 
--- it goes round for ever
+-- the packet loops for ever
 abbrev pub is_no_end : Option End → Bool
 is_no_end None = true
 is_no_end (Some e) = false
@@ -60,6 +60,6 @@ is_no_end (Some e) = false
 abbrev pub goes_round : SentPacket → Bool
 goes_round packet = is_no_end packet.end
 
--- an adapter port sends it to the LID of an adapter port
+-- an adapter port sends the packet to the LID of an adapter port
 abbrev pub is_between : SentPacket → Bool
 is_between packet = are_adapters packet.source packet.line.port

@@ -1,20 +1,20 @@
--- How many packets there are, and how many of them arrive.
+-- The number of packets, and how many of them arrive.
 use Rattle.std.specs.Prelude.{◌≡◌, ◌+◌, ◌&&◌, ℕ, Bool, List, count_by, length, if◌then◌else◌}
 use Rattle.audit_counts.specs.declared.sent_packet.SentPacket.{SentPacket}
 use Rattle.audit_counts.specs.declared.pairs.Pairs.{Pairs}
 use Rattle.audit_counts.specs.Packets.{arrives}
 
--- of these packets
+-- `pairs` counts `packets`
 pub record ArePairs (packets : List SentPacket) (pairs : Pairs) : Type 0 where
   pub sent : pairs.sent ≡ length packets
   pub arrived : pairs.arrived ≡ count_by arrives packets
 
--- a packet more where it is one of them, by whether it arrives
+-- one more packet if `is_one`; `arrives` is whether it arrives
 pub record ArePairsIf (old : Pairs) (is_one arrives : Bool) (new : Pairs) : Type 0 where
   pub sent : new.sent ≡ old.sent + (if is_one then 1 else 0)
   pub arrived : new.arrived ≡ old.arrived + (if is_one && arrives then 1 else 0)
 
--- so many packets more, which arrive
+-- `count` more packets, all of which arrive
 pub record ArePairsWithArrived (old : Pairs) (count : ℕ) (new : Pairs) : Type 0 where
   pub sent : new.sent ≡ old.sent + count
   pub arrived : new.arrived ≡ old.arrived + count

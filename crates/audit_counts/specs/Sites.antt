@@ -17,33 +17,33 @@ use Rattle.audit_counts.specs.declared.site.Site.{Site}
 abbrev pub switch_of : Cells → EndPort → Option ℕ
 switch_of cells e = option_map (λ h. h.0) (attachment_of cells e)
 
--- the root of that switch's component
+-- the root of the component of that switch
 abbrev pub root_at : Cells → EndPort → Option ℕ
 root_at cells e = option_and_then (root_of (graph_of cells)) (switch_of cells e)
 
 abbrev pub site_of : Cells → EndPort → Site
 site_of cells e = record { port = e; root = root_at cells e; across = across cells e.node e.port }
 
--- a site is that of a port
+-- `site` is the site of `port`
 abbrev pub is_of : EndPort → Site → Bool
 is_of port site = is_same_end port site.port
 
--- the site of a port among these; None where none is
+-- the site of `port` in `sites`; None if there is none
 abbrev pub IsSiteOf : List Site → EndPort → Option Site → Type 0
 IsSiteOf sites port None = list_any (is_of port) sites ≡ false
 IsSiteOf sites port (Some site) = Contains sites site × (is_of port site ≡ true)
 
--- two components with roots are one where their roots are
+-- both components have a root, and it is the same
 abbrev pub is_one_root : Option ℕ → Option ℕ → Bool
 is_one_root None s = false
 is_one_root (Some r) None = false
 is_one_root (Some r) (Some s) = r == s
 
--- a wire leads to the port
+-- the wire to `far` leads to `e`
 abbrev pub leads_to : Option (ℕ × ℕ) → EndPort → Bool
 leads_to far e = option_map_or (is_at e.node e.port) far false
 
--- one port, at switches of one component, or with a wire between them
+-- the sites are of one port, at switches of one component, or joined by a wire
 abbrev pub are_joined : Site → Site → Bool
 are_joined a b = is_same_end a.port b.port || is_one_root a.root b.root || leads_to a.across b.port
 
@@ -56,7 +56,7 @@ abbrev pub first_root : List Site → Option ℕ
 first_root [] = None
 first_root (site ∷ sites) = site.root
 
--- all lie in the component of that root
+-- all sites lie in the component of the first one's root
 abbrev pub are_one_component : List Site → Bool
 are_one_component sites = list_all (λ site. is_one_root site.root (first_root sites)) sites
 
@@ -64,11 +64,11 @@ are_one_component sites = list_all (λ site. is_one_root site.root (first_root s
 abbrev pub are_adapters : EndPort → EndPort → Bool
 are_adapters e x = is_adapter e && is_adapter x
 
--- and lie in one component
+-- both are end ports of adapters and lie in one component
 abbrev pub are_joined_adapters : Site → Site → Bool
 are_joined_adapters a b = are_joined a b && are_adapters a.port b.port
 
--- whether all lie in one component, and how many are end ports of adapters
+-- `census` says whether all sites lie in one component, and how many are end ports of adapters
 pub record IsCensus (sites : List Site) (census : Census) : Type 0 where
   pub whole : census.whole ≡ are_one_component sites
   pub adapters : census.adapters ≡ count_by (λ site. is_adapter site.port) sites

@@ -1,4 +1,4 @@
--- Where the tables that are held and the facts of the subnet differ, and what the facts do not tell.
+-- Differences between the held tables and the facts of the subnet, and what the facts do not tell.
 use Rattle.std.specs.Prelude.{◌≡◌, ℕ, Bool, not, ◌==◌, List, map}
 use Rattle.std.specs.List.{list_any}
 use Rattle.subnet_view.specs.declared.end_port.EndPort.{EndPort}
@@ -12,64 +12,64 @@ use Rattle.held_tables.specs.Tables.{is_owner, is_same_end, lines_of}
 use Rattle.audit_counts.specs.declared.unmatched.Unmatched.{Unmatched}
 use Rattle.audit_counts.specs.FirstFew.{Listed, all_listed, listed_of}
 
--- of some lines those with ports that are no end ports of the facts
-abbrev pub unowned_among : Cells → List HeldLid → Listed HeldLid
-unowned_among cells lines = listed_of (λ line. not (is_owner (end_ports cells) line.port)) lines
+-- the LIDs of `lines` with ports that are no end ports of the facts
+abbrev pub unowned_among : ℕ → Cells → List HeldLid → Listed HeldLid
+unowned_among most cells lines = listed_of most (λ line. not (is_owner (end_ports cells) line.port)) lines
 
 -- LIDs with ports that are no end ports of the facts
-abbrev pub unowned : Cells → HeldPlan → Listed HeldLid
-unowned cells held = unowned_among cells (lines_of held)
+abbrev pub unowned : ℕ → Cells → HeldPlan → Listed HeldLid
+unowned most cells held = unowned_among most cells (lines_of held)
 
 -- more than one port holds the LID
 abbrev pub is_twice : HeldPlan → HeldLid → Bool
 is_twice held line = is_told_twice (lines_of held) line.lid
 
--- such LIDs, with each of these ports
-abbrev pub twice : HeldPlan → Listed HeldLid
-twice held = listed_of (is_twice held) (lines_of held)
+-- the LIDs that more than one port holds, with each of these ports
+abbrev pub twice : ℕ → HeldPlan → Listed HeldLid
+twice most held = listed_of most (is_twice held) (lines_of held)
 
 -- switches with tables that are no usable switches of the facts
-abbrev pub unknown : Cells → HeldPlan → Listed ℕ
-unknown cells held = listed_of (λ g. not (is_usable cells g)) (map (λ s. s.guid) held.switches)
+abbrev pub unknown : ℕ → Cells → HeldPlan → Listed ℕ
+unknown most cells held = listed_of most (λ g. not (is_usable cells g)) (map (λ s. s.guid) held.switches)
 
 -- the switch has tables
 abbrev pub is_held : HeldPlan → ℕ → Bool
 is_held held g = list_any (λ s. s.guid == g) held.switches
 
--- those of some switches that have none
-abbrev pub tableless_among : List ℕ → HeldPlan → Listed ℕ
-tableless_among guids held = listed_of (λ g. not (is_held held g)) guids
+-- the switches of `guids` without tables
+abbrev pub tableless_among : ℕ → List ℕ → HeldPlan → Listed ℕ
+tableless_among most guids held = listed_of most (λ g. not (is_held held g)) guids
 
 -- usable switches without tables
-abbrev pub tableless : Cells → HeldPlan → Listed ℕ
-tableless cells held = tableless_among (switches cells) held
+abbrev pub tableless : ℕ → Cells → HeldPlan → Listed ℕ
+tableless most cells held = tableless_among most (switches cells) held
 
 -- a line gives the end port a LID
 abbrev pub has_lid : HeldPlan → EndPort → Bool
 has_lid held e = list_any (λ line. is_same_end e line.port) held.lids
 
--- those of some end ports that hold none
-abbrev pub lidless_among : List EndPort → HeldPlan → Listed EndPort
-lidless_among ports held = listed_of (λ e. not (has_lid held e)) ports
+-- the end ports of `ports` without a LID
+abbrev pub lidless_among : ℕ → List EndPort → HeldPlan → Listed EndPort
+lidless_among most ports held = listed_of most (λ e. not (has_lid held e)) ports
 
 -- end ports of the facts without a LID
-abbrev pub lidless : Cells → HeldPlan → Listed EndPort
-lidless cells held = lidless_among (end_ports cells) held
+abbrev pub lidless : ℕ → Cells → HeldPlan → Listed EndPort
+lidless most cells held = lidless_among most (end_ports cells) held
 
--- nodes that the facts name, and of which they do not tell what they are
-abbrev pub unusable : Cells → Listed ℕ
-unusable cells = all_listed (unusable_nodes cells)
+-- nodes that the facts name without telling what they are
+abbrev pub unusable : ℕ → Cells → Listed ℕ
+unusable most cells = all_listed most (unusable_nodes cells)
 
--- ports that the facts name, and of which they do not tell where they lead
-abbrev pub unjoined : Cells → Listed EndPort
-unjoined cells = all_listed (unjoined_ports cells)
+-- ports that the facts name without telling where they lead
+abbrev pub unjoined : ℕ → Cells → Listed EndPort
+unjoined most cells = all_listed most (unjoined_ports cells)
 
--- those of each kind
-pub record IsUnmatched (cells : Cells) (held : HeldPlan) (found : Unmatched) : Type 0 where
-  pub unowned_are : found.unowned ≡ unowned cells held
-  pub twice_are : found.twice ≡ twice held
-  pub unknown_are : found.unknown ≡ unknown cells held
-  pub tableless_are : found.tableless ≡ tableless cells held
-  pub unusable_are : found.unusable ≡ unusable cells
-  pub lidless_are : found.lidless ≡ lidless cells held
-  pub unjoined_are : found.unjoined ≡ unjoined cells
+-- `found` has all kinds, with the first `most` elements of each
+pub record IsUnmatched (most : ℕ) (cells : Cells) (held : HeldPlan) (found : Unmatched) : Type 0 where
+  pub unowned_are : found.unowned ≡ unowned most cells held
+  pub twice_are : found.twice ≡ twice most held
+  pub unknown_are : found.unknown ≡ unknown most cells held
+  pub tableless_are : found.tableless ≡ tableless most cells held
+  pub unusable_are : found.unusable ≡ unusable most cells
+  pub lidless_are : found.lidless ≡ lidless most cells held
+  pub unjoined_are : found.unjoined ≡ unjoined most cells

@@ -1,5 +1,5 @@
-//! The packets for all LIDs that are held.
-ghost use Rattle.std.specs.Prelude.{◌≡◌, ◌/◌, ◌++◌, [], true, Contains, IfOk, List, OnOk, count_by, map};
+//! The counts of the packets for all held LIDs.
+ghost use Rattle.std.specs.Prelude.{◌≡◌, ◌/◌, ◌++◌, ℕ, [], true, Contains, IfOk, List, OnOk, count_by, map};
 ghost use Rattle.fact_store.specs.View.{cells_of};
 ghost use Rattle.subnet_view.specs.EndPorts.{end_ports};
 ghost use Rattle.audit.specs.Deliveries.{AreDeliveries};
@@ -17,32 +17,38 @@ use audit::{Blocks, Deliveries, Network};
 use plan_file::HeldLid;
 use std::alloc::{AllocError, Global};
 
-/// What is counted of packets, and of which lines all of them are delivered.
+/// The counts of packets, and the lines whose packets are all delivered.
 #[derive(Drop)]
 pub struct PacketSurvey {
     pub tally: PacketTally,
-    /// By the lines' indices: whether it is told of one that all packets for its LID are delivered at its port.
+    /// For each line, by index: whether it is told that all packets for its LID are delivered at its port.
     pub told: Vec<bool>,
 }
 
-/// Counts the packets that end ports send to the LIDs of their components. Takes what `Network::blocks` and
-/// `Network::deliveries` do for each 64 LIDs; and for each LID whose packets are not seen to arrive by these what
-/// `Network::ends` does, and a step for each end port where they do not.
-pub fn survey(alloc: Global, network: &Network, sites: &[Site]) -> Result<PacketSurvey, AllocError>
+/// Counts the packets that end ports send to the LIDs of their components, and keeps the first `most` of each kind that
+/// do not arrive. Takes what `Network::blocks` and `Network::deliveries` do for each 64 LIDs. For each LID whose packets
+/// are not seen to arrive by these it takes what `Network::ends` does, and a step for each end port if they do not
+/// arrive.
+pub fn survey(
+    alloc: Global,
+    most: usize,
+    network: &Network,
+    sites: &[Site],
+) -> Result<PacketSurvey, AllocError>
     requires { sites.now ≡ map (site_of (cells_of network.now.facts)) (end_ports (cells_of network.now.facts)) }
     ensures tally { IfOk result (λ survey.
-        IsTally (packets_of (cells_of network.now.facts) network.now.held) survey.tally) }
+        IsTally most (packets_of (cells_of network.now.facts) network.now.held) survey.tally) }
     ensures told { IfOk result (λ survey.
         AreTold (cells_of network.now.facts) network.now.held survey.told.items) }
 {
-    let mut tally = PacketTally::new(alloc);
+    let mut tally = PacketTally::new(alloc, most);
     let mut told = Vec::new(alloc);
     add_lines(alloc, &mut tally, &mut told, network, sites)?;
     Ok(PacketSurvey { tally, told })
 }
 
-/// Counts those for the LIDs of all lines, where none is counted yet, and tells of each line whether all packets for
-/// its LID are delivered at its port.
+/// Adds the packets for the LIDs of all lines to an empty tally. Appends to `told`, for each line, whether all packets
+/// for its LID are delivered at its port.
 fn add_lines(
     alloc: Global,
     tally: &mut PacketTally,
@@ -50,12 +56,12 @@ fn add_lines(
     network: &Network,
     sites: &[Site],
 ) -> Result<(), AllocError>
-    requires tally { IsTally [] tally.old }
     requires told { told.old.items ≡ [] }
     requires sites { sites.now
         ≡ map (site_of (cells_of network.now.facts)) (end_ports (cells_of network.now.facts)) }
     ensures tally { OnOk result
-        (IsTally (packets_of (cells_of network.now.facts) network.now.held) tally.new) }
+        ((most : ℕ) → IsTally most [] tally.old
+        → IsTally most (packets_of (cells_of network.now.facts) network.now.held) tally.new) }
     ensures told { OnOk result (AreTold (cells_of network.now.facts) network.now.held told.new.items) }
 {
     let mut index = 0;
@@ -85,7 +91,7 @@ fn add_lines(
     Ok(())
 }
 
-/// Counts those for the LID of a line; answers whether all are seen to be delivered at its port.
+/// Adds the packets for the LID of `line` to the tally. Returns whether all are seen to be delivered at its port.
 fn add_packets(
     alloc: Global,
     tally: &mut PacketTally,
@@ -104,8 +110,8 @@ fn add_packets(
     requires census { IsCensus sites.now census }
     requires listed { Contains sites.now owner.now }
     requires owner { owner.now ≡ site_of (cells_of network.now.facts) line.now.port }
-    ensures counted { OnOk result ((packets : List Sent) → IsTally packets tally.old
-        → IsTally (packets ++ sent_to (cells_of network.now.facts) network.now.held line.now) tally.new) }
+    ensures counted { OnOk result ((most : ℕ) (packets : List Sent) → IsTally most packets tally.old
+        → IsTally most (packets ++ sent_to (cells_of network.now.facts) network.now.held line.now) tally.new) }
     ensures told { IfOk result (λ all. all ≡ true → AllComeTo (cells_of network.now.facts) network.now.held line.now) }
 {
     if network.all_arrive(deliveries, line) {
@@ -132,7 +138,7 @@ fn add_packets(
     Ok(false)
 }
 
-/// Counts those that the end ports of a component send to one of them, where all arrive.
+/// Adds the packets that the end ports of a component send to `owner`, given that all arrive.
 fn add_arrived(
     tally: &mut PacketTally,
     sites: &[Site],

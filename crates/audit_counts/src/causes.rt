@@ -3,7 +3,7 @@ ghost use Rattle.std.specs.Prelude.{◌≡◌, ◌+◌, [], OnOk};
 use audit::Cause;
 use std::alloc::AllocError;
 
-/// How many packets are lost for each cause.
+/// The number of packets that are lost for each cause.
 #[derive(Clone, Copy, Debug, PartialEq, Eq)]
 pub struct Causes {
     pub above_top: u64,
@@ -16,7 +16,7 @@ pub struct Causes {
 impl Causes {
     ghost use Rattle.audit_counts.specs.Causes.{AreCausesWith, causes_of};
 
-    /// None is lost.
+    /// Returns the causes of no packets.
     pub(crate) fn new() -> Self
         ensures { result ≡ causes_of [] }
     {
@@ -29,7 +29,7 @@ impl Causes {
         }
     }
 
-    /// One more is lost for a cause.
+    /// Adds one packet that is lost for `cause`.
     pub(crate) fn add(&mut self, cause: Cause) -> Result<(), AllocError>
         ensures { OnOk result (AreCausesWith self.old cause self.new) }
     {
@@ -43,7 +43,7 @@ impl Causes {
     }
 }
 
-/// One more.
+/// Adds one to `count`. Returns an error if it does not fit.
 fn add_one(count: &mut u64) -> Result<(), AllocError>
     ensures { OnOk result (count.new ≡ count.old + 1) }
 {

@@ -6,7 +6,7 @@ ghost use Rattle.audit_counts.specs.Disputed.{disputed, is_disputed};
 use fact_join::Cell;
 use fact_store::{Sighting, Store};
 
-/// How many facts are disputed. Walks the cells: all of them count but those that have one value.
+/// Returns how many facts are disputed. Walks all cells; each one without a single value is disputed.
 pub fn disputed(store: &Store) -> usize
     ensures { result ≡ disputed (cells_of store.now) }
 {
@@ -19,7 +19,7 @@ pub fn disputed(store: &Store) -> usize
     count
 }
 
-/// Whether different values were told at the newest generation.
+/// Returns whether different values were told in the newest generation.
 fn is_disputed(sighting: &Sighting) -> bool
     ensures { result ≡ is_disputed sighting.now }
 {

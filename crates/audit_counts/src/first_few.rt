@@ -1,16 +1,15 @@
-//! The first few of a kind, which are told, and how many there are.
+//! The first items of a kind, which are told, and their number.
 ghost use Rattle.std.specs.Prelude.{◌≡◌, [], IfOk, OnOk};
 ghost use Rattle.audit_counts.specs.FirstFew.{all_listed, listed, more_of, first_few};
 
 use std::alloc::{AllocError, Global};
 use std::marker::Model;
 
-/// No more of a kind are told.
-const MOST_TOLD: usize = 20;
-
-/// How many there are of a kind, and the first of them, which are told.
+/// The number of items of a kind, and the first of them, which are told.
 #[derive(Drop)]
 pub struct FirstFew<T> {
+    /// The most elements that are kept.
+    most: usize,
     first: Vec<T>,
     count: u64,
 }
@@ -20,43 +19,44 @@ impl<T> Model for FirstFew<T> {
 
     ghost Value = { Listed T };
 
-    ghost view = { λ a. record { first = a.first.items; count = a.count } };
+    ghost view = { λ a. record { most = a.most; first = a.first.items; count = a.count } };
 }
 
 impl<T: Drop> FirstFew<T> {
-    /// None of them.
-    pub(crate) fn new(alloc: Global) -> Self
-        ensures { result ≡ record { first = []; count = 0 } }
+    /// Creates an empty list that keeps the first `most` elements.
+    pub(crate) fn new(alloc: Global, most: usize) -> Self
+        ensures { result ≡ record { most = most; first = []; count = 0 } }
     {
         FirstFew {
+            most,
             first: Vec::new(alloc),
             count: 0,
         }
     }
 
-    /// One more.
+    /// Adds an item.
     pub(crate) fn add(&mut self, item: T) -> Result<(), AllocError>
         ensures { OnOk result (self.new ≡ listed self.old item) }
     {
         self.count = self.count.checked_add(1).ok_or(AllocError)?;
-        note(&mut self.first, item)
+        note(&mut self.first, self.most, item)
     }
 
-    /// The first of them.
+    /// Returns the first items, which are told.
     pub fn first(&self) -> &[T]
         ensures { result.now ≡ self.now.first }
     {
         &self.first
     }
 
-    /// How many there are.
+    /// Returns the number of items.
     pub fn count(&self) -> u64
         ensures { result ≡ self.now.count }
     {
         self.count
     }
 
-    /// How many there are beyond those that are told.
+    /// Returns the number of items beyond those that are told.
     pub fn more(&self) -> u64
         ensures { result ≡ more_of self.now }
     {
@@ -65,22 +65,22 @@ impl<T: Drop> FirstFew<T> {
 }
 
 impl<T: Copy + Drop> FirstFew<T> {
-    /// All of them.
-    pub(crate) fn of(alloc: Global, items: &[T]) -> Result<Self, AllocError>
-        ensures { IfOk result (λ few. few ≡ all_listed items.now) }
+    /// Returns the list of all `items`.
+    pub(crate) fn of(alloc: Global, most: usize, items: &[T]) -> Result<Self, AllocError>
+        ensures { IfOk result (λ few. few ≡ all_listed most items.now) }
     {
-        let told = items.len().min(MOST_TOLD);
+        let told = items.len().min(most);
         let first = Vec::from_slice(alloc, &items[..told])?;
         let count = items.len() as u64;
-        Ok(FirstFew { first, count })
+        Ok(FirstFew { most, first, count })
     }
 }
 
-/// Puts one behind those that are told, as long as these are few.
-pub(crate) fn note<T: Drop>(told: &mut Vec<T>, item: T) -> Result<(), AllocError>
-    ensures { OnOk result (told.new.items ≡ first_few told.old.items item) }
+/// Appends `item` to `told` if that has fewer than `most` elements.
+pub(crate) fn note<T: Drop>(told: &mut Vec<T>, most: usize, item: T) -> Result<(), AllocError>
+    ensures { OnOk result (told.new.items ≡ first_few most told.old.items item) }
 {
-    if told.len() < MOST_TOLD {
+    if told.len() < most {
         told.push(item)?;
     }
     Ok(())

@@ -1,5 +1,4 @@
-//! What is counted of the packets of a subnet, by component, and where the tables that its switches hold and its facts
-//! differ.
+//! Counts of a subnet's packets, by component, and the differences between the facts and the tables that switches hold.
 #![tactic(auto)]
 
 mod all_packets;

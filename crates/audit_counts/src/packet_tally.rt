@@ -8,11 +8,11 @@ use crate::sent_packet::SentPacket;
 use audit::End;
 use std::alloc::{AllocError, Global};
 
-/// How many packets there are and how many arrive, and of the others how many there are of each kind, with the first.
+/// The number of packets, how many arrive, and of the others the number and the first of each kind.
 #[derive(Drop)]
 pub struct PacketTally {
     pub all: Pairs,
-    /// Those that adapter ports send to the LIDs of adapter ports.
+    /// The packets that adapter ports send to the LIDs of adapter ports.
     pub between: Pairs,
     pub causes: Causes,
     pub lost: FirstFew<SentPacket>,
@@ -24,21 +24,21 @@ impl PacketTally {
     ghost use Rattle.audit_counts.specs.Packets.{arrives};
     ghost use Rattle.audit_counts.specs.PacketTally.{IsCountedWith, IsMissed, IsTally, IsWith, IsWithArrived};
 
-    /// No packet.
-    pub(crate) fn new(alloc: Global) -> Self
-        ensures { IsTally [] result }
+    /// Returns the tally of no packets, which keeps the first `most` of each kind.
+    pub(crate) fn new(alloc: Global, most: usize) -> Self
+        ensures { IsTally most [] result }
     {
         PacketTally {
             all: Pairs::new(),
             between: Pairs::new(),
             causes: Causes::new(),
-            lost: FirstFew::new(alloc),
-            misdelivered: FirstFew::new(alloc),
-            round: FirstFew::new(alloc),
+            lost: FirstFew::new(alloc, most),
+            misdelivered: FirstFew::new(alloc, most),
+            round: FirstFew::new(alloc, most),
         }
     }
 
-    /// A packet more.
+    /// Adds a packet.
     pub(crate) fn add(&mut self, packet: SentPacket) -> Result<(), AllocError>
         ensures { OnOk result (IsWith self.old packet self.new) }
     {
@@ -49,7 +49,7 @@ impl PacketTally {
         self.miss(packet)
     }
 
-    /// So many packets more, of which so many are between adapter ports, which arrive.
+    /// Adds `count` packets that arrive, of which `between` are between adapter ports.
     pub(crate) fn add_arrived(&mut self, count: u64, between: u64) -> Result<(), AllocError>
         ensures { OnOk result (IsWithArrived self.old count between self.new) }
     {
@@ -57,7 +57,7 @@ impl PacketTally {
         self.between.add_arrived(between)
     }
 
-    /// Counts a packet by whether it arrives.
+    /// Counts a packet, and whether it arrives.
     fn count(&mut self, packet: &SentPacket) -> Result<(), AllocError>
         ensures { OnOk result (IsCountedWith self.old packet.now self.new) }
     {
@@ -66,7 +66,7 @@ impl PacketTally {
         self.between.add(packet.is_between(), arrives)
     }
 
-    /// Tells a packet that does not arrive.
+    /// Adds a packet that does not arrive to those of its kind.
     fn miss(&mut self, packet: SentPacket) -> Result<(), AllocError>
         requires { arrives packet ≡ false }
         ensures { OnOk result (IsMissed self.old packet self.new) }

@@ -2,7 +2,7 @@ ghost use Rattle.std.specs.Prelude.{◌≤◌, [], OnOk};
 
 use std::alloc::AllocError;
 
-/// How many packets there are, and how many of them arrive.
+/// The number of packets, and how many of them arrive.
 #[derive(Clone, Copy, Debug, PartialEq, Eq)]
 pub struct Pairs {
     pub sent: u64,
@@ -13,7 +13,7 @@ pub struct Pairs {
 impl Pairs {
     ghost use Rattle.audit_counts.specs.Pairs.{ArePairs, ArePairsIf, ArePairsWithArrived};
 
-    /// No packet.
+    /// Returns the count of no packets.
     pub(crate) fn new() -> Self
         ensures { ArePairs [] result }
     {
@@ -23,7 +23,7 @@ impl Pairs {
         }
     }
 
-    /// A packet more where it is one of them, by whether it arrives.
+    /// Counts a packet if `is_one` is true; `arrives` is whether it arrives.
     pub(crate) fn add(&mut self, is_one: bool, arrives: bool) -> Result<(), AllocError>
         ensures { OnOk result (ArePairsIf self.old is_one arrives self.new) }
     {
@@ -37,7 +37,7 @@ impl Pairs {
         Ok(())
     }
 
-    /// So many packets more, which arrive.
+    /// Adds `count` packets that arrive.
     pub(crate) fn add_arrived(&mut self, count: u64) -> Result<(), AllocError>
         ensures { OnOk result (ArePairsWithArrived self.old count self.new) }
     {

@@ -12,14 +12,14 @@ pub struct SentPacket {
     pub line: HeldLid,
     /// The end port that sends it.
     pub source: EndPort,
-    /// Where it ends; None is that it goes round for ever.
+    /// Where it ends; `None` if it loops for ever.
     pub end: Option<End>,
 }
 
 impl SentPacket {
     ghost use Rattle.audit_counts.specs.Packets.{arrives, is_between};
 
-    /// Whether it is delivered at the end port that holds its LID.
+    /// Returns whether the packet is delivered at the end port that holds its LID.
     pub fn arrives(&self) -> bool
         ensures { result ≡ arrives self.now }
     {
@@ -29,7 +29,7 @@ impl SentPacket {
         }
     }
 
-    /// Whether an adapter port sends it to the LID of an adapter port.
+    /// Returns whether an adapter port sends the packet to the LID of an adapter port.
     pub fn is_between(&self) -> bool
         ensures { result ≡ is_between self.now }
     {

@@ -29,7 +29,7 @@ pub struct Site {
 }
 
 impl Site {
-    /// Whether the two end ports lie in one component.
+    /// Returns whether the two end ports lie in one component.
     pub fn is_joined_to(&self, other: &Site) -> bool
         ensures { result ≡ are_joined self.now other.now }
     {
@@ -39,7 +39,7 @@ impl Site {
     }
 }
 
-/// Whether two components that have roots are one.
+/// Returns whether both components have a root, and it is the same.
 fn is_one_root(one: Option<Guid>, other: Option<Guid>) -> bool
     ensures { result ≡ is_one_root one other }
 {
@@ -49,7 +49,7 @@ fn is_one_root(one: Option<Guid>, other: Option<Guid>) -> bool
     }
 }
 
-/// Whether a wire leads to the port.
+/// Returns whether the wire to `far` leads to `port`.
 fn leads_to(far: Option<(Guid, PortNum)>, port: &EndPort) -> bool
     ensures { result ≡ leads_to far port.now }
 {
@@ -59,7 +59,7 @@ fn leads_to(far: Option<(Guid, PortNum)>, port: &EndPort) -> bool
     }
 }
 
-/// Whether all end ports lie in the component of a root.
+/// Returns whether all end ports lie in one component that has a root.
 pub(crate) fn are_one_component(sites: &[Site]) -> bool
     ensures { result ≡ are_one_component sites.now }
 {
@@ -67,7 +67,7 @@ pub(crate) fn are_one_component(sites: &[Site]) -> bool
     sites.iter().all(|site| is_one_root(site.root, root))
 }
 
-/// The root of the first end port's component.
+/// Returns the root of the first end port's component.
 fn first_root(sites: &[Site]) -> Option<Guid>
     ensures { result ≡ first_root sites.now }
 {
@@ -77,16 +77,16 @@ fn first_root(sites: &[Site]) -> Option<Guid>
     }
 }
 
-/// What is seen of all end ports at once.
+/// Properties of all end ports together.
 #[derive(Clone, Copy, Debug, PartialEq, Eq)]
 pub(crate) struct Census {
-    /// Whether they lie in one component.
+    /// Whether all end ports lie in one component.
     pub whole: bool,
-    /// How many are end ports of adapters.
+    /// The number of end ports of adapters.
     pub adapters: usize,
 }
 
-/// The census of end ports. Takes a step for each.
+/// Returns the census of the end ports. Takes a step for each end port.
 pub(crate) fn census_of(sites: &[Site]) -> Census
     ensures { IsCensus sites.now result }
 {
@@ -95,14 +95,15 @@ pub(crate) fn census_of(sites: &[Site]) -> Census
     Census { whole, adapters }
 }
 
-/// How many are end ports of adapters.
+/// Returns the number of end ports of adapters.
 fn adapter_count(sites: &[Site]) -> usize
     ensures { result ≡ count_by (λ site. is_adapter site.port) sites.now }
 {
     sites.iter().filter(|site| is_adapter(&site.port)).count()
 }
 
-/// How many end ports lie in the component of this one. Takes a step where all lie in one, or else one for each.
+/// Returns the number of end ports in the component of `owner`. Takes one step if all lie in one component, and else
+/// one for each.
 pub(crate) fn joined_count(sites: &[Site], owner: &Site, census: Census) -> usize
     requires census { IsCensus sites.now census }
     requires listed { Contains sites.now owner.now }
@@ -114,8 +115,8 @@ pub(crate) fn joined_count(sites: &[Site], owner: &Site, census: Census) -> usiz
     sites.iter().filter(|site| site.is_joined_to(owner)).count()
 }
 
-/// Where this is an adapter's, how many adapter ports lie in its component; none where it is a switch's. Takes a step
-/// or two where all lie in one component, or else one for each.
+/// Returns the number of adapter ports in the component of `owner` if that is an adapter's port, and else 0. Takes a
+/// step or two if all lie in one component, and else one for each.
 pub(crate) fn joined_adapters(sites: &[Site], owner: &Site, census: Census) -> usize
     requires census { IsCensus sites.now census }
     requires listed { Contains sites.now owner.now }
@@ -133,22 +134,22 @@ pub(crate) fn joined_adapters(sites: &[Site], owner: &Site, census: Census) -> u
         .count()
 }
 
-/// Whether two adapter ports lie in one component.
+/// Returns whether both are end ports of adapters and lie in one component.
 fn are_joined_adapters(site: &Site, owner: &Site) -> bool
     ensures { result ≡ are_joined_adapters site.now owner.now }
 {
     site.is_joined_to(owner) && are_adapters(&site.port, &owner.port)
 }
 
-/// Whether both are end ports of adapters.
+/// Returns whether both are end ports of adapters.
 pub(crate) fn are_adapters(port: &EndPort, other: &EndPort) -> bool
     ensures { result ≡ are_adapters port.now other.now }
 {
     is_adapter(port) && is_adapter(other)
 }
 
-/// The end ports of the view, in their order. Takes what a graph of the switches takes, and some seven searches for
-/// each.
+/// Returns the sites of the view's end ports, in order. Costs one graph of the switches, and some seven searches for
+/// each end port.
 pub fn sites(alloc: Global, store: &Store) -> Result<Vec<Site>, Refused>
     ensures { IfOk result (λ sites. sites.items
         ≡ map (site_of (cells_of store.now)) (end_ports (cells_of store.now))) }
@@ -157,7 +158,7 @@ pub fn sites(alloc: Global, store: &Store) -> Result<Vec<Site>, Refused>
     sites_by_wires(alloc, &wires)
 }
 
-/// The same by the wires.
+/// Returns the sites of the view's end ports, from its wires.
 fn sites_by_wires(alloc: Global, wires: &Wires) -> Result<Vec<Site>, Refused>
     ensures { IfOk result (λ sites. sites.items
         ≡ map (site_of (cells_of wires.now)) (end_ports (cells_of wires.now))) }
@@ -166,7 +167,7 @@ fn sites_by_wires(alloc: Global, wires: &Wires) -> Result<Vec<Site>, Refused>
     sites_by_graph(alloc, wires, &graph)
 }
 
-/// The same by the wires and the graph of the switches.
+/// Returns the sites of the view's end ports, from its wires and the graph of its switches.
 fn sites_by_graph(alloc: Global, wires: &Wires, graph: &SwitchGraph) -> Result<Vec<Site>, Refused>
     requires { graph.now ≡ graph_of (cells_of wires.now) }
     ensures { IfOk result (λ sites. sites.items
@@ -177,7 +178,7 @@ fn sites_by_graph(alloc: Global, wires: &Wires, graph: &SwitchGraph) -> Result<V
     Ok(sites_of(alloc, wires, graph, &roots, &ports)?)
 }
 
-/// Where each of these end ports lies.
+/// Returns the sites of `ports`.
 fn sites_of(
     alloc: Global,
     wires: &Wires,
@@ -196,7 +197,7 @@ fn sites_of(
     Ok(sites)
 }
 
-/// Where an end port lies.
+/// Returns the site of `port`.
 fn site_of(wires: &Wires, graph: &SwitchGraph, roots: &[Option<Guid>], port: &EndPort) -> Site
     requires graph { graph.now ≡ graph_of (cells_of wires.now) }
     requires roots { roots.now ≡ map (root_of graph.now) (guids_of graph.now) }
@@ -211,7 +212,7 @@ fn site_of(wires: &Wires, graph: &SwitchGraph, roots: &[Option<Guid>], port: &En
     }
 }
 
-/// The root of an end port's component.
+/// Returns the root of the component in which `port` lies.
 fn root_at(
     wires: &Wires,
     graph: &SwitchGraph,
@@ -227,7 +228,7 @@ fn root_at(
     roots[index]
 }
 
-/// The usable switch at which an end port lies.
+/// Returns the usable switch at which `port` lies.
 fn switch_of(wires: &Wires, port: &EndPort) -> Option<Guid>
     ensures { result ≡ switch_of (cells_of wires.now) port.now }
 {
@@ -238,8 +239,8 @@ fn switch_of(wires: &Wires, port: &EndPort) -> Option<Guid>
     Some(switch)
 }
 
-/// The index of the site of a port, and how many sites there are where none is. Takes a step or two where that is the
-/// index given, or the next one, and else a walk.
+/// Returns the index of the site of `port`, or `sites.len()` if there is none. Takes a step or two if that is `index`
+/// or the next one, and else a walk.
 pub(crate) fn index_of(sites: &[Site], index: usize, port: &EndPort) -> usize
     ensures { IsSiteOf sites.now port.now (slice_get sites.now result) }
 {
@@ -253,7 +254,7 @@ pub(crate) fn index_of(sites: &[Site], index: usize, port: &EndPort) -> usize
     first_at(sites, port)
 }
 
-/// Whether the site at an index is that of a port.
+/// Returns whether the site at `index` is that of `port`.
 fn is_site_at(sites: &[Site], index: usize, port: &EndPort) -> bool
     ensures { result ≡ option_map_or (is_of port.now) (slice_get sites.now index) false }
 {
@@ -263,14 +264,14 @@ fn is_site_at(sites: &[Site], index: usize, port: &EndPort) -> bool
     }
 }
 
-/// The site at an index.
+/// Returns the site at `index`.
 pub(crate) fn site_in(sites: &[Site], index: usize) -> Option<Site>
     ensures { result ≡ slice_get sites.now index }
 {
     sites.get(index).copied()
 }
 
-/// The index of the first site of a port, and how many sites there are where none is.
+/// Returns the index of the first site of `port`, or `sites.len()` if there is none.
 fn first_at(sites: &[Site], port: &EndPort) -> usize
     ensures { IsSiteOf sites.now port.now (slice_get sites.now result) }
 {
@@ -280,7 +281,7 @@ fn first_at(sites: &[Site], port: &EndPort) -> usize
     }
 }
 
-/// The index of the first site of a port.
+/// Returns the index of the first site of `port`.
 fn position_of(sites: &[Site], port: &EndPort) -> Option<usize>
     ensures { result ≡ position (is_of port.now) sites.now }
 {

@@ -1,4 +1,4 @@
-//! Where the tables that are held and the facts of the subnet differ, and what the facts do not tell.
+//! Differences between the held tables and the facts of the subnet, and what the facts do not tell.
 ghost use Rattle.std.specs.Prelude.{◌≡◌, IfOk};
 ghost use Rattle.fact_store.specs.View.{cells_of};
 ghost use Rattle.audit_counts.specs.Unmatched.{IsUnmatched, has_lid, is_held, lidless, lidless_among, tableless};
@@ -14,7 +14,7 @@ use smp_bytes::Guid;
 use std::alloc::{AllocError, Global};
 use subnet_view::{EndPort, end_ports, is_end_port, is_usable, switches};
 
-/// Where tables and facts differ, and what the facts do not tell.
+/// Differences between tables and facts, and what the facts do not tell.
 #[derive(Drop)]
 pub struct Unmatched {
     /// LIDs with ports that are no end ports of the facts.
@@ -25,25 +25,25 @@ pub struct Unmatched {
     pub unknown: FirstFew<Guid>,
     /// Usable switches without tables.
     pub tableless: FirstFew<Guid>,
-    /// Nodes that the facts name and whose type is not known, and switches whose table room is not.
+    /// Nodes that the facts name and whose type is unknown, and switches whose table room is unknown.
     pub unusable: FirstFew<Guid>,
     /// End ports of the facts without a LID.
     pub lidless: FirstFew<EndPort>,
-    /// Ports that the facts name, and of which it is not known where they lead.
+    /// Ports that the facts name and of which it is unknown where they lead.
     pub unjoined: FirstFew<EndPort>,
 }
 
 impl Unmatched {
-    /// Returns those of each kind. Takes two searches for each LID that is held; a walk over the switches that are held
-    /// for each switch; one over the LIDs for each end port; and what
+    /// Compares tables and facts, and keeps the first `most` differences of each kind. Takes two searches for each LID
+    /// that is held; a walk over the held switches for each switch; one over the LIDs for each end port; and what
     /// `unusable_nodes` and `unjoined_ports` take.
-    pub fn of(alloc: Global, network: &Network) -> Result<Self, Refused>
-        ensures { IfOk result (IsUnmatched (cells_of network.now.facts) network.now.held) }
+    pub fn of(alloc: Global, most: usize, network: &Network) -> Result<Self, Refused>
+        ensures { IfOk result (IsUnmatched most (cells_of network.now.facts) network.now.held) }
     {
-        let (unowned, twice) = unowned_and_twice(alloc, network)?;
-        let (unknown, tableless) = unknown_and_tableless(alloc, network)?;
-        let lidless = lidless_of(alloc, network)?;
-        let (unusable, unjoined) = unusable_and_unjoined(alloc, network.store())?;
+        let (unowned, twice) = unowned_and_twice(alloc, most, network)?;
+        let (unknown, tableless) = unknown_and_tableless(alloc, most, network)?;
+        let lidless = lidless_of(alloc, most, network)?;
+        let (unusable, unjoined) = unusable_and_unjoined(alloc, most, network.store())?;
         Ok(Unmatched {
             unowned,
             twice,
@@ -56,82 +56,91 @@ impl Unmatched {
     }
 }
 
-/// LIDs with ports that are no end ports of the facts, and LIDs that more than one port holds.
+/// Returns the LIDs with ports that are no end ports of the facts, and the LIDs that more than one port holds.
 fn unowned_and_twice(
     alloc: Global,
+    most: usize,
     network: &Network,
 ) -> Result<(FirstFew<HeldLid>, FirstFew<HeldLid>), AllocError>
-    ensures unowned { IfOk result (λ both. both.0 ≡ unowned (cells_of network.now.facts) network.now.held) }
-    ensures twice { IfOk result (λ both. both.1 ≡ twice network.now.held) }
+    ensures unowned { IfOk result (λ both. both.0 ≡ unowned most (cells_of network.now.facts) network.now.held) }
+    ensures twice { IfOk result (λ both. both.1 ≡ twice most network.now.held) }
 {
-    let unowned = unowned(alloc, network.lids(), network.store())?;
-    let twice = twice(alloc, network)?;
+    let unowned = unowned(alloc, most, network.lids(), network.store())?;
+    let twice = twice(alloc, most, network)?;
     Ok((unowned, twice))
 }
 
-/// Switches with tables that are no usable switches of the facts, and usable switches without tables.
+/// Returns the switches with tables that are no usable switches of the facts, and the usable switches without tables.
 fn unknown_and_tableless(
     alloc: Global,
+    most: usize,
     network: &Network,
 ) -> Result<(FirstFew<Guid>, FirstFew<Guid>), Refused>
-    ensures unknown { IfOk result (λ both. both.0 ≡ unknown (cells_of network.now.facts) network.now.held) }
-    ensures tableless { IfOk result (λ both. both.1 ≡ tableless (cells_of network.now.facts) network.now.held) }
+    ensures unknown { IfOk result (λ both. both.0 ≡ unknown most (cells_of network.now.facts) network.now.held) }
+    ensures tableless { IfOk result (λ both. both.1 ≡ tableless most (cells_of network.now.facts) network.now.held) }
 {
-    let unknown = unknown(alloc, network.held(), network.store())?;
-    let tableless = tableless_of(alloc, network)?;
+    let unknown = unknown(alloc, most, network.held(), network.store())?;
+    let tableless = tableless_of(alloc, most, network)?;
     Ok((unknown, tableless))
 }
 
-/// Nodes and ports that the facts name, and of which they do not tell what they are, or where they lead.
+/// Returns the nodes that the facts name without telling what they are, and the ports that they name without telling
+/// where they lead.
 fn unusable_and_unjoined(
     alloc: Global,
+    most: usize,
     store: &Store,
 ) -> Result<(FirstFew<Guid>, FirstFew<EndPort>), Refused>
-    ensures unusable { IfOk result (λ both. both.0 ≡ unusable (cells_of store.now)) }
-    ensures unjoined { IfOk result (λ both. both.1 ≡ unjoined (cells_of store.now)) }
+    ensures unusable { IfOk result (λ both. both.0 ≡ unusable most (cells_of store.now)) }
+    ensures unjoined { IfOk result (λ both. both.1 ≡ unjoined most (cells_of store.now)) }
 {
-    let unusable = unusable_of(alloc, store)?;
-    let unjoined = unjoined_of(alloc, store)?;
+    let unusable = unusable_of(alloc, most, store)?;
+    let unjoined = unjoined_of(alloc, most, store)?;
     Ok((unusable, unjoined))
 }
 
-/// Nodes that the facts name, and of which they do not tell what they are.
-fn unusable_of(alloc: Global, store: &Store) -> Result<FirstFew<Guid>, AllocError>
-    ensures { IfOk result (λ few. few ≡ unusable (cells_of store.now)) }
+/// Returns the nodes that the facts name without telling what they are.
+fn unusable_of(alloc: Global, most: usize, store: &Store) -> Result<FirstFew<Guid>, AllocError>
+    ensures { IfOk result (λ few. few ≡ unusable most (cells_of store.now)) }
 {
     let guids = unusable_nodes(alloc, store)?;
-    FirstFew::of(alloc, &guids)
+    FirstFew::of(alloc, most, &guids)
 }
 
-/// Ports that the facts name, and of which they do not tell where they lead.
-fn unjoined_of(alloc: Global, store: &Store) -> Result<FirstFew<EndPort>, Refused>
-    ensures { IfOk result (λ few. few ≡ unjoined (cells_of store.now)) }
+/// Returns the ports that the facts name without telling where they lead.
+fn unjoined_of(alloc: Global, most: usize, store: &Store) -> Result<FirstFew<EndPort>, Refused>
+    ensures { IfOk result (λ few. few ≡ unjoined most (cells_of store.now)) }
 {
     let ports = unjoined_ports(alloc, store)?;
-    Ok(FirstFew::of(alloc, &ports)?)
+    Ok(FirstFew::of(alloc, most, &ports)?)
 }
 
-/// Usable switches without tables.
-fn tableless_of(alloc: Global, network: &Network) -> Result<FirstFew<Guid>, Refused>
-    ensures { IfOk result (λ few. few ≡ tableless (cells_of network.now.facts) network.now.held) }
+/// Returns the usable switches without tables.
+fn tableless_of(alloc: Global, most: usize, network: &Network) -> Result<FirstFew<Guid>, Refused>
+    ensures { IfOk result (λ few. few ≡ tableless most (cells_of network.now.facts) network.now.held) }
 {
     let guids = switches(alloc, network.store())?;
-    Ok(tableless(alloc, network.held(), &guids)?)
+    Ok(tableless(alloc, most, network.held(), &guids)?)
 }
 
-/// End ports without a LID.
-fn lidless_of(alloc: Global, network: &Network) -> Result<FirstFew<EndPort>, Refused>
-    ensures { IfOk result (λ few. few ≡ lidless (cells_of network.now.facts) network.now.held) }
+/// Returns the end ports without a LID.
+fn lidless_of(alloc: Global, most: usize, network: &Network) -> Result<FirstFew<EndPort>, Refused>
+    ensures { IfOk result (λ few. few ≡ lidless most (cells_of network.now.facts) network.now.held) }
 {
     let ports = end_ports(alloc, network.store())?;
-    Ok(lidless(alloc, network.held(), &ports)?)
+    Ok(lidless(alloc, most, network.held(), &ports)?)
 }
 
-/// Returns those of some lines with ports that are no end ports of the facts.
-fn unowned(alloc: Global, lines: &[HeldLid], store: &Store) -> Result<FirstFew<HeldLid>, AllocError>
-    ensures { IfOk result (λ few. few ≡ unowned_among (cells_of store.now) lines.now) }
+/// Returns the LIDs of `lines` with ports that are no end ports of the facts.
+fn unowned(
+    alloc: Global,
+    most: usize,
+    lines: &[HeldLid],
+    store: &Store,
+) -> Result<FirstFew<HeldLid>, AllocError>
+    ensures { IfOk result (λ few. few ≡ unowned_among most (cells_of store.now) lines.now) }
 {
-    let mut few = FirstFew::new(alloc);
+    let mut few = FirstFew::new(alloc, most);
     for line in lines {
         if !is_end_port(store, line.port.node, line.port.port) {
             few.add(*line)?;
@@ -140,11 +149,11 @@ fn unowned(alloc: Global, lines: &[HeldLid], store: &Store) -> Result<FirstFew<H
     Ok(few)
 }
 
-/// LIDs that more than one port holds, with each of these.
-fn twice(alloc: Global, network: &Network) -> Result<FirstFew<HeldLid>, AllocError>
-    ensures { IfOk result (λ few. few ≡ twice network.now.held) }
+/// Returns the LIDs that more than one port holds, with each of these ports.
+fn twice(alloc: Global, most: usize, network: &Network) -> Result<FirstFew<HeldLid>, AllocError>
+    ensures { IfOk result (λ few. few ≡ twice most network.now.held) }
 {
-    let mut few = FirstFew::new(alloc);
+    let mut few = FirstFew::new(alloc, most);
     for line in network.lids() {
         if network.is_told_twice(line.lid) {
             few.add(*line)?;
@@ -153,11 +162,16 @@ fn twice(alloc: Global, network: &Network) -> Result<FirstFew<HeldLid>, AllocErr
     Ok(few)
 }
 
-/// Switches with tables that are no usable switches of the facts.
-fn unknown(alloc: Global, held: &Held, store: &Store) -> Result<FirstFew<Guid>, AllocError>
-    ensures { IfOk result (λ few. few ≡ unknown (cells_of store.now) held.now) }
+/// Returns the switches with tables that are no usable switches of the facts.
+fn unknown(
+    alloc: Global,
+    most: usize,
+    held: &Held,
+    store: &Store,
+) -> Result<FirstFew<Guid>, AllocError>
+    ensures { IfOk result (λ few. few ≡ unknown most (cells_of store.now) held.now) }
 {
-    let mut few = FirstFew::new(alloc);
+    let mut few = FirstFew::new(alloc, most);
     for switch in held.switches() {
         if !is_usable(store, switch.guid) {
             few.add(switch.guid)?;
@@ -166,11 +180,16 @@ fn unknown(alloc: Global, held: &Held, store: &Store) -> Result<FirstFew<Guid>, 
     Ok(few)
 }
 
-/// Returns those of some switches that have no tables.
-fn tableless(alloc: Global, held: &Held, guids: &[Guid]) -> Result<FirstFew<Guid>, AllocError>
-    ensures { IfOk result (λ few. few ≡ tableless_among guids.now held.now) }
+/// Returns the switches of `guids` that have no tables.
+fn tableless(
+    alloc: Global,
+    most: usize,
+    held: &Held,
+    guids: &[Guid],
+) -> Result<FirstFew<Guid>, AllocError>
+    ensures { IfOk result (λ few. few ≡ tableless_among most guids.now held.now) }
 {
-    let mut few = FirstFew::new(alloc);
+    let mut few = FirstFew::new(alloc, most);
     for guid in guids {
         if !is_held(held, *guid) {
             few.add(*guid)?;
@@ -179,18 +198,23 @@ fn tableless(alloc: Global, held: &Held, guids: &[Guid]) -> Result<FirstFew<Guid
     Ok(few)
 }
 
-/// Whether the switch has tables.
+/// Returns whether the switch has tables.
 fn is_held(held: &Held, guid: Guid) -> bool
     ensures { result ≡ is_held held.now guid }
 {
     held.switches().iter().any(|switch| switch.guid == guid)
 }
 
-/// Returns those of some end ports that hold no LID.
-fn lidless(alloc: Global, held: &Held, ports: &[EndPort]) -> Result<FirstFew<EndPort>, AllocError>
-    ensures { IfOk result (λ few. few ≡ lidless_among ports.now held.now) }
+/// Returns the end ports of `ports` that hold no LID.
+fn lidless(
+    alloc: Global,
+    most: usize,
+    held: &Held,
+    ports: &[EndPort],
+) -> Result<FirstFew<EndPort>, AllocError>
+    ensures { IfOk result (λ few. few ≡ lidless_among most ports.now held.now) }
 {
-    let mut few = FirstFew::new(alloc);
+    let mut few = FirstFew::new(alloc, most);
     for port in ports {
         if !has_lid(held, port) {
             few.add(*port)?;
@@ -199,7 +223,7 @@ fn lidless(alloc: Global, held: &Held, ports: &[EndPort]) -> Result<FirstFew<End
     Ok(few)
 }
 
-/// Whether a line gives the end port a LID.
+/// Returns whether a line gives the end port a LID.
 fn has_lid(held: &Held, port: &EndPort) -> bool
     ensures { result ≡ has_lid held.now port.now }
 {

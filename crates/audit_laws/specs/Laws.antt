@@ -23,24 +23,24 @@ use Rattle.audit_counts.specs.declared.sent_packet.SentPacket.{SentPacket}
 use Rattle.audit_counts.specs.Packets.{arrives, packets_of}
 use Rattle.audit_report.specs.Passing.{EachNodeIsKnown, Passes}
 
--- the tables that the text of a view's plan tells pass by that view, by each rule and under each LMC, where its facts
--- are in range, there is room, and of each node that they name its type is known, and of a switch its table room
+-- the tables that the text of a view's plan tells pass by that view, by each rule and under each LMC, if its facts are
+-- in range, there is room, and of each node that they name the type is known, and of a switch the table room
 abbrev pub PlansPass : Type 0
 PlansPass =
     (rule : RuleValue) (lmc : ℕ) (facts : Facts) → AreInRange facts → ¬ (IsNoRoom lmc (cells_of facts))
     → EachNodeIsKnown (cells_of facts)
     → Passes (cells_of facts) (held_plan (plan_of rule lmc (cells_of facts)))
 
--- where a port leads is known, or it is one of those that lines `unjoined` name and count
+-- it is known where port p of node g leads, or lines `unjoined` name or count the port
 abbrev pub IsKnownOrTold : Cells → ℕ → ℕ → Type 0
 IsKnownOrTold cells g p = IsKnownPort cells g p ⊎ Contains (unjoined_ports cells) (record { node = g; port = p })
 
--- what a fact is about: the node is known, and so is the port, or it is told
+-- node g is known, and it is known where its port p leads, or lines `unjoined` tell the port
 abbrev pub AreKnown : Cells → ℕ → ℕ → Type 0
 AreKnown cells g p = IsKnownNode cells g × IsKnownOrTold cells g p
 
--- whatever facts say, and whether or not they are disputed: each node that one names is known; and so is each port that
--- one names, or it is told
+-- each node that a fact names is known, and each port that one names, unless it is told as unjoined; whatever facts
+-- say, disputed or not
 pub record KnowsAll (cells : Cells) : Type 0 where
   pub nodes : (g : ℕ) (c : Cell Value) → Contains cells ((key.Node g), c) → IsKnownNode cells g
   pub rooms : (g : ℕ) (c : Cell Value) → Contains cells ((key.Cap g), c) → IsKnownNode cells g
@@ -51,26 +51,26 @@ pub record KnowsAll (cells : Cells) : Type 0 where
   pub far_ends : (g p h q : ℕ) → link_of cells g p ≡ Some (h, q) → AreKnown cells h q
   pub switches : (g ports : ℕ) → IsNodeWith cells g Switch ports → AreKnown cells g 0
 
--- where tables pass by facts, that is so
+-- the facts know all if tables pass by them
 abbrev pub PassingAuditsKnowAll : Type 0
 PassingAuditsKnowAll = (facts : Facts) (held : HeldPlan) → Passes (cells_of facts) held → KnowsAll (cells_of facts)
 
--- each packet from an end port of a part of a fabric to a LID of an end port of the part is delivered there
+-- each packet from an end port of the part to a LID of an end port of the part is delivered there
 abbrev pub EachArrivesIn : Part → Fabric → Type 0
 EachArrivesIn part f = (source target : NodePort) (from into : Node) (lid : ℕ) → IsEndPortIn part f source from
     → IsEndPortIn part f target into → 1 ≤ lid
     → IsTrue (owns f target lid) → ArrivesAt f source target lid
 
--- where tables pass by facts, that is so in each fabric of what is joined to an end port, if the facts describe that,
--- and it holds the tables
+-- if tables pass by facts, each packet of a part arrives, which is what an end port is joined to, if the facts describe
+-- that part and it holds the tables
 abbrev pub PassingAuditsDeliver : Type 0
 PassingAuditsDeliver =
     (facts : Facts) (held : HeldPlan) (f : Fabric) (origin : NodePort) → IsEndPort f origin
     → IsSeenIn (IsJoinedTo f origin) (cells_of facts) held f
     → Passes (cells_of facts) held → EachArrivesIn (IsJoinedTo f origin) f
 
--- and where a packet that is counted does not arrive by them, it is not delivered there in such a fabric: it is lost,
--- or comes to another port
+-- a packet that is counted as not arriving is not delivered at the line's end port: it is lost, or gets to another
+-- port, if the facts describe the part and it holds the tables
 abbrev pub MissedPacketsMiss : Type 0
 MissedPacketsMiss =
     (facts : Facts) (held : HeldPlan) (f : Fabric) (origin : NodePort) → IsEndPort f origin

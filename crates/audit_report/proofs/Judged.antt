@@ -127,10 +127,10 @@ module _ (cells : Cells) (held : HeldPlan) where
   can_rise [] h e = h
   can_rise (channel ∷ later) h e = absurd (omega arith)
 
-pub sound_is : (seen : Seen) (tally : PacketTally) (unmatched : Unmatched) (count : ℕ) (ways : WayFigures) (cycle : List ℕ) (b : Bool)
-    → IsFound seen tally unmatched count ways cycle
+pub sound_is : (most : ℕ) (seen : Seen) (tally : PacketTally) (unmatched : Unmatched) (count : ℕ) (ways : WayFigures) (cycle : List ℕ) (b : Bool)
+    → IsFound most seen tally unmatched count ways cycle
     → b ≡ ((tally.all.arrived == tally.all.sent) && (length cycle == 0)) → IsTrue b ↔ IsSound (cells_of seen.facts) seen.held
-sound_is seen tally unmatched count ways cycle b found is =
+sound_is most seen tally unmatched count ways cycle b found is =
     let cells = cells_of seen.facts in
     let held = seen.held in
     let counted = found.counted.all in (

@@ -86,39 +86,39 @@ module _ (cells : Cells) (held : HeldPlan) where
   held_tables g h = list_any_true (λ (s : HeldSwitch). s.guid == g) held.switches h.switch h.is_held (eq-eqb h.switch.guid g h.is_it)
 
   -- where there is an end port each switch has tables
-  some_tables : (ports : List EndPort) → ((e : EndPort) (g : ℕ) → Contains ports e → Contains (switches cells) g → HoldsTables held g)
-      → (((tableless cells held).count == 0) || (length ports == 0)) ≡ true
-  some_tables [] h = elim ((tableless cells held).count == 0) as (λ t. (t || true) ≡ true) [ true ↦ refl | false ↦ refl ]
-  some_tables (e ∷ ports) h =
+  some_tables : (most : ℕ) (ports : List EndPort) → ((e : EndPort) (g : ℕ) → Contains ports e → Contains (switches cells) g → HoldsTables held g)
+      → (((tableless most cells held).count == 0) || (length ports == 0)) ≡ true
+  some_tables most [] h = elim ((tableless most cells held).count == 0) as (λ t. (t || true) ≡ true) [ true ↦ refl | false ↦ refl ]
+  some_tables most (e ∷ ports) h =
       ap (λ t. t || (length (e ∷ ports) == 0))
-      (eq-eqb ((tableless cells held).count) 0 (all_pass (is_held held) (switches cells) (λ g there. held_tables g (h e g (contains_here e ports) there))))
+      (eq-eqb ((tableless most cells held).count) 0 (all_pass (is_held held) (switches cells) (λ g there. held_tables g (h e g (contains_here e ports) there))))
 
-  pub lids_is : (found : Unmatched) → IsUnmatched cells held found → IsTrue (found.lidless.count == 0) ↔ EachHoldsLid cells held
-  lids_is found differ =
+  pub lids_is : (most : ℕ) (found : Unmatched) → IsUnmatched most cells held found → IsTrue (found.lidless.count == 0) ↔ EachHoldsLid cells held
+  lids_is most found differ =
       let many = ap (λ (l : Listed EndPort). l.count) differ.lidless_are in (
         λ t e there.
-            let none : (lidless cells held).count ≡ 0 = sym many ∙ eqb-true found.lidless.count 0 t in
+            let none : (lidless most cells held).count ≡ 0 = sym many ∙ eqb-true found.lidless.count 0 t in
             lid_held e (none_left (has_lid held) (end_ports cells) none e there),
         λ w. eq-eqb found.lidless.count 0 (many ∙ all_pass (has_lid held) (end_ports cells) (λ e there. held_lid e (w e there))),
       )
 
-  pub tables_is : (found : Unmatched) (b : Bool) → IsUnmatched cells held found
+  pub tables_is : (most : ℕ) (found : Unmatched) (b : Bool) → IsUnmatched most cells held found
       → b ≡ ((found.tableless.count == 0) || (length (end_ports cells) == 0)) → IsTrue b ↔ EachHasTables cells held
-  tables_is found b differ is =
+  tables_is most found b differ is =
       let many = ap (λ (l : Listed ℕ). l.count) differ.tableless_are in (
         λ t e g there switch.
             (elim (found.tableless.count == 0) as
             (λ t. (found.tableless.count == 0) ≡ t → (t || (length (end_ports cells) == 0)) ≡ true → HoldsTables held g) [
               | true ↦ λ q k.
-                  let none : (tableless cells held).count ≡ 0 = sym many ∙ eqb-true found.tableless.count 0 q in
+                  let none : (tableless most cells held).count ≡ 0 = sym many ∙ eqb-true found.tableless.count 0 q in
                   tables_held g (none_left (is_held held) (switches cells) none g switch)
               | false ↦ λ q k. absurd (none_there (end_ports cells) e (eqb-true (length (end_ports cells)) 0 k) there)
             ] refl (sym is ∙ t)),
-        λ w. is ∙ ap (λ n. (n == 0) || (length (end_ports cells) == 0)) many ∙ some_tables (end_ports cells) w,
+        λ w. is ∙ ap (λ n. (n == 0) || (length (end_ports cells) == 0)) many ∙ some_tables most (end_ports cells) w,
       )
 
-  pub nodes_is : (found : Unmatched) → IsUnmatched cells held found → IsTrue (found.unusable.count == 0) ↔ EachNodeIsKnown cells
-  nodes_is found differ =
+  pub nodes_is : (most : ℕ) (found : Unmatched) → IsUnmatched most cells held found → IsTrue (found.unusable.count == 0) ↔ EachNodeIsKnown cells
+  nodes_is most found differ =
       let many = ap (λ (l : Listed ℕ). l.count) differ.unusable_are in (
         λ t g named. (elim ((nodes_law cells).each g named) [
           | inl known ↦ known

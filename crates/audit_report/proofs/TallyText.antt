@@ -36,7 +36,7 @@ module _ {X : Type 0} (p : X → Bool) where
         | false ↦ omega (arith, rest, in_others)
       ])
 
-module _ (cells : Cells) (held : HeldPlan) (packets : List SentPacket) (tally : PacketTally) (h : IsTally packets tally) where
+module _ (most : ℕ) (cells : Cells) (held : HeldPlan) (packets : List SentPacket) (tally : PacketTally) (h : IsTally most packets tally) where
   abbrev others : List SentPacket
   others = filter (λ packet. not (is_between packet)) packets
 
@@ -57,7 +57,7 @@ module _ (cells : Cells) (held : HeldPlan) (packets : List SentPacket) (tally : 
       counts_line (codes "") (h.all.sent i) (h.all.arrived i) ++ counts_line (codes "between adapters ") (h.between.sent i) (h.between.arrived i)
       ++ counts_line (codes "with a switch ") (sent_apart i) (arrived_apart i)
 
-  pub tally_told : tally_text cells held tally ≡ packets_told cells held packets
+  pub tally_told : tally_text cells held tally ≡ packets_told most cells held packets
   tally_told i =
       pairs_are i ++ missed_line (h.causes i) ((h.misdelivered i).count) ((h.round i).count)
       ++ missed_text cells held (h.lost i) (h.misdelivered i) (h.round i)

@@ -28,38 +28,38 @@ use Rattle.audit_report.specs.Passing.{Audited}
 use Rattle.audit_counts.specs.FirstFew.{Listed, listed_of, more_of}
 use Rattle.audit_counts.specs.Unmatched.{lidless, tableless, twice, unjoined, unknown, unowned, unusable}
 
--- of some packets, which words tell, how many there are, and how many arrive
+-- a line of counts: `words`, how many packets there are, and how many arrive
 abbrev pub counts_line : List ℕ → ℕ → ℕ → List ℕ
 counts_line words sent arrived =
     words ++ codes "pairs " ++ decimal sent ++ codes " arrive " ++ decimal arrived ++ codes "\n"
 
--- of all, of those between adapter ports, and of the others
+-- the counts of all packets, of those between adapter ports, and of the others
 abbrev pub pairs_text : Pairs → Pairs → List ℕ
 pairs_text all between =
     counts_line (codes "") all.sent all.arrived ++ counts_line (codes "between adapters ") between.sent between.arrived
     ++ counts_line (codes "with a switch ") (all.sent - between.sent) (all.arrived - between.arrived)
 
--- a word, and how many there are
+-- `word` and `count`
 abbrev pub count_text : List ℕ → ℕ → List ℕ
 count_text word count = codes " " ++ word ++ codes " " ++ decimal count
 
--- how many are lost for each cause
+-- how many packets are lost for each cause
 abbrev pub causes_text : Causes → List ℕ
 causes_text causes =
     count_text (codes "above-top") causes.above_top ++ count_text (codes "no-entry") causes.no_entry
     ++ count_text (codes "no-port") causes.no_port
     ++ count_text (codes "no-link") causes.no_link ++ count_text (codes "foreign") causes.foreign
 
--- how many are delivered elsewhere, and go round
+-- how many packets are delivered elsewhere, and how many loop
 abbrev pub others_text : ℕ → ℕ → List ℕ
 others_text misdelivered round = count_text (codes "misdelivered") misdelivered ++ count_text (codes "round") round
 
--- how many do not arrive, by what becomes of them
+-- how many packets do not arrive, by what becomes of them
 abbrev pub missed_line : Causes → ℕ → ℕ → List ℕ
 missed_line causes misdelivered round =
     codes "missed" ++ causes_text causes ++ others_text misdelivered round ++ codes "\n"
 
--- the entry by which a switch does not send a packet on; none is told of another node
+-- the entry by which a switch drops a packet; empty for another node
 abbrev pub entry_text : Option ℕ → List ℕ
 entry_text entry = option_map_or (λ port. codes " by " ++ decimal port) entry []
 
@@ -74,23 +74,23 @@ cause_text NoPort = codes ": no such port"
 cause_text NoLink = codes ": no link"
 cause_text Foreign = codes ": foreign port"
 
--- the node at which a packet for a LID is lost, and why
+-- the node at which a packet for `lid` is lost, its entry, and the cause
 abbrev pub lost_text : Cells → HeldPlan → ℕ → ℕ → Cause → List ℕ
 lost_text cells held lid g cause =
     codes " at " ++ guid_text g ++ entry_text (entry_by cells held g lid) ++ cause_text cause
 
--- where a packet for a LID ends
+-- where a packet for `lid` ends; empty if it loops
 abbrev pub end_text : Cells → HeldPlan → ℕ → Option End → List ℕ
 end_text cells held lid None = []
 end_text cells held lid (Some (Taken e)) = taken_text e
 end_text cells held lid (Some (Lost g cause)) = lost_text cells held lid g cause
 
--- a word, the end port that sends a packet, and its LID
+-- `word`, the end port that sends the packet, and the packet's LID
 abbrev pub sent_text : List ℕ → SentPacket → List ℕ
 sent_text word packet =
     word ++ codes " " ++ port_text packet.source.node packet.source.port ++ codes " " ++ decimal packet.line.lid
 
--- and where it ends
+-- the line of a packet: its sender, its LID, and where it ends
 abbrev pub packet_line : Cells → HeldPlan → List ℕ → SentPacket → List ℕ
 packet_line cells held word packet =
     sent_text word packet ++ end_text cells held packet.line.lid packet.end ++ codes "\n"
@@ -98,36 +98,36 @@ packet_line cells held word packet =
 abbrev pub packets_text : Cells → HeldPlan → List ℕ → List SentPacket → List ℕ
 packets_text cells held word packets = flat_map (packet_line cells held word) packets
 
--- how many more there are of a kind than are told
+-- how many more there are of a kind than are listed; empty for 0
 abbrev pub more_line : List ℕ → ℕ → List ℕ
 more_line word count = if nat_lt 0 count then codes "more " ++ word ++ codes " " ++ decimal count ++ codes "\n" else []
 
--- a line for each that is told, and how many more there are
+-- a line for each listed item, and how many more there are
 abbrev pub kind_text : {X : Type 0} → (List ℕ → X → List ℕ) → List ℕ → Listed X → List ℕ
 kind_text line word listed = flat_map (line word) listed.first ++ more_line word (more_of listed)
 
--- the first packets of a kind, and how many more there are
+-- the first packets of the kind `word`, and how many more there are
 abbrev pub listed_text : Cells → HeldPlan → List ℕ → Listed SentPacket → List ℕ
 listed_text cells held word listed = kind_text (packet_line cells held) word listed
 
--- a word, a LID, and the end port that holds it
+-- the line of a LID: `word`, the LID, and the end port that holds it
 abbrev pub lid_line : List ℕ → HeldLid → List ℕ
 lid_line word line =
     word ++ codes " " ++ decimal line.lid ++ codes " " ++ port_text line.port.node line.port.port ++ codes "\n"
 
--- a word, and a switch or another node
+-- the line of a switch or another node
 abbrev pub switch_line : List ℕ → ℕ → List ℕ
 switch_line word guid = word ++ codes " " ++ guid_text guid ++ codes "\n"
 
--- a word, and an end port or another port
+-- the line of an end port or another port
 abbrev pub port_line : List ℕ → EndPort → List ℕ
 port_line word e = word ++ codes " " ++ port_text e.node e.port ++ codes "\n"
 
--- a number of hundredths, with a point and two digits
+-- `n` hundredths as a decimal number with two digits after the point
 abbrev pub hundredths_text : ℕ → List ℕ
 hundredths_text n = decimal (n / 100) ++ codes "." ++ decimal (n / 10 % 10) ++ decimal (n % 10)
 
--- the greatest of some numbers, and their mean
+-- the greatest number and the mean
 abbrev pub figures_text : Option Figures → List ℕ
 figures_text None = codes " none"
 figures_text (Some figures) =
@@ -136,30 +136,30 @@ figures_text (Some figures) =
 abbrev pub figures_line : List ℕ → Option Figures → List ℕ
 figures_line word figures = word ++ figures_text figures ++ codes "\n"
 
--- of the wires that packets between adapter ports take, and of the loads of channels
+-- the figures of the wires that packets between adapter ports take, and of the loads of channels
 abbrev pub ways_text : Option Figures → Option Figures → List ℕ
 ways_text hops load = figures_line (codes "hops") hops ++ figures_line (codes "load") load
 
--- the switch and the port of a channel
+-- the switch and the port of `channel`
 abbrev pub channel_text : Cells → ℕ → List ℕ
 channel_text cells channel = codes " " ++ port_text (slice_index (switches cells) (channel / 256)) (channel % 256)
 
--- the channels of a cycle
+-- the channels of a credit loop
 abbrev pub channels_text : Cells → List ℕ → List ℕ
 channels_text cells [] = codes " none"
 channels_text cells (channel ∷ later) = codes " on one lane" ++ flat_map (channel_text cells) (channel ∷ later)
 
--- channels that wait for each other are a credit loop, here on one virtual lane
+-- the line of a credit loop, which is one on a single virtual lane
 abbrev pub cycle_line : Cells → List ℕ → List ℕ
 cycle_line cells cycle = codes "credit loop" ++ channels_text cells cycle ++ codes "\n"
 
--- packets that do not arrive
+-- the packets that do not arrive, by kind
 abbrev pub missed_text : Cells → HeldPlan → Listed SentPacket → Listed SentPacket → Listed SentPacket → List ℕ
 missed_text cells held lost misdelivered round =
     listed_text cells held (codes "lost") lost ++ listed_text cells held (codes "misdelivered") misdelivered
     ++ listed_text cells held (codes "round") round
 
--- what is counted of packets, and the first of each kind that do not arrive
+-- the counts of packets, and the first of each kind that do not arrive
 abbrev pub tally_text : Cells → HeldPlan → PacketTally → List ℕ
 tally_text cells held tally =
     pairs_text tally.all tally.between ++ missed_line tally.causes tally.misdelivered.count tally.round.count
@@ -175,48 +175,48 @@ unmatched_text found =
     ++ kind_text port_line (codes "lidless") found.lidless
     ++ kind_text port_line (codes "unjoined") found.unjoined
 
--- how many facts are disputed, where some are
+-- how many facts are disputed; empty for 0
 abbrev pub disputed_line : ℕ → List ℕ
 disputed_line count = if count == 0 then [] else codes "disputed " ++ decimal count ++ codes "\n"
 
--- how many of some packets there are, and arrive
+-- how many of `packets` there are, and how many arrive
 abbrev pub counts_told : List ℕ → List SentPacket → List ℕ
 counts_told words packets = counts_line words (length packets) (count_by arrives packets)
 
--- of all, of those between adapter ports, and of the others, of which an end is a switch's
+-- the counts of all packets, of those between adapter ports, and of those with a switch at one end
 abbrev pub pairs_told : List SentPacket → List ℕ
 pairs_told packets =
     counts_told (codes "") packets ++ counts_told (codes "between adapters ") (filter is_between packets)
     ++ counts_told (codes "with a switch ") (filter (λ packet. not (is_between packet)) packets)
 
--- how many of some packets arrive, how many of each kind do not, and the first of these
-abbrev pub packets_told : Cells → HeldPlan → List SentPacket → List ℕ
-packets_told cells held packets =
+-- how many of `packets` arrive, how many of each kind do not, and the first `most` of each kind
+abbrev pub packets_told : ℕ → Cells → HeldPlan → List SentPacket → List ℕ
+packets_told most cells held packets =
     pairs_told packets
     ++ missed_line (causes_of packets) (count_by is_misdelivered packets) (count_by goes_round packets)
-    ++ missed_text cells held (listed_of is_lost packets) (listed_of is_misdelivered packets)
-    (listed_of goes_round packets)
+    ++ missed_text cells held (listed_of most is_lost packets) (listed_of most is_misdelivered packets)
+    (listed_of most goes_round packets)
 
--- the first of each kind in which tables and facts differ, or that the facts do not tell
-abbrev pub unmatched_told : Cells → HeldPlan → List ℕ
-unmatched_told cells held =
-    kind_text lid_line (codes "unowned") (unowned cells held) ++ kind_text lid_line (codes "twice") (twice held)
-    ++ kind_text switch_line (codes "unknown") (unknown cells held)
-    ++ kind_text switch_line (codes "tableless") (tableless cells held)
-    ++ kind_text switch_line (codes "unusable") (unusable cells)
-    ++ kind_text port_line (codes "lidless") (lidless cells held)
-    ++ kind_text port_line (codes "unjoined") (unjoined cells)
+-- the first `most` of each kind in which tables and facts differ, or that the facts do not tell
+abbrev pub unmatched_told : ℕ → Cells → HeldPlan → List ℕ
+unmatched_told most cells held =
+    kind_text lid_line (codes "unowned") (unowned most cells held) ++ kind_text lid_line (codes "twice") (twice most held)
+    ++ kind_text switch_line (codes "unknown") (unknown most cells held)
+    ++ kind_text switch_line (codes "tableless") (tableless most cells held)
+    ++ kind_text switch_line (codes "unusable") (unusable most cells)
+    ++ kind_text port_line (codes "lidless") (lidless most cells held)
+    ++ kind_text port_line (codes "unjoined") (unjoined most cells)
 
--- how far packets go between adapter ports, and how evenly they load the channels
+-- how many wires packets between adapter ports take, and how evenly they load the channels
 abbrev pub ways_told : Cells → HeldPlan → List ℕ
 ways_told cells held = ways_text (figures_of (hops_of cells held)) (figures_of (loads_of cells held))
 
--- the packets, where tables and facts differ, disputed facts, ways and loads, and the cycle
-abbrev pub text_of : Cells → HeldPlan → List ℕ → List ℕ
-text_of cells held cycle =
-    packets_told cells held (packets_of cells held) ++ unmatched_told cells held ++ disputed_line (disputed cells)
+-- the packets, where tables and facts differ, disputed facts, routes and loads, and the credit loop
+abbrev pub text_of : ℕ → Cells → HeldPlan → List ℕ → List ℕ
+text_of most cells held cycle =
+    packets_told most cells held (packets_of cells held) ++ unmatched_told most cells held ++ disputed_line (disputed cells)
     ++ ways_told cells held
     ++ cycle_line cells cycle
 
 unfoldable pub audit_text : Audited → List ℕ
-audit_text audit = text_of (cells_of audit.facts) audit.held audit.cycle
+audit_text audit = text_of audit.most (cells_of audit.facts) audit.held audit.cycle

@@ -1,5 +1,5 @@
--- When the tables that a subnet's switches hold pass.
-use Rattle.std.specs.Prelude.{◌≡◌, ℕ, true, List, [], ◌∷◌, Contains, Some}
+-- Which held tables pass.
+use Rattle.std.specs.Prelude.{◌≡◌, ℕ, Bool, true, List, [], ◌∷◌, Contains, Option, None, Some, nat_le}
 use Rattle.std.specs.Coded.{Coded, code_by, coded×, coded_ℕ}
 use Rattle.std.specs.Prelude.{refl}
 use base.Stored.{coded_list}
@@ -18,8 +18,10 @@ use Rattle.audit.specs.declared.end.End.TheVariants.{Taken}
 use Rattle.audit.specs.Network.{Seen}
 use Rattle.audit.specs.NextHops.{IsBrought}
 use Rattle.audit_channels.specs.Waiting.{RiseOnWays, WaitInCycle}
+use Rattle.audit_ways.specs.declared.figures.Figures.{Figures}
 use Rattle.audit_ways.specs.declared.ways.WayFigures.{WayFigures}
-use Rattle.audit_ways.specs.Ways.{IsToldOfWays}
+use Rattle.audit_ways.specs.Figures.{figures_of}
+use Rattle.audit_ways.specs.Ways.{IsToldOfWays, loads_of}
 use Rattle.audit_counts.specs.declared.packet_tally.PacketTally.{PacketTally}
 use Rattle.audit_counts.specs.declared.unmatched.Unmatched.{Unmatched}
 use Rattle.audit_counts.specs.Disputed.{disputed}
@@ -28,15 +30,14 @@ use Rattle.audit_counts.specs.Sites.{in_one_component}
 use Rattle.audit_counts.specs.PacketTally.{IsTally}
 use Rattle.audit_counts.specs.Unmatched.{IsUnmatched}
 
--- an end port of the facts holds the LID, and each packet for it that an end port of its component sends is delivered
--- there
+-- each packet that an end port of the line's component sends for the line's LID is delivered at the line's end port, an
+-- end port of the facts
 abbrev pub ArriveAt : Cells → HeldPlan → HeldLid → Type 0
 ArriveAt cells held line = (e : EndPort) → Contains (end_ports cells) line.port → Contains (end_ports cells) e
     → in_one_component cells e line.port ≡ true
     → IsBrought cells held line.lid e (Some (Taken line.port))
 
--- each packet from every end port of a component for every LID that an end port there holds is delivered at that end
--- port
+-- for each held LID, each packet from an end port of its component is delivered at the end port that holds it
 abbrev pub EachArrives : Cells → HeldPlan → Type 0
 EachArrives cells held = (line : HeldLid) → Contains held.lids line → ArriveAt cells held line
 
@@ -44,13 +45,13 @@ EachArrives cells held = (line : HeldLid) → Contains held.lids line → Arrive
 abbrev pub CanRise : Cells → HeldPlan → Type 0
 CanRise cells held = (numbers : List ℕ) × RiseOnWays cells held numbers
 
--- a line gives an end port a LID
+-- a line gives `e` a LID
 pub record HoldsLid (held : HeldPlan) (e : EndPort) : Type 0 where
   pub line : HeldLid
   pub is_held : Contains held.lids line
   pub is_its : line.port ≡ e
 
--- a line tells of a switch's tables
+-- a line tells the tables of switch `g`
 pub record HoldsTables (held : HeldPlan) (g : ℕ) : Type 0 where
   pub switch : HeldSwitch
   pub is_held : Contains held.switches switch
@@ -60,38 +61,50 @@ pub record HoldsTables (held : HeldPlan) (g : ℕ) : Type 0 where
 abbrev pub EachHoldsLid : Cells → HeldPlan → Type 0
 EachHoldsLid cells held = (e : EndPort) → Contains (end_ports cells) e → HoldsLid held e
 
--- where there is an end port each usable switch has tables
+-- if there is an end port, each usable switch has tables
 abbrev pub EachHasTables : Cells → HeldPlan → Type 0
 EachHasTables cells held =
     (e : EndPort) (g : ℕ) → Contains (end_ports cells) e → Contains (switches cells) g → HoldsTables held g
 
--- of each node that the facts name it is known what it is, and of a switch what room its table has
+-- the type of each node that the facts name is known, and of a switch the table room
 abbrev pub EachNodeIsKnown : Cells → Type 0
 EachNodeIsKnown cells = (g : ℕ) → IsNamedNode cells g → IsKnownNode cells g
 
--- nothing is missing
+-- nothing is missing: each end port holds a LID, switches have tables, and nodes are known
 pub record IsWholeFor (cells : Cells) (held : HeldPlan) : Type 0 where
   pub lids : EachHoldsLid cells held
   pub tables : EachHasTables cells held
   pub nodes : EachNodeIsKnown cells
 
--- and what is there is right: packets arrive, and never wait in a credit loop
+-- the tables are right: packets arrive, and never wait in a credit loop
 pub record IsSound (cells : Cells) (held : HeldPlan) : Type 0 where
   pub arrive : EachArrives cells held
   pub rise : CanRise cells held
 
--- both
+-- the tables are whole and sound
 pub record Passes (cells : Cells) (held : HeldPlan) : Type 0 where
   pub whole : IsWholeFor cells held
   pub sound : IsSound cells held
 
--- channels that wait for each other in a credit loop; none where they can be numbered so
+-- the greatest load is at most the bound, if there are both
+abbrev pub is_within : Option ℕ → Option Figures → Bool
+is_within None load = true
+is_within (Some bound) None = true
+is_within (Some bound) (Some load) = nat_le load.most bound
+
+-- the tables pass, and no channel carries more pairs of adapter ports than `bound`, if there is a bound
+pub record PassesWithin (bound : Option ℕ) (cells : Cells) (held : HeldPlan) : Type 0 where
+  pub passes : Passes cells held
+  pub within : is_within bound (figures_of (loads_of cells held)) ≡ true
+
+-- channels that wait for each other in a credit loop; empty if channels can be numbered so that the numbers rise
 abbrev pub IsCycle : Cells → HeldPlan → List ℕ → Type 0
 IsCycle cells held [] = CanRise cells held
 IsCycle cells held (channel ∷ later) = WaitInCycle cells held (channel ∷ later)
 
--- facts and tables, and the cycle that is told
+-- what an audit is about: facts and tables, the cycle that was found, and the most lines of each kind
 pub record Audited : Type 0 where
+  pub most : ℕ
   pub facts : Facts
   pub held : HeldPlan
   pub cycle : List ℕ
@@ -99,15 +112,16 @@ pub record Audited : Type 0 where
 -- stored as pairs
 abbrev pub audited_code : Coded Audited
 audited_code =
-    code_by (Facts × (HeldPlan × List ℕ)) (coded× facts_code (coded× (held_plan.the_row).coded (coded_list coded_ℕ)))
-    (λ a. (a.facts, (a.held, a.cycle)))
-    (λ p. record { facts = p.0; held = p.1.0; cycle = p.1.1 }) (λ _. refl)
+    code_by (ℕ × (Facts × (HeldPlan × List ℕ)))
+    (coded× coded_ℕ (coded× facts_code (coded× (held_plan.the_row).coded (coded_list coded_ℕ))))
+    (λ a. (a.most, (a.facts, (a.held, a.cycle))))
+    (λ p. record { most = p.0; facts = p.1.0; held = p.1.1.0; cycle = p.1.1.1 }) (λ _. refl)
 
--- what is found of facts and tables
-pub record IsFound (seen : Seen) (tally : PacketTally) (unmatched : Unmatched) (count : ℕ) (ways : WayFigures)
+-- the findings of an audit are those of the facts and tables in `seen`
+pub record IsFound (most : ℕ) (seen : Seen) (tally : PacketTally) (unmatched : Unmatched) (count : ℕ) (ways : WayFigures)
     (cycle : List ℕ) : Type 0 where
-  pub counted : IsTally (packets_of (cells_of seen.facts) seen.held) tally
-  pub differ : IsUnmatched (cells_of seen.facts) seen.held unmatched
+  pub counted : IsTally most (packets_of (cells_of seen.facts) seen.held) tally
+  pub differ : IsUnmatched most (cells_of seen.facts) seen.held unmatched
   pub count_is : count ≡ disputed (cells_of seen.facts)
   pub told : IsToldOfWays (cells_of seen.facts) seen.held ways
   pub waits : IsCycle (cells_of seen.facts) seen.held cycle

@@ -1,47 +1,54 @@
--- What an audit of tables and files does: it reads all of them, and writes how packets fare, or says which one it
--- refuses.
-use Rattle.std.specs.Prelude.{◌↔◌, ◌⊎◌, ℕ, Bool, List, IsTrue}
+-- What an audit of tables and files does: it reads all of them and writes what happens to packets, or says which input
+-- it refuses.
+use Rattle.std.specs.Prelude.{◌↔◌, ◌⊎◌, ℕ, Bool, List, IsTrue, if◌then◌else◌}
 use Rattle.byte_io.specs.Source.{SourceState}
 use Rattle.fact_store.specs.View.{Facts, cells_of}
 use Rattle.plan_file.specs.Held.{HeldPlan}
 use Rattle.audit_channels.specs.Waiting.{NoneShorter}
 use Rattle.audit_report.specs.AuditText.{audit_text}
-use Rattle.audit_report.specs.Passing.{Passes, IsCycle}
+use Rattle.audit_report.specs.Passing.{IsCycle, PassesWithin}
+use Rattle.audit_report.specs.declared.audit_run.AuditAsked.{AuditAsked}
 use Rattle.sm_cli.specs.declared.fault.Fault.{Fault}
 use Rattle.sm_cli.specs.declared.fault.Fault.TheVariants.{Write, Memory}
 use Rattle.sm_cli.specs.InputTables.{AreNoTablesAndFiles, AreTablesAndFiles}
 use Rattle.sm_cli.specs.declared.input_tables.TablesAndFacts.{TablesAndFacts}
 
--- this holds of what was written, which says how packets fare, with a shortest credit loop where there is one, and
--- whether they pass is told
-pub record IsAudited (facts : Facts) (held : HeldPlan) (prints : List ℕ → Type 0) (passed : Bool) : Type 0 where
+-- the most lines of each kind: no bound that can be met if `all`, and else 20
+abbrev pub most_told : Bool → ℕ
+most_told all = if all then 18446744073709551615 else 20
+
+-- `prints` holds of what was written: how packets fare, with a shortest credit loop if there is one. `passed` says
+-- whether the tables pass, and no channel carries more than `asked` allows
+pub record IsAudited (asked : AuditAsked) (facts : Facts) (held : HeldPlan) (prints : List ℕ → Type 0) (passed : Bool)
+    : Type 0 where
   pub cycle : List ℕ
   pub waits : IsCycle (cells_of facts) held cycle
   pub shortest : NoneShorter (cells_of facts) held cycle
-  pub answered : prints (audit_text (record { facts = facts; held = held; cycle = cycle }))
-  pub judged : IsTrue passed ↔ Passes (cells_of facts) held
+  pub answered : prints
+      (audit_text (record { most = most_told asked.all; facts = facts; held = held; cycle = cycle }))
+  pub judged : IsTrue passed ↔ PassesWithin asked.max_load (cells_of facts) held
 
--- the tables and then the files were read, and how packets fare was written
-pub record HasAudited {S : Type 0} (state : S → SourceState) (floor : ℕ) (olds news : List S)
+-- the tables and then the files were read, and their audit was written
+pub record HasAudited {S : Type 0} (state : S → SourceState) (asked : AuditAsked) (olds news : List S)
     (prints : List ℕ → Type 0) (passed : Bool) : Type 0 where
   pub told : TablesAndFacts
-  pub read : AreTablesAndFiles state floor olds news told
-  pub audited : IsAudited told.store told.held prints passed
+  pub read : AreTablesAndFiles state asked.floor olds news told
+  pub audited : IsAudited asked told.store told.held prints passed
 
--- why what was read is not answered
+-- why the audit of what was read failed
 abbrev pub IsAnswerFault : Bool → Fault → Type 0
 IsAnswerFault sink_failed Write = IsTrue sink_failed
 IsAnswerFault sink_failed Memory = Unit {0}
 IsAnswerFault sink_failed fault = ⊥
 
--- they were read, and what they say is not answered
+-- the inputs were read, and their audit failed
 pub record FailsToAudit {S : Type 0} (state : S → SourceState) (floor : ℕ) (olds news : List S)
     (sink_failed : Bool) (fault : Fault) : Type 0 where
   pub told : TablesAndFacts
   pub read : AreTablesAndFiles state floor olds news told
   pub why : IsAnswerFault sink_failed fault
 
--- why an audit over open inputs ends early: they are not read, or what they say is not answered
+-- why an audit over open inputs ends early: the inputs are not read, or their audit fails
 abbrev pub IsAuditFault : {S : Type 0} → (S → SourceState) → ℕ → List S → List S → Bool
     → Fault → Type 0
 IsAuditFault state floor olds news sink_failed fault =

@@ -3,8 +3,8 @@ ghost use Rattle.std.specs.Prelude.{◌≡◌, ◌≤◌, ◌↔◌, ◌⊎◌, 
 ghost use Rattle.std.specs.Io.KnownBytes.{Appends};
 ghost use Rattle.fact_store.specs.View.{cells_of};
 ghost use Rattle.audit_report.specs.AuditText.{audit_text};
-ghost use Rattle.audit_report.specs.Passing.{Passes};
-ghost use Rattle.audit_report.specs.RunAudit.{HasAudited, IsAnswerFault, IsAuditFault, IsAudited};
+ghost use Rattle.audit_report.specs.Passing.{PassesWithin};
+ghost use Rattle.audit_report.specs.RunAudit.{HasAudited, IsAnswerFault, IsAuditFault, IsAudited, most_told};
 
 use crate::{Audit, write_audit};
 use byte_io::{Sink, Source};
@@ -14,56 +14,88 @@ use sm_cli::{Fault, read_tables_and_files};
 use smp_bytes::Generation;
 use std::alloc::Global;
 
-/// Reads the text of tables, which is the first input, and then the files in order, and writes how packets fare by
-/// these tables in the subnet that the files describe together; answers whether they pass. The first fault counts.
-/// Where an input is refused, or memory is, nothing is written; how much went out before a write failed is not said.
+/// The most lines of each kind, unless all are asked for.
+const MOST_TOLD: usize = 20;
+
+/// The options of an audit.
+#[derive(Clone, Copy, Debug, PartialEq, Eq)]
+pub struct AuditAsked {
+    /// The floor: older facts are ignored.
+    pub floor: Generation,
+    /// Whether all lines of each kind are written, or only the first 20.
+    pub all: bool,
+    /// The most pairs of adapter ports that a channel may carry, if there is a bound.
+    pub max_load: Option<u64>,
+}
+
+/// Reads the tables from the first input, then the files in order, and writes what these tables do with the packets of
+/// the subnet that the files describe together. Returns whether the tables pass.
+///
+/// # Errors
+///
+/// Returns the first fault. If an input is refused or memory runs out, nothing is written. If a write fails, how much
+/// was written before is unspecified.
 pub fn run_audit<S: Source, W: Sink>(
     alloc: Global,
     inputs: &mut [S],
-    floor: Generation,
+    asked: AuditAsked,
     sink: &mut W,
 ) -> Result<bool, Fault>
     requires { 1 ≤ length inputs.old }
-    ensures done { IfOk result (HasAudited S.state floor inputs.old inputs.new
+    ensures done { IfOk result (HasAudited S.state asked inputs.old inputs.new
         (Appends (W.written sink.old) (W.written sink.new))) }
     ensures flushed { OnOk result (IsTrue (W.is_flushed sink.new)) }
     ensures sink_works { OnOk result (W.has_failed sink.new ≡ false) }
-    ensures refused { IfErr result (IsAuditFault S.state floor
+    ensures refused { IfErr result (IsAuditFault S.state asked.floor
         inputs.old inputs.new (W.has_failed sink.new)) }
     ensures nothing_written { OnErr result ((result ≡ Err Fault.Write) ⊎ (sink.new ≡ sink.old)) }
 {
-    match read_tables_and_files(alloc, 0, inputs, floor) {
-        Ok(read) => answer(alloc, sink, &read.store, &read.held),
+    match read_tables_and_files(alloc, 0, inputs, asked.floor) {
+        Ok(read) => answer(alloc, sink, asked, &read.store, &read.held),
         Err(fault) => Err(fault),
     }
 }
 
-/// Writes how packets fare, and flushes; answers whether they pass.
-fn answer<W: Sink>(alloc: Global, sink: &mut W, store: &Store, held: &Held) -> Result<bool, Fault>
-    ensures audited { IfOk result (IsAudited store.now held.now
+/// Writes the audit of `held` in the subnet of `store`, and flushes. Returns whether the tables pass.
+fn answer<W: Sink>(
+    alloc: Global,
+    sink: &mut W,
+    asked: AuditAsked,
+    store: &Store,
+    held: &Held,
+) -> Result<bool, Fault>
+    ensures audited { IfOk result (IsAudited asked store.now held.now
         (Appends (W.written sink.old) (W.written sink.new))) }
     ensures flushed { OnOk result (IsTrue (W.is_flushed sink.new)) }
     ensures sink_works { OnOk result (W.has_failed sink.new ≡ false) }
     ensures refused { IfErr result (IsAnswerFault (W.has_failed sink.new)) }
     ensures nothing_written { OnErr result ((result ≡ Err Fault.Write) ⊎ (sink.new ≡ sink.old)) }
 {
-    match Audit::of(alloc, store, held) {
-        Ok(audit) => tell(sink, &audit),
+    match Audit::of(alloc, most_told(asked.all), store, held) {
+        Ok(audit) => tell(sink, asked.max_load, &audit),
         Err(_) => Err(Fault::Memory),
     }
 }
 
-/// Writes what an audit found, and flushes; answers whether the tables pass.
-fn tell<W: Sink>(sink: &mut W, audit: &Audit) -> Result<bool, Fault>
+/// Returns the most lines of each kind that are written.
+fn most_told(all: bool) -> usize
+    ensures { result ≡ most_told all }
+{
+    if all { usize::MAX } else { MOST_TOLD }
+}
+
+/// Writes what an audit found, and flushes. Returns whether the tables pass and no channel carries more pairs than
+/// `max_load`.
+fn tell<W: Sink>(sink: &mut W, max_load: Option<u64>, audit: &Audit) -> Result<bool, Fault>
     ensures told { IfOk result (λ passed.
         Appends (W.written sink.old) (W.written sink.new) (audit_text audit.now)
-        × (IsTrue passed ↔ Passes (cells_of audit.now.facts) audit.now.held)) }
+        × (IsTrue passed ↔ PassesWithin max_load (cells_of audit.now.facts) audit.now.held)) }
     ensures flushed { OnOk result (IsTrue (W.is_flushed sink.new)) }
     ensures sink_works { OnOk result (W.has_failed sink.new ≡ false) }
     ensures refused { IfErr result (IsAnswerFault (W.has_failed sink.new)) }
     ensures nothing_written { OnErr result ((result ≡ Err Fault.Write) ⊎ (sink.new ≡ sink.old)) }
 {
-    let passed = audit.passes();
+    let passed = audit.passes_within(max_load);
     write_audit(sink, audit)?;
     Ok(passed)
 }

@@ -24,11 +24,17 @@ use plan_file::HeldLid;
 use smp_bytes::{Guid, Lid, PortNum};
 use subnet_view::EndPort;
 
-/// Writes how many packets there are and how many arrive, of all, between adapter ports, and with a switch; for what
-/// the others do not; of these the first 20 of each kind, by rising LID and then by the order of end ports, and how
-/// many more there are; the first 20 of each kind in which tables and facts differ, and how many more there are; how
-/// many facts are disputed, if some are; the wires that packets between adapter ports take, and the loads of channels;
-/// and a cycle of channels, if there is one; and flushes. It takes no memory.
+/// Writes an audit, and flushes:
+///
+/// - how many packets there are and how many arrive, of all, between adapter ports, and with a switch, and how many are
+///   lost for each cause;
+/// - the first of each kind that do not arrive, by rising LID and then by the order of end ports, and how many more;
+/// - the first of each kind in which tables and facts differ, and how many more;
+/// - how many facts are disputed, if any are;
+/// - the wires that packets between adapter ports take, and the loads of channels;
+/// - a cycle of channels, if there is one.
+///
+/// Takes no memory.
 pub fn write_audit<W: Sink>(sink: &mut W, audit: &Audit) -> Result<(), WriteFault>
     ensures writes { Writes W.written W.has_failed result sink.old sink.new (audit_text audit.now) }
     ensures flushed { OnOk result (IsTrue (W.is_flushed sink.new)) }
@@ -42,7 +48,7 @@ pub fn write_audit<W: Sink>(sink: &mut W, audit: &Audit) -> Result<(), WriteFaul
     sink.flush()
 }
 
-/// Writes what is counted of packets, and the first of each kind that do not arrive.
+/// Writes the counts of packets, and the first of each kind that do not arrive.
 fn write_tally<W: Sink>(
     sink: &mut W,
     network: &Network,
@@ -61,7 +67,7 @@ fn write_tally<W: Sink>(
     write_missed(sink, network, tally)
 }
 
-/// Writes how many packets there are and how many arrive, of all, between adapter ports, and of the others.
+/// Writes how many packets there are and how many arrive: of all, between adapter ports, and of the others.
 fn write_pairs<W: Sink>(sink: &mut W, all: &Pairs, between: &Pairs) -> Result<(), WriteFault>
     ensures { WritesPart W.written W.has_failed result sink.old sink.new (pairs_text all.now between.now) }
 {
@@ -70,7 +76,7 @@ fn write_pairs<W: Sink>(sink: &mut W, all: &Pairs, between: &Pairs) -> Result<()
     write_with_switch(sink, all, between)
 }
 
-/// Writes how many packets with a switch there are, and how many of these arrive.
+/// Writes how many packets are to or from a switch, and how many of them arrive.
 fn write_with_switch<W: Sink>(sink: &mut W, all: &Pairs, between: &Pairs) -> Result<(), WriteFault>
     ensures { Writes W.written W.has_failed result sink.old sink.new
         (counts_line (codes "with a switch ") (all.now.sent - between.now.sent)
@@ -81,7 +87,7 @@ fn write_with_switch<W: Sink>(sink: &mut W, all: &Pairs, between: &Pairs) -> Res
     write_counts(sink, "with a switch ", sent, arrived)
 }
 
-/// Writes how many of some packets there are, and how many arrive.
+/// Writes a line of counts: `words`, then `sent` packets, of which `arrived` arrive.
 fn write_counts<W: Sink>(
     sink: &mut W,
     words: &str,
@@ -114,7 +120,7 @@ fn write_counted<W: Sink>(
     sink.write(b"\n")
 }
 
-/// Writes how many packets are delivered elsewhere, and how many go round.
+/// Writes how many packets are delivered elsewhere, and how many loop.
 fn write_others<W: Sink>(sink: &mut W, misdelivered: u64, round: u64) -> Result<(), WriteFault>
     ensures { WritesPart W.written W.has_failed result sink.old sink.new (others_text misdelivered round) }
 {
@@ -133,7 +139,7 @@ fn write_causes<W: Sink>(sink: &mut W, causes: &Causes) -> Result<(), WriteFault
     write_count(sink, "foreign", causes.foreign)
 }
 
-/// Writes a word, and how many there are.
+/// Writes `word` and `count`.
 fn write_count<W: Sink>(sink: &mut W, word: &str, count: u64) -> Result<(), WriteFault>
     ensures { Writes W.written W.has_failed result sink.old sink.new (count_text word.now count) }
 {
@@ -158,7 +164,7 @@ fn write_missed<W: Sink>(
     write_listed(sink, network, "round", &tally.round)
 }
 
-/// Writes the first packets of a kind, and how many more there are.
+/// Writes the first packets of the kind `word`, and how many more there are.
 fn write_listed<W: Sink>(
     sink: &mut W,
     network: &Network,
@@ -172,7 +178,7 @@ fn write_listed<W: Sink>(
     write_more(sink, word, few.more())
 }
 
-/// Writes a line for each of these packets.
+/// Writes a line for each packet.
 fn write_packets<W: Sink>(
     sink: &mut W,
     network: &Network,
@@ -203,7 +209,7 @@ fn write_packet<W: Sink>(
     sink.write(b"\n")
 }
 
-/// Writes a word, the end port that sends a packet, and its LID.
+/// Writes `word`, the end port that sends the packet, and the packet's LID.
 fn write_sent<W: Sink>(sink: &mut W, word: &str, packet: &SentPacket) -> Result<(), WriteFault>
     ensures { Writes W.written W.has_failed result sink.old sink.new (sent_text word.now packet.now) }
 {
@@ -214,7 +220,7 @@ fn write_sent<W: Sink>(sink: &mut W, word: &str, packet: &SentPacket) -> Result<
     write_number(sink, u64::from(packet.line.lid.number()))
 }
 
-/// Writes where a packet for a LID ends.
+/// Writes where a packet for `lid` ends; nothing if it loops.
 fn write_end<W: Sink>(
     sink: &mut W,
     network: &Network,
@@ -231,7 +237,7 @@ fn write_end<W: Sink>(
     }
 }
 
-/// Writes the port at which a packet ends.
+/// Writes the port that takes a packet.
 fn write_taken<W: Sink>(sink: &mut W, port: &EndPort) -> Result<(), WriteFault>
     ensures { Writes W.written W.has_failed result sink.old sink.new (taken_text port.now) }
 {
@@ -239,7 +245,7 @@ fn write_taken<W: Sink>(sink: &mut W, port: &EndPort) -> Result<(), WriteFault>
     write_port(sink, port.node, port.port)
 }
 
-/// Writes the node at which a packet for a LID is lost, and why.
+/// Writes the node at which a packet for `lid` is lost, its entry for `lid` if it is a usable switch, and the cause.
 fn write_lost<W: Sink>(
     sink: &mut W,
     network: &Network,
@@ -269,7 +275,7 @@ fn write_cause<W: Sink>(sink: &mut W, cause: Cause) -> Result<(), WriteFault>
     }
 }
 
-/// Writes the entry by which a switch does not send a packet on.
+/// Writes the entry by which a packet is lost, or nothing if `entry` is `None`.
 fn write_entry<W: Sink>(sink: &mut W, entry: Option<u8>) -> Result<(), WriteFault>
     ensures { WritesPart W.written W.has_failed result sink.old sink.new (entry_text entry) }
 {
@@ -295,7 +301,7 @@ fn write_unmatched<W: Sink>(sink: &mut W, unmatched: &Unmatched) -> Result<(), W
     write_ports(sink, "unjoined", &unmatched.unjoined)
 }
 
-/// Writes LIDs that are few, and how many more there are.
+/// Writes the first LIDs of the kind `word`, and how many more there are.
 fn write_lids<W: Sink>(sink: &mut W, word: &str, few: &FirstFew<HeldLid>) -> Result<(), WriteFault>
     ensures { WritesPart W.written W.has_failed result sink.old sink.new (kind_text lid_line word.now few.now) }
 {
@@ -303,7 +309,7 @@ fn write_lids<W: Sink>(sink: &mut W, word: &str, few: &FirstFew<HeldLid>) -> Res
     write_more(sink, word, few.more())
 }
 
-/// Writes a line for each of these LIDs.
+/// Writes a line for each LID.
 fn write_each_lid<W: Sink>(sink: &mut W, word: &str, lines: &[HeldLid]) -> Result<(), WriteFault>
     ensures { WritesPart W.written W.has_failed result sink.old sink.new (flat_map (lid_line word.now) lines.now) }
 {
@@ -325,7 +331,7 @@ fn write_lid<W: Sink>(sink: &mut W, word: &str, line: &HeldLid) -> Result<(), Wr
     sink.write(b"\n")
 }
 
-/// Writes switches that are few, and how many more there are.
+/// Writes the first switches of the kind `word`, and how many more there are.
 fn write_switches<W: Sink>(sink: &mut W, word: &str, few: &FirstFew<Guid>) -> Result<(), WriteFault>
     ensures { WritesPart W.written W.has_failed result sink.old sink.new (kind_text switch_line word.now few.now) }
 {
@@ -333,7 +339,7 @@ fn write_switches<W: Sink>(sink: &mut W, word: &str, few: &FirstFew<Guid>) -> Re
     write_more(sink, word, few.more())
 }
 
-/// Writes a line for each of these switches.
+/// Writes a line for each switch.
 fn write_each_switch<W: Sink>(sink: &mut W, word: &str, guids: &[Guid]) -> Result<(), WriteFault>
     ensures { WritesPart W.written W.has_failed result sink.old sink.new (flat_map (switch_line word.now) guids.now) }
 {
@@ -353,7 +359,7 @@ fn write_switch<W: Sink>(sink: &mut W, word: &str, guid: Guid) -> Result<(), Wri
     sink.write(b"\n")
 }
 
-/// Writes end ports that are few, and how many more there are.
+/// Writes the first end ports of the kind `word`, and how many more there are.
 fn write_ports<W: Sink>(sink: &mut W, word: &str, few: &FirstFew<EndPort>) -> Result<(), WriteFault>
     ensures { WritesPart W.written W.has_failed result sink.old sink.new (kind_text port_line word.now few.now) }
 {
@@ -361,7 +367,7 @@ fn write_ports<W: Sink>(sink: &mut W, word: &str, few: &FirstFew<EndPort>) -> Re
     write_more(sink, word, few.more())
 }
 
-/// Writes a line for each of these end ports.
+/// Writes a line for each end port.
 fn write_each_port<W: Sink>(sink: &mut W, word: &str, ports: &[EndPort]) -> Result<(), WriteFault>
     ensures { WritesPart W.written W.has_failed result sink.old sink.new (flat_map (port_line word.now) ports.now) }
 {
@@ -381,7 +387,7 @@ fn write_end_port<W: Sink>(sink: &mut W, word: &str, port: &EndPort) -> Result<(
     sink.write(b"\n")
 }
 
-/// Writes how many more there are of a kind than are few, if there are more.
+/// Writes that `count` more items of the kind `word` are not listed, or nothing if `count` is 0.
 fn write_more<W: Sink>(sink: &mut W, word: &str, count: u64) -> Result<(), WriteFault>
     ensures { WritesPart W.written W.has_failed result sink.old sink.new (more_line word.now count) }
 {
@@ -395,7 +401,7 @@ fn write_more<W: Sink>(sink: &mut W, word: &str, count: u64) -> Result<(), Write
     sink.write(b"\n")
 }
 
-/// Writes how many facts are disputed, where some are.
+/// Writes how many facts are disputed, or nothing if `count` is 0.
 fn write_disputed<W: Sink>(sink: &mut W, count: usize) -> Result<(), WriteFault>
     ensures { WritesPart W.written W.has_failed result sink.old sink.new (disputed_line count) }
 {
@@ -407,7 +413,7 @@ fn write_disputed<W: Sink>(sink: &mut W, count: usize) -> Result<(), WriteFault>
     sink.write(b"\n")
 }
 
-/// Writes the wires that packets take, and the loads of channels.
+/// Writes the figures of the wires that packets take, and of the loads of channels.
 fn write_ways<W: Sink>(sink: &mut W, ways: &WayFigures) -> Result<(), WriteFault>
     ensures { WritesPart W.written W.has_failed result sink.old sink.new (ways_text ways.now.hops ways.now.load) }
 {
@@ -415,7 +421,7 @@ fn write_ways<W: Sink>(sink: &mut W, ways: &WayFigures) -> Result<(), WriteFault
     write_line(sink, "load", &ways.load)
 }
 
-/// Writes a line of figures.
+/// Writes a line of figures: `word`, the greatest number and the mean.
 fn write_line<W: Sink>(
     sink: &mut W,
     word: &str,
@@ -428,7 +434,7 @@ fn write_line<W: Sink>(
     sink.write(b"\n")
 }
 
-/// Writes the greatest of some numbers, and their mean.
+/// Writes the greatest number and the mean, or that there are no numbers.
 fn write_figures<W: Sink>(sink: &mut W, figures: &Option<Figures>) -> Result<(), WriteFault>
     ensures { WritesPart W.written W.has_failed result sink.old sink.new (figures_text figures.now) }
 {
@@ -443,7 +449,7 @@ fn write_figures<W: Sink>(sink: &mut W, figures: &Option<Figures>) -> Result<(),
     }
 }
 
-/// Writes a number of hundredths, with a point and two digits.
+/// Writes `number` hundredths as a decimal number with two digits after the point.
 fn write_hundredths<W: Sink>(sink: &mut W, number: u64) -> Result<(), WriteFault>
     ensures { Writes W.written W.has_failed result sink.old sink.new (hundredths_text number) }
 {
@@ -453,7 +459,7 @@ fn write_hundredths<W: Sink>(sink: &mut W, number: u64) -> Result<(), WriteFault
     write_number(sink, number % 10)
 }
 
-/// Writes the line of a cycle, each channel as the switch and the port by which packets take it.
+/// Writes the line of a credit loop, each channel as the switch and the port by which packets take it.
 pub fn write_cycle<W: Sink>(
     sink: &mut W,
     network: &Network,
@@ -467,7 +473,7 @@ pub fn write_cycle<W: Sink>(
     sink.write(b"\n")
 }
 
-/// Writes the channels of a cycle.
+/// Writes the channels of a credit loop, or that there is none.
 fn write_channels<W: Sink>(
     sink: &mut W,
     network: &Network,
@@ -483,7 +489,7 @@ fn write_channels<W: Sink>(
     write_each_channel(sink, network, cycle)
 }
 
-/// Writes each of these channels.
+/// Writes each channel.
 fn write_each_channel<W: Sink>(
     sink: &mut W,
     network: &Network,
@@ -498,7 +504,7 @@ fn write_each_channel<W: Sink>(
     Ok(())
 }
 
-/// Writes the switch and the port of a channel.
+/// Writes the switch and the port of `channel`.
 fn write_channel<W: Sink>(sink: &mut W, network: &Network, channel: usize) -> Result<(), WriteFault>
     ensures { Writes W.written W.has_failed result sink.old sink.new
         (channel_text (cells_of network.now.facts) channel) }
@@ -508,7 +514,7 @@ fn write_channel<W: Sink>(sink: &mut W, network: &Network, channel: usize) -> Re
     write_port(sink, switch_of(network, channel), port)
 }
 
-/// The switch of a channel.
+/// Returns the switch of `channel`.
 fn switch_of(network: &Network, channel: usize) -> Guid
     ensures { result ≡ slice_index (switches (cells_of network.now.facts)) (channel / 256) }
 {

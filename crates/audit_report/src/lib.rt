@@ -6,6 +6,6 @@ mod audit_run;
 mod audit_text;
 mod report;
 
-pub use audit_run::run_audit;
+pub use audit_run::{AuditAsked, run_audit};
 pub use audit_text::{write_audit, write_cycle};
 pub use report::Audit;

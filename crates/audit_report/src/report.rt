@@ -1,17 +1,18 @@
 ghost use Rattle.std.specs.Prelude.{◌≡◌, ◌↔◌, IfOk, IsTrue};
 ghost use Rattle.fact_store.specs.View.{cells_of};
 ghost use Rattle.audit_channels.specs.Waiting.{NoneShorter};
-ghost use Rattle.audit_ways.specs.Ways.{AreTold, IsToldOfWays};
+ghost use Rattle.audit_ways.specs.Figures.{figures_of};
+ghost use Rattle.audit_ways.specs.Ways.{AreTold, IsToldOfWays, loads_of};
 ghost use Rattle.audit_counts.specs.Packets.{packets_of};
 ghost use Rattle.audit_counts.specs.PacketTally.{IsTally};
 ghost use Rattle.audit_counts.specs.Unmatched.{IsUnmatched};
 ghost use Rattle.audit_report.specs.Passing.{EachHasTables, EachHoldsLid, EachNodeIsKnown, IsCycle, IsFound};
-ghost use Rattle.audit_report.specs.Passing.{IsSound, IsWholeFor, Passes};
+ghost use Rattle.audit_report.specs.Passing.{IsSound, IsWholeFor, Passes, PassesWithin, is_within};
 
 use audit::Network;
 use audit_channels::{ChannelOrder, channel_order};
 use audit_counts::{PacketSurvey, PacketTally, Unmatched, disputed, sites, survey};
-use audit_ways::{WayFigures, figures_of_ways_told};
+use audit_ways::{Figures, WayFigures, figures_of_ways_told};
 use fact_store::{Refused, Store};
 use plan_file::Held;
 use std::alloc::{AllocError, Global};
@@ -20,20 +21,22 @@ use std::marker::Model;
 /// What the tables that switches hold do with the packets of a subnet.
 #[derive(Drop)]
 pub struct Audit<'a> {
+    /// The most lines of each kind.
+    most: usize,
     pub(crate) network: Network<'a>,
     pub(crate) findings: Findings,
 }
 
-/// What is found of a network.
+/// What an audit finds in a network.
 #[derive(Drop)]
 pub(crate) struct Findings {
     pub(crate) tally: PacketTally,
     pub(crate) unmatched: Unmatched,
-    /// How many facts are disputed.
+    /// The number of disputed facts.
     pub(crate) disputed: usize,
-    /// How far packets go between adapter ports, and the loads of channels.
+    /// The figures of the wires that packets between adapter ports take, and of the loads of channels.
     pub(crate) ways: WayFigures,
-    /// Channels that wait for each other in a credit loop; none where there is none.
+    /// Channels that wait for each other in a credit loop; empty if there is no credit loop.
     pub(crate) cycle: Vec<usize>,
 }
 
@@ -44,67 +47,94 @@ impl<'a> Model for Audit<'a> {
 
     ghost coded = { audited_code };
 
-    ghost view = { λ a. record { facts = a.network.facts; held = a.network.held; cycle = a.findings.cycle.items } };
+    ghost view = { λ a. record {
+      most = a.most;
+      facts = a.network.facts;
+      held = a.network.held;
+      cycle = a.findings.cycle.items;
+    } };
 
-    ghost invariant = { λ a. IsFound a.network a.findings.tally a.findings.unmatched a.findings.disputed a.findings.ways
-        a.findings.cycle.items };
+    ghost invariant = { λ a. IsFound a.most a.network a.findings.tally a.findings.unmatched a.findings.disputed
+        a.findings.ways a.findings.cycle.items };
 }
 
 impl<'a> Audit<'a> {
-    /// Follows the packets that the end ports of the view send to the LIDs which are held, each from every end port
-    /// of the component in which the LID's end port lies, by these tables; counts the wires and the channels that
-    /// those between adapter ports take; and orders channels. Takes what `Network::deliveries` does for each 64 LIDs,
-    /// and what `Network::edges` does for each LID twice; for each LID whose packets are not seen to arrive by the
-    /// deliveries what `Network::ends` does besides, twice where not all are delivered at its port, and then a step or
-    /// two for each end port.
-    pub fn of(alloc: Global, store: &'a Store, held: &'a Held) -> Result<Self, Refused>
+    /// Audits the tables `held` in the subnet of `store`. Follows the packets for each held LID from every end port of
+    /// the component in which the LID's end port lies. Counts the wires and channels that packets between adapter ports
+    /// take, and orders channels.
+    ///
+    /// Costs what `Network::deliveries` takes for each 64 LIDs, and twice what `Network::edges` takes for each LID. If
+    /// the deliveries do not show that all packets for a LID arrive, that LID also costs what `Network::ends` takes;
+    /// twice that, and then a step or two for each end port, if not all are delivered at its port.
+    pub fn of(alloc: Global, most: usize, store: &'a Store, held: &'a Held) -> Result<Self, Refused>
+        ensures most { IfOk result (λ audit. audit.most ≡ most) }
         ensures facts { IfOk result (λ audit. audit.facts ≡ store.now) }
         ensures held { IfOk result (λ audit. audit.held ≡ held.now) }
         ensures cycle { IfOk result (λ audit. IsCycle (cells_of store.now) held.now audit.cycle) }
         ensures shortest { IfOk result (λ audit. NoneShorter (cells_of store.now) held.now audit.cycle) }
     {
         let network = Network::of(alloc, store, held)?;
-        let findings = findings_of(alloc, &network)?;
-        Ok(Audit { network, findings })
+        let findings = findings_of(alloc, most, &network)?;
+        Ok(Audit {
+            most,
+            network,
+            findings,
+        })
     }
 
-    /// Whether nothing is missing, each packet arrives, and there is no cycle.
+    /// Returns whether the tables pass and no channel carries more pairs of adapter ports than `bound`, if there is a
+    /// bound.
+    pub fn passes_within(&self, bound: Option<u64>) -> bool
+        ensures { IsTrue result ↔ PassesWithin bound (cells_of self.now.facts) self.now.held }
+    {
+        self.passes() && self.is_within(bound)
+    }
+
+    /// Returns whether the greatest load of a channel is at most `bound`, if there is one.
+    fn is_within(&self, bound: Option<u64>) -> bool
+        ensures { result ≡ is_within bound (figures_of (loads_of (cells_of self.now.facts) self.now.held)) }
+    {
+        is_within(bound, &self.findings.ways.load)
+    }
+
+    /// Returns whether the tables pass: nothing is missing, each packet arrives, and there is no credit loop.
     pub fn passes(&self) -> bool
         ensures { IsTrue result ↔ Passes (cells_of self.now.facts) self.now.held }
     {
         self.is_whole() && self.is_sound()
     }
 
-    /// Whether each end port of the view holds a LID; each usable switch has tables, where there is an end port; and of
-    /// each node that the view names the type is known, and of a switch its table room.
+    /// Returns whether nothing is missing. Each end port of the view must hold a LID, each usable switch must have
+    /// tables if there is an end port, and of each node that the view names the type must be known, and of a switch the
+    /// table room.
     fn is_whole(&self) -> bool
         ensures { IsTrue result ↔ IsWholeFor (cells_of self.now.facts) self.now.held }
     {
         self.has_lids() && self.has_tables() && self.has_nodes()
     }
 
-    /// Whether of each node that the view names the type is known, and of a switch its table room.
+    /// Returns whether of each node that the view names the type is known, and of a switch the table room.
     fn has_nodes(&self) -> bool
         ensures { IsTrue result ↔ EachNodeIsKnown (cells_of self.now.facts) }
     {
         self.findings.unmatched.unusable.count() == 0
     }
 
-    /// Whether each end port of the view holds a LID.
+    /// Returns whether each end port of the view holds a LID.
     fn has_lids(&self) -> bool
         ensures { IsTrue result ↔ EachHoldsLid (cells_of self.now.facts) self.now.held }
     {
         self.findings.unmatched.lidless.count() == 0
     }
 
-    /// Whether each usable switch of the view has tables, where it has an end port.
+    /// Returns whether each usable switch of the view has tables, or the view has no end port.
     fn has_tables(&self) -> bool
         ensures { IsTrue result ↔ EachHasTables (cells_of self.now.facts) self.now.held }
     {
         self.findings.unmatched.tableless.count() == 0 || self.network.sources().is_empty()
     }
 
-    /// Whether each packet arrives, and there is no cycle.
+    /// Returns whether each packet arrives and there is no credit loop.
     fn is_sound(&self) -> bool
         ensures { IsTrue result ↔ IsSound (cells_of self.now.facts) self.now.held }
     {
@@ -113,13 +143,23 @@ impl<'a> Audit<'a> {
     }
 }
 
-/// What is found of a network.
-fn findings_of(alloc: Global, network: &Network) -> Result<Findings, Refused>
-    ensures found { IfOk result (λ f. IsFound network.now f.tally f.unmatched f.disputed f.ways f.cycle.items) }
+/// Returns whether the greatest load in `load` is at most `bound`, if there are both.
+fn is_within(bound: Option<u64>, load: &Option<Figures>) -> bool
+    ensures { result ≡ is_within bound load.now }
+{
+    match (bound, load) {
+        (Some(bound), Some(load)) => load.most <= bound,
+        _ => true,
+    }
+}
+
+/// Collects what an audit finds in `network`.
+fn findings_of(alloc: Global, most: usize, network: &Network) -> Result<Findings, Refused>
+    ensures found { IfOk result (λ f. IsFound most network.now f.tally f.unmatched f.disputed f.ways f.cycle.items) }
     ensures shortest { IfOk result (λ f. NoneShorter (cells_of network.now.facts) network.now.held f.cycle.items) }
 {
-    let (tally, ways) = packets_and_ways(alloc, network)?;
-    let (unmatched, cycle) = unmatched_and_cycle(alloc, network)?;
+    let (tally, ways) = packets_and_ways(alloc, most, network)?;
+    let (unmatched, cycle) = unmatched_and_cycle(alloc, most, network)?;
     let disputed = disputed(network.store());
     Ok(Findings {
         tally,
@@ -130,38 +170,46 @@ fn findings_of(alloc: Global, network: &Network) -> Result<Findings, Refused>
     })
 }
 
-/// What is counted of the packets, and of the wires and the channels that they take.
-fn packets_and_ways(alloc: Global, network: &Network) -> Result<(PacketTally, WayFigures), Refused>
-    ensures tally { IfOk result (λ both. IsTally (packets_of (cells_of network.now.facts) network.now.held) both.0) }
+/// Counts the packets, and computes the figures of the wires and channels that they take.
+fn packets_and_ways(
+    alloc: Global,
+    most: usize,
+    network: &Network,
+) -> Result<(PacketTally, WayFigures), Refused>
+    ensures tally { IfOk result (λ both. IsTally most (packets_of (cells_of network.now.facts) network.now.held) both.0) }
     ensures ways { IfOk result (λ both. IsToldOfWays (cells_of network.now.facts) network.now.held both.1) }
 {
-    let survey = survey_of(alloc, network)?;
+    let survey = survey_of(alloc, most, network)?;
     let ways = figures_of_ways_told(alloc, network, &survey.told)?;
     Ok((survey.tally, ways))
 }
 
-/// What is counted of the packets, and for which LIDs it is seen that all arrive.
-fn survey_of(alloc: Global, network: &Network) -> Result<PacketSurvey, Refused>
+/// Counts the packets, and finds the LIDs whose packets are all seen to arrive.
+fn survey_of(alloc: Global, most: usize, network: &Network) -> Result<PacketSurvey, Refused>
     ensures tally { IfOk result (λ survey.
-        IsTally (packets_of (cells_of network.now.facts) network.now.held) survey.tally) }
+        IsTally most (packets_of (cells_of network.now.facts) network.now.held) survey.tally) }
     ensures told { IfOk result (λ survey. AreTold (cells_of network.now.facts) network.now.held survey.told.items) }
 {
     let sites = sites(alloc, network.store())?;
-    Ok(survey(alloc, network, &sites)?)
+    Ok(survey(alloc, most, network, &sites)?)
 }
 
-/// Where tables and facts differ, and channels that wait for each other in a credit loop.
-fn unmatched_and_cycle(alloc: Global, network: &Network) -> Result<(Unmatched, Vec<usize>), Refused>
-    ensures unmatched { IfOk result (λ both. IsUnmatched (cells_of network.now.facts) network.now.held both.0) }
+/// Finds where tables and facts differ, and a credit loop.
+fn unmatched_and_cycle(
+    alloc: Global,
+    most: usize,
+    network: &Network,
+) -> Result<(Unmatched, Vec<usize>), Refused>
+    ensures unmatched { IfOk result (λ both. IsUnmatched most (cells_of network.now.facts) network.now.held both.0) }
     ensures cycle { IfOk result (λ both. IsCycle (cells_of network.now.facts) network.now.held both.1.items) }
     ensures shortest { IfOk result (λ both. NoneShorter (cells_of network.now.facts) network.now.held both.1.items) }
 {
-    let unmatched = Unmatched::of(alloc, network)?;
+    let unmatched = Unmatched::of(alloc, most, network)?;
     let cycle = cycle_of(alloc, network)?;
     Ok((unmatched, cycle))
 }
 
-/// Channels that wait for each other in a credit loop, as few as there are; none where there is none.
+/// Returns a shortest credit loop, or an empty list if there is none.
 #[tactic(auto, using(crate::proofs::Judged::none_is_shorter))]
 fn cycle_of(alloc: Global, network: &Network) -> Result<Vec<usize>, AllocError>
     ensures cycle { IfOk result (λ cycle. IsCycle (cells_of network.now.facts) network.now.held cycle.items) }

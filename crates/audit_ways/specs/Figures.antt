@@ -1,27 +1,27 @@
--- What is told of some numbers: the greatest, and their mean.
+-- The greatest of some numbers, and their mean.
 use Rattle.std.specs.Prelude.{◌≡◌, ◌+◌, ◌*◌, ◌/◌, ◌==◌, ℕ, List, [], ◌∷◌, Option, None, Some, length, max, sum, if◌then◌else◌}
 use Rattle.audit_ways.specs.declared.figures.Figures.{Figures}
 use Rattle.audit_ways.specs.declared.figures.Total.{Total}
 
--- the greatest of some numbers, and 0 where there is none
+-- the greatest number, 0 if there is none
 abbrev pub greatest : List ℕ → ℕ
 greatest [] = 0
 greatest (n ∷ ns) = max n (greatest ns)
 
--- the greatest, and a hundred times the mean, cut off; None where there are no numbers
+-- the greatest number, and a hundred times the mean, rounded down; None if there are no numbers
 abbrev pub figures_by : ℕ → ℕ → ℕ → Option Figures
 figures_by count sum most = if count == 0 then None else Some (record { most = most; hundredths = 100 * sum / count })
 
 abbrev pub figures_of : List ℕ → Option Figures
 figures_of ns = figures_by (length ns) (sum ns) (greatest ns)
 
--- so many numbers have been counted
+-- `total` is that of the numbers `ns`
 pub record IsTotal (ns : List ℕ) (total : Total) : Type 0 where
   pub count : total.count ≡ length ns
   pub sum : total.sum ≡ sum ns
   pub most : total.most ≡ greatest ns
 
--- a number is counted some times more
+-- `number` is added `times` times
 pub record IsTotalWith (old : Total) (number times : ℕ) (new : Total) : Type 0 where
   pub count : new.count ≡ old.count + times
   pub sum : new.sum ≡ old.sum + times * number

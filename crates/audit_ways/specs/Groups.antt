@@ -1,4 +1,4 @@
--- Packets by where their senders' wires lead, and what a roster of the end ports says of these wires.
+-- Packets grouped by where their senders' wires lead, and the roster of end ports that says where these wires lead.
 use Rattle.std.specs.Prelude.{◌≡◌, ◌<◌, ◌+◌, ◌*◌, ◌&&◌, ℕ, true, false, List, Option, None, Some, Contains, filter, length, map, slice_index}
 use Rattle.std.specs.List.{list_any, sum_by}
 use Rattle.std.specs.List.Sorted.{IsPermutation, IsSortedByKey}
@@ -16,29 +16,29 @@ use Rattle.audit_ways.specs.declared.sender_groups.Groups.{Groups}
 use Rattle.audit_ways.specs.WayTally.{weighed}
 use Rattle.audit_ways.specs.Ways.{is_adapter}
 
--- a wire leads to none but the first switches
+-- if the wire leads to a switch, its index is below `count`
 abbrev pub IsWithin : ℕ → Far → Type 0
 IsWithin count far = (index : ℕ) → far ≡ Switch index → index < count
 
--- the sum of a number over packets, by the switches to which they come first; None is an adapter, over one wire
+-- the sum of `number` over all packets, by the switch that a packet reaches first; None for an adapter, over one wire
 abbrev pub total : (Option ℕ → ℕ) → Groups → ℕ
 total number groups = weighed (λ i. number (Some i)) groups.weights.items + groups.direct * number None
 
--- a packet more
+-- a packet whose sender's wire leads to `far` is added
 pub record IsGroupedWith (old : Groups) (far : Far) (new : Groups) : Type 0 where
   pub as_many : length new.weights.items ≡ length old.weights.items
   pub sums : (number : Option ℕ → ℕ) → total number new ≡ total number old + number (switch_over far)
 
--- how many packets come there
+-- how many packets reach that switch first; for None, how many reach an adapter over one wire
 abbrev pub packets_at : Groups → Option ℕ → ℕ
 packets_at groups None = groups.direct
 packets_at groups (Some index) = slice_index groups.weights.items index
 
--- the number for the packet of an end port
+-- `number` of where the wire of `e` leads
 abbrev pub by_switch : Cells → (Option ℕ → ℕ) → EndPort → ℕ
 by_switch cells number e = number (switch_over (far_of cells e.node e.port))
 
--- the packets of these end ports
+-- `groups` has a packet from each of `ports`
 pub record AreGrouped (cells : Cells) (ports : List EndPort) (groups : Groups) : Type 0 where
   pub as_many : length groups.weights.items ≡ length (switches cells)
   pub sums : (number : Option ℕ → ℕ) → sum_by (by_switch cells number) ports ≡ total number groups
@@ -47,30 +47,30 @@ pub record AreGrouped (cells : Cells) (ports : List EndPort) (groups : Groups) :
 abbrev pub adapters : Cells → List EndPort
 adapters cells = filter is_adapter (end_ports cells)
 
--- the order of nodes and ports
+-- the order by node and port
 abbrev pub port_cmp : ℕ × ℕ → ℕ × ℕ → Ordering
 port_cmp a b = ordering_then (nat_cmp a.0 b.0) (nat_cmp a.1 b.1)
 
 abbrev pub port_of : Sender → ℕ × ℕ
 port_of source = (source.port.node, source.port.port)
 
--- sources by node and port
+-- `roster` is sorted by node and port
 abbrev pub AreByPort : List Sender → Type 0
 AreByPort roster = IsSortedByKey port_of port_cmp roster
 
--- the end ports as sources, by node and port
+-- `roster` is the end ports as senders, sorted by node and port
 pub record IsRoster (cells : Cells) (roster : List Sender) : Type 0 where
   pub moved : IsPermutation (map (sender_of cells) (end_ports cells)) roster
   pub by_port : AreByPort roster
 
--- where the wire in an end port leads, by the sources
+-- the wire in `e` leads to `far`, as a sender in `sources` says
 pub record LeadsTo (sources : List Sender) (e : EndPort) (far : Far) : Type 0 where
   pub source : Sender
   pub there : Contains sources source
   pub port_is : source.port ≡ e
   pub far_is : source.far ≡ far
 
--- and that of an adapter port; None where it is none of these
+-- where the wire in the adapter port `e` leads; None if `e` is no adapter port or not in `sources`
 abbrev pub IsTargetAmong : List Sender → EndPort → Option Far → Type 0
 IsTargetAmong sources e None = (is_adapter e && list_any (λ source. is_same_end e source.port) sources) ≡ false
 IsTargetAmong sources e (Some far) = (is_adapter e ≡ true) × LeadsTo sources e far

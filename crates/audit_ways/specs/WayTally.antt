@@ -1,18 +1,18 @@
--- What is counted of ways, and of packets by the switches to which they come first.
+-- Counts of routes, and of packets by the first switch that they reach.
 use Rattle.std.specs.Prelude.{◌≡◌, ◌≤◌, ◌↔◌, ◌+◌, ◌*◌, ℕ, suc, List, [], ◌∷◌, Option, count_by, length, max, nat_lt, slice_index, ◌==◌, if◌then◌else◌}
 use Rattle.port_graph.specs.declared.edge.Edge.{Edge}
 use Rattle.audit_ways.specs.declared.way_tally.WayTally.{WayTally}
 use Rattle.audit_ways.specs.Ways.{Way, one_wire, times_on, way_from}
 
--- what numbers that each way has come to over some ways
+-- the sum of any number of a route over some routes
 abbrev pub Sum : Type 0
 Sum = (Way → ℕ) → ℕ
 
--- 1 for a number over a bound
+-- 1 if `number` is over `bound`, else 0
 abbrev pub over : ℕ → ℕ → ℕ
 over bound number = if nat_lt bound number then 1 else 0
 
--- ways with this sum are counted, over so many channels
+-- `tally` counts the routes with this sum, over `channels` channels
 pub record IsCounted (channels : ℕ) (sum : Sum) (tally : WayTally) : Type 0 where
   pub as_many : length tally.loads.items ≡ channels
   pub count : tally.hops.count ≡ sum (λ way. 1)
@@ -20,29 +20,29 @@ pub record IsCounted (channels : ℕ) (sum : Sum) (tally : WayTally) : Type 0 wh
   pub most : (bound : ℕ) → (tally.hops.most ≤ bound) ↔ (sum (λ way. over bound way.wires) ≡ 0)
   pub loads : (channel : ℕ) → slice_index tally.loads.items channel ≡ sum (times_on channel)
 
--- some channels are taken some times more
+-- each of `channels` is taken `times` more, as often as it occurs
 pub record IsLoadedWith (old channels : List ℕ) (times : ℕ) (new : List ℕ) : Type 0 where
   pub as_many : length new ≡ length old
   pub load : (channel : ℕ) → slice_index new channel ≡ slice_index old channel
       + times * count_by (λ x. x == channel) channels
 
--- a way is counted some times more
+-- `way` is counted `times` times more
 pub record IsCountedWith (old : WayTally) (way : Way) (times : ℕ) (new : WayTally) : Type 0 where
   pub count : new.hops.count ≡ old.hops.count + times
   pub wires : new.hops.sum ≡ old.hops.sum + times * way.wires
   pub most : new.hops.most ≡ max old.hops.most way.wires
   pub loads : IsLoadedWith old.loads.items way.channels times new.loads.items
 
--- each of some numbers, as often as its weight says
+-- the sum of `number i` times the weight at `i`
 abbrev pub weighed : (ℕ → ℕ) → List ℕ → ℕ
 weighed number [] = 0
 weighed number (weight ∷ weights) = weight * number 0 + weighed (λ i. number (suc i)) weights
 
--- the sum over ways that begin at switches as often as their weights say, and over those of one wire
+-- the sum over the routes from each switch, as often as its weight says, and over `direct` routes of one wire
 abbrev pub grouped : List (Option Edge) → List ℕ → ℕ → Sum
 grouped edges weights direct number = weighed (λ i. number (way_from edges i)) weights + direct * number one_wire
 
--- more ways are counted
+-- the routes with the sum `more` are counted besides
 abbrev pub IsCountedMore : ℕ → WayTally → Sum → WayTally → Type 0
 IsCountedMore channels old more new =
     (sum : Sum) → IsCounted channels sum old → IsCounted channels (λ number. sum number + more number) new

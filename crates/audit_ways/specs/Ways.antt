@@ -1,5 +1,5 @@
--- The ways of the packets that adapter ports send to each other, and how often these take each channel.
--- InfiniBand Architecture Specification, Volume 1: switches, unicast forwarding by the linear forwarding table.
+-- The routes of packets that adapter ports send to each other, and how often they take each channel. InfiniBand
+-- Architecture Specification, Volume 1: switches, unicast forwarding by the linear forwarding table.
 use Rattle.std.specs.Prelude.{◌≡◌, ◌+◌, ◌*◌, ◌==◌, ◌&&◌, ℕ, zero, suc, Bool, true, false, not, List, [], ◌∷◌, Option, None, Some, Contains, count_by, filter, length, map, slice_get, slice_index_or, if◌then◌else◌}
 use Rattle.std.specs.List.{flat_map, range_with_len, sum_by}
 use Rattle.std.specs.Option.{option_map_or}
@@ -20,20 +20,20 @@ use Rattle.held_tables.specs.Tables.{is_owner, is_same_end, lines_of}
 use Rattle.audit_ways.specs.declared.ways.WayFigures.{WayFigures}
 use Rattle.audit_ways.specs.Figures.{figures_of}
 
--- the way of a packet: how many wires it takes, those at the adapters counted, and the channels, which are wires
+-- the route of a packet: how many wires it takes, those at the adapters included, and its channels, which are wires
 -- between usable switches, taken one way
 pub record Way : Type 0 where
   pub wires : ℕ
   pub channels : List ℕ
 
--- the channels from a switch on, in at most so many steps
+-- the channels from `switch` on, at most as many as the first argument says
 abbrev pub channels_from : ℕ → List (Option Edge) → ℕ → List ℕ
 channels_from zero edges switch = []
 channels_from (suc steps) edges switch =
     option_map_or (λ edge. number_of switch edge
     ∷ channels_from steps edges edge.to) (slice_index_or edges switch None) []
 
--- from an adapter to a switch, from there by channels, and to an adapter
+-- the route from an adapter to `switch`, from there over channels, and to an adapter
 abbrev pub way_from : List (Option Edge) → ℕ → Way
 way_from edges switch = record {
   wires = length (channels_from (length edges) edges switch) + 2;
@@ -41,47 +41,47 @@ way_from edges switch = record {
       channels_from (length edges) edges switch;
 }
 
--- from an adapter to an adapter
+-- the route from an adapter to an adapter
 abbrev pub one_wire : Way
 one_wire = record { wires = 1; channels = [] }
 
--- by where the sender's wire leads
+-- the route of a packet whose sender's wire leads to the given far end
 abbrev pub way_over : List (Option Edge) → Far → Way
 way_over edges Nothing = one_wire
 way_over edges (Switch index) = way_from edges index
 way_over edges (Port e) = one_wire
 
--- an end port of an adapter: that of a switch is port 0
+-- an end port of an adapter (the end port of a switch is its port 0)
 abbrev pub is_adapter : EndPort → Bool
 is_adapter e = not (e.port == 0)
 
--- an adapter port sends the packet to another port, by whether it ends there
+-- `e` is an adapter port other than the line's, and `arrives` holds
 abbrev pub reaches_if : HeldLid → EndPort → Bool → Bool
 reaches_if line e arrives = is_adapter e && not (is_same_end line.port e) && arrives
 
--- by where it ends
+-- `e` is an adapter port other than the line's, and its packet, which ends at `end`, is delivered there
 abbrev pub reaches_by : HeldLid → EndPort → Option End → Bool
 reaches_by line e end = reaches_if line e (is_at line.port end)
 
--- a packet for the LID of a line, from an adapter port, is delivered at the line's port, which is another
+-- `e` is an adapter port, and its packet for the LID of `line` is delivered at the line's port, another one
 abbrev pub reaches : Cells → HeldPlan → HeldLid → EndPort → Bool
 reaches cells held line e = reaches_by line e (end_for cells held line.lid e)
 
--- the packets for the LID of a line that end ports send are all delivered at its port
+-- all packets that end ports send for the LID of `line` are delivered at its port
 abbrev pub AllComeTo : Cells → HeldPlan → HeldLid → Type 0
 AllComeTo cells held line =
     (e : EndPort) → Contains (end_ports cells) e → is_at line.port (end_for cells held line.lid e) ≡ true
 
--- so it is of those lines of which it is told, by their indices
+-- all packets are delivered for the LID of each line whose mark in `told`, by index, is true
 abbrev pub AreTold : Cells → HeldPlan → List Bool → Type 0
 AreTold cells held told = (index : ℕ) (line : HeldLid) → slice_get (lines_of held) index ≡ Some line
     → slice_index_or told index false ≡ true → AllComeTo cells held line
 
--- the way of a packet for the LID of a line
+-- the route of the packet from `e` for the LID of `line`
 abbrev pub way_of : Cells → HeldPlan → HeldLid → EndPort → Way
 way_of cells held line e = way_over (edges_of cells held line.lid) (far_of cells e.node e.port)
 
--- the ways of those that are delivered
+-- the routes of the packets for the LID of `line` that adapter ports send and that are delivered
 abbrev pub ways_to : Cells → HeldPlan → HeldLid → List Way
 ways_to cells held line = map (way_of cells held line) (filter (reaches cells held line) (end_ports cells))
 
@@ -92,19 +92,19 @@ is_target cells e = is_adapter e && is_owner (end_ports cells) e
 abbrev pub ways_for : Cells → HeldPlan → HeldLid → List Way
 ways_for cells held line = if is_target cells line.port then ways_to cells held line else []
 
--- from each adapter port to each LID of another one
+-- the routes from each adapter port to each LID of another one
 abbrev pub ways_of : Cells → HeldPlan → List Way
 ways_of cells held = flat_map (ways_for cells held) (lines_of held)
 
--- how many wires each takes
+-- how many wires each route takes
 abbrev pub hops_of : Cells → HeldPlan → List ℕ
 hops_of cells held = map (λ w. w.wires) (ways_of cells held)
 
--- how often a way takes a channel
+-- how often `way` takes `channel`
 abbrev pub times_on : ℕ → Way → ℕ
 times_on channel way = count_by (λ x. x == channel) way.channels
 
--- how often these ways do
+-- how often the routes take `channel`
 abbrev pub load_of : List Way → ℕ → ℕ
 load_of ways channel = sum_by (times_on channel) ways
 
@@ -117,11 +117,11 @@ is_to_switch (Port e) = false
 abbrev pub channels_of : Cells → List ℕ
 channels_of cells = filter (λ n. is_to_switch (far_by cells n)) (range_with_len 0 (256 * length (switches cells)))
 
--- how often each is taken
+-- how often each channel is taken
 abbrev pub loads_of : Cells → HeldPlan → List ℕ
 loads_of cells held = map (load_of (ways_of cells held)) (channels_of cells)
 
--- what is told of the wires that packets take, and of the loads of channels
+-- `told` has the figures of the wires that packets take, and of the loads of channels
 pub record IsToldOfWays (cells : Cells) (held : HeldPlan) (told : WayFigures) : Type 0 where
   pub hops : told.hops ≡ figures_of (hops_of cells held)
   pub load : told.load ≡ figures_of (loads_of cells held)

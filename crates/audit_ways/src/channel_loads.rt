@@ -8,8 +8,9 @@ ghost use Rattle.audit_ways.specs.Ways.{channels_from};
 use port_graph::Edge;
 use std::alloc::AllocError;
 
-/// Follows packets from a switch on by the edges of the switches, and adds their number to the loads of the channels
-/// that they take; answers how many channels these are. Takes a step for each. Refused where 64 bits are too few.
+/// Follows packets from the switch at index `first` by the edges of the switches, and adds `times` to the load of each
+/// channel that they take. Returns how many channels that is. Takes a step for each channel. Returns an error if a load
+/// does not fit in 64 bits.
 pub(crate) fn load_channels(
     loads: &mut [u64],
     edges: &[Option<Edge>],
@@ -35,7 +36,7 @@ pub(crate) fn load_channels(
     Ok(edges.len())
 }
 
-/// Adds to a load.
+/// Adds `times` to the load of `channel`.
 pub(crate) fn load_channel(loads: &mut [u64], channel: usize, times: u64) -> Result<(), AllocError>
     requires { channel < length loads.old }
     ensures { OnOk result (loads.new ≡ slice_set loads.old channel (slice_index loads.old channel + times)) }
@@ -44,14 +45,14 @@ pub(crate) fn load_channel(loads: &mut [u64], channel: usize, times: u64) -> Res
     Ok(())
 }
 
-/// The edge of a switch.
+/// Returns the edge of `switch`, if it has one.
 fn edge_of(edges: &[Option<Edge>], switch: usize) -> Option<Edge>
     ensures { result ≡ slice_index_or edges.now switch None }
 {
     edges.get(switch).copied().flatten()
 }
 
-/// The number of the channel of a switch's edge.
+/// Returns the number of the channel of `edge`, an edge of `switch`.
 fn number_of(switch: usize, edge: Edge) -> usize
     requires { 256 * switch + 256 < 2 ^ 64 + 1 }
     ensures is { result ≡ number_of switch edge }

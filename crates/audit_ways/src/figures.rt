@@ -1,19 +1,19 @@
-//! What is told of some numbers: the greatest, and their mean.
+//! The greatest of some numbers, and their mean.
 ghost use Rattle.std.specs.Prelude.{◌≡◌, ◌≤◌, [], IfOk, OnOk};
 ghost use Rattle.audit_ways.specs.Figures.{IsTotal, IsTotalWith, figures_by};
 
 use std::alloc::AllocError;
 
-/// What is told of some numbers.
+/// Figures of some numbers.
 #[derive(Clone, Copy, Debug, PartialEq, Eq)]
 pub struct Figures {
-    /// The greatest.
+    /// The greatest number.
     pub most: u64,
-    /// A hundred times their mean, cut off.
+    /// A hundred times the mean, rounded down.
     pub hundredths: u64,
 }
 
-/// Numbers that are counted.
+/// The count, the sum and the greatest of some numbers.
 #[derive(Clone, Copy)]
 pub(crate) struct Total {
     pub(crate) count: u64,
@@ -22,7 +22,7 @@ pub(crate) struct Total {
 }
 
 impl Total {
-    /// No number.
+    /// Returns the total of no numbers.
     pub(crate) fn none() -> Self
         ensures { IsTotal [] result }
     {
@@ -33,7 +33,7 @@ impl Total {
         }
     }
 
-    /// A number some times more; refused where 64 bits are too few.
+    /// Adds `number`, `times` times. Returns an error if 64 bits are too few.
     pub(crate) fn add(&mut self, number: u64, times: u64) -> Result<(), AllocError>
         ensures { OnOk result (IsTotalWith self.old number times self.new) }
     {
@@ -44,7 +44,8 @@ impl Total {
         Ok(())
     }
 
-    /// The greatest and the mean, where there are numbers; refused where 64 bits are too few.
+    /// Returns the greatest number and the mean, or `None` if there are no numbers. Returns an error if 64 bits are too
+    /// few.
     pub(crate) fn figures(&self) -> Result<Option<Figures>, AllocError>
         ensures { IfOk result (λ figures. figures ≡ figures_by self.now.count self.now.sum self.now.most) }
     {

@@ -1,4 +1,4 @@
-//! Ways of packets between adapters by the forwarding tables that a subnet's switches hold: how many wires they take,
+//! Routes of packets between adapters by the forwarding tables that a subnet's switches hold: how many wires they take,
 //! and how often each channel is taken.
 #![tactic(auto)]
 

@@ -1,4 +1,4 @@
-//! The end ports of a network, to search.
+//! The end ports of a network, sorted for searches.
 ghost use Rattle.std.specs.Prelude.{◌≡◌, IfOk};
 ghost use Rattle.std.specs.List.Sorted.{IsPermutation};
 ghost use Rattle.fact_store.specs.View.{cells_of};
@@ -10,7 +10,7 @@ use smp_bytes::{Guid, PortNum};
 use std::alloc::{AllocError, Global};
 use subnet_view::EndPort;
 
-/// The end ports of a network as sources, by node and port. Sorts them.
+/// Returns the end ports of the network as senders, sorted by node and port.
 pub(crate) fn roster(alloc: Global, network: &Network) -> Result<Vec<Sender>, AllocError>
     ensures { IfOk result (λ roster. IsRoster (cells_of network.now.facts) roster.items) }
 {
@@ -19,7 +19,7 @@ pub(crate) fn roster(alloc: Global, network: &Network) -> Result<Vec<Sender>, Al
     Ok(roster)
 }
 
-/// Puts sources in the order of nodes and ports.
+/// Sorts senders by node and port.
 fn sort(sources: &mut [Sender])
     ensures permutation { IsPermutation sources.old sources.new }
     ensures by_port { AreByPort sources.new }
@@ -27,14 +27,15 @@ fn sort(sources: &mut [Sender])
     sources.sort_unstable_by_key(port_of);
 }
 
-/// The node and the port of a source.
+/// Returns the node and the port of a sender.
 fn port_of(source: &Sender) -> (Guid, PortNum)
     ensures { result ≡ port_of source.now }
 {
     (source.port.node, source.port.port)
 }
 
-/// Where the wire in an adapter port leads, by a roster; None where it is none of these. Takes a search.
+/// Returns where the wire in an adapter port leads, or `None` if `port` is no adapter port or not in the roster. Takes
+/// a search.
 pub(crate) fn target_among(roster: &[Sender], port: &EndPort) -> Option<Far>
     requires { AreByPort roster.now }
     ensures { IsTargetAmong roster.now port.now result }

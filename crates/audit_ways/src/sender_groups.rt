@@ -1,4 +1,4 @@
-//! Packets for one LID, by the switches to which they come first.
+//! Packets for one LID, grouped by the first switch that they reach.
 ghost use Rattle.std.specs.Prelude.{◌≡◌, ◌<◌, ◌≤◌, ◌+◌, [], IfOk, OnOk, filter, length, slice_index, slice_set};
 ghost use Rattle.fact_store.specs.View.{cells_of};
 ghost use Rattle.subnet_view.specs.EndPorts.{end_ports};
@@ -14,17 +14,17 @@ use plan_file::HeldLid;
 use std::alloc::{AllocError, Global};
 use subnet_view::EndPort;
 
-/// Packets by where their senders' wires lead.
+/// Packets, grouped by where their senders' wires lead.
 #[derive(Drop)]
 pub(crate) struct Groups {
-    /// How many come first to each switch.
+    /// For each switch, the number of packets that reach it first.
     pub(crate) weights: Vec<u64>,
-    /// How many come to an adapter over one wire.
+    /// The number of packets that reach an adapter over one wire.
     pub(crate) direct: u64,
 }
 
 impl Groups {
-    /// No packet, over the switches of a network.
+    /// Returns the groups of no packets, over the switches of the network.
     fn none(alloc: Global, network: &Network) -> Result<Self, AllocError>
         ensures { IfOk result (AreGrouped (cells_of network.now.facts) []) }
     {
@@ -34,7 +34,7 @@ impl Groups {
         })
     }
 
-    /// A packet more, by where its sender's wire leads; refused where 64 bits are too few.
+    /// Adds a packet whose sender's wire leads to `far`. Returns an error if 64 bits are too few.
     pub(crate) fn join(&mut self, far: &Far) -> Result<(), AllocError>
         requires { IsWithin (length self.old.weights.items) far.now }
         ensures { OnOk result (IsGroupedWith self.old far.now self.new) }
@@ -45,7 +45,7 @@ impl Groups {
         }
     }
 
-    /// A packet more over one wire.
+    /// Adds a packet that takes one wire.
     fn join_direct(&mut self) -> Result<(), AllocError>
         ensures direct { OnOk result (self.new.direct ≡ self.old.direct + 1) }
         ensures weights { self.new.weights ≡ self.old.weights }
@@ -54,7 +54,7 @@ impl Groups {
         Ok(())
     }
 
-    /// A packet less, where there is one whose sender's wire leads there.
+    /// Removes a packet whose sender's wire leads to `far`.
     pub(crate) fn leave(&mut self, far: &Far)
         requires { 1 ≤ packets_at self.old (switch_over far.now) }
         ensures { IsGroupedWith self.new far.now self.old }
@@ -66,7 +66,7 @@ impl Groups {
     }
 }
 
-/// One from a weight.
+/// Subtracts one from the weight of the switch `first`.
 fn unload(weights: &mut [u64], first: usize)
     requires { 1 ≤ slice_index weights.old first }
     ensures { weights.old ≡ slice_set weights.new first (slice_index weights.new first + 1) }
@@ -74,7 +74,7 @@ fn unload(weights: &mut [u64], first: usize)
     weights[first] -= 1;
 }
 
-/// A packet from each adapter port. Takes a step for each end port.
+/// Groups one packet from each adapter port. Takes a step for each end port.
 pub(crate) fn senders(alloc: Global, network: &Network) -> Result<Groups, AllocError>
     ensures { IfOk result (AreGrouped (cells_of network.now.facts) (adapters (cells_of network.now.facts))) }
 {
@@ -87,8 +87,8 @@ pub(crate) fn senders(alloc: Global, network: &Network) -> Result<Groups, AllocE
     Ok(groups)
 }
 
-/// The packets for the LID of a line which adapter ports send and which are delivered at the line's port, another one,
-/// by where each end port's packet ends. Takes a step for each end port.
+/// Groups the packets for the LID of `line` that other adapter ports send and that are delivered at the line's port.
+/// `ends` says where each end port's packet ends. Takes a step for each end port.
 pub(crate) fn group_packets(
     alloc: Global,
     network: &Network,
@@ -110,14 +110,14 @@ pub(crate) fn group_packets(
     Ok(groups)
 }
 
-/// Whether an adapter port sends the packet to another port, by whether it ends there.
+/// Returns whether `port` is an adapter port, not the line's own port, and its packet arrives there.
 fn reaches(line: &HeldLid, port: &EndPort, arrives: bool) -> bool
     ensures { result ≡ reaches_if line.now port.now arrives }
 {
     is_adapter(port) && !is_same_end(&line.port, port) && arrives
 }
 
-/// Whether it is an end port of an adapter: that of a switch is its port 0.
+/// Returns whether `port` is an end port of an adapter. (The end port of a switch is its port 0.)
 pub fn is_adapter(port: &EndPort) -> bool
     ensures { result ≡ is_adapter port.now }
 {

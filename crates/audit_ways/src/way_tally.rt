@@ -1,4 +1,4 @@
-//! Ways that are counted.
+//! Counts of routes.
 ghost use Rattle.std.specs.Prelude.{◌≡◌, ◌+◌, ◌*◌, IfOk, OnOk, length};
 ghost use Rattle.audit_ways.specs.WayTally.{IsCounted, IsCountedMore, IsCountedWith, grouped};
 ghost use Rattle.audit_ways.specs.Ways.{one_wire, way_from};
@@ -8,17 +8,17 @@ use crate::figures::Total;
 use port_graph::Edge;
 use std::alloc::{AllocError, Global};
 
-/// The ways that are counted.
+/// The wires and channels of the routes that were counted.
 #[derive(Drop)]
 pub(crate) struct WayTally {
-    /// The wires of each way.
+    /// The number of wires of each route.
     pub(crate) hops: Total,
-    /// How often each channel is taken.
+    /// For each channel, how often it is taken.
     pub(crate) loads: Vec<u64>,
 }
 
 impl WayTally {
-    /// No way, over so many channels.
+    /// Returns the tally of no routes, over `channels` channels.
     pub(crate) fn new(alloc: Global, channels: usize) -> Result<Self, AllocError>
         ensures { IfOk result (IsCounted channels (λ _. 0)) }
     {
@@ -28,8 +28,8 @@ impl WayTally {
         })
     }
 
-    /// The way from each switch as often as its weight says, and those over one wire. Takes a step for each switch, and
-    /// for each channel of a way from one.
+    /// Adds the route from each switch as often as its weight says, and `direct` routes over one wire. Takes a step for
+    /// each switch, and for each channel of a route from one.
     pub(crate) fn add(
         &mut self,
         edges: &[Option<Edge>],
@@ -52,7 +52,7 @@ impl WayTally {
         Ok(())
     }
 
-    /// The way from a switch some times more.
+    /// Adds the route from the switch `first`, `times` times.
     fn add_from(
         &mut self,
         edges: &[Option<Edge>],
@@ -67,7 +67,7 @@ impl WayTally {
         self.hops.add(wires, times)
     }
 
-    /// The way over one wire some times more.
+    /// Adds the route over one wire, `times` times.
     fn add_direct(&mut self, times: u64) -> Result<(), AllocError>
         ensures { OnOk result (IsCountedWith self.old one_wire times self.new) }
     {

@@ -20,27 +20,28 @@ use audit::{Blocks, Far, Network};
 use plan_file::HeldLid;
 use std::alloc::{AllocError, Global};
 
-/// What is told of the packets that adapter ports send to the LIDs of each other, and that are delivered there.
+/// Figures of the packets that adapter ports send to the LIDs of each other and that are delivered there.
 #[derive(Clone, Copy, Debug, PartialEq, Eq)]
 pub struct WayFigures {
-    /// Of how many wires each takes, those at the adapters counted; None where there is no such packet.
+    /// The figures of how many wires a packet takes, those at the adapters included. `None` if there is no packet.
     pub hops: Option<Figures>,
-    /// Of how often each channel is taken; None where there is no channel.
+    /// The figures of how often a channel is taken. `None` if there is no channel.
     pub load: Option<Figures>,
 }
 
-/// How far packets go between adapter ports, and how evenly they load the channels. Takes what `Network::ends` and
-/// `Network::edges` do for each LID, what `Network::blocks` does for each 64, for each LID a walk from each switch at
-/// which an adapter lies, and a step for each end port where not all packets for the LID are delivered. Refused for
-/// lack of memory, and where 64 bits are too few.
+/// Computes how many wires packets between adapter ports take, and how evenly they load the channels.
+///
+/// Costs what `Network::ends` and `Network::edges` take for each LID, what `Network::blocks` takes for each 64 LIDs,
+/// for each LID a walk from each switch with an adapter, and a step for each end port if not all packets for the LID
+/// are delivered. Returns an error if memory runs out or 64 bits are too few.
 pub fn figures_of_ways(alloc: Global, network: &Network) -> Result<WayFigures, AllocError>
     ensures { IfOk result (IsToldOfWays (cells_of network.now.facts) network.now.held) }
 {
     figures_of_ways_told(alloc, network, &[])
 }
 
-/// The same, where it is told of some lines that all packets for their LIDs are delivered at their ports: for these it
-/// does not take what `Network::ends` does.
+/// Computes the figures of `figures_of_ways`. `told` marks lines, by index, whose packets are all known to be delivered
+/// at their ports; for these it does not take what `Network::ends` does.
 pub fn figures_of_ways_told(
     alloc: Global,
     network: &Network,
@@ -56,7 +57,7 @@ pub fn figures_of_ways_told(
     Ok(WayFigures { hops, load })
 }
 
-/// Counts the ways of the packets.
+/// Counts the routes of the packets.
 fn tally_of(alloc: Global, network: &Network, told: &[bool]) -> Result<WayTally, AllocError>
     requires { AreTold (cells_of network.now.facts) network.now.held told.now }
     ensures { IfOk result (IsCounted (256 * length (switches (cells_of network.now.facts)))
@@ -85,15 +86,15 @@ fn tally_of(alloc: Global, network: &Network, told: &[bool]) -> Result<WayTally,
     Ok(tally)
 }
 
-/// Whether it is told of the line at an index.
+/// Returns whether the line at `index` is marked: all packets for its LID are known to arrive.
 fn is_told(told: &[bool], index: usize) -> bool
     ensures { result ≡ slice_index_or told.now index false }
 {
     told.get(index).copied().unwrap_or(false)
 }
 
-/// Counts those for the LID of a line, the wire in whose port leads there. Takes the packets from all adapter ports,
-/// and leaves them as they were.
+/// Adds the routes of the packets for the LID of `line`. `far` is where the wire in the line's port leads. `senders`
+/// has a packet from each adapter port, is changed meanwhile, and is restored.
 fn add_ways(
     alloc: Global,
     tally: &mut WayTally,
@@ -126,7 +127,7 @@ fn add_ways(
     senders.join(far)
 }
 
-/// The packets for the LID of a line that are delivered, where not all are; None where all are, as may be told.
+/// Returns the delivered packets for the LID of `line`, or `None` if all are delivered, which `told` may already say.
 fn some_of_all(
     alloc: Global,
     network: &Network,
@@ -152,7 +153,7 @@ fn some_of_all(
     }
 }
 
-/// Counts the loads of the channels of a network.
+/// Totals the loads of the network's channels.
 fn loads_of(network: &Network, loads: &[u64]) -> Result<Total, AllocError>
     requires { length loads.now ≡ 256 * length (switches (cells_of network.now.facts)) }
     ensures { IfOk result (IsTotal (map (slice_index loads.now) (channels_of (cells_of network.now.facts)))) }
@@ -166,7 +167,7 @@ fn loads_of(network: &Network, loads: &[u64]) -> Result<Total, AllocError>
     Ok(total)
 }
 
-/// Whether a wire leads to a usable switch.
+/// Returns whether a wire leads to a usable switch.
 fn is_to_switch(far: Far) -> bool
     ensures { result ≡ is_to_switch far }
 {

@@ -24,7 +24,7 @@ state_of state r = record {
   calls = r.budget.calls;
 }
 
--- these bytes were taken, and no more calls were interrupted than made
+-- the bytes `taken` were taken, and no more calls were interrupted than made
 pub record Takes (old new : ReadingState) (taken : List ℕ) : Type 0 where
   pub consumed : Consumes old.left new.left taken
   pub counted : new.bytes ≡ old.bytes + length taken
@@ -38,7 +38,7 @@ pub record EachCallTakes (old new : ReadingState) : Type 0 where
 pub record IsAnswered (old new : ReadingState) : Type 0 where
   pub answered : new.interruptions + old.calls < old.interruptions + new.calls
 
--- so many bytes stand in the front of the room, or none at the end; the 2^40th byte of a reading comes alone
+-- n bytes stand in the front of `room`, 0 at the end; the 2^40th byte of a reading comes alone
 pub record GivesPiece (n : ℕ) (old new : ReadingState) (room : List ℕ) : Type 0 where
   pub within : n ≤ length room
   pub taken : Takes old new (take n room)
@@ -56,7 +56,7 @@ pub record FailsToGive (old new : ReadingState) : Type 0 where
   pub answered : IsAnswered old new
   pub failed : IsTrue new.has_failed
 
--- the reading was spent, and no byte was taken
+-- the reading was used up, and no byte was taken
 pub record IsSpentBefore (old new : ReadingState) : Type 0 where
   pub taken : Takes old new []
   pub spent : IsSpent new.bytes new.calls
@@ -69,7 +69,7 @@ GivesAt (Ok n) old new room = GivesPiece n old new room
 GivesAt (Err Read) old new room = FailsToGive old new
 GivesAt (Err TooLong) old new room = IsSpentBefore old new
 
--- what a reading gives in this room, and what becomes of it
+-- what a reading gives in `room`, and its state afterwards
 abbrev pub Gives : {S : Type 0} → (S → SourceState) → Result ℕ PieceFault → Reading S
     → Reading S → List ℕ → Type 0
 Gives state result old new room =

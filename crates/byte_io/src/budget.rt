@@ -1,9 +1,9 @@
 ghost use Rattle.std.specs.Prelude.{◌≡◌, ◌≤◌, ◌^◌};
 
-/// A reading takes at most so many bytes, and makes at most so many calls.
+/// The greatest number of bytes that one reading takes, and of calls that it makes.
 pub const READ_LIMIT: u64 = 1 << 40;
 
-/// What a reading has taken from its source so far: bytes and calls.
+/// The numbers of bytes and of calls that a reading has taken from its source.
 #[derive(Drop)]
 pub(crate) struct Budget {
     pub(crate) bytes: u64,
@@ -23,14 +23,15 @@ impl Budget {
         Budget { bytes: 0, calls: 0 }
     }
 
-    /// No call may be made any more.
+    /// Returns whether 2^40 bytes or 2^40 calls are used up, so no call may follow.
     pub(crate) fn is_spent(&self) -> bool
         ensures { IsTrue result ↔ IsSpent self.now.bytes self.now.calls }
     {
         self.bytes == READ_LIMIT || self.calls == READ_LIMIT
     }
 
-    /// How many of so many bytes the next call may ask for. The last byte is asked for alone.
+    /// Returns how many of `wanted` bytes the next call may ask for. The last byte of the budget is asked for on its
+    /// own.
     pub(crate) fn share(&self, wanted: usize) -> usize
         requires some { 0 < wanted }
         requires left { self.now.bytes < 2 ^ 40 }

@@ -4,9 +4,8 @@ use crate::interruption::is_interruption;
 use crate::source::{ReadError, Source};
 use std::io::Read;
 
-/// A source over any reader. A failed read is remembered: every later call fails too. No contract of a
-/// reader says when its calls fail, so no clause says of which errors this one does: an `Interrupted` one is
-/// no failure, and each other one is.
+/// A source over any reader. A failed read is remembered: every later call fails too. `Interrupted` is not a failure;
+/// every other error is. Readers' contracts do not say when they fail, so no clause here can.
 #[derive(Drop)]
 pub struct FromRead<R> {
     reader: R,
@@ -34,7 +33,7 @@ impl<R: Read> Source for FromRead<R> {
       interruptions = s.interruptions;
     } };
 
-    /// An interrupted read that can't be counted any more counts as failed.
+    /// Reads from the reader. After 2^64 - 1 interrupted reads, another one counts as failed.
     fn read(&mut self, room: &mut [u8]) -> Result<usize, ReadError> {
         if self.has_failed {
             return Err(ReadError::Failed);

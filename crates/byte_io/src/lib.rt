@@ -1,4 +1,4 @@
-//! What bytes are read from and written to, and the numbers, GUIDs and ports of the project's texts.
+//! Sources and sinks of bytes, and the numbers, GUIDs and ports of the project's texts.
 #![tactic(auto)]
 
 mod budget;

@@ -5,14 +5,14 @@ ghost use Rattle.byte_io.specs.Source.{interruption};
 use crate::budget::Budget;
 use crate::source::{ReadError, Source};
 
-/// Why a reading gave nothing though the source isn't at its end.
+/// Why a reading gave nothing though the source is not at its end.
 #[derive(Clone, Copy)]
 pub enum PieceFault {
     Read,
     TooLong,
 }
 
-/// A source that is read from, and what one reading may still take from it.
+/// A source, and what one reading may still take from it.
 #[derive(Drop)]
 pub struct Reading<'s, S> {
     source: &'s mut S,
@@ -35,15 +35,19 @@ impl<'s, S: Source> Reading<'s, S> {
         }
     }
 
-    /// No call may be made any more.
+    /// Returns whether 2^40 bytes or 2^40 calls are used up, so no call may follow.
     pub fn is_spent(&self) -> bool
         ensures { IsTrue result ↔ IsSpent self.now.budget.bytes self.now.budget.calls }
     {
         self.budget.is_spent()
     }
 
-    /// What the next call gives that isn't interrupted, in the front of the room: at the end no
-    /// byte.
+    /// Reads until a call is not interrupted, and returns how many bytes it put in the front of `room`; 0 means the
+    /// end.
+    ///
+    /// # Errors
+    ///
+    /// Returns `Read` if the source failed, and `TooLong` if no call may follow.
     pub fn piece(&mut self, room: &mut [u8]) -> Result<usize, PieceFault>
         requires some { 0 < length room.old }
         ensures same_source { self.new.source.ghost_name ≡ self.old.source.ghost_name }
@@ -66,7 +70,7 @@ impl<'s, S: Source> Reading<'s, S> {
     }
 }
 
-/// One call, which reads at most so many bytes into the front of the room.
+/// Makes one call, which reads at most `most` bytes into the front of `room`.
 fn read_front<S: Source>(source: &mut S, room: &mut [u8], most: usize) -> Result<usize, ReadError>
     requires { most ≤ length room.old }
     ensures within { IfOk result (λ n. n ≤ most) }

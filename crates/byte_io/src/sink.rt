@@ -3,7 +3,7 @@ ghost use Rattle.byte_io.specs.Writes.{Writes};
 
 use thiserror::Error;
 
-/// Why bytes weren't written.
+/// Why bytes were not written.
 #[derive(Clone, Copy, Debug, PartialEq, Eq, Error)]
 pub enum WriteFault {
     /// The sink failed, and so does each later call.
@@ -11,20 +11,20 @@ pub enum WriteFault {
     Write,
 }
 
-/// What bytes are written to.
+/// A sink: bytes are written to it.
 pub trait Sink {
     ghost use Rattle.std.specs.Io.KnownBytes.{Appends, Keeps};
 
-    // The bytes that it holds, where they are known.
+    // The bytes that it holds, if they are known.
     ghost written: { Self → Option (List ℕ) };
 
-    // A call has failed, and so does each later one.
+    // Whether a call has failed; then each later one fails too.
     ghost has_failed: { Self → Bool };
 
-    // Nothing was written since the last flush, so nothing is held back.
+    // Whether nothing was written since the last flush, so nothing is held back.
     ghost is_flushed: { Self → Bool };
 
-    /// Writes all of the bytes, or fails. How much of them went out before a failure isn't said.
+    /// Writes all of the bytes, or fails. How many went out before a failure is unspecified.
     fn write(&mut self, bytes: &[u8]) -> Result<(), WriteFault>
         ensures writes { Writes written has_failed result self.old self.new bytes.now }
         ensures stays { IsTrue (has_failed self.old) → IsTrue (has_failed self.new) }

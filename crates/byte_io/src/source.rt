@@ -10,18 +10,18 @@ pub enum ReadError {
     /// The source failed, and so does each later call.
     #[error("read failed")]
     Failed,
-    /// Nothing was read; a later call may give more.
+    /// Nothing was read. A later call may give more.
     #[error("interrupted")]
     Interrupted,
 }
 
-/// What bytes are read from.
+/// A source: bytes are read from it.
 pub trait Source {
-    // What is left, whether a call has failed, and how many were interrupted.
+    // The bytes that are left, whether a call has failed, and how many calls were interrupted.
     ghost state: { Self → SourceState };
 
-    /// Reads into the front of `room` and says how many bytes; 0 only at the end, or for no room.
-    /// What stands in `room` behind these bytes, and after an `Err` in all of it, isn't said.
+    /// Reads into the front of `room` and returns how many bytes; 0 only at the end, or if `room` is empty. The bytes
+    /// of `room` behind them, and all of `room` after an `Err`, are unspecified.
     fn read(&mut self, room: &mut [u8]) -> Result<usize, ReadError>
         ensures within { IfOk result (λ n. n ≤ length room.new) }
         ensures bytes { ReadConsumes (state self.old).left (state self.new).left result room.new }

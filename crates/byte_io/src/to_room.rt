@@ -6,8 +6,7 @@ use crate::sink::{Sink, WriteFault};
 use std::alloc::{AllocError, Global};
 use std::marker::Model;
 
-/// A sink over memory, which is full at its end. A write that does not fit puts nothing in and
-/// fails, and so does each later call.
+/// A sink over memory of fixed size. A write that does not fit writes nothing and fails, and so does each later call.
 #[derive(Drop)]
 pub struct ToRoom {
     written: Vec<u8>,
@@ -35,7 +34,7 @@ impl Model for ToRoom {
 }
 
 impl ToRoom {
-    /// Room for so many bytes, with none written.
+    /// Creates an empty sink with room for `room` bytes.
     pub fn new(alloc: Global, room: usize) -> Result<Self, AllocError>
         ensures written { IfOk result (λ s. s.written ≡ []) }
         ensures room { IfOk result (λ s. s.room ≡ room) }
@@ -52,7 +51,7 @@ impl ToRoom {
         })
     }
 
-    /// The bytes that it holds.
+    /// Returns the bytes that the sink holds.
     pub fn bytes(&self) -> &[u8]
         ensures { result.now ≡ self.now.written }
     {
@@ -67,7 +66,7 @@ impl Sink for ToRoom {
 
     ghost is_flushed = { λ s. s.is_flushed };
 
-    /// All of the bytes or none of them. A failed write holds nothing back.
+    /// Writes all of the bytes or none of them. A failed write holds nothing back.
     fn write(&mut self, bytes: &[u8]) -> Result<(), WriteFault>
         ensures ok { IsOk result ↔ HasRoomFor self.old bytes.now }
         ensures refused { OnErr result (self.new.written ≡ self.old.written) }
@@ -86,7 +85,7 @@ impl Sink for ToRoom {
         Ok(())
     }
 
-    /// Memory holds nothing back.
+    /// Passes on nothing, as memory holds nothing back. Fails if a call has failed before.
     fn flush(&mut self) -> Result<(), WriteFault>
         ensures ok { IsOk result ↔ (self.old.has_failed ≡ false) }
         ensures kept { self.new.written ≡ self.old.written }

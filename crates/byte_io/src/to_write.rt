@@ -5,12 +5,11 @@ use crate::interruption::is_interruption;
 use crate::sink::{Sink, WriteFault};
 use std::io::Write;
 
-/// As many interrupted tries of one call count as a failure.
+/// The number of interrupted tries of one call that counts as a failure.
 const MOST_INTERRUPTIONS: u64 = 1 << 40;
 
-/// A sink over any writer. A failed write is remembered: every later call fails too. No contract of a
-/// writer says when its calls fail, so no clause says of which errors this one does: an `Interrupted` call is
-/// made again, and each other error is a failure.
+/// A sink over any writer. A failed write is remembered: every later call fails too. An `Interrupted` call is made
+/// again; every other error is a failure. Writers' contracts do not say when they fail, so no clause here can.
 #[derive(Drop)]
 pub struct ToWrite<W> {
     writer: W,
@@ -19,7 +18,7 @@ pub struct ToWrite<W> {
 }
 
 impl<W: Write> ToWrite<W> {
-    /// The writer may hold bytes back already, so the first flush is passed on.
+    /// Creates a sink over `writer`. The writer may hold bytes back already, so the first flush is passed on.
     pub fn new(writer: W) -> Self
         ensures written { ⟦<ToWrite<W> as Sink>⟧.written result ≡ W.contents writer }
         ensures has_failed { ⟦<ToWrite<W> as Sink>⟧.has_failed result ≡ false }
@@ -40,7 +39,8 @@ impl<W: Write> Sink for ToWrite<W> {
 
     ghost is_flushed = { λ s. s.is_flushed };
 
-    /// A write that takes no byte, or the 2^40th interrupted one of a call, counts as failed.
+    /// Writes all of the bytes. A write that takes no byte counts as failed, and so does the 2^40th interrupted one of
+    /// a call.
     fn write(&mut self, bytes: &[u8]) -> Result<(), WriteFault> {
         if self.has_failed {
             return Err(WriteFault::Write);
@@ -51,7 +51,7 @@ impl<W: Write> Sink for ToWrite<W> {
         outcome
     }
 
-    /// The 2^40th interrupted try of a call counts as failed.
+    /// Passes on what the writer holds back. The 2^40th interrupted try of a call counts as failed.
     fn flush(&mut self) -> Result<(), WriteFault> {
         if self.has_failed {
             return Err(WriteFault::Write);
@@ -63,7 +63,7 @@ impl<W: Write> Sink for ToWrite<W> {
     }
 }
 
-/// Writes all of the bytes, and asks again after an interrupted write.
+/// Writes all of the bytes, and tries again after an interrupted write.
 fn write_all<W: Write>(writer: &mut W, bytes: &[u8]) -> Result<(), WriteFault>
     ensures { OnOk result (Appends (W.contents writer.old) (W.contents writer.new) bytes.now) }
 {
@@ -84,7 +84,7 @@ fn write_all<W: Write>(writer: &mut W, bytes: &[u8]) -> Result<(), WriteFault>
     Ok(())
 }
 
-/// Passes on what the writer holds back, and asks again after an interrupted try.
+/// Passes on what the writer holds back, and tries again after an interruption.
 fn flush_all<W: Write>(writer: &mut W) -> Result<(), WriteFault>
     ensures { OnOk result (Keeps (W.contents writer.old) (W.contents writer.new)) }
 {

@@ -55,7 +55,6 @@ AreTaken c (r ∷ rs) = IsTaken c r × AreTaken c rs
 
 -- a use of the argument replaces its values or adds to them, or is a request for help or the version
 abbrev pub is_plain_action : ArgAction → Bool
-is_plain_action SetTrue = false
 is_plain_action SetFalse = false
 is_plain_action Count = false
 is_plain_action _ = true
@@ -132,7 +131,8 @@ module _ (c : List Rule) (again : Bool) where
   used_as_taken Set a vs rows is p h some e = valued CommandLine a vs (without a.id rows) p (without_taken c a.id rows h)
       ((or_none _ (values_fault a vs) e).1, some)
   used_as_taken Append a vs rows is p h some e = valued CommandLine a vs rows p h (e, some)
-  used_as_taken SetTrue a vs rows is p h some e = absurd (cc)
+  used_as_taken SetTrue a vs rows is p h some e = valued CommandLine a vs (without a.id rows) p (without_taken c a.id rows h)
+      ((or_none _ (values_fault a vs) e).1, some)
   used_as_taken SetFalse a vs rows is p h some e = absurd (cc)
   used_as_taken Count a vs rows is p h some e = absurd (cc)
   used_as_taken Help a vs rows is p h some e = h

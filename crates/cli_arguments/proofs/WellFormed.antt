@@ -1,6 +1,6 @@
 -- What is read of words without a fault is well-formed.
 use Rattle.std.proofs.Common.{◌≡◌, ◌∙◌, ◌&&◌, ◌||◌, ℕ, Bool, true, false, not, List, [], ◌∷◌, Option, None, Some, refl, ap, sym, subst, inl, inr}
-use Rattle.std.specs.Prelude.{Box, Ok, pos, find, map, is_some, codes, option_and_then, option_map}
+use Rattle.std.specs.Prelude.{◌⊎◌, Box, Ok, pos, find, map, is_some, codes, option_and_then, option_map}
 use Rattle.std.specs.Borrow.{Bor}
 use Rattle.std.specs.List.{list_any}
 use Rattle.std.specs.Option.{option_map_or}
@@ -21,8 +21,8 @@ use Rattle.clap.specs.declared.parser.matches.ArgMatches.TheViews.{out-ArgMatche
 use Rattle.clap.specs.declared.parser.matches.SubCommand.{SubCommand}
 use Rattle.std.specs.Box.{box_value}
 use Rattle.cli_arguments.specs.CommandLine.{IsReadAs, AreRoutings, command_line}
-use Rattle.cli_arguments.specs.WellFormed.{HasItsWords, IsGiven, IsNumberWithin, IsRouting, IsWellFormed, NamesFiles, NamesPlanning, facts, join, plan, order, audit, next, run}
-use Rattle.cli_arguments.specs.Words.{has_conflict, has_conflict_behind, has_conflict_of, values_in, word_behind}
+use Rattle.cli_arguments.specs.WellFormed.{HasItsWords, IsGiven, IsNumberWithin, IsRouting, IsWellFormed, NamesFiles, NamesOrder, NamesPlanning, NamesSeat, facts, join, plan, order, audit, order_of, next, run, serve}
+use Rattle.cli_arguments.specs.Words.{has_conflict, has_conflict_behind, has_conflict_of, is_guid, order_rule, values_in, word_behind}
 use Rattle.cli_arguments.proofs.Entered.{EachHas, IsPassed, enters, required_given, found_has, given_word, is_help, word_passes}
 use Rattle.cli_arguments.proofs.Walked.{ArePlainIn, AreTaken, level_taken, wants_some}
 
@@ -38,27 +38,34 @@ module _ (routings : Bor (List (Bor Text))) (known : AreRoutings routings) (c : 
       accepts-Accepts a.ignore_case (Signed (pos least) (pos most)) v
       (subst (λ (o : Option ValueParser). accepts a.ignore_case (parser_of_value o) v ≡ true) is h)
 
-  two_named : (xs : List (Bor Text)) (v : Text) → map (λ word. word.now) xs ≡ codes "updown" ∷ codes "spread" ∷ [] → list_any (λ x. bytes_eq x.now v) xs ≡ true
-      → IsRouting (Some v)
-  two_named xs v is h = either (subst (λ (texts : List Text). list_any (λ t. bytes_eq t v) texts ≡ true) is
+  one_named : (xs : List (Bor Text)) (v : Text) → map (λ word. word.now) xs ≡ codes "updown" ∷ codes "spread" ∷ codes "balance" ∷ []
+      → list_any (λ x. bytes_eq x.now v) xs ≡ true → IsRouting (Some v)
+  one_named xs v is h = either (subst (λ (texts : List Text). list_any (λ t. bytes_eq t v) texts ≡ true) is
       (sym (list_any-map (λ t. bytes_eq t v) (λ x. x.now) xs) ∙ h))
     where
-      either : (bytes_eq (codes "updown") v || (bytes_eq (codes "spread") v || false)) ≡ true → IsRouting (Some v)
-      either e = elim (bytes_eq (codes "updown") v) as
-          (λ b. bytes_eq (codes "updown") v ≡ b → (b || (bytes_eq (codes "spread") v || false)) ≡ true → IsRouting (Some v)) [
-            | true ↦ λ f g. inl (sym ((bytes_eq-Decides (codes "updown") v).0 f))
-            | false ↦ λ f g. inr (sym ((bytes_eq-Decides (codes "spread") v).0 (last (bytes_eq (codes "spread") v) g)))
+      last : (b : Bool) → (b || false) ≡ true → b ≡ true
+      last true e = refl
+      last false e = absurd (cc)
+
+      spreads : (bytes_eq (codes "spread") v || (bytes_eq (codes "balance") v || false)) ≡ true → (v ≡ codes "spread") ⊎ (v ≡ codes "balance")
+      spreads e = elim (bytes_eq (codes "spread") v) as
+          (λ b. bytes_eq (codes "spread") v ≡ b → (b || (bytes_eq (codes "balance") v || false)) ≡ true → (v ≡ codes "spread") ⊎ (v ≡ codes "balance")) [
+            | true ↦ λ f g. inl (sym ((bytes_eq-Decides (codes "spread") v).0 f))
+            | false ↦ λ f g. inr (sym ((bytes_eq-Decides (codes "balance") v).0 (last (bytes_eq (codes "balance") v) g)))
           ] refl e
-        where
-          last : (b : Bool) → (b || false) ≡ true → b ≡ true
-          last true e = refl
-          last false e = absurd (cc)
+
+      either : (bytes_eq (codes "updown") v || (bytes_eq (codes "spread") v || (bytes_eq (codes "balance") v || false))) ≡ true → IsRouting (Some v)
+      either e = elim (bytes_eq (codes "updown") v) as
+          (λ b. bytes_eq (codes "updown") v ≡ b → (b || (bytes_eq (codes "spread") v || (bytes_eq (codes "balance") v || false))) ≡ true → IsRouting (Some v)) [
+            | true ↦ λ f g. inl (sym ((bytes_eq-Decides (codes "updown") v).0 f))
+            | false ↦ λ f g. inr (spreads g)
+          ] refl e
 
   routing_read : (a : Rule) → a.parser ≡ Some (Names routings) → a.ignore_case ≡ false → (o : Option Text) → IsPassed c name a o → IsRouting o
   unfolding IsPassed
   routing_read a is plain None h = tt
   routing_read a is plain (Some v) h =
-      two_named routings.now v known (subst (λ (x : Bool × Option ValueParser). accepts x.0 (parser_of_value x.1) v ≡ true) (λ i. (plain i, is i)) h)
+      one_named routings.now v known (subst (λ (x : Bool × Option ValueParser). accepts x.0 (parser_of_value x.1) v ≡ true) (λ i. (plain i, is i)) h)
 
   files_named : is_given (codes "FILE") rows ≡ true → is_some (values_in (codes "FILE") rows) ≡ true
   files_named e = found (find (λ r. bytes_eq r.id (codes "FILE")) rows) e
@@ -76,6 +83,11 @@ module _ (routings : Bor (List (Bor Text))) (known : AreRoutings routings) (c : 
             (word_passes c name (codes "floor") f rows is taken);
       }
 
+  names_load : (m : Rule) → arg_by_id c (codes "max-load") ≡ Some m → m.parser ≡ Some (Signed (pos 0) (pos 4294967295))
+      → IsNumberWithin 0 4294967295 (word (codes "max-load"))
+  names_load m is parser =
+      number_read 0 4294967295 m parser (word (codes "max-load")) (word_passes c name (codes "max-load") m rows is taken)
+
   names_planning : (l r : Rule) → arg_by_id c (codes "lmc") ≡ Some l → l.parser ≡ Some (Signed (pos 0) (pos 7)) → arg_by_id c (codes "routing") ≡ Some r
       → r.parser ≡ Some (Names routings) → r.ignore_case ≡ false
       → has_conflict_of (word (codes "routing")) (is_some (word (codes "roots"))) (is_some (word (codes "order"))) ≡ false → NamesPlanning word
@@ -85,10 +97,37 @@ module _ (routings : Bor (List (Bor Text))) (known : AreRoutings routings) (c : 
     apart = apart;
   }
 
+  names_order : (r : Rule) → arg_by_id c (codes "routing") ≡ Some r → r.parser ≡ Some (Names routings) → r.ignore_case ≡ false
+      → has_conflict_of (order_rule (word (codes "routing"))) (is_some (word (codes "roots"))) (is_some (word (codes "order"))) ≡ false → NamesOrder word
+  names_order r is_r parser_r plain apart = record {
+    routing = routing_read r parser_r plain (word (codes "routing")) (word_passes c name (codes "routing") r rows is_r taken);
+    apart = apart;
+  }
+
   text_given : (id : Text) (a : Rule) → arg_by_id c id ≡ Some a → wants_some a ≡ true → is_given id rows ≡ true → IsGiven (word id)
   text_given id a is wants given = given_word c name id a rows is wants taken given
 
+  names_seat : (g p q : Rule) → arg_by_id c (codes "GUID") ≡ Some g → arg_by_id c (codes "PORT") ≡ Some p → p.parser ≡ Some (Signed (pos 1) (pos 254))
+      → arg_by_id c (codes "PRIORITY") ≡ Some q → q.parser ≡ Some (Signed (pos 0) (pos 15)) → wants_some g ≡ true → wants_some p ≡ true
+      → wants_some q ≡ true → is_given (codes "GUID") rows ≡ true → is_given (codes "PORT") rows ≡ true → is_given (codes "PRIORITY") rows ≡ true
+      → not (is_guid (word (codes "GUID"))) ≡ false → NamesSeat word
+  names_seat g p q is_g is_p parser_p is_q parser_q wants_g wants_p wants_q given_g given_p given_q guid = record {
+    guid = is_so (is_guid (word (codes "GUID"))) guid;
+    port_given = text_given (codes "PORT") p is_p wants_p given_p;
+    port = number_read 1 254 p parser_p (word (codes "PORT")) (word_passes c name (codes "PORT") p rows is_p taken);
+    priority_given = text_given (codes "PRIORITY") q is_q wants_q given_q;
+    priority = number_read 0 15 q parser_q (word (codes "PRIORITY")) (word_passes c name (codes "PRIORITY") q rows is_q taken);
+  }
+    where
+      is_so : (b : Bool) → not b ≡ false → b ≡ true
+      is_so true e = refl
+      is_so false e = absurd (cc)
+
 -- subcommands ---------------------------------------------------------------------------------------------
+
+neither : (a b : Bool) → (a || b) ≡ false → (a ≡ false) × (b ≡ false)
+neither false b e = (refl, e)
+neither true b e = absurd (cc)
 
 given_first : (b x : Bool) → (not b || x) ≡ false → (b ≡ true) × (x ≡ false)
 given_first true x e = (refl, e)
@@ -114,16 +153,22 @@ all_plain routings = (
     (
       ((refl, refl), ((refl, refl), ((refl, refl), ((refl, refl), ((refl, refl), ((refl, refl), ((refl, refl), tt))))))),
       (
-        ((refl, refl), ((refl, refl), ((refl, refl), ((refl, refl), ((refl, refl), tt))))),
+        ((refl, refl), ((refl, refl), ((refl, refl), ((refl, refl), ((refl, refl), ((refl, refl), tt)))))),
         (
-          ((refl, refl), ((refl, refl), ((refl, refl), ((refl, refl), tt)))),
+          ((refl, refl), ((refl, refl), ((refl, refl), ((refl, refl), ((refl, refl), ((refl, refl), tt)))))),
           (
-            ((refl, refl), ((refl, refl), ((refl, refl), ((refl, refl), ((refl, refl), ((refl, refl), ((refl, refl), ((refl, refl), tt)))))))),
+            ((refl, refl), ((refl, refl), ((refl, refl), ((refl, refl), tt)))),
             (
-              ((refl, refl), ((refl, refl), ((refl, refl), ((refl, refl), ((refl, refl), ((refl, refl), ((refl, refl), tt))))))),
+              ((refl, refl), ((refl, refl), ((refl, refl), ((refl, refl), ((refl, refl), ((refl, refl), ((refl, refl), ((refl, refl), tt)))))))),
               (
-                ((refl, refl), tt),
-                tt,
+                ((refl, refl), ((refl, refl), ((refl, refl), ((refl, refl), ((refl, refl), ((refl, refl), ((refl, refl), tt))))))),
+                (
+                  ((refl, refl), ((refl, refl), ((refl, refl), ((refl, refl), ((refl, refl), ((refl, refl), ((refl, refl), ((refl, refl), tt)))))))),
+                  (
+                    ((refl, refl), tt),
+                    tt,
+                  ),
+                ),
               ),
             ),
           ),
@@ -143,19 +188,34 @@ all_fit routings known = (
       λ other differs is rows t e apart. plan refl (names_files routings known _ (codes "plan") rows t _ refl refl (given_first _ _ e).0)
           (names_planning routings known _ (codes "plan") rows t _ _ refl refl refl refl refl apart),
       (
-        λ other differs is rows t e apart. order refl (names_files routings known _ (codes "order") rows t _ refl refl (given_first _ _ e).0) apart,
+        λ other differs is rows t e apart. order refl (names_files routings known _ (codes "order") rows t _ refl refl (given_first _ _ e).0)
+            (names_order routings known _ (codes "order") rows t _ refl refl refl apart),
         (
           λ other differs is rows t e apart. audit refl (text_given routings known _ (codes "audit") rows t (codes "TABLES") _ refl refl (given_first _ _ e).0)
-              (names_files routings known _ (codes "audit") rows t _ refl refl (given_first _ _ (given_first _ _ e).1).0),
+              (names_files routings known _ (codes "audit") rows t _ refl refl (given_first _ _ (given_first _ _ e).1).0)
+              (names_load routings known _ (codes "audit") rows t _ refl refl),
           (
-            λ other differs is rows t e apart. next refl (text_given routings known _ (codes "next") rows t (codes "TABLES") _ refl refl (given_first _ _ e).0)
-                (names_files routings known _ (codes "next") rows t _ refl refl (given_first _ _ (given_first _ _ e).1).0)
-                (names_planning routings known _ (codes "next") rows t _ _ refl refl refl refl refl apart),
+            λ other differs is rows t e apart. order_of refl (text_given routings known _ (codes "order-of") rows t (codes "TABLES") _ refl refl (given_first _ _ e).0)
+                (names_files routings known _ (codes "order-of") rows t _ refl refl (given_first _ _ (given_first _ _ e).1).0),
             (
-              λ other differs is rows t e apart. run refl (text_given routings known _ (codes "run") rows t (codes "TOPOLOGY") _ refl refl (given_first _ _ e).0)
-                  (text_given routings known _ (codes "run") rows t (codes "SCHEDULE") _ refl refl (given_first _ _ (given_first _ _ e).1).0)
-                  (names_planning routings known _ (codes "run") rows t _ _ refl refl refl refl refl apart),
-              (λ other differs is rows t e apart. absurd (is_named_help other differs is), tt),
+              λ other differs is rows t e apart. next refl (text_given routings known _ (codes "next") rows t (codes "TABLES") _ refl refl (given_first _ _ e).0)
+                  (names_files routings known _ (codes "next") rows t _ refl refl (given_first _ _ (given_first _ _ e).1).0)
+                  (names_planning routings known _ (codes "next") rows t _ _ refl refl refl refl refl apart),
+              (
+                λ other differs is rows t e apart. run refl (text_given routings known _ (codes "run") rows t (codes "TOPOLOGY") _ refl refl (given_first _ _ e).0)
+                    (text_given routings known _ (codes "run") rows t (codes "SCHEDULE") _ refl refl (given_first _ _ (given_first _ _ e).1).0)
+                    (names_planning routings known _ (codes "run") rows t _ _ refl refl refl refl refl apart),
+                (
+                  λ other differs is rows t e apart. serve refl (names_seat routings known _ (codes "serve") rows t _ _ _ refl refl refl refl refl refl refl refl
+                      (given_first _ _ e).0 (given_first _ _ (given_first _ _ e).1).0 (given_first _ _ (given_first _ _ (given_first _ _ e).1).1).0
+                      (neither _ _ apart).1)
+                      (names_planning routings known _ (codes "serve") rows t _ _ refl refl refl refl refl (neither _ _ apart).0),
+                  (
+                    λ other differs is rows t e apart. absurd (is_named_help other differs is),
+                    tt,
+                  ),
+                ),
+              ),
             ),
           ),
         ),

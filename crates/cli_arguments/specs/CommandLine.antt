@@ -7,7 +7,7 @@ use Rattle.clap.specs.Faults.{fault_of}
 use Rattle.clap.specs.Simple.{App, Shape, app_of, new_rule, new_shape, shape_of, subcommand_of, subcommand_rows_of}
 use Rattle.clap.specs.Values.{kind_of}
 use Rattle.clap.specs.Walk.{Rule, Text}
-use Rattle.clap.specs.declared.builder.action.ArgAction.TheVariants.{Append, Set}
+use Rattle.clap.specs.declared.builder.action.ArgAction.TheVariants.{Append, Set, SetTrue}
 use Rattle.clap.specs.declared.builder.command.Command.{Command}
 use Rattle.clap.specs.declared.builder.command.Command.TheViews.{out-Command as fields_of}
 use Rattle.clap.specs.declared.builder.value_parser.ValueParser.TheVariants.{Names, Signed}
@@ -18,11 +18,11 @@ use Rattle.cli_arguments.specs.Words.{has_conflict_behind}
 
 -- arguments ----------------------------------------------------------------------------------------------
 
--- a file of its own
+-- a required argument of one word
 abbrev pub text_rule : Text → Rule
 text_rule name = record (new_rule name) { required = true; action = Some Set }
 
--- one file or more
+-- one or more files
 abbrev pub files_rule : Rule
 files_rule = record (new_rule (codes "FILE")) {
   required = true;
@@ -30,31 +30,58 @@ files_rule = record (new_rule (codes "FILE")) {
   action = Some Append;
 }
 
--- an option with a word behind it
+-- an option with one word
 abbrev pub option_rule : Text → Rule
 option_rule name = record (new_rule name) { long = Some name; value_names = 1; action = Some Set }
 
 abbrev pub floor_rule : Rule
 floor_rule = record (option_rule (codes "floor")) { parser = Some (Signed (pos 1) (pos 4294967295)) }
 
+-- an option with no word behind it
+abbrev pub all_rule : Rule
+all_rule = record (new_rule (codes "all")) { long = Some (codes "all"); action = Some SetTrue }
+
+abbrev pub max_load_rule : Rule
+max_load_rule = record (option_rule (codes "max-load")) { parser = Some (Signed (pos 0) (pos 4294967295)) }
+
+-- how much an audit prints, and which load it lets pass
+abbrev pub of_report : List Rule
+of_report = all_rule ∷ max_load_rule ∷ []
+
 abbrev pub lmc_rule : Rule
 lmc_rule = record (option_rule (codes "lmc")) { parser = Some (Signed (pos 0) (pos 7)) }
 
--- a word out of these
+-- the option for a rule of routing, one of `words`
 abbrev pub routing_rule : Bor (List (Bor Text)) → Rule
 routing_rule words = record (option_rule (codes "routing")) { parser = Some (Names words) }
 
--- the files of facts, from a floor on
+-- the files and the option for a floor
 abbrev pub of_files : List Rule
 of_files = files_rule ∷ floor_rule ∷ []
 
--- how switches are ordered
+-- the argument for the number of a port
+abbrev pub port_rule : Rule
+port_rule = record (text_rule (codes "PORT")) { parser = Some (Signed (pos 1) (pos 254)) }
+
+-- the argument for the priority of a manager
+abbrev pub priority_rule : Rule
+priority_rule = record (text_rule (codes "PRIORITY")) { parser = Some (Signed (pos 0) (pos 15)) }
+
+-- the arguments of a manager at a port
+abbrev pub of_seat : List Rule
+of_seat = text_rule (codes "GUID") ∷ port_rule ∷ priority_rule ∷ []
+
+-- the options for how switches are ordered: from roots, or by an order
 abbrev pub of_order : List Rule
 of_order = option_rule (codes "roots") ∷ option_rule (codes "order") ∷ []
 
--- how plans are made
+-- the options for a rule of routing, and for its roots or its order
+abbrev pub of_routing : Bor (List (Bor Text)) → List Rule
+of_routing words = routing_rule words ∷ of_order
+
+-- the options of a plan
 abbrev pub of_planning : Bor (List (Bor Text)) → List Rule
-of_planning words = lmc_rule ∷ routing_rule words ∷ of_order
+of_planning words = lmc_rule ∷ of_routing words
 
 -- subcommands --------------------------------------------------------------------------------------------
 
@@ -70,11 +97,14 @@ join_shape = subcommand_shape (codes "join") of_files
 abbrev pub plan_shape : Bor (List (Bor Text)) → Shape
 plan_shape words = subcommand_shape (codes "plan") (of_files ++ of_planning words)
 
-abbrev pub order_shape : Shape
-order_shape = subcommand_shape (codes "order") (of_files ++ of_order)
+abbrev pub order_shape : Bor (List (Bor Text)) → Shape
+order_shape words = subcommand_shape (codes "order") (of_files ++ of_routing words)
 
 abbrev pub audit_shape : Shape
-audit_shape = subcommand_shape (codes "audit") (text_rule (codes "TABLES") ∷ of_files)
+audit_shape = subcommand_shape (codes "audit") (text_rule (codes "TABLES") ∷ of_files ++ of_report)
+
+abbrev pub order_of_shape : Shape
+order_of_shape = subcommand_shape (codes "order-of") (text_rule (codes "TABLES") ∷ of_files)
 
 abbrev pub next_shape : Bor (List (Bor Text)) → Shape
 next_shape words = subcommand_shape (codes "next") (text_rule (codes "TABLES") ∷ of_files ++ of_planning words)
@@ -83,33 +113,38 @@ abbrev pub run_shape : Bor (List (Bor Text)) → Shape
 run_shape words =
     subcommand_shape (codes "run") (text_rule (codes "TOPOLOGY") ∷ text_rule (codes "SCHEDULE") ∷ of_planning words)
 
--- the program, which does nothing without a subcommand
+abbrev pub serve_shape : Bor (List (Bor Text)) → Shape
+serve_shape words = subcommand_shape (codes "serve") (of_seat ++ of_planning words)
+
+-- the program without its subcommands; it requires one
 abbrev pub program_app : App
 program_app =
     record { top = record (new_shape (codes "ibsm")) { has_version = true; subcommand_required = true }; subs = [] }
 
--- with its subcommands
+-- the program with its subcommands
 abbrev pub command_line : Bor (List (Bor Text)) → App
 command_line words = record {
   top = record program_app.top { is_leaf = false };
   subs =
-      facts_shape ∷ join_shape ∷ plan_shape words ∷ order_shape ∷ audit_shape ∷ next_shape words ∷ run_shape words ∷ [];
+      facts_shape ∷ join_shape ∷ plan_shape words ∷ order_shape words ∷ audit_shape ∷ order_of_shape ∷ next_shape words
+      ∷ run_shape words ∷ serve_shape words ∷ [];
 }
 
--- the rules of routing by their words
+-- `words` are the words for rules of routing
 abbrev pub AreRoutings : Bor (List (Bor Text)) → Type 0
-AreRoutings words = map (λ word. word.now) words.now ≡ codes "updown" ∷ codes "spread" ∷ []
+AreRoutings words =
+    map (λ word. word.now) words.now ≡ codes "updown" ∷ codes "spread" ∷ codes "balance" ∷ []
 
 -- commands -----------------------------------------------------------------------------------------------
 
--- a command is of this shape, and no argument of it is one of subcommands too
+-- the command `c` has this shape, and none of its arguments is one of its subcommands too
 abbrev pub IsOf : Shape → Command → Type 0
 IsOf shape c = (shape_of c ≡ shape) × ((fields_of c).has_globals ≡ false)
 
 abbrev pub IsApp : App → Command → Type 0
 IsApp app c = (app_of c ≡ app) × ((fields_of c).has_globals ≡ false)
 
--- and these arguments behind its own
+-- `new` is the command `old` with `rules` added behind its own
 abbrev pub AddsRules : List Rule → Command → Command → Type 0
 AddsRules rules old new =
     (shape_of new ≡ record (shape_of old) { rules = (shape_of old).rules ++ rules })
@@ -117,12 +152,12 @@ AddsRules rules old new =
 
 -- words --------------------------------------------------------------------------------------------------
 
--- options contradict each other in the subcommand that is read
+-- options of the subcommand that `words` name contradict each other
 abbrev pub conflict_of : App → List Text → Bool
 conflict_of app words = has_conflict_behind (subcommand_of app words)
 
--- what the words of a command line are read as, the program's name first: the subcommand with its arguments. They are
--- refused where they have a fault, or options contradict each other; else only for lack of memory
+-- what the words of a command line, the program's name first, are read as: the subcommand with its arguments. They are
+-- refused if they have a fault or if options contradict each other, and otherwise only for lack of memory
 abbrev pub IsReadAs : App → List Text → Result ArgMatches Error → Type 0
 IsReadAs app words (Ok matches) =
     (subcommand_rows_of matches ≡ subcommand_of app words) × (fault_of app words ≡ []) × (conflict_of app words ≡ false)

@@ -1,54 +1,69 @@
--- What words have that a command line takes: a subcommand, each argument that it requires, numbers in their ranges.
-use Rattle.std.specs.Prelude.{◌≡◌, ◌⊎◌, ⊤, ℕ, ◌&&◌, true, false, List, Option, None, Some, codes, is_some, pos}
+-- What the words of an accepted command line have: a subcommand, each argument that it requires, numbers in their
+-- ranges.
+use Rattle.std.specs.Prelude.{◌≡◌, ◌⊎◌, ⊤, ℕ, true, false, List, Option, None, Some, codes, is_some, pos}
 use Rattle.clap.specs.Matches.{subcommand_name_of}
 use Rattle.clap.specs.Values.{IsSignedIn}
 use Rattle.clap.specs.Walk.{Text}
 use Rattle.clap.specs.declared.parser.matches.ArgMatches.{ArgMatches}
-use Rattle.cli_arguments.specs.Words.{files_named, has_conflict_of, word_named}
+use Rattle.cli_arguments.specs.Words.{files_named, has_conflict_of, is_guid, order_rule, word_named}
 
--- the word, if there is one, writes a number within these bounds
+-- the word, if any, is a number from `least` to `most`
 abbrev pub IsNumberWithin : ℕ → ℕ → Option Text → Type 0
 IsNumberWithin least most None = ⊤
 IsNumberWithin least most (Some word) = IsSignedIn (pos least) (pos most) word
 
--- the word, if there is one, names a rule of routing
+-- the word, if any, names a rule of routing
 abbrev pub IsRouting : Option Text → Type 0
 IsRouting None = ⊤
-IsRouting (Some word) = (word ≡ codes "updown") ⊎ (word ≡ codes "spread")
+IsRouting (Some word) = (word ≡ codes "updown") ⊎ ((word ≡ codes "spread") ⊎ (word ≡ codes "balance"))
 
 -- an argument has a word
 abbrev pub IsGiven : Option Text → Type 0
 IsGiven word = is_some word ≡ true
 
--- files are named, and a floor is a generation
+-- files are named, and the floor, if any, is a generation
 pub record NamesFiles (word : Text → Option Text) (files : Option (List Text)) : Type 0 where
   pub named : is_some files ≡ true
   pub floor : IsNumberWithin 1 4294967295 (word (codes "floor"))
 
--- how plans are made can be done: an LMC, and a rule that takes the roots or the order, if one of them is named
+-- the options of a plan: an LMC from 0 to 7, and a rule that takes the roots or the order, if one of them is named
 pub record NamesPlanning (word : Text → Option Text) : Type 0 where
   pub lmc : IsNumberWithin 0 7 (word (codes "lmc"))
   pub routing : IsRouting (word (codes "routing"))
   pub apart : has_conflict_of (word (codes "routing")) (is_some (word (codes "roots"))) (is_some (word (codes "order")))
       ≡ false
 
--- how switches are ordered can be done: not from roots and by an order both
-abbrev pub NamesOrder : (Text → Option Text) → Type 0
-NamesOrder word = (is_some (word (codes "roots")) && is_some (word (codes "order"))) ≡ false
+-- the options of an order: a rule that takes the roots or the order, if one of them is named
+pub record NamesOrder (word : Text → Option Text) : Type 0 where
+  pub routing : IsRouting (word (codes "routing"))
+  pub apart : has_conflict_of (order_rule (word (codes "routing"))) (is_some (word (codes "roots")))
+      (is_some (word (codes "order"))) ≡ false
 
--- a subcommand has the words that it takes
+-- the GUID and the number of a manager's port and its priority are named
+pub record NamesSeat (word : Text → Option Text) : Type 0 where
+  pub guid : is_guid (word (codes "GUID")) ≡ true
+  pub port_given : IsGiven (word (codes "PORT"))
+  pub port : IsNumberWithin 1 254 (word (codes "PORT"))
+  pub priority_given : IsGiven (word (codes "PRIORITY"))
+  pub priority : IsNumberWithin 0 15 (word (codes "PRIORITY"))
+
+-- the subcommand `name` has the words that it takes
 pub data HasItsWords (word : Text → Option Text) (files : Option (List Text)) (name : Text) : Type 0 where
   facts : name ≡ codes "facts" → NamesFiles word files → HasItsWords word files name
   join : name ≡ codes "join" → NamesFiles word files → HasItsWords word files name
   plan : name ≡ codes "plan" → NamesFiles word files → NamesPlanning word → HasItsWords word files name
   order : name ≡ codes "order" → NamesFiles word files → NamesOrder word → HasItsWords word files name
-  audit : name ≡ codes "audit" → IsGiven (word (codes "TABLES")) → NamesFiles word files → HasItsWords word files name
+  audit : name ≡ codes "audit" → IsGiven (word (codes "TABLES")) → NamesFiles word files
+      → IsNumberWithin 0 4294967295 (word (codes "max-load")) → HasItsWords word files name
+  order_of : name ≡ codes "order-of" → IsGiven (word (codes "TABLES")) → NamesFiles word files
+      → HasItsWords word files name
   next : name ≡ codes "next" → IsGiven (word (codes "TABLES")) → NamesFiles word files → NamesPlanning word
       → HasItsWords word files name
   run : name ≡ codes "run" → IsGiven (word (codes "TOPOLOGY")) → IsGiven (word (codes "SCHEDULE")) → NamesPlanning word
       → HasItsWords word files name
+  serve : name ≡ codes "serve" → NamesSeat word → NamesPlanning word → HasItsWords word files name
 
--- the words name a subcommand, and have the words that it takes
+-- the words name a subcommand, and it has the words that it takes
 pub record IsWellFormed (matches : ArgMatches) : Type 0 where
   pub name : Text
   pub named : subcommand_name_of matches ≡ Some name

@@ -1,11 +1,13 @@
 -- The words of the command line by the names of their arguments, and which of them contradict each other.
-use Rattle.std.specs.Prelude.{ℕ, Bool, false, List, Option, None, Some, codes, find, is_some, not, option_and_then, option_map, slice_get, ◌&&◌, ◌||◌, if◌then◌else◌}
+use Rattle.std.specs.Prelude.{ℕ, Bool, false, List, Option, None, Some, codes, find, is_some, length, nat_le, not, option_and_then, option_map, slice_get, ◌&&◌, ◌||◌, if◌then◌else◌}
+use Rattle.std.specs.Char.{is_ascii_hexdigit}
+use Rattle.std.specs.List.{list_all}
 use Rattle.std.specs.Str.{bytes_eq}
 use Rattle.clap.specs.Simple.{subcommand_rows_of}
 use Rattle.clap.specs.Walk.{Row}
 use Rattle.clap.specs.declared.parser.matches.ArgMatches.{ArgMatches}
 
--- the values of the argument with this name
+-- the values of the argument `name`
 abbrev pub values_in : List ℕ → List Row → Option (List (List ℕ))
 values_in name rows = option_map (λ r. r.values) (find (λ r. bytes_eq r.id name) rows)
 
@@ -13,7 +15,7 @@ values_in name rows = option_map (λ r. r.values) (find (λ r. bytes_eq r.id nam
 abbrev pub files_named : ArgMatches → Option (List (List ℕ))
 files_named matches = option_and_then (λ s. values_in (codes "FILE") s.1) (subcommand_rows_of matches)
 
--- the word that is the argument with this name behind a subcommand
+-- the first word of the argument `name` behind a subcommand
 abbrev pub word_behind : Option (List ℕ × List Row) → List ℕ → Option (List ℕ)
 word_behind subcommand name =
     option_and_then (λ s. option_and_then (λ values. slice_get values 0) (values_in name s.1)) subcommand
@@ -21,22 +23,42 @@ word_behind subcommand name =
 abbrev pub word_named : ArgMatches → List ℕ → Option (List ℕ)
 word_named matches = word_behind (subcommand_rows_of matches)
 
--- roots or an order are named, and another rule than the one that takes them, or none
+-- roots or an order are `named`, and the word for the rule is none or not the one that takes them
 abbrev pub lacks_rule : Option (List ℕ) → Bool → Bool
 lacks_rule None named = named
 lacks_rule (Some word) named = named && not (bytes_eq word (codes "spread"))
 
--- options contradict each other: both are named, or the rule lacks that takes them
+-- options contradict each other: roots and an order are both named, or one of them without the rule that takes it
 abbrev pub has_conflict_of : Option (List ℕ) → Bool → Bool → Bool
 has_conflict_of routing rooted ordered = (rooted && ordered) || lacks_rule routing (rooted || ordered)
 
--- in the subcommand with this name; one that prints an order needs no rule
+-- the rule of an order: `spread` if no word names one
+abbrev pub order_rule : Option (List ℕ) → Option (List ℕ)
+order_rule None = Some (codes "spread")
+order_rule (Some word) = Some word
+
+-- 1 to 16 hex digits
+abbrev pub is_guid_word : List ℕ → Bool
+is_guid_word word = nat_le 1 (length word) && nat_le (length word) 16 && list_all is_ascii_hexdigit word
+
+abbrev pub is_guid : Option (List ℕ) → Bool
+is_guid None = false
+is_guid (Some word) = is_guid_word word
+
+-- the options of a plan or an order contradict each other in the subcommand `name`; the one that prints an order needs
+-- no word for its rule
+abbrev pub planning_conflict : List ℕ → (List ℕ → Option (List ℕ)) → Bool
+planning_conflict name word =
+    has_conflict_of (if bytes_eq name (codes "order") then order_rule (word (codes "routing")) else word (codes "routing"))
+    (is_some (word (codes "roots"))) (is_some (word (codes "order")))
+
+-- options contradict each other in the subcommand `name`, or it serves a manager and its GUID is not one
 abbrev pub has_conflict : List ℕ → (List ℕ → Option (List ℕ)) → Bool
 has_conflict name word =
-    if bytes_eq name (codes "order") then is_some (word (codes "roots")) && is_some (word (codes "order"))
-    else has_conflict_of (word (codes "routing")) (is_some (word (codes "roots"))) (is_some (word (codes "order")))
+    if bytes_eq name (codes "serve") then planning_conflict name word || not (is_guid (word (codes "GUID")))
+    else planning_conflict name word
 
--- in the one that was named, if one was
+-- options contradict each other in the subcommand, if one was named
 abbrev pub has_conflict_behind : Option (List ℕ × List Row) → Bool
 has_conflict_behind None = false
 has_conflict_behind (Some s) = has_conflict s.0 (word_behind (Some s))

@@ -1,4 +1,4 @@
-//! The words of the command line.
+//! The names of subcommands, arguments and options, and the words for rules of routing.
 
 /// The subcommand that prints facts.
 pub const FACTS: &str = "facts";
@@ -12,41 +12,65 @@ pub const PLAN: &str = "plan";
 /// The subcommand that audits tables.
 pub const AUDIT: &str = "audit";
 
+/// The subcommand that prints the order of switches that held tables tell.
+pub const ORDER_OF: &str = "order-of";
+
 /// The subcommand that prints the tables to write next.
 pub const NEXT: &str = "next";
 
 /// The subcommand that runs a schedule.
 pub const RUN: &str = "run";
 
-/// The files of a subcommand.
+/// The subcommand that serves a manager.
+pub const SERVE: &str = "serve";
+
+/// The argument for the GUID of a manager's port.
+pub const GUID: &str = "GUID";
+
+/// The argument for the number of a manager's port.
+pub const PORT: &str = "PORT";
+
+/// The argument for a manager's priority.
+pub const PRIORITY: &str = "PRIORITY";
+
+/// The argument for the report and store files of a subcommand.
 pub const FILE: &str = "FILE";
 
-/// The text of tables.
+/// The argument for the text of tables.
 pub const TABLES: &str = "TABLES";
 
-/// The generation before which nothing counts.
+/// The option for the floor, the generation below which facts are ignored.
 pub const FLOOR: &str = "floor";
 
-/// The LMC of the plans.
+/// The flag by which an audit prints all lines of each kind.
+pub const ALL: &str = "all";
+
+/// The option for the most pairs of adapter ports that a channel may carry.
+pub const MAX_LOAD: &str = "max-load";
+
+/// The option for the LMC of a plan.
 pub const LMC: &str = "lmc";
 
-/// The rule of routing that a plan goes by.
+/// The option for the rule of routing of a plan.
 pub const ROUTING: &str = "routing";
 
-/// The file of roots.
+/// The option for the file of roots.
 pub const ROOTS: &str = "roots";
 
-/// The subcommand that prints the order of switches, and the file of one.
+/// The subcommand that prints the order of switches, and the option for the file of an order.
 pub const ORDER: &str = "order";
 
-/// The rule that spreads, and takes roots or an order.
+/// The rule that spreads packets over all wires; roots or an order may be named for it.
 pub const SPREAD: &str = "spread";
 
-/// The rule that goes up and down, which takes none.
+/// The rule that spreads packets in the order of the least trial load; takes neither roots nor an order.
+pub const BALANCE: &str = "balance";
+
+/// The rule that goes up and down; takes neither roots nor an order.
 pub const UPDOWN: &str = "updown";
 
-/// The text of a fabric.
+/// The argument for the text of a topology.
 pub const TOPOLOGY: &str = "TOPOLOGY";
 
-/// The text of what is run in it.
+/// The argument for the text of a schedule.
 pub const SCHEDULE: &str = "SCHEDULE";

@@ -1,31 +1,37 @@
 //! The command line.
-ghost use Rattle.std.specs.Prelude.{◌≡◌, ◌∷◌, ◌++◌, [], IfOk, codes, false, is_some, map};
+ghost use Rattle.std.specs.Prelude.{◌≡◌, ◌∷◌, ◌++◌, [], IfOk, codes, false, if◌then◌else◌, is_some, map};
+ghost use Rattle.std.specs.Char.{is_ascii_hexdigit};
+ghost use Rattle.std.specs.List.{list_all};
+ghost use Rattle.std.specs.Str.{bytes_eq};
 ghost use Rattle.clap.specs.Matches.{first_value, found_of};
 ghost use Rattle.clap.specs.Simple.{App, Shape, subcommand_rows_of, with_subcommand};
 ghost use Rattle.clap.specs.Values.{kind_of};
 ghost use Rattle.clap.specs.Walk.{rule_of};
 ghost use Rattle.cli_arguments.specs.CommandLine.{AddsRules, AreRoutings, IsApp, IsOf, IsReadAs};
-ghost use Rattle.cli_arguments.specs.CommandLine.{audit_shape, facts_shape, join_shape, next_shape, order_shape};
-ghost use Rattle.cli_arguments.specs.CommandLine.{command_line, of_files, of_order, of_planning, plan_shape};
-ghost use Rattle.cli_arguments.specs.CommandLine.{program_app, run_shape};
-ghost use Rattle.cli_arguments.specs.CommandLine.{files_rule, floor_rule, lmc_rule, option_rule, routing_rule};
+ghost use Rattle.cli_arguments.specs.CommandLine.{audit_shape, facts_shape, join_shape, next_shape, order_of_shape};
+ghost use Rattle.cli_arguments.specs.CommandLine.{order_shape};
+ghost use Rattle.cli_arguments.specs.CommandLine.{command_line, of_files, of_order, of_planning, of_routing, of_seat};
+ghost use Rattle.cli_arguments.specs.CommandLine.{plan_shape, port_rule, priority_rule, program_app, run_shape, serve_shape};
+ghost use Rattle.cli_arguments.specs.CommandLine.{all_rule, files_rule, floor_rule, lmc_rule, max_load_rule};
+ghost use Rattle.cli_arguments.specs.CommandLine.{of_report, option_rule, routing_rule};
 ghost use Rattle.cli_arguments.specs.CommandLine.{text_rule};
 ghost use Rattle.cli_arguments.specs.WellFormed.{IsWellFormed};
-ghost use Rattle.cli_arguments.specs.Words.{has_conflict, has_conflict_behind, lacks_rule};
+ghost use Rattle.cli_arguments.specs.Words.{has_conflict, has_conflict_behind, is_guid, is_guid_word, lacks_rule, order_rule};
+ghost use Rattle.cli_arguments.specs.Words.{planning_conflict};
 
 use crate::argument_names::{
-    AUDIT, FACTS, FILE, FLOOR, JOIN, LMC, NEXT, ORDER, PLAN, ROOTS, ROUTING, RUN, SCHEDULE, SPREAD,
-    TABLES, TOPOLOGY, UPDOWN,
+    ALL, AUDIT, BALANCE, FACTS, FILE, FLOOR, GUID, JOIN, LMC, MAX_LOAD, NEXT, ORDER, ORDER_OF,
+    PLAN, PORT, PRIORITY, ROOTS, ROUTING, RUN, SCHEDULE, SERVE, SPREAD, TABLES, TOPOLOGY, UPDOWN,
 };
 use clap::error::ErrorKind;
 use clap::{Arg, ArgAction, ArgMatches, Command, Error, value_parser};
 use std::alloc::{AllocError, Global};
 
-const RULES: [&str; 2] = [UPDOWN, SPREAD];
+const RULES: [&str; 3] = [UPDOWN, SPREAD, BALANCE];
 
 const VERSION: &str = "0.1.0";
 
-/// What stands at the end of a subcommand's help: the statuses that it ends with, and an example.
+/// The end of a subcommand's help: its exit statuses and an example.
 const FACTS_END: &str = "Exit status:\n  0  done\n  2  the command line is wrong\n  \
      3  a file is refused\n  4  a file cannot be opened or read, or the output takes no more\n  \
      5  out of memory\n\nExample:\n  ibsm facts --floor 2 monday.reports tuesday.reports";
@@ -44,10 +50,17 @@ const ORDER_END: &str = "Exit status:\n  0  done\n  2  the command line is wrong
      5  out of memory\n\nExample:\n  ibsm order fabric.reports > fabric.order";
 
 const AUDIT_END: &str =
-    "Exit status:\n  0  the tables pass\n  1  they do not pass, and what was printed says why\n  \
+    "Exit status:\n  0  the tables pass, and no channel is busier than --max-load\n  \
+     1  they do not pass, or a channel is busier, and what was printed says why\n  \
      2  the command line is wrong\n  3  a file is refused\n  \
      4  a file cannot be opened or read, or the output takes no more\n  \
      5  out of memory\n\nExample:\n  ibsm audit held.tables fabric.reports";
+
+const ORDER_OF_END: &str = "Exit status:\n  0  done\n  \
+     1  done, and there is no such order, so nothing is printed\n  \
+     2  the command line is wrong\n  3  a file is refused\n  \
+     4  a file cannot be opened or read, or the output takes no more\n  \
+     5  out of memory\n\nExample:\n  ibsm order-of held.tables fabric.reports > fabric.order";
 
 const NEXT_END: &str =
     "Exit status:\n  0  done, and no mixture of both tables can make a credit loop\n  \
@@ -60,9 +73,19 @@ const RUN_END: &str = "Exit status:\n  0  done\n  2  the command line is wrong\n
      3  a file is refused\n  4  a file cannot be opened or read, or the output takes no more\n  \
      5  out of memory\n\nExample:\n  ibsm run triangle.topology bring_up.schedule";
 
-/// What the words of a command line are, the program's name first, or what is wrong with them: a fault by
-/// `command_line`, options that contradict each other, or that memory ran out as they were read. So says an outer `Err`
-/// too.
+const SERVE_END: &str =
+    "It is no subnet administration: it has no path records and no multicast groups, knows no partitions \
+     and no lanes, and its SMInfo does not yet go together with a stock OpenSM.\n\n\
+     Exit status:\n  0  done\n  2  the command line is wrong\n  3  a file is refused\n  \
+     4  a file or standard input cannot be opened or read, or the output takes no more\n  \
+     5  out of memory\n\nExample:\n  ibsm serve 0000000000000101 1 5";
+
+/// Parses the words of a command line, the program's name first.
+///
+/// # Errors
+///
+/// Returns `Ok(Err(..))` if `command_line` refuses the words, if options contradict each other, or if memory ran out.
+/// Returns an outer `Err` if memory ran out.
 pub fn matches_of<'a>(
     alloc: Global,
     words: &'a [String],
@@ -83,20 +106,22 @@ pub fn matches_of<'a>(
     Ok(Ok(matches))
 }
 
-/// The subcommands and their arguments, with these words for rules of routing.
+/// Builds the command with all subcommands and their arguments. `routings` are the words for rules of routing.
 fn command_line<'a>(alloc: Global, routings: &'a [&'a str]) -> Result<Command<'a>, AllocError>
     ensures { IfOk result (IsApp (command_line routings.entry)) }
 {
     let command = with(Ok(program(alloc)), facts(alloc));
     let command = with(command, join(alloc));
     let command = with(command, plan(alloc, routings));
-    let command = with(command, order(alloc));
+    let command = with(command, order(alloc, routings));
     let command = with(command, audit(alloc));
+    let command = with(command, order_of(alloc));
     let command = with(command, next(alloc, routings));
-    with(command, run(alloc, routings))
+    let command = with(command, run(alloc, routings));
+    with(command, serve(alloc, routings))
 }
 
-/// A command with another subcommand.
+/// Adds `subcommand` to `command`.
 fn with<'a>(
     command: Result<Command<'a>, AllocError>,
     subcommand: Result<Command<'a>, AllocError>,
@@ -108,7 +133,7 @@ fn with<'a>(
     command?.subcommand(subcommand)
 }
 
-/// The program, which does nothing without a subcommand.
+/// Builds the program without its subcommands. It requires one.
 fn program<'a>(alloc: Global) -> Command<'a>
     ensures { IsApp program_app result }
 {
@@ -149,15 +174,15 @@ fn plan<'a>(alloc: Global, routings: &'a [&'a str]) -> Result<Command<'a>, Alloc
     with_planning(alloc, routings, of_files(alloc, command)?)
 }
 
-fn order<'a>(alloc: Global) -> Result<Command<'a>, AllocError>
-    ensures { IfOk result (IsOf order_shape) }
+fn order<'a>(alloc: Global, routings: &'a [&'a str]) -> Result<Command<'a>, AllocError>
+    ensures { IfOk result (IsOf (order_shape routings.entry)) }
 {
     let command = Command::new(alloc, ORDER)
         .about(
-            "Prints the switches in the order by which plan --routing spread goes, a GUID a line, for --order",
+            "Prints the switches in the order by which a plan goes, by spread if no rule is named, a GUID a line, for --order",
         )
         .after_help(ORDER_END);
-    with_order(alloc, of_files(alloc, command)?)
+    with_routing(alloc, routings, of_files(alloc, command)?)
 }
 
 fn audit<'a>(alloc: Global) -> Result<Command<'a>, AllocError>
@@ -169,6 +194,18 @@ fn audit<'a>(alloc: Global) -> Result<Command<'a>, AllocError>
              files",
         )
         .after_help(AUDIT_END);
+    with_report(alloc, of_tables(alloc, command)?)
+}
+
+fn order_of<'a>(alloc: Global) -> Result<Command<'a>, AllocError>
+    ensures { IfOk result (IsOf order_of_shape) }
+{
+    let command = Command::new(alloc, ORDER_OF)
+        .about(
+            "Prints the switches in an order by which the tables that switches hold lead packets up and then \
+             down, a GUID a line, for --order",
+        )
+        .after_help(ORDER_OF_END);
     of_tables(alloc, command)
 }
 
@@ -205,14 +242,35 @@ fn run<'a>(alloc: Global, routings: &'a [&'a str]) -> Result<Command<'a>, AllocE
     with_planning(alloc, routings, command)
 }
 
-/// A subcommand of files, from a floor on.
+fn serve<'a>(alloc: Global, routings: &'a [&'a str]) -> Result<Command<'a>, AllocError>
+    ensures { IfOk result (IsOf (serve_shape routings.entry)) }
+{
+    let command = Command::new(alloc, SERVE)
+        .about(
+            "Serves a subnet manager by the lines on standard input, and prints what it sends and tells",
+        )
+        .after_help(SERVE_END);
+    with_planning(alloc, routings, of_seat(alloc, command)?)
+}
+
+/// Adds the arguments of a manager at a port: GUID, port and priority.
+fn of_seat<'a>(alloc: Global, command: Command<'a>) -> Result<Command<'a>, AllocError>
+    ensures { IfOk result (AddsRules of_seat command.entry) }
+{
+    command
+        .arg(text(alloc, GUID, "The GUID of the port, 1 to 16 hex digits"))?
+        .arg(port(alloc))?
+        .arg(priority(alloc))
+}
+
+/// Adds the files and the option for a floor.
 fn of_files<'a>(alloc: Global, command: Command<'a>) -> Result<Command<'a>, AllocError>
     ensures { IfOk result (AddsRules of_files command.entry) }
 {
     command.arg(files(alloc))?.arg(floor(alloc))
 }
 
-/// A subcommand of tables and files.
+/// Adds the text of tables, the files and the option for a floor.
 fn of_tables<'a>(alloc: Global, command: Command<'a>) -> Result<Command<'a>, AllocError>
     ensures { IfOk result (AddsRules (text_rule (codes "TABLES") ∷ of_files) command.entry) }
 {
@@ -224,7 +282,14 @@ fn of_tables<'a>(alloc: Global, command: Command<'a>) -> Result<Command<'a>, All
     of_files(alloc, command)
 }
 
-/// With how plans are made: their LMC, their rule of routing, and its roots or its order.
+/// Adds the options of an audit: how much it prints, and which load passes.
+fn with_report<'a>(alloc: Global, command: Command<'a>) -> Result<Command<'a>, AllocError>
+    ensures { IfOk result (AddsRules of_report command.entry) }
+{
+    command.arg(all(alloc))?.arg(max_load(alloc))
+}
+
+/// Adds the options of a plan: its LMC, its rule of routing, and the roots or the order.
 fn with_planning<'a>(
     alloc: Global,
     routings: &'a [&'a str],
@@ -232,18 +297,30 @@ fn with_planning<'a>(
 ) -> Result<Command<'a>, AllocError>
     ensures { IfOk result (AddsRules (of_planning routings.entry) command.entry) }
 {
-    let command = command.arg(lmc(alloc))?.arg(routing(alloc, routings))?;
+    let command = command.arg(lmc(alloc))?;
+    with_routing(alloc, routings, command)
+}
+
+/// Adds the options for a rule of routing, and for its roots or its order.
+fn with_routing<'a>(
+    alloc: Global,
+    routings: &'a [&'a str],
+    command: Command<'a>,
+) -> Result<Command<'a>, AllocError>
+    ensures { IfOk result (AddsRules (of_routing routings.entry) command.entry) }
+{
+    let command = command.arg(routing(alloc, routings))?;
     with_order(alloc, command)
 }
 
-/// With how switches are ordered: by their roots, or by an order.
+/// Adds the options for how switches are ordered: from roots, or by an order.
 fn with_order<'a>(alloc: Global, command: Command<'a>) -> Result<Command<'a>, AllocError>
     ensures { IfOk result (AddsRules of_order command.entry) }
 {
     command.arg(roots(alloc))?.arg(order_file(alloc))
 }
 
-/// A file of its own.
+/// Builds a required argument that takes one word.
 fn text<'a>(alloc: Global, name: &'a str, help: &'a str) -> Arg<'a>
     ensures rule { rule_of result ≡ text_rule name.now }
     ensures own { result.global ≡ false }
@@ -254,7 +331,31 @@ fn text<'a>(alloc: Global, name: &'a str, help: &'a str) -> Arg<'a>
         .action(ArgAction::Set)
 }
 
-/// A generation.
+/// Builds the argument for the number of a port.
+fn port<'a>(alloc: Global) -> Arg<'a>
+    ensures rule { rule_of result ≡ port_rule }
+    ensures own { result.global ≡ false }
+{
+    Arg::new(alloc, PORT)
+        .help("The number of the port, 1 to 254")
+        .required(true)
+        .value_parser(value_parser!(u8).range(1..=254))
+        .action(ArgAction::Set)
+}
+
+/// Builds the argument for the priority of a manager.
+fn priority<'a>(alloc: Global) -> Arg<'a>
+    ensures rule { rule_of result ≡ priority_rule }
+    ensures own { result.global ≡ false }
+{
+    Arg::new(alloc, PRIORITY)
+        .help("The priority of the manager, 0 to 15")
+        .required(true)
+        .value_parser(value_parser!(u8).range(0..=15))
+        .action(ArgAction::Set)
+}
+
+/// Builds the option for the floor.
 fn floor<'a>(alloc: Global) -> Arg<'a>
     ensures rule { rule_of result ≡ floor_rule }
     ensures own { result.global ≡ false }
@@ -267,7 +368,34 @@ fn floor<'a>(alloc: Global) -> Arg<'a>
         .action(ArgAction::Set)
 }
 
-/// An LMC.
+/// Returns the flag for all lines of each kind.
+fn all<'a>(alloc: Global) -> Arg<'a>
+    ensures rule { rule_of result ≡ all_rule }
+    ensures own { result.global ≡ false }
+{
+    Arg::new(alloc, ALL)
+        .long(ALL)
+        .help("Prints all lines of each kind, and not the first 20 alone")
+        .action(ArgAction::SetTrue)
+}
+
+/// Returns the option for the greatest load that passes.
+fn max_load<'a>(alloc: Global) -> Arg<'a>
+    ensures rule { rule_of result ≡ max_load_rule }
+    ensures own { result.global ≡ false }
+{
+    Arg::new(alloc, MAX_LOAD)
+        .long(MAX_LOAD)
+        .value_name("N")
+        .help(
+            "Lets no tables pass by which a channel carries more than N pairs of adapter ports, N from 0 to \
+             4294967295",
+        )
+        .value_parser(value_parser!(u32).range(0..))
+        .action(ArgAction::Set)
+}
+
+/// Builds the option for the LMC.
 fn lmc<'a>(alloc: Global) -> Arg<'a>
     ensures rule { rule_of result ≡ lmc_rule }
     ensures own { result.global ≡ false }
@@ -280,7 +408,7 @@ fn lmc<'a>(alloc: Global) -> Arg<'a>
         .action(ArgAction::Set)
 }
 
-/// A rule of routing, by one of these words.
+/// Builds the option for the rule of routing, which takes a word of `routings`.
 fn routing<'a>(alloc: Global, routings: &'a [&'a str]) -> Arg<'a>
     ensures rule { rule_of result ≡ routing_rule routings.entry }
     ensures own { result.global ≡ false }
@@ -290,13 +418,14 @@ fn routing<'a>(alloc: Global, routings: &'a [&'a str]) -> Arg<'a>
         .value_name("RULE")
         .help(
             "updown leads packets by one root of each component, and is what is taken where none is named; \
-             spread leads them over all wires, so that none is much busier than others",
+             spread leads them over all wires, so that none is much busier than others; balance does so in \
+             the best of several orders of switches, which pays where the fabric is no tree",
         )
         .value_parser(routings)
         .action(ArgAction::Set)
 }
 
-/// A file of roots.
+/// Builds the option for the file of roots.
 fn roots<'a>(alloc: Global) -> Arg<'a>
     ensures rule { rule_of result ≡ option_rule (codes "roots") }
     ensures own { result.global ≡ false }
@@ -310,7 +439,7 @@ fn roots<'a>(alloc: Global) -> Arg<'a>
         .action(ArgAction::Set)
 }
 
-/// A file of an order of switches.
+/// Builds the option for the file of an order of switches.
 fn order_file<'a>(alloc: Global) -> Arg<'a>
     ensures rule { rule_of result ≡ option_rule (codes "order") }
     ensures own { result.global ≡ false }
@@ -324,8 +453,8 @@ fn order_file<'a>(alloc: Global) -> Arg<'a>
         .action(ArgAction::Set)
 }
 
-/// Whether options contradict each other: roots and an order are named, or one of them with another rule of routing than
-/// the one that takes them, or with none.
+/// Returns whether options contradict each other: if roots and an order are both named, or if one of them is named
+/// without the rule of routing that takes it. Also returns true if the word for a manager's GUID is not a GUID.
 fn has_conflict(matches: &ArgMatches<'_>) -> bool
     ensures { result ≡ has_conflict_behind (subcommand_rows_of matches.now) }
 {
@@ -335,36 +464,71 @@ fn has_conflict(matches: &ArgMatches<'_>) -> bool
     }
 }
 
-/// Whether options behind the subcommand with a name do so.
+/// Returns whether the options of the subcommand `name` contradict each other, or it serves a manager and its GUID is
+/// not one.
 fn has_conflict_in(name: &str, words: &ArgMatches<'_>) -> bool
     ensures { result ≡ has_conflict name.now (first_value (found_of words.now)) }
 {
-    let rooted = is_named(words, ROOTS);
-    let ordered = is_named(words, ORDER);
     match name {
-        ORDER => rooted && ordered,
-        _ => (rooted && ordered) || lacks_rule(words, rooted || ordered),
+        SERVE => planning_conflict(name, words) || !has_guid(words),
+        _ => planning_conflict(name, words),
     }
 }
 
-/// Whether the rule lacks that takes roots or an order, where one of them is named.
-fn lacks_rule(words: &ArgMatches<'_>, named: bool) -> bool
-    ensures { result ≡ lacks_rule (first_value (found_of words.now) (codes "routing")) named }
+/// Returns whether options of a plan or an order contradict each other.
+fn planning_conflict(name: &str, words: &ArgMatches<'_>) -> bool
+    ensures { result ≡ planning_conflict name.now (first_value (found_of words.now)) }
 {
-    match words.get_str(ROUTING) {
-        Some(SPREAD) => false,
+    let rooted = is_named(words, ROOTS);
+    let ordered = is_named(words, ORDER);
+    (rooted && ordered) || lacks_rule(name, words, rooted || ordered)
+}
+
+/// Returns whether the word for a GUID is one: 1 to 16 hex digits.
+fn has_guid(words: &ArgMatches<'_>) -> bool
+    ensures { result ≡ is_guid (first_value (found_of words.now) (codes "GUID")) }
+{
+    match words.get_str(GUID) {
+        Some(word) => is_guid_word(word.as_bytes()),
+        None => false,
+    }
+}
+
+/// Returns whether `word` is 1 to 16 hex digits.
+fn is_guid_word(word: &[u8]) -> bool
+    ensures { result ≡ is_guid_word word.now }
+{
+    !word.is_empty() && word.len() <= 16 && are_hex_digits(word)
+}
+
+/// Returns whether all of `bytes` are hex digits.
+fn are_hex_digits(bytes: &[u8]) -> bool
+    ensures { result ≡ list_all is_ascii_hexdigit bytes.now }
+{
+    bytes.iter().all(|byte| byte.is_ascii_hexdigit())
+}
+
+/// Returns whether roots or an order are `named`, but not the rule that takes them. For the subcommand that prints an
+/// order, that rule need not be named.
+fn lacks_rule(name: &str, words: &ArgMatches<'_>, named: bool) -> bool
+    ensures { result ≡ lacks_rule (if bytes_eq name.now (codes "order")
+        then order_rule (first_value (found_of words.now) (codes "routing"))
+        else first_value (found_of words.now) (codes "routing")) named }
+{
+    match (name, words.get_str(ROUTING)) {
+        (_, Some(SPREAD)) | (ORDER, None) => false,
         _ => named,
     }
 }
 
-/// Whether an option has a word.
+/// Returns whether the option `name` has a word.
 fn is_named(words: &ArgMatches<'_>, name: &str) -> bool
     ensures { result ≡ is_some (first_value (found_of words.now) name.now) }
 {
     words.get_str(name).is_some()
 }
 
-/// What is wrong where options behind the subcommand contradict each other.
+/// Returns the error for options that contradict each other.
 fn conflict(alloc: Global, matches: &ArgMatches<'_>) -> Result<Error, AllocError>
     ensures { IfOk result (λ error. kind_of error ≡ ErrorKind.ArgumentConflict) }
 {
@@ -372,11 +536,14 @@ fn conflict(alloc: Global, matches: &ArgMatches<'_>) -> Result<Error, AllocError
     command.error(ErrorKind::ArgumentConflict, conflict_text(matches))
 }
 
-/// What is said of it.
+/// Returns the text of the error for options that contradict each other, or for a GUID that is not one.
 fn conflict_text(matches: &ArgMatches<'_>) -> &'static str {
     let Some((_, words)) = matches.subcommand() else {
         return "";
     };
+    if is_named(words, GUID) && !has_guid(words) {
+        return "invalid value for '<GUID>': 1 to 16 hex digits are wanted";
+    }
     match (is_named(words, ROOTS), is_named(words, ORDER)) {
         (true, true) => "the argument '--roots <FILE>' cannot be used with '--order <FILE>'",
         (true, false) => "the argument '--roots <FILE>' cannot be used without '--routing spread'",
@@ -384,17 +551,18 @@ fn conflict_text(matches: &ArgMatches<'_>) -> &'static str {
     }
 }
 
-/// The subcommand with a name, of those that make plans or print an order.
+/// Builds the subcommand `name`, one of those that make plans, print an order or serve a manager.
 fn subcommand<'a>(alloc: Global, name: Option<&str>) -> Result<Command<'a>, AllocError> {
     match name {
         Some(NEXT) => next(alloc, RULES.as_slice())?.bin_name("ibsm next"),
         Some(RUN) => run(alloc, RULES.as_slice())?.bin_name("ibsm run"),
-        Some(ORDER) => order(alloc)?.bin_name("ibsm order"),
+        Some(ORDER) => order(alloc, RULES.as_slice())?.bin_name("ibsm order"),
+        Some(SERVE) => serve(alloc, RULES.as_slice())?.bin_name("ibsm serve"),
         _ => plan(alloc, RULES.as_slice())?.bin_name("ibsm plan"),
     }
 }
 
-/// At least one file. They may stand on both sides of an option.
+/// Builds the argument for the files, at least one. They may stand on both sides of an option.
 fn files<'a>(alloc: Global) -> Arg<'a>
     ensures rule { rule_of result ≡ files_rule }
     ensures own { result.global ≡ false }

@@ -1,4 +1,4 @@
-//! The words of a command line: which there are, and what they are parsed as.
+//! The words of a command line: which words there are, and what they are parsed as.
 #![tactic(auto)]
 
 pub mod argument_names;

@@ -1,3 +1,4 @@
+pub mod Guids
 pub mod Numbers
 pub mod RuleTexts
 pub mod WellFormed

@@ -1,13 +1,14 @@
 -- Well-formed words ask for a task, and name its inputs.
-use Rattle.std.proofs.Common.{◌≡◌, ◌&&◌, ℕ, true, false, List, [], ◌∷◌, Option, None, Some, ap, inl, inr, refl, sym, subst, ◌∙◌}
+use Rattle.std.proofs.Common.{◌≡◌, ℕ, true, false, List, [], ◌∷◌, Option, None, Some, ap, inl, inr, refl, sym, subst, ◌∙◌}
 use Rattle.std.specs.Prelude.{codes, is_some, option_and_then, option_map}
 use Rattle.clap.specs.Matches.{subcommand_name_of}
 use Rattle.clap.specs.declared.parser.matches.ArgMatches.{ArgMatches}
-use Rattle.cli_arguments.specs.WellFormed.{HasItsWords, IsGiven, IsNumberWithin, IsRouting, IsWellFormed, NamesFiles, NamesOrder, NamesPlanning, facts, join, plan, order, audit, next, run}
-use Rattle.cli_arguments.specs.Words.{files_named, has_conflict_of, word_named}
+use Rattle.cli_arguments.specs.WellFormed.{HasItsWords, IsGiven, IsNumberWithin, IsRouting, IsWellFormed, NamesFiles, NamesOrder, NamesPlanning, NamesSeat, facts, join, plan, order, audit, order_of, next, run, serve}
+use Rattle.cli_arguments.specs.Words.{files_named, has_conflict_of, is_guid, order_rule, word_named}
 use Rattle.sm_cli.specs.declared.asked.RuleAsked.{RuleAsked}
-use Rattle.sm_cli.specs.declared.asked.RuleAsked.TheVariants.{UpDown, Spread, SpreadFromRoots, SpreadInOrder}
-use Rattle.cli_task.specs.Asked.{floor_asked, followed_by, lmc_asked, names_in, planning_asked, rule_asked, spread_asked, task_behind, texts_of_rule}
+use Rattle.sm_cli.specs.declared.asked.RuleAsked.TheVariants.{UpDown, Spread, SpreadFromRoots, SpreadInOrder, Balance}
+use Rattle.cli_task.specs.Asked.{floor_asked, followed_by, guid_asked, lmc_asked, max_load_asked, number_in, port_asked, priority_asked, within, names_in, planning_asked, rule_asked, task_behind, texts_of_rule}
+use Rattle.cli_task.proofs.Guids.{guid_is_read}
 use Rattle.cli_task.proofs.Within.{number_within}
 
 -- a value that is there
@@ -18,6 +19,12 @@ known (Some x) e = (x, refl)
 floor_there : (o : Option (List ℕ)) → IsNumberWithin 1 4294967295 o → is_some (floor_asked o) ≡ true
 floor_there None h = refl
 floor_there (Some word) h = number_within 1 4294967295 word h
+
+max_load_there : (o : Option (List ℕ)) → IsNumberWithin 0 4294967295 o → is_some (max_load_asked o) ≡ true
+max_load_there None h = refl
+max_load_there (Some word) h =
+    let is = known (option_and_then (within 0 4294967295) (number_in word)) (number_within 0 4294967295 word h) in
+    ap (λ o. is_some (option_map Some o)) is.1
 
 lmc_there : (o : Option (List ℕ)) → IsNumberWithin 0 7 o → is_some (lmc_asked o) ≡ true
 lmc_there None h = refl
@@ -53,6 +60,17 @@ spread_there w (Some r) None is f =
     (SpreadFromRoots, ap (λ v. rule_asked (Some v) true false) is, (λ word j k. ap (λ x. is_some (option_map (λ roots. roots ∷ []) x)) j))
 spread_there w (Some r) (Some o) is f = absurd (cc)
 
+balance_there : (w : List ℕ) (roots named : Option (List ℕ)) → w ≡ codes "balance" → has_conflict_of (Some w) (is_some roots) (is_some named) ≡ false
+    → Asked (Some w) roots named
+balance_there w None None is f = (Balance, ap (λ v. rule_asked (Some v) false false) is, (λ word j k. refl))
+balance_there w None (Some o) is f =
+    let bad : has_conflict_of (Some (codes "balance")) false true ≡ false = subst (λ (v : List ℕ). has_conflict_of (Some v) false true ≡ false) is f in
+    absurd (cc)
+balance_there w (Some r) None is f =
+    let bad : has_conflict_of (Some (codes "balance")) true false ≡ false = subst (λ (v : List ℕ). has_conflict_of (Some v) true false ≡ false) is f in
+    absurd (cc)
+balance_there w (Some r) (Some o) is f = absurd (cc)
+
 rule_there : (routing roots named : Option (List ℕ)) → IsRouting routing → has_conflict_of routing (is_some roots) (is_some named) ≡ false
     → Asked routing roots named
 rule_there None None None h e = (UpDown, refl, (λ word j k. refl))
@@ -60,15 +78,27 @@ rule_there None None (Some o) h e = absurd (cc)
 rule_there None (Some r) None h e = absurd (cc)
 rule_there None (Some r) (Some o) h e = absurd (cc)
 rule_there (Some w) roots named (inl is) e = updown_there w roots named is e
-rule_there (Some w) roots named (inr is) e = spread_there w roots named is e
+rule_there (Some w) roots named (inr (inl is)) e = spread_there w roots named is e
+rule_there (Some w) roots named (inr (inr is)) e = balance_there w roots named is e
 
--- what an order goes by, and the text that it takes
-order_there : (roots named : Option (List ℕ)) → (is_some roots && is_some named) ≡ false
-    → (rule : RuleAsked) × (spread_asked (is_some roots) (is_some named) ≡ Some rule) × HasText roots named rule
-order_there None None e = (Spread, refl, (λ word j k. refl))
-order_there None (Some o) e = (SpreadInOrder, refl, (λ word j k. ap (λ x. is_some (option_map (λ named. named ∷ []) x)) k))
-order_there (Some r) None e = (SpreadFromRoots, refl, (λ word j k. ap (λ x. is_some (option_map (λ roots. roots ∷ []) x)) j))
-order_there (Some r) (Some o) e = absurd (cc)
+order_routing : (o : Option (List ℕ)) → IsRouting o → IsRouting (order_rule o)
+order_routing None h = inr (inl refl)
+order_routing (Some w) h = h
+
+-- a number that is there, and in its range
+number_there : (least most : ℕ) (o : Option (List ℕ)) → IsGiven o → IsNumberWithin least most o
+    → is_some (option_and_then (within least most) (option_and_then number_in o)) ≡ true
+number_there least most None given h = absurd (cc)
+number_there least most (Some word) given h = number_within least most word h
+
+guid_there : (o : Option (List ℕ)) → is_guid o ≡ true → is_some (guid_asked o) ≡ true
+guid_there None e = absurd (cc)
+guid_there (Some word) e = guid_is_read word e
+
+-- whoever names a GUID names the lines
+lines_there : (o : Option (List ℕ)) → is_guid o ≡ true → is_some (option_map (λ guid. codes "/dev/stdin" ∷ []) o) ≡ true
+lines_there None e = absurd (cc)
+lines_there (Some word) e = refl
 
 module _ (word : List ℕ → Option (List ℕ)) (files : Option (List (List ℕ))) where
   -- how plans are made
@@ -123,13 +153,20 @@ module _ (word : List ℕ → Option (List ℕ)) (files : Option (List (List ℕ
       rw (by.1, floor.1) (both_there (texts_of_rule word by.0.1) (followed_by (Some []) files) by.2 (both_there (Some []) files refl h.named))
 
   order_asks : NamesFiles word files → NamesOrder word → Asks (codes "order")
-  order_asks h apart =
+  order_asks h p =
       let floor = known (floor_asked (word (codes "floor"))) (floor_there (word (codes "floor")) h.floor) in
-      let rule = order_there (word (codes "roots")) (word (codes "order")) apart in
+      let rule = rule_there (order_rule (word (codes "routing"))) (word (codes "roots")) (word (codes "order"))
+      (order_routing (word (codes "routing")) p.routing) p.apart in
       rw (rule.1, floor.1) (both_there (texts_of_rule word rule.0) (followed_by (Some []) files) (rule.2 word refl refl) (both_there (Some []) files refl h.named))
 
-  audit_asks : IsGiven (word (codes "TABLES")) → NamesFiles word files → Asks (codes "audit")
-  audit_asks t h =
+  audit_asks : IsGiven (word (codes "TABLES")) → NamesFiles word files → IsNumberWithin 0 4294967295 (word (codes "max-load")) → Asks (codes "audit")
+  audit_asks t h m =
+      let floor = known (floor_asked (word (codes "floor"))) (floor_there (word (codes "floor")) h.floor) in
+      let load = known (max_load_asked (word (codes "max-load"))) (max_load_there (word (codes "max-load")) m) in
+      rw floor.1 rw load.1 (both_there (Some []) _ refl (both_there _ files (one_there (word (codes "TABLES")) t) h.named))
+
+  order_of_asks : IsGiven (word (codes "TABLES")) → NamesFiles word files → Asks (codes "order-of")
+  order_of_asks t h =
       let floor = known (floor_asked (word (codes "floor"))) (floor_there (word (codes "floor")) h.floor) in
       rw floor.1 (both_there (Some []) _ refl (both_there _ files (one_there (word (codes "TABLES")) t) h.named))
 
@@ -144,14 +181,25 @@ module _ (word : List ℕ → Option (List ℕ)) (files : Option (List (List ℕ
       let by = planning_there p in
       rw by.1 (both_there (texts_of_rule word by.0.1) _ by.2 (both_there _ (Some []) (two_there (word (codes "TOPOLOGY")) (word (codes "SCHEDULE")) t s) refl))
 
+  serve_asks : NamesSeat word → NamesPlanning word → Asks (codes "serve")
+  serve_asks s p =
+      let by = planning_there p in
+      let guid = known (guid_asked (word (codes "GUID"))) (guid_there (word (codes "GUID")) s.guid) in
+      let port = known (port_asked (word (codes "PORT"))) (number_there 1 254 (word (codes "PORT")) s.port_given s.port) in
+      let priority = known (priority_asked (word (codes "PRIORITY"))) (number_there 0 15 (word (codes "PRIORITY")) s.priority_given s.priority) in
+      rw (by.1, guid.1, port.1, priority.1)
+      (both_there (texts_of_rule word by.0.1) _ by.2 (both_there _ (Some []) (lines_there (word (codes "GUID")) s.guid) refl))
+
   words_ask : (name : List ℕ) → HasItsWords word files name → Asks name
   words_ask name (facts is h) = subst Asks (sym is) (facts_ask h)
   words_ask name (join is h) = subst Asks (sym is) (join_ask h)
   words_ask name (plan is h p) = subst Asks (sym is) (plan_asks h p)
   words_ask name (order is h p) = subst Asks (sym is) (order_asks h p)
-  words_ask name (audit is t h) = subst Asks (sym is) (audit_asks t h)
+  words_ask name (audit is t h m) = subst Asks (sym is) (audit_asks t h m)
+  words_ask name (order_of is t h) = subst Asks (sym is) (order_of_asks t h)
   words_ask name (next is t h p) = subst Asks (sym is) (next_asks t h p)
   words_ask name (run is t s p) = subst Asks (sym is) (run_asks t s p)
+  words_ask name (serve is s p) = subst Asks (sym is) (serve_asks s p)
 
 -- so do well-formed words
 pub well_formed_asks : (matches : ArgMatches) → IsWellFormed matches

@@ -5,77 +5,121 @@ use Rattle.std.specs.Str.{bytes_eq}
 use Rattle.std.specs.Str.Parse.{starts_with_minus, without_leading_plus}
 use Rattle.clap.specs.Matches.{subcommand_name_of}
 use Rattle.clap.specs.declared.parser.matches.ArgMatches.{ArgMatches}
-use Rattle.cli_arguments.specs.Words.{files_named, word_named}
+use Rattle.cli_arguments.specs.Words.{files_named, order_rule, word_named}
 use Rattle.text_words.specs.Number.{number_of}
+use Rattle.audit_report.specs.declared.audit_run.AuditAsked.{AuditAsked}
 use Rattle.sm_cli.specs.Asked.{rule_for}
 use Rattle.sm_cli.specs.declared.asked.Output.{Output}
 use Rattle.sm_cli.specs.declared.asked.Output.TheVariants.{Facts, Join, Plan, Order}
 use Rattle.sm_cli.specs.declared.asked.RuleAsked.{RuleAsked}
-use Rattle.sm_cli.specs.declared.asked.RuleAsked.TheVariants.{UpDown, Spread, SpreadFromRoots, SpreadInOrder}
+use Rattle.sm_cli.specs.declared.asked.RuleAsked.TheVariants.{UpDown, Spread, SpreadFromRoots, SpreadInOrder, Balance}
 use Rattle.next_run.specs.declared.run_step.StepAsked.{StepAsked}
+use Rattle.serve_lines.specs.ServeLine.{hex_number}
+use Rattle.serve_task.specs.declared.serving.Serving.{Serving}
 use Rattle.cli_task.specs.declared.task.Task.{Task}
-use Rattle.cli_task.specs.declared.task.Task.TheVariants.{Answer, Audit, Next, Run}
+use Rattle.cli_task.specs.declared.task.Task.TheVariants.{Answer, Audit, OrderOf, Next, Run, Serve}
 
 -- options ---------------------------------------------------------------------------------------
 
--- the number, where it is within these bounds
+-- `n`, if it is from `least` to `most`
 abbrev pub within : ℕ → ℕ → ℕ → Option ℕ
 within least most n = if nat_le least n && nat_le n most then Some n else None
 
--- the number that a word writes in decimal, behind a sign or without one; behind a minus it is 0 alone
+-- the number that a word writes in decimal, with or without a sign; behind a minus only 0
 abbrev pub number_in : List ℕ → Option ℕ
 number_in word =
     if starts_with_minus word then option_and_then (within 0 0) (number_of 10 (drop 1 word))
     else number_of 10 (without_leading_plus word)
 
--- the number of a word, where it fits 32 bits; another one without a word
+-- the number of the word, if it fits 32 bits; `otherwise` without a word
 abbrev pub number_or : ℕ → Option (List ℕ) → Option ℕ
 number_or otherwise None = Some otherwise
 number_or otherwise (Some word) = option_and_then (within 0 4294967295) (number_in word)
 
--- the floor is the number of the word; without a word it is 1
+-- the floor: the number of the word, 1 without a word
 abbrev pub floor_asked : Option (List ℕ) → Option ℕ
 floor_asked None = Some 1
 floor_asked (Some word) = option_and_then (within 1 4294967295) (number_in word)
 
--- the LMC is the number of the word; without a word it is 0
+-- the LMC: the number of the word, 0 without a word
 abbrev pub lmc_asked : Option (List ℕ) → Option ℕ
 lmc_asked None = Some 0
 lmc_asked (Some word) = option_and_then (within 0 7) (number_in word)
 
--- the rule that spreads, by roots or an order that are named, but not by both
+-- the rule that spreads, from roots or in a named order, but not with both
 abbrev pub spread_asked : Bool → Bool → Option RuleAsked
 spread_asked false false = Some Spread
 spread_asked true false = Some SpreadFromRoots
 spread_asked false true = Some SpreadInOrder
 spread_asked true true = None
 
--- the rule is the one that a word names, up and down without one; where roots or an order are named, the one that takes
--- them
+-- the rule that the word names, up and down without a word; if roots or an order are named, it must be the one that
+-- takes them
 abbrev pub rule_asked : Option (List ℕ) → Bool → Bool → Option RuleAsked
 rule_asked None rooted ordered = if rooted || ordered then None else Some UpDown
 rule_asked (Some word) rooted ordered =
     if bytes_eq word (codes "spread") then spread_asked rooted ordered
-    else (if bytes_eq word (codes "updown") && not (rooted || ordered) then Some UpDown else None)
+    else (if bytes_eq word (codes "updown") && not (rooted || ordered) then Some UpDown
+    else (if bytes_eq word (codes "balance") && not (rooted || ordered) then Some Balance else None))
 
 -- tasks -----------------------------------------------------------------------------------------
 
--- the LMC of plans, and the rule that they go by
+-- the LMC of a plan and its rule
 abbrev pub planning_asked : (List ℕ → Option (List ℕ)) → Option (ℕ × RuleAsked)
 planning_asked word = option_and_then (λ lmc. option_map (λ rule. (lmc, rule))
     (rule_asked (word (codes "routing")) (is_some (word (codes "roots"))) (is_some (word (codes "order")))))
     (lmc_asked (word (codes "lmc")))
 
--- what an order goes by
+-- the rule of an order
 abbrev pub order_asked : (List ℕ → Option (List ℕ)) → Option RuleAsked
-order_asked word = spread_asked (is_some (word (codes "roots"))) (is_some (word (codes "order")))
+order_asked word =
+    rule_asked (order_rule (word (codes "routing"))) (is_some (word (codes "roots"))) (is_some (word (codes "order")))
 
--- the step
+-- a flag is set if its word is `true`, which the parser of words puts in
+abbrev pub is_set : Option (List ℕ) → Bool
+is_set None = false
+is_set (Some word) = bytes_eq word (codes "true")
+
+-- the greatest load that passes, if a word names one; None if the word names no number of 32 bits
+abbrev pub max_load_asked : Option (List ℕ) → Option (Option ℕ)
+max_load_asked None = Some None
+max_load_asked (Some word) = option_map Some (option_and_then (within 0 4294967295) (number_in word))
+
+-- the audit that the words ask for
+abbrev pub audit_asked : (List ℕ → Option (List ℕ)) → Option AuditAsked
+audit_asked word = option_and_then (λ floor. option_map
+    (λ max_load. record { floor = floor; all = is_set (word (codes "all")); max_load = max_load })
+    (max_load_asked (word (codes "max-load")))) (floor_asked (word (codes "floor")))
+
+-- the step that is asked for
 abbrev pub step_asked : (List ℕ → Option (List ℕ)) → Option StepAsked
 step_asked word = option_and_then (λ by. option_map (λ floor. record { lmc = by.0; rule = by.1; floor = floor })
     (floor_asked (word (codes "floor")))) (planning_asked word)
 
--- what a command writes of files
+-- the GUID that 1 to 16 hex digits write
+abbrev pub guid_asked : Option (List ℕ) → Option ℕ
+guid_asked word = option_and_then hex_number word
+
+-- the number of a port, 1 to 254
+abbrev pub port_asked : Option (List ℕ) → Option ℕ
+port_asked word = option_and_then (within 1 254) (option_and_then number_in word)
+
+-- a priority, 0 to 15
+abbrev pub priority_asked : Option (List ℕ) → Option ℕ
+priority_asked word = option_and_then (within 0 15) (option_and_then number_in word)
+
+-- a manager at a port, which plans by the LMC and the rule of `by`
+abbrev pub serving_by : ℕ × RuleAsked → Option ℕ → Option ℕ → Option ℕ → Option Serving
+serving_by by guid port priority =
+    option_and_then (λ g. option_and_then (λ p. option_map
+    (λ q. record { guid = g; port = p; priority = q; lmc = by.0; rule = by.1 }) priority) port) guid
+
+-- the manager that is served
+abbrev pub serving_asked : (List ℕ → Option (List ℕ)) → Option Serving
+serving_asked word = option_and_then (λ by. serving_by by (guid_asked (word (codes "GUID")))
+    (port_asked (word (codes "PORT"))) (priority_asked (word (codes "PRIORITY")))) (planning_asked word)
+
+-- what the subcommand `command` writes of files
 abbrev pub output_asked : (List ℕ → Option (List ℕ)) → List ℕ → Option Output
 output_asked word command =
     if bytes_eq command (codes "facts") then Some Facts
@@ -83,14 +127,16 @@ output_asked word command =
     else (if bytes_eq command (codes "plan") then option_map (λ by. Plan by.0 by.1) (planning_asked word)
     else (if bytes_eq command (codes "order") then option_map Order (order_asked word) else None)))
 
--- the task of a command, by the words of its arguments
+-- the task of the subcommand `command`, by the words of its arguments
 abbrev pub task_behind : (List ℕ → Option (List ℕ)) → List ℕ → Option Task
 task_behind word command =
-    if bytes_eq command (codes "audit") then option_map Audit (floor_asked (word (codes "floor")))
+    if bytes_eq command (codes "audit") then option_map Audit (audit_asked word)
+    else (if bytes_eq command (codes "order-of") then option_map OrderOf (floor_asked (word (codes "floor")))
     else (if bytes_eq command (codes "next") then option_map Next (step_asked word)
     else (if bytes_eq command (codes "run") then option_map (λ by. Run by.0 by.1) (planning_asked word)
+    else (if bytes_eq command (codes "serve") then option_map Serve (serving_asked word)
     else option_and_then (λ output. option_map (λ floor. Answer (record { output = output; floor = floor }))
-    (floor_asked (word (codes "floor")))) (output_asked word command)))
+    (floor_asked (word (codes "floor")))) (output_asked word command)))))
 
 -- the task that the words ask for
 abbrev pub task_asked : ArgMatches → Option Task
@@ -98,41 +144,48 @@ task_asked matches = option_and_then (task_behind (word_named matches)) (subcomm
 
 -- inputs ----------------------------------------------------------------------------------------
 
--- the texts that a rule takes
+-- the name of the text that a rule takes, if it takes one
 abbrev pub texts_of_rule : (List ℕ → Option (List ℕ)) → RuleAsked → Option (List (List ℕ))
 texts_of_rule word UpDown = Some []
 texts_of_rule word Spread = Some []
 texts_of_rule word SpreadFromRoots = option_map (λ roots. roots ∷ []) (word (codes "roots"))
 texts_of_rule word SpreadInOrder = option_map (λ order. order ∷ []) (word (codes "order"))
+texts_of_rule word Balance = Some []
 
--- by which rule a task plans; where it does not, by one that takes no text
+-- the rule that a task plans by; if it does not plan, one that takes no text
 abbrev pub rule_of_task : Task → RuleAsked
 rule_of_task (Answer request) = rule_for request.output
-rule_of_task (Audit floor) = UpDown
+rule_of_task (Audit asked) = UpDown
+rule_of_task (OrderOf floor) = UpDown
 rule_of_task (Next asked) = asked.rule
 rule_of_task (Run lmc rule) = rule
+rule_of_task (Serve asked) = asked.rule
 
--- the other texts that a task takes
+-- the names of the other texts that a task takes
 abbrev pub texts_asked : (List ℕ → Option (List ℕ)) → Task → Option (List (List ℕ))
 texts_asked word (Answer request) = Some []
-texts_asked word (Audit floor) = option_map (λ tables. tables ∷ []) (word (codes "TABLES"))
+texts_asked word (Audit asked) = option_map (λ tables. tables ∷ []) (word (codes "TABLES"))
+texts_asked word (OrderOf floor) = option_map (λ tables. tables ∷ []) (word (codes "TABLES"))
 texts_asked word (Next asked) = option_map (λ tables. tables ∷ []) (word (codes "TABLES"))
 texts_asked word (Run lmc rule) =
     option_and_then (λ topology. option_map (λ schedule. topology ∷ schedule ∷ []) (word (codes "SCHEDULE")))
     (word (codes "TOPOLOGY"))
+texts_asked word (Serve asked) = option_map (λ guid. codes "/dev/stdin" ∷ []) (word (codes "GUID"))
 
--- whether it takes files
+-- a task takes files
 abbrev pub takes_files : Task → Bool
 takes_files (Answer request) = true
-takes_files (Audit floor) = true
+takes_files (Audit asked) = true
+takes_files (OrderOf floor) = true
 takes_files (Next asked) = true
 takes_files (Run lmc rule) = false
+takes_files (Serve asked) = false
 
--- its files, where these are named
+-- the names of the files that a task takes, none if it takes no files
 abbrev pub files_asked : Option (List (List ℕ)) → Task → Option (List (List ℕ))
 files_asked files task = if takes_files task then files else Some []
 
--- names before others, where all are there
+-- `first` and then `later`, if both are there
 abbrev pub followed_by : Option (List (List ℕ)) → Option (List (List ℕ)) → Option (List (List ℕ))
 followed_by first later = option_and_then (λ names. option_map (λ others. names ++ others) later) first
 
@@ -144,6 +197,6 @@ names_in word files task =
 abbrev pub names_asked : ArgMatches → Task → Option (List (List ℕ))
 names_asked matches task = names_in (word_named matches) (files_named matches) task
 
--- a task is asked for, and a word for each of its inputs
+-- the names of the inputs of the task that is asked for, if all are there
 abbrev pub inputs_asked : ArgMatches → Option (List (List ℕ))
 inputs_asked matches = option_and_then (names_asked matches) (task_asked matches)

@@ -1,4 +1,4 @@
--- What a command line that is taken asks for.
+-- What an accepted command line asks for.
 use Rattle.std.specs.Prelude.{◌≡◌, true, is_some}
 use Rattle.clap.specs.declared.parser.matches.ArgMatches.{ArgMatches}
 use Rattle.cli_arguments.specs.WellFormed.{IsWellFormed}

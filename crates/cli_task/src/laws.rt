@@ -1,7 +1,7 @@
-//! The law of what words ask for.
+//! The law of what the words of a command line ask for.
 ghost use Rattle.cli_task.specs.Laws.{WellFormedWordsAsk};
 
-/// Words that the command line takes ask for a task, and name each of its inputs.
+/// An accepted command line asks for a task, and names each of its inputs.
 pub fn well_formed_words_ask()
     ensures law { WellFormedWordsAsk }
 {}

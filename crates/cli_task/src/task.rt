@@ -1,62 +1,75 @@
 //! What the words of the command line ask for.
 ghost use Rattle.std.specs.Prelude.{◌≡◌, IfOk, codes, is_some, map, option_and_then, option_map};
 ghost use Rattle.clap.specs.Matches.{first_value, found_of, matched_of, raw_values};
-ghost use Rattle.cli_task.specs.Asked.{floor_asked, lmc_asked, number_in, number_or, planning_asked, rule_asked};
+ghost use Rattle.cli_task.specs.Asked.{audit_asked, floor_asked, is_set, lmc_asked, max_load_asked, number_in};
+ghost use Rattle.cli_task.specs.Asked.{number_or, planning_asked, rule_asked};
 ghost use Rattle.cli_task.specs.Asked.{order_asked, output_asked, step_asked, task_asked, task_behind, within};
 ghost use Rattle.cli_task.specs.Asked.{names_asked, names_in, rule_of_task, spread_asked, takes_files, texts_asked};
-ghost use Rattle.cli_task.specs.Asked.{texts_of_rule};
+ghost use Rattle.cli_task.specs.Asked.{guid_asked, port_asked, priority_asked, serving_asked, texts_of_rule};
 
 use arrayvec::ArrayVec;
-use attr_codec::Lmc;
+use attr_codec::{Lmc, Priority};
+use audit_report::AuditAsked;
 use clap::ArgMatches;
 use cli_arguments::argument_names::{
-    AUDIT, FACTS, FILE, FLOOR, JOIN, LMC, NEXT, ORDER, PLAN, ROOTS, ROUTING, RUN, SCHEDULE, SPREAD,
-    TABLES, TOPOLOGY, UPDOWN,
+    ALL, AUDIT, BALANCE, FACTS, FILE, FLOOR, GUID, JOIN, LMC, MAX_LOAD, NEXT, ORDER, ORDER_OF,
+    PLAN, PORT, PRIORITY, ROOTS, ROUTING, RUN, SCHEDULE, SERVE, SPREAD, TABLES, TOPOLOGY, UPDOWN,
 };
 use next_run::StepAsked;
+use serve_lines::hex_number;
+use serve_task::Serving;
 use sm_cli::{Invocation, Output, RuleAsked};
-use smp_bytes::Generation;
+use smp_bytes::{Generation, Guid, PortNum};
 use std::alloc::{AllocError, Global};
 
 /// What the program is asked to do.
 #[derive(Clone, Copy, Debug, PartialEq, Eq)]
 pub enum Task {
-    /// To write what files say.
+    /// Writing what files say.
     Answer(Invocation),
-    /// To audit tables in the subnet of files, where nothing older than the generation counts.
-    Audit(Generation),
-    /// To write the tables to write next.
+    /// To audit tables in the subnet of files.
+    Audit(AuditAsked),
+    /// Writing the order of switches that tables tell in the subnet of the files' facts, ignoring what is older than
+    /// the generation.
+    OrderOf(Generation),
+    /// Writing the tables to write next.
     Next(StepAsked),
-    /// To run a schedule in the fabric of a topology, with managers that plan 2^LMC LIDs for each adapter port, by a
+    /// Running a schedule in the fabric of a topology, with managers that plan 2^LMC LIDs for each adapter port by the
     /// rule.
     Run(Lmc, RuleAsked),
+    /// Serving a manager by lines.
+    Serve(Serving),
 }
 
+/// The file that lines are read from.
+const LINES: &str = "/dev/stdin";
+
 impl Task {
-    /// By which rule it plans; where it does not, by one that takes no text.
+    /// Returns the rule that the task plans by; `UpDown`, which takes no text, if it does not plan.
     fn rule(&self) -> RuleAsked
         ensures { result ≡ rule_of_task self.now }
     {
         match self {
             Task::Answer(request) => request.output.rule(),
-            Task::Audit(_) => RuleAsked::UpDown,
+            Task::Audit(_) | Task::OrderOf(_) => RuleAsked::UpDown,
             Task::Next(asked) => asked.rule,
             Task::Run(_, rule) => *rule,
+            Task::Serve(asked) => asked.rule,
         }
     }
 
-    /// Whether it takes files.
+    /// Returns whether the task takes files.
     fn takes_files(&self) -> bool
         ensures { result ≡ takes_files self.now }
     {
         match self {
-            Task::Answer(_) | Task::Audit(_) | Task::Next(_) => true,
-            Task::Run(..) => false,
+            Task::Answer(_) | Task::Audit(_) | Task::OrderOf(_) | Task::Next(_) => true,
+            Task::Run(..) | Task::Serve(_) => false,
         }
     }
 }
 
-/// The task that the words ask for, by the subcommand and the words behind it.
+/// Returns the task that the words ask for, by the subcommand and the words behind it.
 pub fn task_of(matches: &ArgMatches<'_>) -> Option<Task>
     ensures { result ≡ task_asked matches.now }
 {
@@ -64,17 +77,19 @@ pub fn task_of(matches: &ArgMatches<'_>) -> Option<Task>
     task_behind(command, words)
 }
 
-/// The task that a subcommand asks for, by the words behind it.
+/// Returns the task that the subcommand `command` asks for with `words`.
 fn task_behind(command: &str, words: &ArgMatches<'_>) -> Option<Task>
     ensures { result ≡ task_behind (first_value (found_of words.now)) command.now }
 {
     match command {
-        AUDIT => Some(Task::Audit(floor_of(words)?)),
+        AUDIT => Some(Task::Audit(audit_of(words)?)),
+        ORDER_OF => Some(Task::OrderOf(floor_of(words)?)),
         NEXT => Some(Task::Next(step_of(words)?)),
         RUN => {
             let (lmc, rule) = planning_of(words)?;
             Some(Task::Run(lmc, rule))
         }
+        SERVE => Some(Task::Serve(serving_of(words)?)),
         _ => {
             let output = output_of(command, words)?;
             let floor = floor_of(words)?;
@@ -83,7 +98,41 @@ fn task_behind(command: &str, words: &ArgMatches<'_>) -> Option<Task>
     }
 }
 
-/// The step that the words behind a subcommand ask for.
+/// Returns the audit that the words behind a subcommand ask for.
+fn audit_of(words: &ArgMatches<'_>) -> Option<AuditAsked>
+    ensures { result ≡ audit_asked (first_value (found_of words.now)) }
+{
+    let floor = floor_of(words)?;
+    let max_load = max_load_of(words)?;
+    Some(AuditAsked {
+        floor,
+        all: is_set(words, ALL),
+        max_load,
+    })
+}
+
+/// Returns whether the words behind a subcommand set the flag `name`.
+fn is_set(words: &ArgMatches<'_>, name: &str) -> bool
+    ensures { result ≡ is_set (first_value (found_of words.now) name.now) }
+{
+    match words.get_str(name) {
+        Some(word) => word == "true",
+        None => false,
+    }
+}
+
+/// Returns the greatest load that the words behind a subcommand let pass, if they name one; `None` if the word is no
+/// number of 32 bits.
+fn max_load_of(words: &ArgMatches<'_>) -> Option<Option<u64>>
+    ensures { result ≡ max_load_asked (first_value (found_of words.now) (codes "max-load")) }
+{
+    match words.get_str(MAX_LOAD) {
+        Some(text) => Some(Some(u64::from(number_in(text)?))),
+        None => Some(None),
+    }
+}
+
+/// Returns the step that `words`, behind a subcommand, ask for.
 fn step_of(words: &ArgMatches<'_>) -> Option<StepAsked>
     ensures { result ≡ step_asked (first_value (found_of words.now)) }
 {
@@ -92,7 +141,53 @@ fn step_of(words: &ArgMatches<'_>) -> Option<StepAsked>
     Some(StepAsked { lmc, rule, floor })
 }
 
-/// What a subcommand is to write of files, by the words behind it.
+/// Returns the manager that `words`, behind a subcommand, ask for.
+fn serving_of(words: &ArgMatches<'_>) -> Option<Serving>
+    ensures { result ≡ serving_asked (first_value (found_of words.now)) }
+{
+    let (lmc, rule) = planning_of(words)?;
+    let guid = guid_of(words)?;
+    let port = port_of(words)?;
+    let priority = priority_of(words)?;
+    Some(Serving {
+        guid,
+        port,
+        priority,
+        lmc,
+        rule,
+    })
+}
+
+/// Returns the GUID that `words` name, of up to 16 hex digits.
+fn guid_of(words: &ArgMatches<'_>) -> Option<Guid>
+    ensures { result ≡ guid_asked (first_value (found_of words.now) (codes "GUID")) }
+{
+    Some(Guid::new(hex_number(words.get_str(GUID)?.as_bytes())?))
+}
+
+/// Returns the port number that `words` name, or `None` if it is not from 1 to 254.
+fn port_of(words: &ArgMatches<'_>) -> Option<PortNum>
+    ensures { result ≡ port_asked (first_value (found_of words.now) (codes "PORT")) }
+{
+    let port = number_in(words.get_str(PORT)?)?;
+    if port == 0 || port > 254 {
+        return None;
+    }
+    Some(PortNum::new(port as u8))
+}
+
+/// Returns the priority that `words` name, or `None` if it is over 15.
+fn priority_of(words: &ArgMatches<'_>) -> Option<Priority>
+    ensures { result ≡ priority_asked (first_value (found_of words.now) (codes "PRIORITY")) }
+{
+    let priority = number_in(words.get_str(PRIORITY)?)?;
+    if priority > 15 {
+        return None;
+    }
+    Priority::new(priority as u8)
+}
+
+/// Returns what the subcommand `command` writes of files.
 fn output_of(command: &str, words: &ArgMatches<'_>) -> Option<Output>
     ensures { result ≡ output_asked (first_value (found_of words.now)) command.now }
 {
@@ -108,7 +203,7 @@ fn output_of(command: &str, words: &ArgMatches<'_>) -> Option<Output>
     }
 }
 
-/// The LMC of plans and their rule of routing that the words behind a subcommand ask for.
+/// Returns the LMC and the rule of routing that `words` ask for.
 fn planning_of(words: &ArgMatches<'_>) -> Option<(Lmc, RuleAsked)>
     ensures { result ≡ planning_asked (first_value (found_of words.now)) }
 {
@@ -117,31 +212,34 @@ fn planning_of(words: &ArgMatches<'_>) -> Option<(Lmc, RuleAsked)>
     Some((lmc, rule))
 }
 
-/// What the order goes by that the words behind a subcommand ask for.
+/// Returns the rule of the order that `words` ask for, the one that spreads if they name none.
 fn order_of(words: &ArgMatches<'_>) -> Option<RuleAsked>
     ensures { result ≡ order_asked (first_value (found_of words.now)) }
 {
-    spread_by(
-        words.get_str(ROOTS).is_some(),
-        words.get_str(ORDER).is_some(),
-    )
+    match words.get_str(ROUTING) {
+        Some(_) => rule_of(words),
+        None => spread_by(
+            words.get_str(ROOTS).is_some(),
+            words.get_str(ORDER).is_some(),
+        ),
+    }
 }
 
-/// Returns the floor that the words behind a subcommand ask for, 1 if they ask for none.
+/// Returns the floor that `words` ask for, 1 if they ask for none.
 fn floor_of(words: &ArgMatches<'_>) -> Option<Generation>
     ensures { result ≡ floor_asked (first_value (found_of words.now) (codes "floor")) }
 {
     Generation::new(number_or(words, FLOOR, 1)?)
 }
 
-/// Returns the LMC that the words behind a subcommand ask for, 0 if they ask for none.
+/// Returns the LMC that `words` ask for, 0 if they ask for none.
 fn lmc_of(words: &ArgMatches<'_>) -> Option<Lmc>
     ensures { result ≡ lmc_asked (first_value (found_of words.now) (codes "lmc")) }
 {
     Lmc::new(u8::try_from(number_or(words, LMC, 0)?).ok()?)
 }
 
-/// Returns the number behind the option `name`, or `otherwise` if it is not there.
+/// Returns the number behind the option `name`, or `otherwise` if the option is not given.
 fn number_or(words: &ArgMatches<'_>, name: &str, otherwise: u32) -> Option<u32>
     ensures { result ≡ number_or otherwise (first_value (found_of words.now) name.now) }
 {
@@ -151,15 +249,16 @@ fn number_or(words: &ArgMatches<'_>, name: &str, otherwise: u32) -> Option<u32>
     }
 }
 
-/// Returns the number that `text` writes in decimal, behind a sign or without one, as the parser of words reads it;
-/// `None` if it writes none of 32 bits.
+/// Returns the number that `text` writes in decimal, with or without a sign, as the parser of words reads it. Returns
+/// `None` if it is not a number of 32 bits.
 fn number_in(text: &str) -> Option<u32>
     ensures { result ≡ option_and_then (within 0 4294967295) (number_in text.now) }
 {
     u32::try_from(text.parse::<i64>().ok()?).ok()
 }
 
-/// The rule of routing that the words behind a subcommand ask for, up and down where they ask for none.
+/// Returns the rule of routing that `words` ask for, `UpDown` if they name none. Returns `None` if roots or an order
+/// are named with a rule that does not take them.
 fn rule_of(words: &ArgMatches<'_>) -> Option<RuleAsked>
     ensures { result ≡ rule_asked (first_value (found_of words.now) (codes "routing"))
         (is_some (first_value (found_of words.now) (codes "roots")))
@@ -169,12 +268,13 @@ fn rule_of(words: &ArgMatches<'_>) -> Option<RuleAsked>
     let ordered = words.get_str(ORDER).is_some();
     match words.get_str(ROUTING) {
         None | Some(UPDOWN) if !rooted && !ordered => Some(RuleAsked::UpDown),
+        Some(BALANCE) if !rooted && !ordered => Some(RuleAsked::Balance),
         Some(SPREAD) => spread_by(rooted, ordered),
         _ => None,
     }
 }
 
-/// The rule that spreads, where roots or an order are named, but not both.
+/// Returns the rule that spreads, from roots if `rooted`, in a named order if `ordered`, or `None` if both.
 fn spread_by(rooted: bool, ordered: bool) -> Option<RuleAsked>
     ensures { result ≡ spread_asked rooted ordered }
 {
@@ -186,8 +286,8 @@ fn spread_by(rooted: bool, ordered: bool) -> Option<RuleAsked>
     }
 }
 
-/// The names of the inputs of a task, in the order in which they are read: the texts of its rule, its own, files. None
-/// where one is not named.
+/// Returns the names of the task's inputs in the order in which they are read: the texts of its rule, its own texts,
+/// its files. Returns `None` if one of them is not named.
 pub fn names_of<'a>(
     alloc: Global,
     matches: &ArgMatches<'a>,
@@ -202,7 +302,7 @@ pub fn names_of<'a>(
     }
 }
 
-/// The same of the words behind a subcommand.
+/// Returns the names of the task's inputs, given the words behind the subcommand.
 fn names_behind<'a>(
     alloc: Global,
     words: &ArgMatches<'a>,
@@ -229,21 +329,21 @@ fn names_behind<'a>(
     Ok(Some(names))
 }
 
-/// The texts that a rule takes: that of the roots or of the order, where it is named.
+/// Returns the name of the text of roots or of the order, if `rule` takes one; `None` if it is not named.
 fn texts_of_rule<'a>(words: &ArgMatches<'a>, rule: RuleAsked) -> Option<ArrayVec<&'a str, 1>>
     ensures { option_map (λ found. map (λ name. name.now) found.items) result
         ≡ texts_of_rule (first_value (found_of words.now)) rule }
 {
     let mut texts = ArrayVec::new();
     match rule {
-        RuleAsked::UpDown | RuleAsked::Spread => {}
+        RuleAsked::UpDown | RuleAsked::Spread | RuleAsked::Balance => {}
         RuleAsked::SpreadFromRoots => texts.push(words.get_str(ROOTS)?),
         RuleAsked::SpreadInOrder => texts.push(words.get_str(ORDER)?),
     }
     Some(texts)
 }
 
-/// The other texts of a task.
+/// Returns the names of the other texts of the task, or `None` if one is not named.
 fn texts_of<'a>(words: &ArgMatches<'a>, task: &Task) -> Option<ArrayVec<&'a str, 2>>
     ensures { option_map (λ found. map (λ name. name.now) found.items) result
         ≡ texts_asked (first_value (found_of words.now)) task.now }
@@ -251,10 +351,14 @@ fn texts_of<'a>(words: &ArgMatches<'a>, task: &Task) -> Option<ArrayVec<&'a str,
     let mut texts = ArrayVec::new();
     match task {
         Task::Answer(_) => {}
-        Task::Audit(_) | Task::Next(_) => texts.push(words.get_str(TABLES)?),
+        Task::Audit(_) | Task::OrderOf(_) | Task::Next(_) => texts.push(words.get_str(TABLES)?),
         Task::Run(..) => {
             texts.push(words.get_str(TOPOLOGY)?);
             texts.push(words.get_str(SCHEDULE)?);
+        }
+        Task::Serve(_) => {
+            words.get_str(GUID)?;
+            texts.push(LINES);
         }
     }
     Some(texts)

@@ -1,6 +1,6 @@
--- One step of a packet on a directed route. Its hop pointer says how far it has come: on its way out each node notes
--- the port by which the packet came, and on its way back it leaves by the ports that were noted. InfiniBand
--- Architecture Specification, Volume 1: directed route SMPs, outgoing and returning.
+-- One step of a packet on a directed route. Its hop pointer says how far it has come: on its way out each node records
+-- the port by which the packet came, and on its way back it leaves by the recorded ports. InfiniBand Architecture
+-- Specification, Volume 1: directed route SMPs, outgoing and returning.
 use Rattle.std.specs.Prelude.{ℕ, ◌+◌, ◌-◌, Bool, ◌||◌, List, nat_lt, ◌==◌, if◌then◌else◌}
 use Rattle.smp_bytes.specs.Field.{number_in, with_number}
 use Rattle.smp_bytes.specs.Packet.{hop_pointer, hop_count, initial_path, return_path, is_returning}
@@ -16,7 +16,7 @@ pub record Stepped : Type 0 where
   pub packet : List ℕ
   pub verdict : Verdict
 
--- the packet goes no further, and is as it was
+-- the packet goes no further, and is unchanged
 abbrev pub discarded : List ℕ → DiscardReason → Stepped
 discarded packet reason = record { packet = packet; verdict = Discard reason }
 
@@ -24,26 +24,26 @@ discarded packet reason = record { packet = packet; verdict = Discard reason }
 abbrev pub pointed : ℕ → List ℕ → List ℕ
 pointed pointer packet = with_number hop_pointer pointer packet
 
--- the packet with the port by which it came noted for the way back, at its index on the path
+-- the packet with the port by which it came recorded for the way back, at its index on the path
 abbrev pub noted : ℕ → Here → List ℕ → List ℕ
 noted at here packet = with_number (return_path at) here.arrival packet
 
--- a port from 1 to the node's count
+-- the port is from 1 to the node's port count
 abbrev pub is_port : Here → ℕ → Bool
 is_port here port = is_within port here.ports
 
--- the packet leaves by the port so changed, where the node has such a port
+-- the packet leaves by the port as `after`, if the node has the port
 abbrev pub leaves_by : Here → ℕ → List ℕ → List ℕ → Stepped
 leaves_by here port packet after =
     if is_port here port then record { packet = after; verdict = Out port } else discarded packet OutPort
 
--- the packet with its pointer moved on, and the port by which it came noted; it came by none where it was sent
+-- the packet with its pointer advanced, and the port by which it came recorded; at its sender it came by none
 abbrev pub moved_on : Here → List ℕ → List ℕ
 moved_on here packet =
     let at = number_in hop_pointer packet in
     if at == 0 then pointed 1 packet else noted at here (pointed (at + 1) packet)
 
--- the packet has not come to the end of its path: it leaves where it was sent, or goes on at a switch
+-- the packet has not come to the end of its path: it leaves if it was sent here, or if the node is a switch
 abbrev pub goes_on : Here → List ℕ → Stepped
 goes_on here packet =
     let at = number_in hop_pointer packet in
@@ -51,7 +51,7 @@ goes_on here packet =
     (moved_on here packet)
     else discarded packet Transit
 
--- on its way out
+-- a step on the way out
 abbrev pub outgoing : Here → List ℕ → Stepped
 outgoing here packet =
     let at = number_in hop_pointer packet in
@@ -60,13 +60,13 @@ outgoing here packet =
     else if at == hops then record { packet = moved_on here packet; verdict = ToAgent }
     else discarded packet Course
 
--- on its way back, by the port that was noted
+-- a step on the way back, by the recorded port
 abbrev pub goes_back : Here → List ℕ → Stepped
 goes_back here packet =
     let before = number_in hop_pointer packet - 1 in
     leaves_by here (number_in (return_path before) packet) packet (pointed before packet)
 
--- on its way back: it turns at the end of its path, goes on at each switch, and ends where it began
+-- a step on the way back: the packet turns at the end of its path, goes on at each switch, and ends where it began
 abbrev pub returning : Here → List ℕ → Stepped
 returning here packet =
     let at = number_in hop_pointer packet in
@@ -76,6 +76,6 @@ returning here packet =
     else if nat_lt hops at || here.is_switch then goes_back here packet
     else discarded packet Transit
 
--- one step
+-- one step of a packet
 abbrev pub step : Here → List ℕ → Stepped
 step here packet = if is_returning packet then returning here packet else outgoing here packet

@@ -1,4 +1,4 @@
--- What a step leaves of a packet, and what it notes.
+-- What a step leaves unchanged in a packet, and what it writes.
 use Rattle.std.specs.Prelude.{◌≡◌, ℕ, ◌+◌, ◌≤◌, ◌<◌, true, List, length}
 use Rattle.smp_bytes.specs.Field.{Field, number_in, are_apart}
 use Rattle.smp_bytes.specs.Packet.{hop_pointer}
@@ -7,7 +7,7 @@ use Rattle.dr_forward.specs.declared.verdict.Verdict.TheVariants.{Out, Discard}
 use Rattle.dr_forward.specs.declared.verdict.DiscardReason.{DiscardReason}
 use Rattle.dr_forward.specs.Step.{step}
 
--- a packet that is discarded is as it was
+-- a packet that is discarded is unchanged
 abbrev pub DiscardedIsUnchanged : Type 0
 DiscardedIsUnchanged = (here : Here) (packet : List ℕ) (reason : DiscardReason) → (step here packet).verdict
     ≡ Discard reason → (step here packet).packet ≡ packet

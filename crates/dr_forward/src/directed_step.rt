@@ -7,9 +7,9 @@ use crate::here::Here;
 use crate::verdict::{DiscardReason, Verdict};
 use smp_bytes::{PortNum, Smp};
 
-/// One step of a packet on a directed route at a node. On its way out the packet leaves by the next port of its path,
-/// and the port by which it came is noted; at the end of the path the node's agent takes it. On its way back it leaves
-/// by the port that was noted, until it is where it was sent. (Subnet management chapter, directed route.)
+/// Performs one step of a packet on a directed route at a node. On its way out the packet leaves by the next port of
+/// its path, and the port by which it came is recorded; at the end of the path the node's agent takes it. On its way
+/// back it leaves by the recorded port, until it is where it was sent. (Subnet management chapter, directed route.)
 #[tactic(auto, unfolding(crate::specs::Step::step))]
 pub fn step(smp: &mut Smp, here: &Here) -> Verdict
     requires { is_directed smp.old ≡ true }
@@ -23,7 +23,7 @@ pub fn step(smp: &mut Smp, here: &Here) -> Verdict
     }
 }
 
-/// A step on the way out.
+/// Performs a step on the way out.
 fn outgoing(smp: &mut Smp, here: &Here) -> Verdict
     requires { is_directed smp.old ≡ true }
     ensures packet { smp.new ≡ (outgoing here.now smp.old).packet }
@@ -41,7 +41,7 @@ fn outgoing(smp: &mut Smp, here: &Here) -> Verdict
     }
 }
 
-/// Leaves where the packet was sent, or goes on at a switch.
+/// Sends the packet on by the next port of its path, if it was sent here or the node is a switch.
 fn go_on(smp: &mut Smp, here: &Here, at: u8) -> Verdict
     requires at { at ≡ number_in hop_pointer smp.old }
     requires before_end { at < number_in hop_count smp.old }
@@ -60,7 +60,7 @@ fn go_on(smp: &mut Smp, here: &Here, at: u8) -> Verdict
     Verdict::Out(port)
 }
 
-/// Moves the pointer on, and notes the port by which the packet came, if it came by one.
+/// Advances the hop pointer, and records the port by which the packet came, if it came by one.
 fn move_on(smp: &mut Smp, here: &Here, at: u8)
     requires at { at ≡ number_in hop_pointer smp.old }
     requires on_path { at ≤ number_in hop_count smp.old }
@@ -73,7 +73,7 @@ fn move_on(smp: &mut Smp, here: &Here, at: u8)
     }
 }
 
-/// A step on the way back.
+/// Performs a step on the way back.
 fn returning(smp: &mut Smp, here: &Here) -> Verdict
     requires { is_directed smp.old ≡ true }
     ensures packet { smp.new ≡ (returning here.now smp.old).packet }
@@ -93,7 +93,7 @@ fn returning(smp: &mut Smp, here: &Here) -> Verdict
     }
 }
 
-/// Leaves by the port that was noted.
+/// Sends the packet back by the recorded port.
 fn go_back(smp: &mut Smp, here: &Here, before: u8) -> Verdict
     requires before { number_in hop_pointer smp.old ≡ before + 1 }
     requires on_path { before ≤ number_in hop_count smp.old }
@@ -109,7 +109,7 @@ fn go_back(smp: &mut Smp, here: &Here, before: u8) -> Verdict
     Verdict::Out(port)
 }
 
-/// Whether the node has the port.
+/// Returns whether the node has the port.
 fn is_port(here: &Here, port: PortNum) -> bool
     ensures { result ≡ is_port here.now port }
 {

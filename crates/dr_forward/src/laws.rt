@@ -1,4 +1,4 @@
-//! What a step leaves of a packet.
+//! What a step leaves unchanged in a packet.
 ghost use Rattle.dr_forward.specs.StepLaws.{DiscardedIsUnchanged, LeavesByAPort, OtherFieldsStay};
 
 /// A packet that is discarded is as it was.
@@ -7,7 +7,7 @@ pub fn discarded_is_unchanged()
     ensures { DiscardedIsUnchanged }
 {}
 
-/// A packet leaves by a port from 1 to the node's count.
+/// A packet leaves by a port from 1 to the node's port count.
 #[tactic(auto, using(crate::proofs::Steps::leaves_by_a_port))]
 pub fn leaves_by_a_port()
     ensures { LeavesByAPort }

@@ -3,7 +3,7 @@ use super::*;
 use smp_bytes::{AttributeId, Method, Path, PortNum, Smp, SmpClass, SmpFault, Status};
 use std::test::Fail;
 
-/// A switch of four ports, or an adapter of one, to which a packet came by its port 3 or 1.
+/// Returns a switch of four ports, or an adapter of one, to which a packet came by port 3 or 1.
 fn node(is_switch: bool) -> Here {
     let (ports, arrival) = if is_switch { (4, 3) } else { (1, 1) };
     Here {
@@ -17,7 +17,7 @@ fn out(port: u8) -> Verdict {
     Verdict::Out(PortNum::new(port))
 }
 
-/// A request for NodeInfo over a path of so many hops, with its pointer at an index, which may be on its way back.
+/// Builds a request for NodeInfo over a path of `hops` hops, with its pointer at `pointer`, on its way out or back.
 fn packet(hops: u8, path: [u8; 2], pointer: u8, is_returning: bool) -> Result<Smp, SmpFault> {
     let (get, node_info) = (Method::GET, AttributeId::NODE_INFO);
     let request = Smp::directed(get, node_info, 0, 1, &Path::<63>::new(), &[0; 64]);
@@ -30,7 +30,7 @@ fn packet(hops: u8, path: [u8; 2], pointer: u8, is_returning: bool) -> Result<Sm
     Smp::parse(&bytes)
 }
 
-/// One step: where the packet goes, its hop pointer, and the port that is noted at its first hop.
+/// Performs one step. Returns where the packet goes, its hop pointer, and the port recorded at its first hop.
 fn stepped(smp: &mut Smp, is_switch: bool) -> Option<(Verdict, u8, u8)> {
     if smp.class() != SmpClass::DirectedRoute {
         return None;
@@ -62,8 +62,8 @@ fn each_kind_of_step(rt: HostRuntime) -> Result<(), Fail> {
     let course = Verdict::Discard(DiscardReason::Course);
     let transit = Verdict::Discard(DiscardReason::Transit);
     let out_port = Verdict::Discard(DiscardReason::OutPort);
-    // How many hops the path has and its first two, the pointer, whether the packet is on its way back, whether the
-    // node is a switch, and what becomes of it.
+    // The number of hops, the first two ports of the path, the pointer, whether the packet is on its way back, whether
+    // the node is a switch, and what becomes of the packet.
     for (hops, path, pointer, is_returning, is_switch, verdict, then, noted) in [
         (0, [0, 0], 0, false, false, Verdict::ToAgent, 1, 0),
         (0, [0, 0], 1, false, false, course, 1, 0),

@@ -9,17 +9,17 @@ pub enum Verdict {
     ToAgent,
     /// Back to the subnet manager that sent it.
     ToManager,
-    /// Nowhere. The packet is as it was.
+    /// Nowhere. The packet is unchanged.
     Discard(DiscardReason),
 }
 
-/// Why a packet on a directed route goes no further.
+/// Why a packet on a directed route is discarded.
 #[derive(Clone, Copy, Debug, PartialEq, Eq)]
 pub enum DiscardReason {
     /// Its hop pointer is off its path.
     Course,
-    /// Its path goes on, and the node is no switch.
+    /// Its path goes on, and the node is not a switch.
     Transit,
-    /// The port by which its path goes on is 0 or over the node's count.
+    /// The port by which its path goes on is 0 or above the node's port count.
     OutPort,
 }

@@ -14,15 +14,15 @@ other_end (c ∷ cables) p =
     else if is_same_port c.other p then Some c.one
     else other_end cables p
 
--- the cable has an end in the port
+-- the cable has an end in port p
 abbrev pub is_cable_in : NodePort → Cable → Bool
 is_cable_in p c = is_same_port c.one p || is_same_port c.other p
 
--- how many cables have an end in a port
+-- the number of cables with an end in port p
 abbrev pub cables_in : NodePort → List Cable → ℕ
 cables_in p cables = count_by (is_cable_in p) cables
 
--- at most one cable is in each port
+-- each port has at most one cable
 abbrev pub IsOneCableAPort : List Cable → Type 0
 IsOneCableAPort cables = (p : NodePort) → cables_in p cables ≤ 1
 

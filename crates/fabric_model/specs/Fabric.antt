@@ -6,8 +6,8 @@ use Rattle.fabric_model.specs.declared.cable.NodePort.{NodePort}
 use Rattle.smp_bytes.specs.NodeType.{is_switch}
 use Rattle.smp_bytes.specs.LidRange.{has_lid}
 
--- a node as it was built: its GUID, its type, its ports from 1 on, the entries that its linear forwarding table has
--- room for, and its ports' GUIDs, of which those of end ports are read (subnet management chapter, NodeInfo and
+-- a node as it was built: its GUID, its type, its ports from 1 on, how many entries its linear forwarding table has
+-- room for, and its ports' GUIDs, of which only those of end ports are read (subnet management chapter, NodeInfo and
 -- SwitchInfo)
 pub record Node : Type 0 where
   pub guid : ℕ
@@ -40,11 +40,11 @@ IsNodeAt f number node = slice_get f.nodes number ≡ Some node
 abbrev pub is_switch_at : Fabric → ℕ → Bool
 is_switch_at f number = option_map_or (λ node. is_switch node.kind) (slice_get f.nodes number) false
 
--- a cable goes into ports from 1 to the node's count
+-- a port that a cable may go into: 1 to the node's count
 abbrev pub IsCablePort : Fabric → NodePort → Type 0
 IsCablePort f p = (node : Node) × IsNodeAt f p.node node × (1 ≤ p.port) × (p.port ≤ node.ports)
 
--- port 0 of a switch, and each port of another node
+-- port 0 of a switch, or any port of another node
 abbrev pub IsEndPortNumber : Node → ℕ → Type 0
 IsEndPortNumber node port = MatchBool (is_switch node.kind) (port ≡ 0) ((1 ≤ port) × (port ≤ node.ports))
 

@@ -5,7 +5,7 @@ use Rattle.fabric_model.specs.Fabric.{Fabric}
 use Rattle.fabric_model.specs.Forwarding.{Hop, IsDelivered, IsLost}
 use Rattle.fabric_model.specs.DirectedWalk.{on_by, directed_end}
 
--- each packet for a LID is delivered at a port over some way, or lost, and never both
+-- each packet for a LID is delivered at a port or lost at a node, and never both
 abbrev pub PacketsEndOnce : Type 0
 PacketsEndOnce = (f : Fabric) (lid : ℕ) (source : NodePort)
     → (((hops : List Hop) × (target : NodePort) × IsDelivered f lid source hops target)
@@ -13,7 +13,7 @@ PacketsEndOnce = (f : Fabric) (lid : ℕ) (source : NodePort)
     × ((hops others : List Hop) (target : NodePort) (node : ℕ) → IsDelivered f lid source hops target
     → IsLost f lid source others node → ⊥)
 
--- a walk of at least one port, and one port more: on from its end, if a switch is there
+-- a walk of at least one port and one port more goes on from its end, if a switch is there
 abbrev pub WalksGoOn : Type 0
 WalksGoOn = (f : Fabric) (origin : NodePort) (first : ℕ) (path : List ℕ) (out : ℕ)
     → directed_end f origin ((first ∷ path) ++ out ∷ [])

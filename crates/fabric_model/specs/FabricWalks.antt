@@ -9,11 +9,11 @@ pub record IsWire (f : Fabric) (p q : NodePort) : Type 0 where
   pub cable : f.across p ≡ Some q
   pub different : p ≢ q
 
--- a switch is one vertex, named by its port 0, and each adapter port is one
+-- the vertex of a port: a switch's port 0, or the adapter port itself
 abbrev pub vertex_of : Fabric → NodePort → NodePort
 vertex_of f p = if is_switch_at f p.node then record { node = p.node; port = 0 } else p
 
--- two vertices with a wire between their ports
+-- a wire joins a port of one vertex to a port of the other
 pub record AreNeighbors (f : Fabric) (a b : NodePort) : Type 0 where
   pub out : NodePort
   pub into : NodePort
@@ -21,15 +21,15 @@ pub record AreNeighbors (f : Fabric) (a b : NodePort) : Type 0 where
   pub of_one : vertex_of f out ≡ a
   pub of_other : vertex_of f into ≡ b
 
--- a walk of so many wires from one vertex to another, with switches between them
+-- a walk of n wires from a to b, with only switches between them
 abbrev pub Walk : Fabric → NodePort → NodePort → ℕ → Type 0
 Walk f a b zero = a ≡ b
 Walk f a b (suc n) = (c : NodePort) × AreNeighbors f a c × ((n ≡ 0) ⊎ IsTrue (is_switch_at f c.node)) × Walk f c b n
 
--- some walk leads from the one vertex to the other
+-- some walk leads from a to b
 abbrev pub IsJoinedTo : Fabric → NodePort → NodePort → Type 0
 IsJoinedTo f a b = (n : ℕ) × Walk f a b n
 
--- each end port is joined to each other
+-- each end port is joined to each other one
 abbrev pub IsConnected : Fabric → Type 0
 IsConnected f = (a b : NodePort) → IsEndPort f a → IsEndPort f b → IsJoinedTo f a b

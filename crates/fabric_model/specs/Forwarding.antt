@@ -19,22 +19,22 @@ sent_from p = record { at = p; by_wire = false }
 abbrev pub arrived_at : NodePort → Standing
 arrived_at p = record { at = p; by_wire = true }
 
--- an adapter port takes its own LID, and sends any other out when it is the sender
+-- an adapter port takes its own LIDs; it sends any other LID out if it is the sender, and else drops it
 abbrev pub adapter_course : Bool → Standing → Course
 adapter_course is_own s = if is_own then Delivers s.at else if s.by_wire then Drops else LeavesBy s.at
 
--- by its entry: 255 and ports that the switch lacks drop, 0 is the switch itself
+-- what a switch does by its entry: 255 and ports that it lacks drop, 0 is the switch itself
 abbrev pub entry_course : ℕ → ℕ → ℕ → Course
 entry_course ports number entry =
     if entry == 255 || nat_lt ports entry then Drops
     else if entry == 0 then Delivers (record { node = number; port = 0 })
     else LeavesBy (record { node = number; port = entry })
 
--- a switch goes by its table from 1 up to its top
+-- what a switch does with a packet: it uses its table for LIDs from 1 to its top, and drops others
 abbrev pub switch_course : ℕ → ℕ → ℕ → ℕ → ℕ → Course
 switch_course ports number top lid entry = if lid == 0 || nat_lt top lid then Drops else entry_course ports number entry
 
--- what the node at a port does with a packet that stands there
+-- what the node does with a packet for the LID at standing s
 abbrev pub course : Fabric → ℕ → Standing → Course
 course f lid s =
     let number = s.at.node in
@@ -49,26 +49,27 @@ pub record Hop : Type 0 where
   pub out : NodePort
   pub into : NodePort
 
--- from one standing to another over these wires in turn
+-- a packet for the LID goes from s to `end` over the wires `hops` in turn
 abbrev pub Goes : Fabric → ℕ → Standing → List Hop → Standing → Type 0
 Goes f lid s [] end = s ≡ end
 Goes f lid s (h ∷ hops) end =
     (course f lid s ≡ LeavesBy h.out) × (f.across h.out ≡ Some h.into) × Goes f lid (arrived_at h.into) hops end
 
--- a packet for the LID, sent from a port, is delivered at another over these wires
+-- a packet for the LID, sent from port `source`, is delivered at port `target` over the wires `hops`
 abbrev pub IsDelivered : Fabric → ℕ → NodePort → List Hop → NodePort → Type 0
 IsDelivered f lid source hops target =
     (end : Standing) × Goes f lid (sent_from source) hops end × (course f lid end ≡ Delivers target)
 
--- it is dropped, or leaves by a port without a cable
+-- the packet is dropped, or leaves by a port without a cable
 abbrev pub IsStuck : Fabric → ℕ → Standing → Type 0
 IsStuck f lid s = (course f lid s ≡ Drops) ⊎ ((p : NodePort) × (course f lid s ≡ LeavesBy p) × (f.across p ≡ None))
 
--- what goes on for so many wires goes on without end
+-- a packet that takes this many wires goes on without end
 abbrev pub wire_bound : Fabric → ℕ
 wire_bound f = 2 * switch_count f + 2
 
--- it is lost at a node, or goes round for ever and is given up there
+-- a packet for the LID, sent from port `source`, is lost at the node: dropped, sent by a port without a cable, or given
+-- up there since it goes round for ever
 abbrev pub IsLost : Fabric → ℕ → NodePort → List Hop → ℕ → Type 0
 IsLost f lid source hops node =
     (end : Standing) × Goes f lid (sent_from source) hops end × (end.at.node ≡ node)

@@ -10,7 +10,7 @@ pub struct NodePort {
     pub port: PortNum,
 }
 
-/// A cable joins two ports, or loops one.
+/// A cable, which joins two ports or loops one.
 #[derive(Clone, Copy, Debug, PartialEq, Eq)]
 pub struct Cable {
     pub one: NodePort,

@@ -9,7 +9,7 @@ pub fn cables_lead_back()
     ensures { CablesLeadBack }
 {}
 
-/// A directed walk of at least one port goes on by one port more from its end, where a switch is there.
+/// A directed walk of at least one port goes on by one port more from its end, if its end is at a switch.
 #[tactic(auto, using(crate::proofs::DirectedWalks::walks_go_on))]
 pub fn walks_go_on()
     ensures { WalksGoOn }

@@ -9,7 +9,7 @@ use Rattle.node_agents.specs.Agent.{Agent, fresh_agent}
 use Rattle.fabric_sim.specs.Simulation.{Simulation}
 use Rattle.fabric_sim.specs.Changes.{cabled_at}
 
--- its description is the node's name, with zeros after it
+-- the agent's node for a node of a topology; its description is the node's name, with zeros after it
 abbrev pub agent_node : Node → AgentNode
 agent_node node = record {
   guid = node.guid;
@@ -30,7 +30,7 @@ no_peers node = replicate (node.ports + 1) None
 abbrev pub uncabled : List Node → ℕ → Simulation
 uncabled nodes first = record { agents = map new_agent nodes; peers = map no_peers nodes; flights = []; next = first }
 
--- with a cable for each link
+-- the fabric with a cable for each link
 abbrev pub cabled : List Cable → Simulation → Simulation
 cabled [] s = s
 cabled (link ∷ links) s = cabled links (cabled_at s link.one link.other)

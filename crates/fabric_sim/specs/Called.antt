@@ -1,4 +1,4 @@
--- What a call of a simulated fabric comes to.
+-- What a call of a simulated fabric leaves and returns.
 use Rattle.std.specs.Prelude.{◌≡◌, Result, Ok, Err, IsOk}
 use Rattle.fabric_sim.specs.declared.fault.FabricFault.{FabricFault}
 use Rattle.fabric_sim.specs.declared.fault.FabricFault.TheVariants.{Memory}
@@ -9,8 +9,8 @@ pub record Called (R : Type 0) : Type 0 where
   pub fabric : Simulation
   pub result : Result R FabricFault
 
--- a call has come to this, but for lack of memory: that is answered only where it is not refused, and leaves everything
--- as it is
+-- a call left and returned what `called` says, except for lack of memory: that is returned only if the call is not
+-- refused otherwise, and leaves everything as it is
 abbrev pub ComesTo : {R : Type 0} → Result R FabricFault → Simulation → Simulation → Called R → Type 0
 ComesTo (Err Memory) old new called = (new ≡ old) × IsOk called.result
 ComesTo result old new called = (new ≡ called.fabric) × (result ≡ called.result)

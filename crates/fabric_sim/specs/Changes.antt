@@ -1,4 +1,4 @@
--- What else changes a fabric: managers seated, packets sent, copied and lost, cables plugged in and cut.
+-- What else changes a fabric: managers are seated, packets sent, copied and lost, cables plugged in and cut.
 use Rattle.std.specs.Prelude.{ℕ, ◌&&◌, ◌||◌, not, List, [], slice_index_or, slice_set, if◌then◌else◌, Option, Some, None, is_none, is_some, Ok}
 use Rattle.fabric_model.specs.declared.cable.NodePort.{NodePort}
 use Rattle.fabric_model.specs.Fabric.{is_switch_at}
@@ -14,11 +14,11 @@ use Rattle.fabric_sim.specs.Delivery.{with_changed, after_enqueue, without}
 
 -- packets ------------------------------------------------------------------------------
 
--- a packet that is forwarded by LIDs is sent from the LID of its port
+-- the packet with the LID of the port as its SLID, if it is forwarded by LIDs
 abbrev pub addressed : Simulation → NodePort → Packet → Packet
 addressed s p packet = if is_lid_routed packet.bytes then record packet { slid = (fabric_of s).base_lid p } else packet
 
--- a packet sent from a seat
+-- a packet is sent from a seat
 unfoldable pub after_inject : Simulation → NodePort → Packet → Called ℕ
 after_inject s p packet =
     if not (is_seat_at s p) then refused s NoSuchPort else after_enqueue s (Seat p) (addressed s p packet)
@@ -27,11 +27,11 @@ abbrev pub copied : Simulation → Option Flight → Called ℕ
 copied s None = refused s NoSuchPacket
 copied s (Some flight) = after_enqueue s flight.whereabouts flight.packet
 
--- a copy of a packet in flight, at its whereabouts
+-- a packet in flight is copied, at its whereabouts
 unfoldable pub after_repeat : Simulation → ℕ → Called ℕ
 after_repeat s serial = copied s (flight_with s.flights serial)
 
--- a packet in flight is gone
+-- a packet in flight is lost
 unfoldable pub after_lose : Simulation → ℕ → Called (Unit {0})
 after_lose s serial =
     if is_none (flight_with s.flights serial) then refused s NoSuchPacket
@@ -39,31 +39,31 @@ after_lose s serial =
 
 -- ports -------------------------------------------------------------------------------
 
--- the agent of a port's node with that port changed
+-- the agent of a port's node, with that port changed
 abbrev pub changed_at : Simulation → NodePort → (Agent → ℕ → Agent) → Simulation
 changed_at s p change = record s { agents = with_changed s.agents p.node (λ a. change a p.port) }
 
--- a manager comes to sit at a port of an adapter
+-- a manager is seated at a port of an adapter
 unfoldable pub after_seat : Simulation → NodePort → Called (Unit {0})
 after_seat s p =
     if is_switch_at (fabric_of s) p.node || not (is_cable_port s p) then refused s NoSuchPort
     else if is_seat_at s p then refused s PortTaken
     else record { fabric = changed_at s p after_set_seat; result = Ok tt }
 
--- the other ends of the cables, with another in one port
+-- the other ends of the cables, with `other` in the port `p`
 abbrev pub with_peer : List (List (Option NodePort)) → NodePort → Option NodePort → List (List (Option NodePort))
 with_peer peers p other = slice_set peers p.node (slice_set (slice_index_or peers p.node []) p.port other)
 
--- a port with a cable put into it or taken out
+-- a cable is plugged into a port, or taken out
 abbrev pub with_end : Simulation → NodePort → Option NodePort → Simulation
 with_end s p other =
     record (changed_at s p (λ a port. after_set_wired a port (is_some other))) { peers = with_peer s.peers p other }
 
--- with a cable between two ports, or a loop in one
+-- a cable joins two ports, or loops one
 unfoldable pub cabled_at : Simulation → NodePort → NodePort → Simulation
 cabled_at s p q = with_end (with_end s p (Some q)) q (Some p)
 
--- without the cable between two ports
+-- the cable between two ports is taken out
 unfoldable pub uncabled_at : Simulation → NodePort → NodePort → Simulation
 uncabled_at s p q = with_end (with_end s p None) q None
 

@@ -41,17 +41,17 @@ use Rattle.fabric_sim.specs.Simulation.{Simulation, agent_at, port_count, is_sea
 abbrev pub carrying : Packet → List ℕ → Packet
 carrying packet bytes = record packet { bytes = bytes }
 
--- out by a port, to the other end of its cable
+-- the packet leaves by a port, to the other end of its cable
 abbrev pub leaving : Simulation → NodePort → Packet → Outcome
 leaving s out packet = option_map_or (λ into. Moves (Arrived into) packet) (across s.peers out) (Drops Down)
 
--- a manager's business, at a port where a manager sits
+-- a manager sits at the port, and the packet is for it
 abbrev pub is_for_manager : Simulation → NodePort → List ℕ → Bool
 is_for_manager s p bytes = number_in attribute_id bytes == sm_info && is_seat_at s p
 
 -- a packet on a directed route
 
--- the node that it is at, as a step sees it
+-- the node that a packet is at, as a step sees it
 abbrev pub here_at : Simulation → NodePort → Here
 here_at s p = record { is_switch = is_switch_at (fabric_of s) p.node; ports = port_count s p.node; arrival = p.port }
 
@@ -60,7 +60,8 @@ reason_of off.Course = OffCourse
 reason_of off.Transit = Transit
 reason_of off.OutPort = OutPort
 
--- the agent answers a request, and nothing else comes to it
+-- what becomes of a packet that came to an agent: an answer is dropped, a packet for the manager is handed up, and the
+-- agent answers any other
 abbrev pub at_agent : Simulation → NodePort → Packet → Outcome
 at_agent s p packet =
     if is_response packet.bytes then Drops OffCourse
@@ -73,7 +74,7 @@ by_verdict s p packet ToAgent = at_agent s p packet
 by_verdict s p packet ToManager = HandsUp packet
 by_verdict s p packet (Discard reason) = Drops (reason_of reason)
 
--- one step of its route
+-- one step of a packet on its directed route
 abbrev pub directed_outcome : Simulation → NodePort → Packet → Outcome
 directed_outcome s p packet =
     let stepped = step (here_at s p) packet.bytes in
@@ -81,7 +82,8 @@ directed_outcome s p packet =
 
 -- a packet that is forwarded by its DLID
 
--- at the port that it is for it is handed up or answered; the answer's addresses are those of the request exchanged
+-- what becomes of a packet at the port that it is for: it is handed up or answered; the answer's addresses are those of
+-- the request exchanged
 abbrev pub arrived : Simulation → NodePort → Packet → Outcome
 arrived s p packet =
     if is_response packet.bytes
@@ -97,7 +99,8 @@ lid_routed_outcome s whereabouts packet =
     by_course s (port_of whereabouts) packet
     (course (fabric_of s) packet.dlid (record { at = port_of whereabouts; by_wire = is_by_wire whereabouts }))
 
--- any packet: it has to parse, and where it came by a wire or is an answer that was made there, its port has to be up
+-- what becomes of any packet: it has to parse, and if it came by a wire or is an answer that was made at its port, the
+-- port has to be up
 unfoldable pub outcome_of : Simulation → Whereabouts → Packet → Outcome
 outcome_of s whereabouts packet =
     if is_some (fault_of packet.bytes) then Drops Unreadable
@@ -105,9 +108,9 @@ outcome_of s whereabouts packet =
     else if is_directed packet.bytes then directed_outcome s (port_of whereabouts) packet
     else lid_routed_outcome s whereabouts packet
 
--- the same where it lies -------------------------------------------------------------------
+-- delivery by index --------------------------------------------------------------------------
 
--- what is known of a packet in flight beside its bytes
+-- what is known of a packet in flight besides its bytes
 abbrev pub envelope_of : Flight → Envelope
 envelope_of flight =
     record {
@@ -117,7 +120,7 @@ envelope_of flight =
       dlid = flight.packet.dlid;
     }
 
--- the packet that has these bytes
+-- the packet with these bytes
 abbrev pub packet_in : Envelope → List ℕ → Packet
 packet_in envelope bytes = record { bytes = bytes; slid = envelope.slid; dlid = envelope.dlid }
 
@@ -129,18 +132,18 @@ flight_in envelope bytes =
       packet = packet_in envelope bytes;
     }
 
--- it is that of the i-th in flight
+-- the envelope is that of the packet at index `i`
 abbrev pub IsEnvelopeAt : List Flight → ℕ → Envelope → Type 0
 IsEnvelopeAt flights i envelope = option_map envelope_of (slice_get flights i) ≡ Some envelope
 
--- what becomes of a packet with which this is done
+-- what becomes of a packet with which the action is done
 abbrev pub outcome_by : Packet → Action → Outcome
 outcome_by packet (action_is.Moves whereabouts) = Moves whereabouts packet
 outcome_by packet (action_is.Asks slid dlid) = Asks packet.bytes slid dlid
 outcome_by packet action_is.HandsUp = HandsUp packet
 outcome_by packet (action_is.Drops reason) = Drops reason
 
--- what moves can wait where it comes to
+-- a packet that moves can wait where it moves to
 abbrev pub CanFare : Simulation → Outcome → Type 0
 CanFare s (Moves whereabouts packet) = CanWait s whereabouts
 CanFare s (Asks request slid dlid) = Unit {0}
@@ -149,11 +152,11 @@ CanFare s (Drops reason) = Unit {0}
 
 -- what a delivery leaves ----------------------------------------------------------------------
 
--- the agents with one changed
+-- the agents with the one at `id` changed
 abbrev pub with_changed : List Agent → ℕ → (Agent → Agent) → List Agent
 with_changed agents id change = option_map_or (λ a. slice_set agents id (change a)) (slice_get agents id) agents
 
--- one packet more, under the next serial number
+-- the fabric with one more packet, under the next serial number
 abbrev pub with_flight : Simulation → Whereabouts → Packet → Simulation
 with_flight s whereabouts packet =
     record s {
@@ -162,7 +165,7 @@ with_flight s whereabouts packet =
       next = s.next + 1;
     }
 
--- the same as a call, where a serial number is left
+-- a packet is added, if a serial number is left
 abbrev pub after_enqueue : Simulation → Whereabouts → Packet → Called ℕ
 after_enqueue s whereabouts packet =
     if s.next == 2 ^ 64 then refused s SerialsSpent else record {
@@ -171,20 +174,20 @@ after_enqueue s whereabouts packet =
           Ok s.next;
     }
 
--- without the packet of a number
+-- the fabric without the packet with this serial number
 abbrev pub without : Simulation → ℕ → Simulation
 without s serial = record s { flights = without_flight s.flights serial }
 
--- the packet at other whereabouts
+-- the fabric with the packet at other whereabouts
 abbrev pub moved_to : Simulation → ℕ → Whereabouts → Packet → Simulation
 moved_to s serial whereabouts packet =
     record s { flights = with_moved s.flights (record { serial = serial; whereabouts = whereabouts; packet = packet }) }
 
--- what the agent at a port answers to a request
+-- the answer of the agent at a port to a request
 abbrev pub answer_at : Simulation → NodePort → List ℕ → List ℕ
 answer_at s p bytes = option_map_or (λ a. (after_answer a bytes p.port).packet) (agent_at s p.node) bytes
 
--- the agent has answered the request that waited there, and its answer waits in its stead
+-- the agent has answered the request that waited at its port, and the answer replaces the request
 abbrev pub asked : Simulation → Flight → List ℕ → ℕ → ℕ → Simulation
 asked s flight request slid dlid =
     let p = port_of flight.whereabouts in
@@ -199,7 +202,7 @@ asked s flight request slid dlid =
       dlid = dlid;
     })
 
--- the packet fares so; an answer needs a serial number of its own
+-- what a call leaves and returns if the packet has this outcome; an answer needs a serial number of its own
 abbrev pub after_outcome : Simulation → Flight → Outcome → Called Delivered
 after_outcome s flight (Moves whereabouts packet) =
     record { fabric = moved_to s flight.serial whereabouts packet; result = Ok (delivered_is.Moved flight.serial) }
@@ -219,6 +222,6 @@ abbrev pub delivered_flight : Simulation → Option Flight → Called Delivered
 delivered_flight s None = refused s NoSuchPacket
 delivered_flight s (Some flight) = after_outcome s flight (outcome_of s flight.whereabouts flight.packet)
 
--- one step of the packet with a serial number
+-- one step of the packet with this serial number
 unfoldable pub after_deliver : Simulation → ℕ → Called Delivered
 after_deliver s serial = delivered_flight s (flight_with s.flights serial)

@@ -4,8 +4,8 @@ use Rattle.fabric_sim.specs.declared.packet.Packet.{Packet}
 use Rattle.fabric_sim.specs.declared.flight.Whereabouts.{Whereabouts}
 use Rattle.fabric_sim.specs.declared.delivered.Reason.{Reason}
 
--- it waits at other whereabouts; the agent answers this request, by a packet of this SLID and this DLID; it is handed
--- to the subnet manager; it goes no further
+-- the packet moves to other whereabouts; the agent answers the request, with this SLID and DLID; the packet is handed
+-- to the subnet manager; it is discarded
 pub data Outcome : Type 0 where
   Moves : (whereabouts : Whereabouts) → (packet : Packet) → Outcome
   Asks : (request : List ℕ) → (slid : ℕ) → (dlid : ℕ) → Outcome

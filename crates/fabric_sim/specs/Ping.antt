@@ -1,4 +1,4 @@
--- Where a packet for a LID comes to, wire by wire, and how many wires it takes.
+-- Where a packet for a LID ends, wire by wire, and how many wires it takes.
 -- InfiniBand Architecture Specification, Volume 1: switches, unicast forwarding by the linear forwarding table.
 use Rattle.std.specs.Prelude.{◌≡◌, ℕ, zero, suc, ◌+◌, List, length, Option, Some, None, if◌then◌else◌}
 use Rattle.std.specs.Option.{option_map_or}
@@ -13,41 +13,41 @@ use Rattle.fabric_sim.specs.Simulation.{Simulation, is_port}
 use Rattle.fabric_sim.specs.declared.ping.Ping.{Ping}
 use Rattle.fabric_sim.specs.declared.ping.Ping.TheVariants.{Reached, Lost}
 
--- what becomes of a packet after so many wires, by its course and by what becomes of it at the other end of a wire
+-- where a packet ends after `hops` wires, given its course, and where it ends from the other end of a wire
 abbrev pub ping_by : Fabric → Standing → ℕ → (NodePort → Ping) → Course → Ping
 ping_by f s hops on (Delivers p) = Reached p hops
 ping_by f s hops on (LeavesBy out) = option_map_or on (f.across out) (Lost s.at.node)
 ping_by f s hops on Drops = Lost s.at.node
 
--- the same, where it may take so many wires more, after which it is lost where it is
+-- where a packet ends after `hops` wires, if it may take `left` more; with none left it is lost where it is
 abbrev pub ping_on : Fabric → ℕ → ℕ → ℕ → Standing → Ping
 ping_on f lid zero hops s = Lost s.at.node
 ping_on f lid (suc left) hops s =
     ping_by f s hops (λ into. ping_on f lid left (hops + 1) (arrived_at into)) (course f lid s)
 
--- a packet for a LID, sent from a port
+-- where a packet for a LID ends that is sent from a port
 abbrev pub ping : Fabric → ℕ → NodePort → Ping
 ping f lid source = ping_on f lid (wire_bound f) 0 (sent_from source)
 
--- no such port is there to send from
+-- the port to send from does not exist
 abbrev pub ping_fault : Simulation → NodePort → Option FabricFault
 ping_fault s source = if is_port s source then None else Some NoSuchPort
 
--- a way of so many wires delivers it
+-- a walk of `count` wires delivers the packet
 pub record DeliversOver (f : Fabric) (lid : ℕ) (source target : NodePort) (count : ℕ) : Type 0 where
   pub hops : List Hop
   pub length : length hops ≡ count
   pub delivered : IsDelivered f lid source hops target
 
--- what a ping tells is so: a packet that reaches a port is delivered there over so many wires, and one that is lost at
--- a node is lost there
+-- what a ping says is so: a packet that reaches a port is delivered there over as many wires as it says, and one that
+-- is lost at a node is lost there
 abbrev pub PingsTell : Type 0
 PingsTell = (f : Fabric) (lid : ℕ) (source : NodePort)
     → ((target : NodePort) (count : ℕ) → ping f lid source ≡ Reached target count
     → DeliversOver f lid source target count)
     × ((id : ℕ) → ping f lid source ≡ Lost id → (hops : List Hop) × IsLost f lid source hops id)
 
--- and what is so a ping finds: a packet that is delivered, at that port and over that many wires
+-- a ping finds what is so: a packet that is delivered reaches that port in a ping, over as many wires
 abbrev pub PingsFind : Type 0
 PingsFind = (f : Fabric) (lid : ℕ) (source target : NodePort) (hops : List Hop) → IsDelivered f lid source hops target
     → ping f lid source ≡ Reached target (length hops)

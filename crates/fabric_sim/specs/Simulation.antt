@@ -10,16 +10,16 @@ use Rattle.fabric_sim.specs.declared.flight.Whereabouts.{Whereabouts}
 use Rattle.fabric_sim.specs.declared.flight.Whereabouts.TheVariants.{Seat, Arrived, Made}
 use Rattle.fabric_sim.specs.declared.flight.Flight.{Flight}
 
--- The agents by the ids of their nodes; for each node the other ends of the cables in its ports, from port 0 on, in
--- which no cable can be; the packets in flight, by rising serial number; and the serial number that is given next, 2 ^
--- 64 where none is left.
+-- The agents by the ids of their nodes; for each node the other ends of the cables in its ports, from port 0 on, which
+-- never has a cable; the packets in flight, by rising serial number; and the next serial number, 2 ^ 64 if none is
+-- left.
 pub record Simulation : Type 0 where
   pub agents : List Agent
   pub peers : List (List (Option NodePort))
   pub flights : List Flight
   pub next : ℕ
 
--- the number that is given next: none is left after 2 ^ 64 - 1
+-- the next serial number; none is left after 2 ^ 64 - 1
 abbrev pub next_serial : Option ℕ → ℕ
 next_serial None = 2 ^ 64
 next_serial (Some serial) = serial
@@ -29,11 +29,11 @@ next_serial (Some serial) = serial
 abbrev pub agent_at : Simulation → ℕ → Option Agent
 agent_at s id = slice_get s.agents id
 
--- how many ports a node has from 1 on
+-- the number of a node's ports from 1 on
 abbrev pub port_count : Simulation → ℕ → ℕ
 port_count s id = option_map_or (λ a. a.node.ports) (agent_at s id) 0
 
--- a port from 1 to its node's count, into which a cable can go
+-- the port is from 1 to its node's port count, so that a cable can be plugged in
 abbrev pub has_cable_port : List Agent → NodePort → Bool
 has_cable_port agents p = is_within p.port (option_map_or (λ a. a.node.ports) (slice_get agents p.node) 0)
 
@@ -44,7 +44,7 @@ is_cable_port s p = has_cable_port s.agents p
 abbrev pub is_seat_at : Simulation → NodePort → Bool
 is_seat_at s p = option_map_or (λ a. has_seat a p.port) (agent_at s p.node) false
 
--- the port at the other end of the cable in a port; that port itself, for a loop
+-- the port at the other end of the cable in a port; for a loop that is the port itself
 abbrev pub across : List (List (Option NodePort)) → NodePort → Option NodePort
 across peers p = slice_index_or (slice_index_or peers p.node []) p.port None
 
@@ -60,7 +60,7 @@ fabric_of s =
       top = λ id. option_map_or (λ a. a.top) (agent_at s id) 0;
     }
 
--- a port of the fabric: a cable port, or port 0 of a switch
+-- the port is one of the fabric: a cable port, or port 0 of a switch
 abbrev pub is_port : Simulation → NodePort → Bool
 is_port s p = nat_le p.port (port_count s p.node) && (nat_le 1 p.port || is_switch_at (fabric_of s) p.node)
 
@@ -84,7 +84,7 @@ is_by_wire (Seat p) = false
 is_by_wire (Arrived p) = true
 is_by_wire (Made p) = false
 
--- where the answer to a request waits that waited there: at its sender's seat, or where it is made
+-- where the answer waits if its request waited here: at its sender's seat, or where it is made
 abbrev pub answer_whereabouts : Whereabouts → Whereabouts
 answer_whereabouts (Seat p) = Seat p
 answer_whereabouts (Arrived p) = Made p
@@ -95,38 +95,38 @@ answer_whereabouts (Made p) = Made p
 abbrev pub is_numbered : ℕ → Flight → Bool
 is_numbered serial flight = flight.serial == serial
 
--- the packet with a serial number
+-- the packet with this serial number
 abbrev pub flight_with : List Flight → ℕ → Option Flight
 flight_with flights serial = find (is_numbered serial) flights
 
--- it is the i-th in flight
+-- the packet at index `i` has this serial number
 abbrev pub IsFlightAt : List Flight → ℕ → ℕ → Type 0
 IsFlightAt flights i serial = option_map (λ flight. flight.serial) (slice_get flights i) ≡ Some serial
 
--- the index of the packet with a serial number, or that there is none
+-- the index of the packet with this serial number, or none if no packet has it
 abbrev pub Finds : List Flight → ℕ → Option ℕ → Type 0
 Finds flights serial None = flight_with flights serial ≡ None
 Finds flights serial (Some i) = IsFlightAt flights i serial × (slice_get flights i ≡ flight_with flights serial)
 
--- all others
+-- the packets without the one with this serial number
 abbrev pub without_flight : List Flight → ℕ → List Flight
 without_flight flights serial = filter (λ flight. not (is_numbered serial flight)) flights
 
--- with another instead of the one that has its serial number
+-- the packets with `moved` instead of the one with its serial number
 abbrev pub with_moved : List Flight → Flight → List Flight
 with_moved flights moved = map (λ flight. if is_numbered moved.serial flight then moved else flight) flights
 
--- what holds of each simulation ---------------------------------------------------------
+-- what is so of each simulation ---------------------------------------------------------
 
--- a slot for the other end of the cable in a port
+-- there is a slot for the other end of the cable in the port
 abbrev pub HasPeerSlot : List (List (Option NodePort)) → NodePort → Type 0
 HasPeerSlot peers p = p.port < length (slice_index_or peers p.node [])
 
--- a list of the other ends for each node, with a slot for each of its ports, port 0 among them
+-- each node has a list of the other ends, with a slot for each of its ports and for port 0
 abbrev pub FitsPorts : Simulation → Type 0
 FitsPorts s = (id : ℕ) (a : Agent) → agent_at s id ≡ Some a → length (slice_index_or s.peers id []) ≡ a.node.ports + 1
 
--- a port from 1 on is down exactly where no cable is in it
+-- a port from 1 on is down exactly if no cable is in it
 abbrev pub AreUncabledDown : Simulation → Type 0
 AreUncabledDown s =
     (p : NodePort) (a : Agent) → agent_at s p.node ≡ Some a → is_cable_port s p ≡ true → (state_at a p.port ≡ Down)
@@ -140,17 +140,17 @@ pub record AreCables (s : Simulation) : Type 0 where
   pub lead_back : (p q : NodePort) → across s.peers p ≡ Some q → across s.peers q ≡ Some p
   pub down : AreUncabledDown s
 
--- a packet can wait at a port, and at a seat where its whereabouts are one
+-- a packet can wait at the port, which is a seat if the whereabouts are one
 pub record CanWait (s : Simulation) (whereabouts : Whereabouts) : Type 0 where
   pub port : is_cable_port s (port_of whereabouts) ≡ true
   pub seat : is_at_seat whereabouts ≡ true → is_seat_at s (port_of whereabouts) ≡ true
 
--- a packet in flight waits where it can, under a number that was given
+-- a packet in flight waits where it can, with a number that was given
 pub record IsWaiting (s : Simulation) (flight : Flight) : Type 0 where
   pub whereabouts : CanWait s flight.whereabouts
   pub given : flight.serial < s.next
 
--- serial numbers rise
+-- the serial numbers rise
 abbrev pub AreRising : List Flight → Type 0
 AreRising flights = AllPairs (λ before after. before.serial < after.serial) flights
 

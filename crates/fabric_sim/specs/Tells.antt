@@ -18,7 +18,7 @@ use Rattle.attr_codec.specs.SwitchInfo.{linear_fdb_cap}
 abbrev pub path_of : List ℕ → List ℕ
 path_of packet = bytes_in (record { at = 129; len = number_in hop_count packet }) packet
 
--- a node, as seen by one of its ports
+-- NodeInfo says what the node is, as seen by one of its ports
 pub record SaysNode (node : Node) (port : ℕ) (info : NodeInfo) : Type 0 where
   pub guid : info.node_guid ≡ node.guid
   pub kind : info.node_type ≡ number_of_type node.kind
@@ -26,7 +26,7 @@ pub record SaysNode (node : Node) (port : ℕ) (info : NodeInfo) : Type 0 where
   pub port_guid : info.port_guid ≡ node.port_guid port
   pub local_port : info.local_port_num ≡ port
 
--- a port is up where a cable is in it; a switch's port 0 always is
+-- a port is up if a cable is in it; a switch's port 0 always is
 abbrev pub IsUp : Fabric → ℕ → Node → ℕ → Type 0
 IsUp f id node port = ((is_switch node.kind ≡ true) × (port ≡ 0))
     ⊎ ((far : NodePort) × (f.across (record { node = id; port = port }) ≡ Some far))
@@ -35,22 +35,22 @@ IsUp f id node port = ((is_switch node.kind ≡ true) × (port ≡ 0))
 abbrev pub IsUpState : ℕ → Type 0
 IsUpState state = (2 ≤ state) × (state ≤ 4)
 
--- the port that port information is about: of a switch the one that was asked for, of an adapter the one by which the
--- request came
+-- the port that PortInfo is about: for a switch the one that was asked for, for an adapter the one by which the request
+-- came
 abbrev pub port_asked : Node → ℕ → ℕ → ℕ
 port_asked node modifier arrival = if is_switch node.kind then modifier else arrival
 
--- a port of the node that is up exactly where its state says so
+-- PortInfo is about a port of the node, and its state is up exactly if the port is
 pub record SaysPort (f : Fabric) (id : ℕ) (node : Node) (port state : ℕ) : Type 0 where
   pub within : port ≤ node.ports
   pub up : IsUpState state ↔ IsUp f id node port
 
--- a switch, and the entries that its forwarding table has room for
+-- SwitchInfo is that of a switch, and has the number of entries that its forwarding table has room for
 pub record SaysSwitch (node : Node) (entries : ℕ) : Type 0 where
   pub kind : is_switch node.kind ≡ true
   pub cap : entries ≡ node.cap
 
--- by its attribute, of the node that its request came to by a port
+-- what an answer says, by its attribute, of the node that its request came to
 pub record SaysOf (f : Fabric) (at : NodePort) (packet : List ℕ) : Type 0 where
   pub node : Node
   pub there : IsNodeAt f at.node node
@@ -62,7 +62,8 @@ pub record SaysOf (f : Fabric) (at : NodePort) (packet : List ℕ) : Type 0 wher
   pub switch_info : number_in attribute_id packet ≡ switch_info
       → SaysSwitch node (number_in linear_fdb_cap (bytes_in attribute_data packet))
 
--- handed up at a port: its path leads somewhere from there, and what it says with status 0 is so at the end of it
+-- a packet handed up at a port: its path leads somewhere from there, and what it says with status 0 is so at the end of
+-- the path
 pub record TellsOfEnd (f : Fabric) (at : NodePort) (packet : List ℕ) : Type 0 where
   pub end : NodePort
   pub leads : directed_end f at (path_of packet) ≡ Some end

@@ -21,12 +21,12 @@ use Rattle.fabric_sim.specs.Calls.{Call, Lose, after_calls, is_delivery_of}
 abbrev pub directed_packet : List ℕ → Packet
 directed_packet bytes = record { bytes = bytes; slid = permissive_lid; dlid = permissive_lid }
 
--- a path leaves by the port where its sender sits
+-- a path leaves by the port of its sender
 abbrev pub BeginsWith : ℕ → List ℕ → Type 0
 BeginsWith port [] = Unit {0}
 BeginsWith port (first ∷ path) = first ≡ port
 
--- the answer to a request over a path: with its numbers, and with what the agent answered
+-- the answer to a request over a path, with the request's numbers and with what the agent answered
 pub record IsAnswerOver (path : List ℕ) (request told answer : List ℕ) : Type 0 where
   pub method : number_in field.method answer ≡ get_resp
   pub returning : is_returning answer ≡ true
@@ -39,15 +39,15 @@ pub record IsAnswerOver (path : List ℕ) (request told answer : List ℕ) : Typ
   pub status : status answer ≡ status told
   pub attribute_data : bytes_in field.attribute_data answer ≡ bytes_in field.attribute_data told
 
--- the call isn't the loss of the packet
+-- the call does not lose the packet
 abbrev pub KeepsPacket : ℕ → Call → Type 0
 KeepsPacket serial call = call ≢ Lose serial
 
--- so many of the calls deliver the packet, and none loses it
+-- `count` of the calls deliver the packet, and none loses it
 abbrev pub Deliver : List Call → ℕ → ℕ → Type 0
 Deliver calls serial count = All (KeepsPacket serial) calls × (count_by (is_delivery_of serial) calls ≡ count)
 
--- the delivery of a request is answered by an agent, at this port
+-- the delivery of a request is answered by the agent at the port `at`
 pub record IsAnsweredAt (s : Simulation) (serial : ℕ) (request : List ℕ) (at : NodePort) (agent : Agent) : Type 0 where
   pub there : agent_at s at.node ≡ Some agent
   pub result : (after_deliver s serial).result ≡ Ok (delivered_is.Answered s.next)
@@ -59,9 +59,9 @@ pub record ComesHome (s : Simulation) (serial : ℕ) (at : NodePort) (path reque
   pub result : (after_deliver s serial).result ≡ Ok (delivered_is.ToManager at packet)
   pub answer : IsAnswerOver path request told packet.bytes
 
--- Whatever else is called, as long as no cable changes and the packet is not lost: the delivery after as many as the
--- path has ports is the one that the agent at the path's end answers; and the answer, if it is not lost, is handed up
--- by the delivery after as many again, at the port that the request was sent from.
+-- Whatever else is called, as long as no cable changes and the packet is not lost: on a path of n ports the request's
+-- delivery n + 1 is the one that the agent at the path's end answers; and the answer's delivery n + 1, if it is not
+-- lost, hands the answer up at the port that the request was sent from.
 abbrev pub ThereAndBack : Type 0
 ThereAndBack =
     (s : Simulation) (origin end : NodePort) (method attribute modifier tid : ℕ) (path payload : List ℕ)

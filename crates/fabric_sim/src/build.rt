@@ -16,9 +16,9 @@ use std::collections::VecDeque;
 use topo_file::{Node, Topology};
 
 impl Fabric {
-    /// The fabric of a topology: an agent for each of its nodes, to which nothing was written, and a cable for each of
-    /// its links. Nothing is in flight, and serial numbers are given from `first_serial` on. Takes a step for each port
-    /// of each node. Refused for lack of memory alone.
+    /// Builds the fabric of a topology: an agent for each of its nodes, to which nothing was written, and a cable for
+    /// each of its links. Nothing is in flight, and serial numbers count from `first_serial`. Takes a step for each
+    /// port of each node. Returns an error only for lack of memory.
     pub fn of(alloc: Global, topology: &Topology, first_serial: u64) -> Result<Fabric, AllocError>
         ensures fabric { IfOk result (λ fabric.
             fabric ≡ simulation_of topology.now first_serial) }
@@ -33,7 +33,7 @@ impl Fabric {
     }
 }
 
-/// The fabric of the topology's nodes, with no cable.
+/// Builds the fabric of the topology's nodes, with no cable.
 fn uncabled(alloc: Global, topology: &Topology, first_serial: u64) -> Result<Fabric, AllocError>
     ensures fabric { IfOk result (λ fabric. fabric ≡ uncabled topology.now.nodes first_serial) }
     ensures is_topology { IsTopology topology.now }
@@ -52,7 +52,7 @@ fn uncabled(alloc: Global, topology: &Topology, first_serial: u64) -> Result<Fab
     })
 }
 
-/// What the agent of a node is made of. Its description is the node's name.
+/// Returns the agent's node for a node of a topology. Its description is the node's name.
 fn agent_node(node: &Node) -> AgentNode
     requires { length node.now.name ≤ 64 }
     ensures { result ≡ agent_node node.now }
@@ -66,7 +66,7 @@ fn agent_node(node: &Node) -> AgentNode
     }
 }
 
-/// A name with zeros after it.
+/// Returns a name as a description, with zeros after it.
 fn description(name: &[u8]) -> NodeDescription
     requires { length name.now ≤ 64 }
     ensures { result ≡ name.now ++ replicate (64 - length name.now) 0 }
@@ -74,7 +74,7 @@ fn description(name: &[u8]) -> NodeDescription
     NodeDescription::decode(&padded(name))
 }
 
-/// The same as bytes.
+/// Returns a name as 64 bytes, with zeros after it.
 fn padded(name: &[u8]) -> [u8; 64]
     requires { length name.now ≤ 64 }
     ensures { result ≡ name.now ++ replicate (64 - length name.now) 0 }

@@ -11,11 +11,12 @@ use fabric_model::NodePort;
 use node_agents::Agent;
 
 impl Fabric {
-    /// Plugs a cable into two ports, or a loop into one port given twice. Both become Initialize. Takes no memory.
+    /// Plugs a cable into two ports, or a loop into one port that is given twice. Both become Initialize. Takes no
+    /// memory.
     ///
     /// # Errors
     ///
-    /// `NoSuchPort` where either is no port from 1 to its node's count, and `PortTaken` where a cable is in either.
+    /// `NoSuchPort` if either is not a port from 1 to its node's port count, and `PortTaken` if a cable is in either.
     #[tactic(auto, unfolding(crate::specs::Changes::after_plug))]
     pub fn plug(&mut self, one: NodePort, other: NodePort) -> Result<(), FabricFault>
         ensures fabric { self.new ≡ (after_plug self.old one other).fabric }
@@ -50,7 +51,7 @@ impl Fabric {
     ///
     /// # Errors
     ///
-    /// `NoSuchPort`, also where no cable is in the port.
+    /// `NoSuchPort`, also if no cable is in the port.
     #[tactic(auto, unfolding(crate::specs::Changes::after_cut))]
     pub fn cut(&mut self, at: NodePort) -> Result<(), FabricFault>
         ensures fabric { self.new ≡ (after_cut self.old at).fabric }
@@ -76,7 +77,7 @@ impl Fabric {
     }
 }
 
-/// Wires a port of one of the agents, or takes its wire away.
+/// Wires a port of one of the agents, or removes its wire.
 fn set_wired(agents: &mut [Agent], port: &NodePort, is_wired: bool)
     requires { has_cable_port agents.old port.now ≡ true }
     ensures { agents.new
@@ -86,7 +87,7 @@ fn set_wired(agents: &mut [Agent], port: &NodePort, is_wired: bool)
     agent.set_wired(port.port, is_wired);
 }
 
-/// Puts the other end of a cable down at a port, or strikes it out.
+/// Sets the other end of the cable at a port, or clears it.
 fn set_peer(peers: &mut [Peers], port: &NodePort, other: Option<NodePort>)
     requires { HasPeerSlot peers.old port.now }
     ensures { peers.new ≡ with_peer peers.old port.now other }

@@ -9,11 +9,11 @@ use fabric_model::{Course, NodeId, NodePort};
 use node_agents::Agent;
 use smp_bytes::Lid;
 
-/// The entry of a forwarding table that drops a packet.
+/// The forwarding table entry that drops a packet.
 const NO_PORT: u8 = 255;
 
 impl Fabric {
-    /// What the node at a port does with a packet for a LID.
+    /// Returns what the node at the port `at` does with a packet for `lid`.
     pub(crate) fn course(&self, lid: Lid, at: &NodePort, is_by_wire: bool) -> Course
         requires { at.now.node < length self.now.agents }
         ensures { result ≡ course (fabric_of self.now) lid
@@ -31,7 +31,7 @@ impl Fabric {
         }
     }
 
-    /// Whether a port is there: one from 1 to its node's count, or port 0 of a switch.
+    /// Returns whether a port exists: one from 1 to its node's port count, or port 0 of a switch.
     pub(crate) fn is_port(&self, port: &NodePort) -> bool
         ensures { result ≡ is_port self.now port.now }
     {
@@ -44,7 +44,7 @@ impl Fabric {
         }
     }
 
-    /// How many nodes are switches.
+    /// Returns the number of nodes that are switches.
     pub(crate) fn switch_count(&self) -> usize
         ensures count { result ≡ switch_count (fabric_of self.now) }
         ensures few { result ≤ 1024 }
@@ -53,7 +53,7 @@ impl Fabric {
     }
 }
 
-/// What a switch does with a packet for a LID.
+/// Returns what a switch does with a packet for `lid`.
 fn switch_course(agent: &Agent, node: NodeId, lid: Lid) -> Course
     ensures { result ≡ switch_course agent.now.node.ports node agent.now.top lid
         (entry_at agent.now lid) }

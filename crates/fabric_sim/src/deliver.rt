@@ -20,13 +20,13 @@ use fabric_model::{Course, NodePort};
 use smp_bytes::{AttributeId, Lid, Smp, SmpClass};
 
 impl Fabric {
-    /// One step of the packet in flight that has the serial number: it moves over a wire, is answered, is handed to a
-    /// subnet manager, or is discarded. Takes no memory. The first packet in flight takes one search step, and any
-    /// other as many as their number has binary digits, and its gap is closed by the others.
+    /// Performs one step of the packet in flight with this serial number: it moves over a wire, is answered, is handed
+    /// to a subnet manager, or is discarded. Takes no memory. Takes one search step for the first packet in flight, and
+    /// for any other as many as the number of packets has binary digits; the others close its gap.
     ///
     /// # Errors
     ///
-    /// `NoSuchPacket`, and `SerialsSpent` where an agent is to answer and no serial number is left.
+    /// `NoSuchPacket`, and `SerialsSpent` if an agent is to answer and no serial number is left.
     #[tactic(auto, unfolding(crate::specs::Delivery::after_deliver))]
     pub fn deliver(&mut self, serial: u64) -> Result<Delivered, FabricFault>
         ensures fabric { self.new ≡ (after_deliver self.old serial).fabric }
@@ -46,7 +46,7 @@ impl Fabric {
         }
     }
 
-    /// Moves, answers, hands up or discards the packet of an index among those in flight, which has these bytes after
+    /// Moves, answers, hands up or discards the packet at index `i` among those in flight. `smp` has its bytes after
     /// its step.
     fn act(
         &mut self,
@@ -78,7 +78,7 @@ impl Fabric {
         }
     }
 
-    /// Discards the packet of an index among those in flight.
+    /// Discards the packet at index `i` among those in flight.
     fn discard(&mut self, i: usize, serial: u64, reason: Reason) -> Delivered
         requires { IsFlightAt self.old.flights i serial }
         ensures fabric { self.new ≡ without self.old serial }
@@ -88,7 +88,7 @@ impl Fabric {
         Delivered::Discarded(reason)
     }
 
-    /// Lets the agent answer a request that waits there. The answer waits in its stead.
+    /// Lets the agent answer a request that waits at its port. The answer replaces the request.
     fn ask(
         &mut self,
         i: usize,
@@ -123,7 +123,7 @@ impl Fabric {
         Ok(Delivered::Answered(serial))
     }
 
-    /// What is to be done with a packet where it waits. One on a directed route takes its step.
+    /// Returns what is to be done with a packet where it waits. A packet on a directed route takes its step.
     #[tactic(auto, using(crate::proofs::AgentLists::within_agents), unfolding(crate::specs::Delivery::outcome_of))]
     fn action(&self, envelope: &Envelope, smp: &mut Smp) -> Action
         requires parses { fault_of smp.old ≡ None }
@@ -141,7 +141,7 @@ impl Fabric {
         }
     }
 
-    /// A step of a packet on a directed route.
+    /// Performs a step of a packet on a directed route, and returns what is to be done with it.
     fn directed_action(&self, at: &NodePort, envelope: &Envelope, smp: &mut Smp) -> Action
         requires directed { is_directed smp.old ≡ true }
         requires port { at.now.node < length self.now.agents }
@@ -159,7 +159,7 @@ impl Fabric {
         }
     }
 
-    /// The node of a port, as a step sees it.
+    /// Returns the node of a port, as a step sees it.
     fn here(&self, at: &NodePort) -> Here
         requires { at.now.node < length self.now.agents }
         ensures { result ≡ here_at self.now at.now }
@@ -172,7 +172,7 @@ impl Fabric {
         }
     }
 
-    /// A packet that has come to the end of its path.
+    /// Returns what is to be done with a packet that has come to the end of its path.
     fn at_agent(&self, at: &NodePort, envelope: &Envelope, smp: &Smp) -> Action
         ensures { outcome_by (packet_in envelope.now smp.now) result
             ≡ at_agent self.now at.now (packet_in envelope.now smp.now) }
@@ -186,7 +186,7 @@ impl Fabric {
         }
     }
 
-    /// What the node does with a packet that is forwarded by its DLID.
+    /// Returns what is to be done with a packet that is forwarded by its DLID.
     fn lid_routed_action(&self, at: &NodePort, envelope: &Envelope, smp: &Smp) -> Action
         requires at { at.now ≡ port_of envelope.now.whereabouts }
         requires port { at.now.node < length self.now.agents }
@@ -200,7 +200,7 @@ impl Fabric {
         }
     }
 
-    /// A packet that has come to the port of its DLID.
+    /// Returns what is to be done with a packet that has come to the port of its DLID.
     fn arrival(&self, at: &NodePort, envelope: &Envelope, smp: &Smp) -> Action
         ensures { outcome_by (packet_in envelope.now smp.now) result
             ≡ arrived self.now at.now (packet_in envelope.now smp.now) }
@@ -212,7 +212,7 @@ impl Fabric {
         }
     }
 
-    /// Out by a port, to the other end of its cable.
+    /// Returns the action for a packet that leaves by a port: it moves to the other end of the port's cable.
     fn leaving(&self, out: &NodePort) -> Action
         ensures { (packet : Packet) → outcome_by packet result ≡ leaving self.now out.now packet }
     {
@@ -222,7 +222,7 @@ impl Fabric {
         }
     }
 
-    /// Whether the packet is a manager's business at a port where a manager sits.
+    /// Returns whether a manager sits at the port and the packet is for it.
     fn is_for_manager(&self, at: &NodePort, smp: &Smp) -> bool
         ensures { result ≡ is_for_manager self.now at.now smp.now }
     {

@@ -2,18 +2,18 @@ use crate::packet::Packet;
 use dr_forward::DiscardReason;
 use fabric_model::NodePort;
 
-/// Why a packet goes no further.
+/// Why a packet is discarded.
 #[derive(Clone, Copy, Debug, PartialEq, Eq)]
 pub enum Reason {
     /// The hop pointer of a directed packet is off its path, or an answer comes to an agent.
     Course,
-    /// The path of a directed packet goes on at a node that is no switch.
+    /// The path of a directed packet goes on at a node that is not a switch.
     Transit,
-    /// The port by which the path of a directed packet goes on is 0 or over the node's count.
+    /// The port by which the path of a directed packet goes on is 0 or above the node's port count.
     OutPort,
     /// No cable is in the port by which it leaves, or in the port to which it came.
     Down,
-    /// Its bytes don't parse.
+    /// Its bytes are not a packet.
     Unreadable,
     /// The node neither takes nor forwards packets for its DLID.
     NoRoute,
@@ -37,12 +37,12 @@ impl From<DiscardReason> for Reason {
 /// What a delivery did.
 #[derive(Clone, Copy, Debug, PartialEq, Eq)]
 pub enum Delivered {
-    /// The packet, of this serial number, has moved to the other end of a cable.
+    /// The packet, with this serial number, moved to the other end of a cable.
     Moved(u64),
-    /// The agent answered the request, and its answer waits under this serial number.
+    /// The agent answered the request, and its answer waits with this serial number.
     Answered(u64),
-    /// The packet is handed to the subnet manager at this port.
+    /// The packet was handed to the subnet manager at this port.
     ToManager(NodePort, Packet),
-    /// The packet is gone.
+    /// The packet was discarded.
     Discarded(Reason),
 }

@@ -5,7 +5,7 @@ use crate::flight::Whereabouts;
 use crate::packet::Packet;
 use smp_bytes::{Lid, Smp};
 
-/// What is known of a packet in flight beside its bytes.
+/// What is known of a packet in flight besides its bytes.
 #[derive(Clone, Copy)]
 pub(crate) struct Envelope {
     pub(crate) serial: u64,
@@ -15,7 +15,7 @@ pub(crate) struct Envelope {
 }
 
 impl Envelope {
-    /// The packet with these bytes.
+    /// Returns the packet with the bytes of `smp`.
     pub(crate) fn packet(&self, smp: &Smp) -> Packet
         ensures { result ≡ packet_in self.now smp.now }
     {

@@ -10,16 +10,16 @@ use smp_bytes::Lid;
 use std::collections::VecDeque;
 use std::marker::Model;
 
-/// A simulated fabric. Contracts see the agents, the other ends of the
-/// cables, the packets in flight and the next serial number.
+/// A simulated fabric. Contracts see the agents, the other ends of the cables, the packets in flight and the next
+/// serial number.
 #[derive(Drop)]
 pub struct Fabric {
     pub(crate) agents: Vec<Agent>,
     /// For each node, the other ends of the cables in its ports.
     pub(crate) peers: Vec<Peers>,
-    /// By rising serial number.
+    /// The packets in flight, by rising serial number.
     pub(crate) flights: VecDeque<Flight>,
-    /// The serial number that is given next; none is left after the greatest.
+    /// The next serial number, or `None` after the greatest.
     pub(crate) next: Option<u64>,
 }
 
@@ -46,35 +46,35 @@ impl Model for Fabric {
 }
 
 impl Fabric {
-    /// How many nodes there are.
+    /// Returns the number of nodes.
     pub fn node_count(&self) -> usize
         ensures { result ≡ length self.now.agents }
     {
         self.agents.len()
     }
 
-    /// The agent of a node. Takes one step.
+    /// Returns the agent of a node. Takes one step.
     pub fn agent(&self, node: NodeId) -> Option<&Agent>
         ensures { option_copied result ≡ agent_at self.now node }
     {
         self.agents.get(node.number())
     }
 
-    /// How many packets are in flight.
+    /// Returns the number of packets in flight.
     pub fn flight_count(&self) -> usize
         ensures { result ≡ length self.now.flights }
     {
         self.flights.len()
     }
 
-    /// A packet in flight, from 0 by rising serial number. Takes one step.
+    /// Returns the packet at index `i` among those in flight, by rising serial number. Takes one step.
     pub fn in_flight(&self, i: usize) -> Option<&Flight>
         ensures { option_copied result ≡ slice_get self.now.flights i }
     {
         self.flights.get(i)
     }
 
-    /// The port at the other end of the cable in a port; that port itself, for a loop.
+    /// Returns the port at the other end of the cable in a port; for a loop that is the port itself.
     pub fn across(&self, port: &NodePort) -> Option<NodePort>
         ensures other { result ≡ across self.now.peers port.now }
         ensures port { IfSome result (λ other. is_cable_port self.now other ≡ true) }
@@ -82,7 +82,7 @@ impl Fabric {
         self.peers.get(port.node.number())?.across(port.port)
     }
 
-    /// Whether a subnet manager sits at a port.
+    /// Returns whether a subnet manager sits at a port.
     pub fn is_seat(&self, port: &NodePort) -> bool
         ensures seat { result ≡ is_seat_at self.now port.now }
         ensures port { result ≡ true → is_cable_port self.now port.now ≡ true }
@@ -93,7 +93,7 @@ impl Fabric {
         }
     }
 
-    /// The agent of a node that is there.
+    /// Returns the agent of a node that exists.
     pub(crate) fn agent_in(&self, node: NodeId) -> &Agent
         requires { node < length self.now.agents }
         ensures { agent_at self.now node ≡ Some result.now }
@@ -101,7 +101,7 @@ impl Fabric {
         &self.agents[node.number()]
     }
 
-    /// Whether a node is a switch.
+    /// Returns whether a node is a switch.
     pub(crate) fn is_switch_at(&self, node: NodeId) -> bool
         ensures { result ≡ is_switch_at (fabric_of self.now) node }
     {
@@ -111,7 +111,7 @@ impl Fabric {
         }
     }
 
-    /// Whether a port is one from 1 to its node's count.
+    /// Returns whether a port is one from 1 to its node's port count.
     pub(crate) fn is_cable_port(&self, port: &NodePort) -> bool
         ensures { result ≡ is_cable_port self.now port.now }
     {
@@ -121,7 +121,7 @@ impl Fabric {
         }
     }
 
-    /// The LID of a port, 0 where there is none.
+    /// Returns the LID of a port, 0 if there is none.
     pub(crate) fn base_lid(&self, port: &NodePort) -> Lid
         ensures { result ≡ (fabric_of self.now).base_lid port.now }
     {

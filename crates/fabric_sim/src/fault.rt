@@ -3,13 +3,13 @@ ghost use Rattle.std.specs.Prelude.{◌≡◌};
 use std::alloc::AllocError;
 use thiserror::Error;
 
-/// Why a call on a fabric is refused. The fabric is then as it was.
+/// Why a fabric refuses a call. A refused call leaves the fabric as it was.
 #[derive(Clone, Copy, Debug, PartialEq, Eq, Error)]
 pub enum FabricFault {
     /// No packet in flight has the serial number.
     #[error("NoSuchPacket")]
     NoSuchPacket,
-    /// No such port is there, or none that the call is for.
+    /// The port does not exist, or the call is not for a port like it.
     #[error("NoSuchPort")]
     NoSuchPort,
     /// A subnet manager sits at the port, or a cable is in it.
@@ -18,7 +18,7 @@ pub enum FabricFault {
     /// The memory that the call needs was refused.
     #[error("Memory")]
     Memory,
-    /// A serial number is needed, and all are spent.
+    /// A serial number is needed, and none is left.
     #[error("SerialsSpent")]
     SerialsSpent,
 }
@@ -26,7 +26,7 @@ pub enum FabricFault {
 impl FabricFault {
     ghost use Rattle.fabric_sim.specs.FabricFault.{fabric_fault_name};
 
-    /// The name that `{}` writes.
+    /// Returns the name that `{}` writes.
     pub fn name(self) -> &'static str
         ensures { result.now ≡ fabric_fault_name self }
     {

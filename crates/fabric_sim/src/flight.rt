@@ -8,7 +8,7 @@ use fabric_model::NodePort;
 /// Where a packet in flight waits.
 #[derive(Clone, Copy, Debug, PartialEq, Eq)]
 pub enum Whereabouts {
-    /// At the port where the subnet manager sits that sent it, or that sent the request which it answers there.
+    /// At the port of the subnet manager that sent it, or that sent the request which it answers there.
     Seat(NodePort),
     /// At a port to which it came by a wire.
     Arrived(NodePort),
@@ -17,7 +17,7 @@ pub enum Whereabouts {
 }
 
 impl Whereabouts {
-    /// The port where the packet waits.
+    /// Returns the port where the packet waits.
     pub fn port(&self) -> NodePort
         ensures { result ≡ port_of self.now }
     {
@@ -26,21 +26,21 @@ impl Whereabouts {
         }
     }
 
-    /// Whether the packet waits where its sender sits.
+    /// Returns whether the packet waits where its sender sits.
     pub(crate) fn is_seat(&self) -> bool
         ensures { result ≡ is_at_seat self.now }
     {
         matches!(*self, Whereabouts::Seat(_))
     }
 
-    /// Whether the packet came to its port by a wire.
+    /// Returns whether the packet came to its port by a wire.
     pub(crate) fn is_by_wire(&self) -> bool
         ensures { result ≡ is_by_wire self.now }
     {
         matches!(*self, Whereabouts::Arrived(_))
     }
 
-    /// Where the answer to a request waits that waited here.
+    /// Returns where the answer waits, if its request waited here.
     pub(crate) fn answer_whereabouts(&self) -> Whereabouts
         ensures { result ≡ answer_whereabouts self.now }
     {
@@ -54,7 +54,7 @@ impl Whereabouts {
 /// A packet in flight.
 #[derive(Clone, Copy, Debug, PartialEq, Eq)]
 pub struct Flight {
-    /// Its serial number, which no other packet has or had.
+    /// The serial number, which no other packet has or had.
     pub serial: u64,
     /// Where it waits.
     pub whereabouts: Whereabouts,
@@ -65,7 +65,7 @@ pub struct Flight {
 impl Flight {
     ghost use Rattle.fabric_sim.specs.Delivery.{envelope_of};
 
-    /// What is known of it beside its bytes.
+    /// Returns what is known of the packet besides its bytes.
     pub(crate) fn envelope(&self) -> Envelope
         ensures { result ≡ envelope_of self.now }
     {

@@ -10,8 +10,8 @@ use crate::flight::{Flight, Whereabouts};
 use crate::packet::Packet;
 
 impl Fabric {
-    /// The index of the packet with a serial number among those in flight. The first takes one step, and any other a
-    /// search.
+    /// Returns the index of the packet with this serial number among those in flight. Takes one step for the first
+    /// packet, and a search for any other.
     pub(crate) fn find(&self, serial: u64) -> Option<usize>
         ensures { Finds self.now.flights serial result }
     {
@@ -22,7 +22,7 @@ impl Fabric {
         self.search(serial)
     }
 
-    /// The same for any packet.
+    /// Searches for the packet with this serial number, and returns its index.
     fn search(&self, serial: u64) -> Option<usize>
         ensures { Finds self.now.flights serial result }
     {
@@ -31,7 +31,7 @@ impl Fabric {
             .ok()
     }
 
-    /// One packet more.
+    /// Adds a packet in flight, and returns its serial number.
     pub(crate) fn enqueue(
         &mut self,
         whereabouts: Whereabouts,
@@ -55,7 +55,7 @@ impl Fabric {
         Ok(serial)
     }
 
-    /// Moves the packet of an index among those in flight.
+    /// Moves the packet at index `i` among those in flight.
     pub(crate) fn move_to(
         &mut self,
         i: usize,
@@ -74,7 +74,7 @@ impl Fabric {
         };
     }
 
-    /// Takes the packet of an index among those in flight away.
+    /// Removes the packet at index `i` among those in flight.
     pub(crate) fn remove(&mut self, i: usize, serial: u64)
         requires { IsFlightAt self.old.flights i serial }
         ensures { self.new ≡ without self.old serial }
@@ -82,7 +82,7 @@ impl Fabric {
         self.flights.remove(i);
     }
 
-    /// Loses the packet in flight that has the serial number. Takes no memory.
+    /// Loses the packet in flight with this serial number. Takes no memory.
     ///
     /// # Errors
     ///
@@ -99,8 +99,8 @@ impl Fabric {
         Ok(())
     }
 
-    /// Copies the packet in flight that has the serial number: the copy waits at the same whereabouts, and its own
-    /// serial number is given.
+    /// Copies the packet in flight with this serial number. The copy waits at the same whereabouts; returns its serial
+    /// number.
     ///
     /// # Errors
     ///

@@ -8,18 +8,18 @@ use crate::flight::Whereabouts;
 use crate::packet::Packet;
 use fabric_model::NodePort;
 
-/// The offset of MgmtClass in a packet, and its value where switches forward the packet by LIDs.
+/// The offset of MgmtClass in a packet, and its value if switches forward the packet by LIDs.
 const MGMT_CLASS: usize = 1;
 
 const LID_ROUTED: u8 = 0x01;
 
 impl Fabric {
-    /// Sends a packet from a seat, and gives its serial number. The SLID of a packet that switches forward by LIDs is
-    /// the LID of the port.
+    /// Sends a packet from the seat `from`, and returns its serial number. If switches forward the packet by LIDs, its
+    /// SLID becomes the LID of the port.
     ///
     /// # Errors
     ///
-    /// `NoSuchPort` where no manager sits there, `SerialsSpent`, and `Memory`.
+    /// `NoSuchPort` if no manager sits there, `SerialsSpent`, and `Memory`.
     #[tactic(auto, unfolding(crate::specs::Changes::after_inject))]
     pub fn inject(&mut self, from: NodePort, packet: Packet) -> Result<u64, FabricFault>
         ensures { ComesTo result self.old self.new (after_inject self.old from packet) }
@@ -31,7 +31,7 @@ impl Fabric {
         self.enqueue(Whereabouts::Seat(from), packet)
     }
 
-    /// The packet with the LID of its port, where switches forward it by LIDs.
+    /// Returns the packet, with the LID of its port if switches forward it by LIDs.
     fn addressed(&self, from: &NodePort, packet: Packet) -> Packet
         ensures { result ≡ addressed self.now from.now packet }
     {

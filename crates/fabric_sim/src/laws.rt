@@ -9,20 +9,20 @@ pub fn simulations_are_fabrics()
     ensures { SimulationsAreFabrics }
 {}
 
-/// What a ping tells is so: a packet that reaches a port is delivered there over so many wires, and one that is lost at
-/// a node is lost there.
+/// What a ping says is so: a packet that reaches a port is delivered there over as many wires as it says, and one that
+/// is lost at a node is lost there.
 pub fn pings_tell()
     ensures { PingsTell }
 {}
 
-/// What is so a ping finds: a packet that is delivered reaches that port in a ping, over as many wires.
+/// A ping finds what is so: a packet that is delivered reaches that port in a ping, over as many wires.
 pub fn pings_find()
     ensures { PingsFind }
 {}
 
-/// A directed request over a path that has an end is answered there by the delivery after as many as the path has
-/// ports, and its answer is handed to the manager that sent it by the delivery after as many again, whatever else is
-/// called, as long as neither is lost and no cable changes.
+/// A directed request for another attribute than SMInfo, over a path of n ports that has an end, is answered there by
+/// its delivery n + 1, and the answer is handed to the manager that sent the request by its own delivery n + 1,
+/// whatever else is called, if neither is lost, no cable changes and serial numbers are left.
 #[tactic(auto, using(crate::proofs::TripEnds::there_and_back))]
 pub fn there_and_back()
     ensures { ThereAndBack }

@@ -4,10 +4,10 @@ use smp_bytes::Lid;
 /// LID.
 #[derive(Clone, Copy, Debug, PartialEq, Eq)]
 pub struct Packet {
-    /// The 256 bytes of a subnet management packet; they needn't parse.
+    /// The 256 bytes of a subnet management packet; they may be anything.
     pub bytes: [u8; 256],
     /// The LID of its sender.
     pub slid: Lid,
-    /// The LID that it is for.
+    /// The LID that the packet is for.
     pub dlid: Lid,
 }

@@ -21,7 +21,7 @@ impl Model for Peers {
 }
 
 impl Peers {
-    /// Those of a node with so many ports from 1 on, without a cable.
+    /// Creates the list for a node with the ports 1 to `ports`, without a cable.
     pub(crate) fn new(alloc: Global, ports: u8) -> Result<Peers, AllocError>
         ensures { IfOk result (λ peers. peers ≡ replicate (ports + 1) None) }
     {
@@ -29,7 +29,7 @@ impl Peers {
         Ok(Peers { others })
     }
 
-    /// The port at the other end of the cable in a port.
+    /// Returns the port at the other end of the cable in a port.
     pub(crate) fn across(&self, port: PortNum) -> Option<NodePort>
         ensures { result ≡ slice_index_or self.now port None }
     {
@@ -39,7 +39,7 @@ impl Peers {
             .flatten()
     }
 
-    /// Puts a cable into a port or takes it out.
+    /// Sets the other end of the cable in a port, or clears it.
     pub(crate) fn set(&mut self, port: PortNum, other: Option<NodePort>)
         requires { port < length self.old }
         ensures { self.new ≡ slice_set self.old port other }

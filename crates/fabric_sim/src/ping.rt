@@ -10,19 +10,19 @@ use crate::fault::FabricFault;
 use fabric_model::{Course, NodeId, NodePort};
 use smp_bytes::Lid;
 
-/// Where a packet for a LID comes to.
+/// Where a packet for a LID ends.
 #[derive(Clone, Copy, Debug, PartialEq, Eq)]
 pub enum Ping {
-    /// To this port, over so many wires.
+    /// It reached this port, over this many wires.
     Reached(NodePort, usize),
-    /// To no port: it is lost at this node.
+    /// It reached no port: it is lost at this node.
     Lost(NodeId),
 }
 
 impl Fabric {
-    /// Where a packet for a LID comes to that is sent from a port: over which wires switches forward it, by their
-    /// tables alone. From a port of a switch it begins at the switch. It is lost after two wires for each switch and
-    /// two more, for then it goes round. Takes a step for each node, and one for each wire. No memory.
+    /// Returns where a packet for `lid` ends if it is sent from the port `from` and switches forward it by their
+    /// tables. From a port of a switch it begins at the switch. After two wires for each switch and two more it counts
+    /// as lost, since it loops then. Takes a step for each node, and one for each wire. Takes no memory.
     ///
     /// # Errors
     ///

@@ -1,5 +1,5 @@
-//! Tests of the agents and of the fabric by their public calls: here they are proved beside what they test, and not
-//! with it once more.
+//! Tests of the agents and of the fabric by their public calls. They are a crate of their own, so that checking them
+//! does not prove the tested crates once more.
 #![tactic(auto)]
 
 #[cfg(test)]

@@ -1,21 +1,21 @@
--- Elements of a list in their order, each once.
+-- The elements of a list in order, each once.
 use Rattle.std.specs.Prelude.{ℕ, List, [], ◌∷◌}
 use Rattle.std.specs.declared.cmp.Ordering.{Ordering}
 use Rattle.std.specs.declared.cmp.Ordering.TheVariants.{Less, Equal, Greater}
 use Rattle.std.specs.Ordering.{nat_cmp, ordering_then}
 
--- beside another element, as the two compare: before it, as it, or among those after it
+-- x put in beside y, as the two compare: before y, not at all if equal, or after y, in `later`
 abbrev pub put_beside : {X : Type 0} → Ordering → X → X → List X → List X → List X
 put_beside Less x y ys later = x ∷ y ∷ ys
 put_beside Equal x y ys later = y ∷ ys
 put_beside Greater x y ys later = y ∷ later
 
--- where it belongs, unless it is there
+-- x put where it belongs, unless it is there
 abbrev pub put_once : {X : Type 0} → (X → X → Ordering) → X → List X → List X
 put_once cmp x [] = x ∷ []
 put_once cmp x (y ∷ ys) = put_beside (cmp x y) x y ys (put_once cmp x ys)
 
--- each put where it belongs
+-- each element put where it belongs
 abbrev pub each_once : {X : Type 0} → (X → X → Ordering) → List X → List X
 each_once cmp [] = []
 each_once cmp (x ∷ xs) = put_once cmp x (each_once cmp xs)

@@ -31,38 +31,38 @@ abbrev pub link_key : Key × Cell Value → Option (ℕ × ℕ)
 link_key ((Link g p), c) = Some (g, p)
 link_key (_, c) = None
 
--- the port to which a cell tells that a link leads
+-- the port to which a link leads, as its cell says
 abbrev pub far_port : Key × Cell Value → Option (ℕ × ℕ)
 far_port ((Link g p), c) = peer_in (value_in (Some c))
 far_port (_, c) = None
 
--- and its node
+-- the node to which a link leads, as its cell says
 abbrev pub far_node : Key × Cell Value → Option ℕ
 far_node s = option_map (λ q. q.0) (far_port s)
 
--- a cell names a node: it is about it or a port of it, or tells that a link leads there
+-- a cell names a node: it is about it or a port of it, or says that a link leads there
 abbrev pub NamesNode : Key × Cell Value → ℕ → Type 0
 NamesNode s g = (key_guid s.0 ≡ g) ⊎ (far_node s ≡ Some g)
 
--- a cell names a port: it is about it, or tells that a link leads there
+-- a cell names a port: it is about it, or says that a link leads there
 abbrev pub NamesPort : Key × Cell Value → ℕ × ℕ → Type 0
 NamesPort s e = (own_port s ≡ Some e) ⊎ (far_port s ≡ Some e)
 
--- some cell does
+-- some cell names the node, or the port
 abbrev pub IsNamedNode : Cells → ℕ → Type 0
 IsNamedNode cells g = (s : Key × Cell Value) × Contains cells s × NamesNode s g
 
 abbrev pub IsNamedPort : Cells → ℕ × ℕ → Type 0
 IsNamedPort cells e = (s : Key × Cell Value) × Contains cells s × NamesPort s e
 
--- the nodes that are named, as often as they are
+-- the named nodes, each as often as it is named
 abbrev pub named_nodes : Cells → List ℕ
 named_nodes cells = filter_map own_node cells ++ filter_map far_node cells
 
--- the ports that are named, as often as they are
+-- the named ports, each as often as it is named
 abbrev pub named_ports : Cells → List (ℕ × ℕ)
 named_ports cells = filter_map own_port cells ++ filter_map far_port cells
 
--- what a cell names, where it passes a test
+-- what a cell names, if it passes `test`
 abbrev pub kept : {X : Type 0} → (X → Bool) → (Key × Cell Value → Option X) → Key × Cell Value → Option X
 kept test name s = option_and_then (λ x. if test x then Some x else None) (name s)

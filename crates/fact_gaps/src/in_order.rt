@@ -5,7 +5,7 @@ ghost use Rattle.fact_gaps.specs.InOrder.{each_once, port_cmp};
 
 use smp_bytes::{Guid, PortNum};
 
-/// Puts GUIDs in order, and leaves each once.
+/// Sorts `guids` and removes duplicates.
 pub(crate) fn order_guids(guids: &mut Vec<Guid>)
     ensures { guids.new.items ≡ each_once nat_cmp guids.old.items }
 {
@@ -13,7 +13,7 @@ pub(crate) fn order_guids(guids: &mut Vec<Guid>)
     guids.dedup();
 }
 
-/// Puts ports in order, by node and port, and leaves each once.
+/// Sorts `ports` by node and port, and removes duplicates.
 pub(crate) fn order_ports(ports: &mut Vec<(Guid, PortNum)>)
     ensures { ports.new.items ≡ each_once port_cmp ports.old.items }
 {

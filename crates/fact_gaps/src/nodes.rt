@@ -11,9 +11,9 @@ use fact_store::{Key, Sighting, Store, Value};
 use smp_bytes::{Guid, NodeType, PortNum};
 use std::alloc::{AllocError, Global};
 
-/// Returns the nodes that facts name, by their keys or as far ends of links, and that are unusable: their type is
-/// unknown or, of a switch, their table room; by rising GUID. Walks the cells three times, and takes two searches
-/// for each node that has a cell, and one among these for each node that a cell names.
+/// Returns the unusable nodes that facts name, by their keys or as far ends of links, by rising GUID. A node is
+/// unusable if its type is unknown or, of a switch, its table room. Walks the cells three times. Takes two searches for
+/// each node that has a cell, and one among the known nodes for each node that a cell names.
 pub fn unusable_nodes(alloc: Global, store: &Store) -> Result<Vec<Guid>, AllocError>
     ensures { IfOk result (λ guids. guids.items ≡ unusable_nodes (cells_of store.now)) }
 {
@@ -39,7 +39,7 @@ fn known_nodes(alloc: Global, store: &Store) -> Result<Vec<Guid>, AllocError>
     Ok(known)
 }
 
-/// Returns the node of a node's cell if it is known.
+/// Returns the node of a node's cell, if it is known.
 fn known_node(store: &Store, sighting: &Sighting) -> Option<Guid>
     ensures { result ≡ kept (is_known_node (cells_of store.now)) node_key sighting.now }
 {
@@ -49,7 +49,7 @@ fn known_node(store: &Store, sighting: &Sighting) -> Option<Guid>
     }
 }
 
-/// Adds the unusable nodes that cells are about to `guids`; the nodes in `known` are known.
+/// Appends to `guids` the unusable nodes that cells are about. Skips the nodes in `known`.
 fn add_own_nodes(guids: &mut Vec<Guid>, store: &Store, known: &[Guid]) -> Result<(), AllocError>
     requires { AreKnownNodes (cells_of store.now) known.now }
     ensures { OnOk result (guids.new.items ≡ guids.old.items
@@ -63,7 +63,7 @@ fn add_own_nodes(guids: &mut Vec<Guid>, store: &Store, known: &[Guid]) -> Result
     Ok(())
 }
 
-/// Adds the unusable nodes to which links lead to `guids`; the nodes in `known` are known.
+/// Appends to `guids` the unusable nodes at the far ends of links. Skips the nodes in `known`.
 fn add_far_nodes(guids: &mut Vec<Guid>, store: &Store, known: &[Guid]) -> Result<(), AllocError>
     requires { AreKnownNodes (cells_of store.now) known.now }
     ensures { OnOk result (guids.new.items ≡ guids.old.items
@@ -77,7 +77,7 @@ fn add_far_nodes(guids: &mut Vec<Guid>, store: &Store, known: &[Guid]) -> Result
     Ok(())
 }
 
-/// Returns the far node of a link's cell if it is unusable; the nodes in `known` are known.
+/// Returns the far node of a link's cell, if it is unusable. The nodes in `known` are not.
 fn unusable_far_node(store: &Store, known: &[Guid], sighting: &Sighting) -> Option<Guid>
     requires { AreKnownNodes (cells_of store.now) known.now }
     ensures { result ≡ kept (λ g. not (is_known_node (cells_of store.now) g)) far_node sighting.now }
@@ -86,7 +86,7 @@ fn unusable_far_node(store: &Store, known: &[Guid], sighting: &Sighting) -> Opti
     if_unusable(store, known, node)
 }
 
-/// Returns `node` if it is unusable; the nodes in `known` are known.
+/// Returns `node` if it is unusable. The nodes in `known` are not.
 fn if_unusable(store: &Store, known: &[Guid], node: Guid) -> Option<Guid>
     requires { AreKnownNodes (cells_of store.now) known.now }
     ensures { result ≡ (if not (is_known_node (cells_of store.now) node) then Some node else None) }
@@ -98,7 +98,7 @@ fn if_unusable(store: &Store, known: &[Guid], node: Guid) -> Option<Guid>
     }
 }
 
-/// Returns whether `node` is known; the nodes in `known` are. Takes a search among these, and two more if it is not
+/// Returns whether `node` is known. The nodes in `known` are. Takes a search among them, and two more if it is not
 /// there.
 fn is_known_by(store: &Store, known: &[Guid], node: Guid) -> bool
     requires { AreKnownNodes (cells_of store.now) known.now }

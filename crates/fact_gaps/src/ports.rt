@@ -14,10 +14,10 @@ use smp_bytes::{Guid, NodeType, PortNum};
 use std::alloc::{AllocError, Global};
 use subnet_view::{EndPort, Wires, is_end_port};
 
-/// Returns the ports that facts name, by their keys, as management ports of switches or as far ends of links, and
-/// that are neither known to be down nor have a wire or, with number 0, are not the end port of a switch; by node
-/// and port. Walks the cells three times, and takes two searches for each link and one for each port that a cell
-/// names, or three where it has no wire.
+/// Returns the unjoined ports that facts name, by their keys, as management ports of switches or as far ends of links,
+/// by node and port. A port is unjoined if it neither is known to be down nor has a wire; port 0, if it is not the end
+/// port of a switch. Walks the cells three times. Takes two searches for each link, and one for each port that a cell
+/// names, or three if it has no wire.
 pub fn unjoined_ports(alloc: Global, store: &Store) -> Result<Vec<EndPort>, Refused>
     ensures { IfOk result (λ ports. ports.items ≡ unjoined_ports (cells_of store.now)) }
 {
@@ -25,7 +25,7 @@ pub fn unjoined_ports(alloc: Global, store: &Store) -> Result<Vec<EndPort>, Refu
     Ok(unjoined_by(alloc, &wires)?)
 }
 
-/// Returns these ports of the facts in `wires`.
+/// Returns the unjoined ports of the facts in `wires`.
 fn unjoined_by(alloc: Global, wires: &Wires) -> Result<Vec<EndPort>, AllocError>
     ensures { IfOk result (λ ports. ports.items ≡ unjoined_ports (cells_of wires.now)) }
 {
@@ -51,7 +51,7 @@ fn known_ports(alloc: Global, wires: &Wires) -> Result<Vec<(Guid, PortNum)>, All
     Ok(known)
 }
 
-/// Returns the port of a link's cell if it is known to be down or has a wire.
+/// Returns the port of a link's cell, if it is known to be down or has a wire.
 fn known_port(wires: &Wires, sighting: &Sighting) -> Option<(Guid, PortNum)>
     ensures { result ≡ kept (is_known_port (cells_of wires.now)) link_key sighting.now }
 {
@@ -61,14 +61,14 @@ fn known_port(wires: &Wires, sighting: &Sighting) -> Option<(Guid, PortNum)>
     }
 }
 
-/// Returns the ports with named fields.
+/// Returns the ports as end ports.
 fn end_ports_at(alloc: Global, ports: &[(Guid, PortNum)]) -> Result<Vec<EndPort>, AllocError>
     ensures { IfOk result (λ named. named.items ≡ map port_at ports.now) }
 {
     ports.iter().map(end_port_at).collect(alloc)
 }
 
-/// Returns a port with named fields.
+/// Returns a port as an end port.
 fn end_port_at(port: &(Guid, PortNum)) -> EndPort
     ensures { result ≡ port_at port.now }
 {
@@ -78,8 +78,7 @@ fn end_port_at(port: &(Guid, PortNum)) -> EndPort
     }
 }
 
-/// Adds the unjoined ports that cells are about, and management ports, to `ports`; the ports in `known` are joined
-/// or down.
+/// Appends to `ports` the unjoined ports that cells are about, management ports included. Skips the ports in `known`.
 fn add_own_ports(
     ports: &mut Vec<(Guid, PortNum)>,
     wires: &Wires,
@@ -97,7 +96,7 @@ fn add_own_ports(
     Ok(())
 }
 
-/// Adds the unjoined ports to which links lead to `ports`; the ports in `known` are joined or down.
+/// Appends to `ports` the far ends of links that are neither joined nor down. Skips the ports in `known`.
 fn add_far_ports(
     ports: &mut Vec<(Guid, PortNum)>,
     wires: &Wires,
@@ -128,7 +127,7 @@ fn unjoined_own_port(
     if_unjoined(wires, known, node, port)
 }
 
-/// Returns the far port of a link's cell if it is unjoined.
+/// Returns the far port of a link's cell, if it is unjoined.
 fn unjoined_far_port(
     wires: &Wires,
     known: &[(Guid, PortNum)],
@@ -141,7 +140,7 @@ fn unjoined_far_port(
     if_unjoined(wires, known, node, port)
 }
 
-/// The port, where it is not known where it leads.
+/// Returns the port, if it is unjoined.
 fn if_unjoined(
     wires: &Wires,
     known: &[(Guid, PortNum)],
@@ -158,8 +157,8 @@ fn if_unjoined(
     }
 }
 
-/// Whether it is known where a port leads, where some ports are given of which it is known. Takes a search among
-/// these, and three more where it is none of them.
+/// Returns whether it is known where a port leads. All ports in `known` are. Takes one binary search of `known`, and
+/// three of the store if it lacks the port.
 fn is_known_by(wires: &Wires, known: &[(Guid, PortNum)], node: Guid, port: PortNum) -> bool
     requires { AreKnownPorts (cells_of wires.now) known.now }
     ensures { result ≡ is_known_port (cells_of wires.now) (node, port) }
@@ -167,7 +166,7 @@ fn is_known_by(wires: &Wires, known: &[(Guid, PortNum)], node: Guid, port: PortN
     known.binary_search(&(node, port)).is_ok() || is_known_port(wires, node, port)
 }
 
-/// The port that a cell is about; of a cell that tells that a node is a switch, its management port.
+/// Returns the port that a cell is about. If a cell says that a node is a switch, that is its management port.
 fn own_port(sighting: &Sighting) -> Option<(Guid, PortNum)>
     ensures { result ≡ own_port sighting.now }
 {
@@ -187,14 +186,15 @@ fn own_port(sighting: &Sighting) -> Option<(Guid, PortNum)>
     }
 }
 
-/// Whether a cell says that its node is a switch.
+/// Returns whether a cell says that its node is a switch.
 fn is_switch_said(sighting: &Sighting) -> bool
     ensures { result ≡ is_switch_in (kind_in (value_in (Some sighting.now.1))) }
 {
     matches!(sighting.value(), Some(Value::Kind(NodeType::Switch, _)))
 }
 
-/// Whether a port is known to be down or has a wire, or port 0 is a switch's end port. Takes three searches at most.
+/// Returns whether a port is known to be down or has a wire, or port 0 is a switch's end port. Takes at most three
+/// searches.
 fn is_known_port(wires: &Wires, node: Guid, port: PortNum) -> bool
     ensures { result ≡ is_known_port (cells_of wires.now) (node, port) }
 {
@@ -205,7 +205,7 @@ fn is_known_port(wires: &Wires, node: Guid, port: PortNum) -> bool
     }
 }
 
-/// Whether a port is known to be down. Takes a search.
+/// Returns whether a port is known to be down. Takes a search.
 fn is_down(store: &Store, node: Guid, port: PortNum) -> bool
     ensures { result ≡ is_said_down (up_of (cells_of store.now) node port) }
 {

@@ -8,22 +8,22 @@ abbrev pub generation_of : {V : Type 0} → Cell V → ℕ
 generation_of (Known generation value) = generation
 generation_of (Disputed generation) = generation
 
--- no value is held
+-- the cell has no value
 abbrev pub IsDisputed : {V : Type 0} → Cell V → Type 0
 IsDisputed (Known generation value) = ⊥
 IsDisputed (Disputed generation) = Unit {0}
 
--- the second cell is newer, or the same, or of the same generation and disputed
+-- b is newer than a, or equal to it, or of a's generation and disputed
 abbrev pub IsBelow : {V : Type 0} → Cell V → Cell V → Type 0
 IsBelow a b = (generation_of a < generation_of b) ⊎ (a ≡ b) ⊎ ((generation_of a ≡ generation_of b) × IsDisputed b)
 
--- of two cells of one generation: equal values stay known
+-- the join of two cells of one generation: equal values stay known, and else the cell is disputed
 abbrev pub joined_alike : {V : Type 0} → (V → V → Bool) → Cell V → Cell V → Cell V
 joined_alike same (Known generation x) (Known other y) = if same x y then Known generation x else Disputed generation
 joined_alike same (Known generation x) (Disputed other) = Disputed generation
 joined_alike same (Disputed generation) b = Disputed generation
 
--- the newer of the two, and at one generation what both say
+-- the newer cell, or within one generation what both say
 abbrev pub joined_by : {V : Type 0} → (V → V → Bool) → Cell V → Cell V → Cell V
 joined_by same a b =
     if nat_lt (generation_of b) (generation_of a) then a else

@@ -1,4 +1,4 @@
--- The join of two cells is their least upper bound, where the test of values is exact.
+-- The join of two cells is their least upper bound, if the test of values is exact.
 use Rattle.std.proofs.Common.{◌≡◌, ◌<◌, ◌≤◌, Bool, true, false, inl, inr, refl, sym, ap, ◌∙◌, subst, arith, cond}
 use Rattle.std.specs.Prelude.{nat_lt}
 use Rattle.std.specs.Cmp.{IsEquivalence}
@@ -13,13 +13,13 @@ use Rattle.fact_join.specs.Cell.{generation_of, IsDisputed, IsBelow, joined_alik
 pub below_itself : {V : Type 0} (a : Cell V) → IsBelow a a
 below_itself a = inr (inl refl)
 
--- a cell below another is no newer
+-- a cell below another one is not newer
 pub below-le : {V : Type 0} (a b : Cell V) → IsBelow a b → generation_of a ≤ generation_of b
 below-le a b (inl h) = omega arith
 below-le a b (inr (inl e)) = omega (arith, ap generation_of e)
 below-le a b (inr (inr h)) = omega arith
 
--- a cell without a value is told by its generation
+-- a disputed cell is determined by its generation
 disputed_is : {V : Type 0} (a : Cell V) → IsDisputed a → a ≡ Disputed (generation_of a)
 disputed_is (Known g x) h = absurd h
 disputed_is (Disputed g) h = refl
@@ -36,7 +36,7 @@ below_antisymm a b (inr (inr h)) (inl k) = absurd (omega arith)
 below_antisymm a b (inr (inr h)) (inr (inl e)) = sym e
 below_antisymm a b (inr (inr h)) (inr (inr k)) = both_disputed a b h.0 k.1 h.1
 
--- what is below a cell is below all that is above it
+-- a cell below b is below all that is above b
 pub below_trans : {V : Type 0} (a b c : Cell V) → IsBelow a b → IsBelow b c → IsBelow a c
 below_trans a b c (inl h) k = inl (omega (arith, below-le b c k))
 below_trans a b c (inr (inl e)) k = let P : Cell _ → Type 0 = λ x. IsBelow x c in subst P (sym e) k
@@ -46,7 +46,7 @@ below_trans a b c (inr (inr h)) (inr (inr k)) = inr (inr (h.0 ∙ k.0, k.1))
 
 -- the join ---------------------------------------------------------------------
 
--- which of the three cases a join is
+-- the three cases of a join
 pub data JoinCase {V : Type 0} (same : V → V → Bool) (a b : Cell V) : Type 0 where
   first_newer : generation_of b < generation_of a → joined_by same a b ≡ a → JoinCase same a b
   second_newer : generation_of a < generation_of b → joined_by same a b ≡ b → JoinCase same a b
@@ -72,7 +72,7 @@ join_case same a b =
 
 module _ {V : Type 0} (same : V → V → Bool) (exact : (x y : V) → same x y ≡ true → x ≡ y) (itself : (x : V) → same x x
     ≡ true) where
-  -- at one generation the join is above the first
+  -- within one generation the join is above the first cell
   alike_above_first : (a b : Cell V) → IsBelow a (joined_alike same a b)
   alike_above_first (Known g x) (Known h y) =
       elim (same x y) as (λ t. IsBelow (Known g x) (cond t (Known g x) (Disputed g)))
@@ -80,7 +80,7 @@ module _ {V : Type 0} (same : V → V → Bool) (exact : (x y : V) → same x y 
   alike_above_first (Known g x) (Disputed h) = inr (inr (refl, tt))
   alike_above_first (Disputed g) b = inr (inl refl)
 
-  -- and above the second
+  -- within one generation the join is above the second cell
   alike_above_second : (a b : Cell V) → generation_of a ≡ generation_of b → IsBelow b (joined_alike same a b)
   alike_above_second (Known g x) (Known h y) e =
       elim (same x y) as (λ t. same x y ≡ t → IsBelow (Known h y) (cond t (Known g x) (Disputed g))) [
@@ -90,19 +90,19 @@ module _ {V : Type 0} (same : V → V → Bool) (exact : (x y : V) → same x y 
   alike_above_second (Known g x) (Disputed h) e = inr (inr (sym e, tt))
   alike_above_second (Disputed g) b e = inr (inr (sym e, tt))
 
-  -- a cell joined with itself stays
+  -- the join of a cell with itself is the cell
   alike_itself : (a : Cell V) → joined_alike same a a ≡ a
   alike_itself (Known g x) = ap (λ t. cond t (Known g x) (Disputed g)) (itself x)
   alike_itself (Disputed g) = refl
 
-  -- the join keeps the generation
+  -- within one generation the join keeps the generation
   generation-alike : (a b : Cell V) → generation_of (joined_alike same a b) ≡ generation_of a
   generation-alike (Known g x) (Known h y) =
       elim (same x y) as (λ t. generation_of (cond t (Known g x) (Disputed g)) ≡ g) [ true ↦ refl | false ↦ refl ]
   generation-alike (Known g x) (Disputed h) = refl
   generation-alike (Disputed g) b = refl
 
-  -- at one generation the join is below all that is above both
+  -- within one generation the join is below all that is above both cells
   alike_least : (a b z : Cell V) → generation_of a ≡ generation_of b → IsBelow a z → IsBelow b z
       → IsBelow (joined_alike same a b) z
   alike_least a b z e (inl h) k = inl (omega (arith, generation-alike a b))
@@ -139,6 +139,6 @@ module _ {V : Type 0} (same : V → V → Bool) (exact : (x y : V) → same x y 
         | alike h e ↦ subst P (sym e) (alike_least a b z h p q)
       ]
 
--- an equivalence holds of a value and itself
+-- an equivalence relates each value to itself
 pub equal_itself : {V : Type 0} {same : V → V → Bool} → IsEquivalence same → (x : V) → same x x ≡ true
 equal_itself laws x = laws.refl x

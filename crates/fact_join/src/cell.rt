@@ -3,7 +3,7 @@ ghost use Rattle.fact_join.specs.Cell.{generation_of};
 
 use smp_bytes::Generation;
 
-/// What is held of one fact: the value at its newest generation, or that its values differ there.
+/// What is known of one fact: its value at its newest generation, or that different values were told there.
 #[derive(Clone, Copy, Debug, PartialEq, Eq)]
 pub enum Cell<V> {
     /// The one value that was told at its newest generation.
@@ -13,7 +13,7 @@ pub enum Cell<V> {
 }
 
 impl<V> Cell<V> {
-    /// The newest generation at which the fact was told.
+    /// Returns the newest generation at which the fact was told.
     pub fn generation(&self) -> Generation
         ensures { result ≡ generation_of self.now }
     {

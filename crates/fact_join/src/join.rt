@@ -2,25 +2,25 @@ ghost use Rattle.std.specs.Prelude.{◌≡◌, true, Bool, IsTrue, ◌↔◌};
 
 use crate::cell::Cell;
 
-/// A type whose `==` tells all its values apart.
+/// A type whose `==` distinguishes all its values.
 pub trait Exact: Eq + Copy {
-    /// Values that `==` does not tell apart are one.
+    /// Values that are equal by `==` are one value.
     ghost exact: { (x y : Self) → Self.eq x y ≡ true → x ≡ y };
 }
 
-/// Values in an order, of which any two have a least value above both.
+/// Values in an order, any two of which have a least value above both.
 pub trait Join: Sized {
-    /// The first value says no more than the second.
+    /// Whether the first value says no more than the second.
     ghost below: { Self → Self → Type 0 };
 
     /// The least value above both.
     ghost joined: { Self → Self → Self };
 
-    /// Whether the other says at least as much.
+    /// Returns whether `other` says at least as much as this value.
     fn below(&self, other: &Self) -> bool
         ensures { IsTrue result ↔ below self.now other.now };
 
-    /// What the two say together.
+    /// Returns what this value and `other` say together.
     fn join(&self, other: &Self) -> Self
         ensures { result ≡ joined self.now other.now };
 
@@ -37,8 +37,8 @@ pub trait Join: Sized {
     ghost least: { (x y z : Self) → below x z → below y z → below (joined x y) z };
 }
 
-/// The greater generation is above. At one generation a dispute is above all else, and two values
-/// are in no order.
+/// A cell of a greater generation is above. Within one generation a disputed cell is above all others, and two
+/// different values are in no order.
 impl<V: Exact> Join for Cell<V> {
     ghost use Rattle.fact_join.specs.Cell.{IsBelow, joined_by};
 

@@ -1,4 +1,4 @@
-//! Cells: what is held of one fact, and how two such cells are joined.
+//! Cells: what is known of one fact, and how two cells are joined.
 #![tactic(auto)]
 
 mod cell;

@@ -15,19 +15,19 @@ pub record AreCells (cells : List (Key × Cell Value)) : Type 0 where
   pub rising : IsTrue (is_sorted key_cmp cells)
   pub in_range : All IsSighting cells
 
--- and none is below the floor, which is 1 or more
+-- the cells are ordered and in range, and none is below the floor, which is 1 or more
 pub record AreHeld (floor : ℕ) (cells : List (Key × Cell Value)) : Type 0 where
   pub from_one : 1 ≤ floor
   pub are : AreCells cells
   pub kept : All (λ s. IsTrue (is_kept floor s.1)) cells
 
--- a key that has no cell would have it here
+-- the key has no cell, and would have it at this index
 pub record IsIndexFor (key : Key) (cells : List (Key × Cell Value)) (index : ℕ) : Type 0 where
   pub within : index ≤ length cells
   pub absent : get (seen cells) key ≡ None
   pub rising : (c : Cell Value) → IsTrue (is_sorted key_cmp (insert cells index (key, c)))
 
--- where a key has its cell, or would
+-- the index of the key's cell, or the one where it would be
 abbrev pub IsSearched : Key → List (Key × Cell Value) → Result ℕ ℕ → Type 0
 IsSearched key cells (Ok index) = (c : Cell Value) × (slice_get cells index ≡ Some (key, c))
 IsSearched key cells (Err index) = IsIndexFor key cells index

@@ -13,7 +13,7 @@ use Rattle.reply_facts.specs.contracts.key.Key as key
 use Rattle.reply_facts.specs.contracts.value.Value as value
 use Rattle.fact_join.specs.contracts.cell.Cell as cell
 
--- facts with the same floor and the same cells are one
+-- facts with equal floors and equal cells are equal
 pub same_facts : (x y : Facts) → x.floor ≡ y.floor → x.found ≡ y.found → x ≡ y
 same_facts x y e f =
     let pairs : ◌≡◌ {A = (p : ℕ × CellMap)
@@ -21,7 +21,7 @@ same_facts x y e f =
     Σ_prop_path (λ p. T_prop _) (λ i. (e i, f i)) in
     λ i. record { floor = (pairs i).0.0; found = (pairs i).0.1; above = (pairs i).1 }
 
--- by the codes of the floor, of keys and of cells
+-- a code of facts, from the codes of the floor, of keys and of cells
 abbrev pub facts_code : Coded Facts
 facts_code = coded_via (coded× coded_ℕ (map.code (key.the_row).coded (cell.the_row value.the_row).coded))
     (λ x. (x.floor, x.found)) (λ x y p. same_facts x y (λ i. (p i).0) (λ i. (p i).1))

@@ -12,20 +12,20 @@ use Rattle.reply_facts.specs.declared.value.Value.{Value}
 use Rattle.reply_facts.specs.Key.{key_cmp}
 use Rattle.fact_store.specs.Seen.{CellMap}
 
--- whether a cell is at the floor or above it; generations begin at 1, and 0 counts as that
+-- whether a cell is at the floor or above it; generations begin at 1, and 0 counts as 1
 abbrev pub is_kept : ℕ → Cell Value → Bool
 is_kept floor c = nat_le floor (max 1 (generation_of c))
 
--- those sightings that are
+-- the sightings at the floor or above it
 abbrev pub kept : ℕ → List (Key × Cell Value) → List (Key × Cell Value)
 kept floor sightings = filter (λ s. is_kept floor s.1) sightings
 
--- a cell, where it is there and kept
+-- the cell, if there is one and it is kept
 abbrev pub kept_there : ℕ → Option (Cell Value) → Option (Cell Value)
 kept_there floor None = None
 kept_there floor (Some c) = if is_kept floor c then Some c else None
 
--- a floor is 1 or more, and no cell is below it
+-- the floor is 1 or more, and no cell is below it
 abbrev pub has_floor : ℕ → CellMap → Bool
 has_floor floor found = nat_le 1 floor && list_all (λ e. is_kept floor e.1) (entries found)
 
@@ -33,24 +33,24 @@ has_floor floor found = nat_le 1 floor && list_all (λ e. is_kept floor e.1) (en
 abbrev pub dropped : ℕ → CellMap → CellMap
 dropped floor found = from_sorted (kept floor (entries found))
 
--- none of these is: ------------------------------------------------------------------
+-- dropping leaves no cell below the floor: ---------------------------------------------
 
--- both hold
+-- if both tests hold, their conjunction does
 both_true : (a b : Bool) → T a → T b → T (a && b)
 both_true true b g h = h
 both_true false b g h = absurd g
 
--- the first of both
+-- a conjunction's first test
 first_true : (a b : Bool) → T (a && b) → T a
 first_true true b h = tt
 first_true false b h = absurd h
 
--- the second of both
+-- a conjunction's second test
 second_true : (a b : Bool) → T (a && b) → T b
 second_true true b h = h
 second_true false b h = absurd h
 
--- a key below all is below those that are kept
+-- a key below all others is below those that are kept
 below_kept : (floor : ℕ) (k : Key) (es : List (Key × Cell Value)) → T (below_all key_cmp k es)
     → T (below_all key_cmp k (kept floor es))
 below_kept floor k [] h = tt
@@ -59,7 +59,7 @@ below_kept floor k (e ∷ es) h =
     elim (is_kept floor e.1) as (λ b. T (below_all key_cmp k (cond b (e ∷ kept floor es) (kept floor es))))
     [ true ↦ both_true _ _ (first_true _ _ h) rest | false ↦ rest ]
 
--- what is kept of rising keys rises
+-- if keys rise, those that are kept rise
 pub rising_kept : (floor : ℕ) (es : List (Key × Cell Value)) → T (is_sorted key_cmp es)
     → T (is_sorted key_cmp (kept floor es))
 rising_kept floor [] h = tt
@@ -70,12 +70,12 @@ rising_kept floor (e ∷ es) h =
       | false ↦ rest
     ]
 
--- so these are the entries
+-- the entries of a dropped map are those that are kept
 pub entries-dropped : (floor : ℕ) (found : CellMap) → entries (dropped floor found) ≡ kept floor (entries found)
 entries-dropped floor found =
     entries-from_sorted key_cmp (kept floor (entries found)) (rising_kept floor (entries found) (entries_sorted found))
 
--- what is kept is
+-- each entry that is kept passes the test
 pub all_kept : (floor : ℕ) (es : List (Key × Cell Value)) → T (list_all (λ e. is_kept floor e.1) (kept floor es))
 all_kept floor [] = tt
 all_kept floor (e ∷ es) =
@@ -86,11 +86,11 @@ all_kept floor (e ∷ es) =
       | false ↦ λ p. rest
     ] refl
 
--- a number that is 1 at least is
+-- a floor taken as 1 or more is at least 1
 at_least_one : (floor : ℕ) → T (nat_le 1 (max 1 floor))
 at_least_one floor = subst T (sym (le-leb 1 (max 1 floor) (omega arith))) tt
 
--- what is dropped to a floor has it
+-- the map that is dropped to a floor has that floor
 pub dropped_has_floor : (floor : ℕ) (found : CellMap) → T (has_floor (max 1 floor) (dropped (max 1 floor) found))
 dropped_has_floor floor found =
     both_true _ _ (at_least_one floor)

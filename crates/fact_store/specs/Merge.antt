@@ -12,51 +12,51 @@ use Rattle.fact_store.specs.Seen.{CellMap}
 use Rattle.reply_facts.specs.Value.{is_same_value}
 use Rattle.fact_store.specs.View.{Facts, at_floor, cell_for, no_facts, raised, view_at}
 
--- the newer of two cells, and at one generation what both say
+-- the newer of two cells, and within one generation what both say
 abbrev pub join : Cell Value → Cell Value → Cell Value
 join = joined_by is_same_value
 
--- the first's cells, each joined with the second's of its key, and the second's others
+-- the first map's cells, each joined with the second's cell of its key, and the second's other cells
 abbrev pub merge_maps : CellMap → CellMap → CellMap
 merge_maps x y = from_entries (map (λ e. (e.0, option_map_or (join e.1) (get y e.0) e.1)) (entries x) ++ entries y)
 
--- the greater floor, and the cells of both that are not below it
+-- at the greater floor, the merged cells that are not below it
 abbrev pub merge : Facts → Facts → Facts
 merge x y = at_floor (max x.floor y.floor) (merge_maps x.found y.found)
 
--- the second has no lesser floor, and the first's cells that are not below it are below the second's of their keys
+-- y's floor is not less than x's, and each cell of x that it keeps is below y's cell of its key
 pub record IsBelowView (x y : Facts) : Type 0 where
   pub floors : x.floor ≤ y.floor
   pub cells : (key : Key) (c : Cell Value) → cell_for x key ≡ Some c → is_kept y.floor c ≡ true → (d : Cell Value)
       × (cell_for y key ≡ Some d) × IsBelow c d
 
--- above both, and below all that is above both
+-- z is above x and y, and below all that is above both
 pub record IsMerge (x y z : Facts) : Type 0 where
   pub above_first : IsBelowView x z
   pub above_second : IsBelowView y z
   pub least : (w : Facts) → IsBelowView x w → IsBelowView y w → IsBelowView z w
 
--- the merge is the least above both
+-- the merge is the least facts above both
 abbrev pub MergeLaw : Type 0
 MergeLaw = (x y : Facts) → IsMerge x y (merge x y)
 
--- and nothing else is
+-- two merges of x and y are equal
 abbrev pub MergeIsUnique : Type 0
 MergeIsUnique = (x y z w : Facts) → IsMerge x y z → IsMerge x y w → z ≡ w
 
--- what two lists of sightings say together at the greater floor is the merge of what each says at its own
+-- the view of two lists together at the greater floor is the merge of their views, each at its own floor
 abbrev pub ViewOfBoth : Type 0
 ViewOfBoth = (f h : ℕ) (s t : List (Key × Cell Value)) → view_at (max f h) (s ++ t) ≡ merge (view_at f s) (view_at h t)
 
--- the order of two does not matter
+-- the merge of two does not depend on their order
 abbrev pub MergeIsCommutative : Type 0
 MergeIsCommutative = (x y : Facts) → merge x y ≡ merge y x
 
--- which of three are merged first does not matter
+-- the merge of three does not depend on which two are merged first
 abbrev pub MergeIsAssociative : Type 0
 MergeIsAssociative = (x y z : Facts) → merge (merge x y) z ≡ merge x (merge y z)
 
--- facts merged with themselves stay
+-- merging facts with themselves changes nothing
 abbrev pub MergeIsIdempotent : Type 0
 MergeIsIdempotent = (x : Facts) → merge x x ≡ x
 

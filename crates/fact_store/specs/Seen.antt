@@ -20,7 +20,7 @@ CellMap = FinMap key_cmp (Cell Value)
 abbrev pub is_of : Key → Key × Cell Value → Bool
 is_of key s = eq_by_cmp key_cmp key s.0
 
--- what the sightings of a key say
+-- the cells of all sightings of the key
 abbrev pub cells_sighted : Key → List (Key × Cell Value) → List (Cell Value)
 cells_sighted key sightings = map (λ s. s.1) (filter (is_of key) sightings)
 
@@ -33,7 +33,7 @@ newest_of (c ∷ cells) = max (generation_of c) (newest_of cells)
 abbrev pub newest : Key → List (Key × Cell Value) → ℕ
 newest key sightings = newest_of (cells_sighted key sightings)
 
--- what cells of one generation say together: one value if all say it
+-- what cells of one generation say together: one value if all say it, and else a dispute
 abbrev pub agreement : ℕ → List (Cell Value) → Cell Value
 agreement generation [] = Disputed generation
 agreement generation (c ∷ cells) = if list_all (is_same_cell c) cells then c else Disputed generation
@@ -48,35 +48,35 @@ cell_at key sightings =
 abbrev pub seen : List (Key × Cell Value) → CellMap
 seen sightings = from_entries (map (λ s. (s.0, cell_at s.0 sightings)) sightings)
 
--- the same by membership alone: ---------------------------------------------------
+-- the law of `seen`, by membership alone: ----------------------------------------------
 
 -- the key was sighted with this cell
 abbrev pub WasSighted : Key → List (Key × Cell Value) → Cell Value → Type 0
 WasSighted key sightings c = Contains sightings (key, c)
 
--- there is a sighting of that generation, and none is newer
+-- some sighting of the key has that generation, and none is newer
 pub record IsNewest (key : Key) (sightings : List (Key × Cell Value)) (generation : ℕ) : Type 0 where
   pub sighted : (c : Cell Value) × WasSighted key sightings c × (generation_of c ≡ generation)
   pub greatest : (c : Cell Value) → WasSighted key sightings c → generation_of c ≤ generation
 
--- every newest sighting has the value
+-- every sighting of the key in that generation has the value
 abbrev pub AllSay : Key → List (Key × Cell Value) → ℕ → Value → Type 0
 AllSay key sightings generation value =
     (c : Cell Value) → WasSighted key sightings c → generation_of c ≡ generation → c ≡ Known generation value
 
--- the one value that every newest sighting has, or a dispute where there is none
+-- the key's newest generation, with the value that every sighting of it has, or disputed if there is no such value
 abbrev pub IsCellIn : Key → List (Key × Cell Value) → Cell Value → Type 0
 IsCellIn key sightings (Known generation value) =
     IsNewest key sightings generation × AllSay key sightings generation value
 IsCellIn key sightings (Disputed generation) =
     IsNewest key sightings generation × ((value : Value) → AllSay key sightings generation value → ⊥)
 
--- a key that was never sighted has no cell
+-- a key has a cell exactly if it was sighted, and the cell is what its sightings say
 pub record IsSeen (sightings : List (Key × Cell Value)) (found : CellMap) : Type 0 where
   pub cells : (key : Key)
       → MatchOption (get found key) ((c : Cell Value) → WasSighted key sightings c → ⊥) (IsCellIn key sightings)
 
--- lists with the same members, however often and in whatever order
+-- the lists have equal members, however often and in whatever order
 abbrev pub HaveSameMembers : List (Key × Cell Value) → List (Key × Cell Value) → Type 0
 HaveSameMembers s t =
     ((x : Key × Cell Value) → Contains s x → Contains t x) × ((x : Key × Cell Value) → Contains t x → Contains s x)

@@ -9,13 +9,13 @@ use Rattle.reply_facts.specs.Sighting.{IsSighting}
 use Rattle.fact_store.specs.Floor.{dropped, dropped_has_floor, has_floor, kept}
 use Rattle.fact_store.specs.Seen.{CellMap, HaveSameMembers, IsSeen, seen}
 
--- a floor, and a cell for each key of which something is known, none of them below the floor
+-- a floor, and a cell for each key that something is known of, none of them below the floor
 pub record Facts : Type 0 where
   pub floor : ℕ
   pub found : CellMap
   pub above : T (has_floor floor found)
 
--- the keys that have a cell, each with it, in the order of keys
+-- the cells with their keys, in the order of keys
 abbrev pub cells_of : Facts → List (Key × Cell Value)
 cells_of facts = entries facts.found
 
@@ -23,20 +23,20 @@ cells_of facts = entries facts.found
 abbrev pub cell_for : Facts → Key → Option (Cell Value)
 cell_for facts key = get facts.found key
 
--- the cells that are at a floor or above it; the least floor is 1
+-- the cells that are at the floor or above it; the least floor is 1
 abbrev pub at_floor : ℕ → CellMap → Facts
 at_floor floor found =
     record { floor = max 1 floor; found = dropped (max 1 floor) found; above = dropped_has_floor floor found }
 
--- with the greater of their floor and this one
+-- the facts at the greater of their floor and `floor`
 abbrev pub raised : Facts → ℕ → Facts
 raised facts floor = at_floor (max facts.floor floor) facts.found
 
--- what the sightings say together that are at a floor or above it
+-- what the sightings at the floor or above it say together
 abbrev pub view_at : ℕ → List (Key × Cell Value) → Facts
 view_at floor sightings = at_floor floor (seen sightings)
 
--- what all sightings say together
+-- what all sightings say together, at floor 1
 abbrev pub view : List (Key × Cell Value) → Facts
 view sightings = view_at 1 sightings
 
@@ -44,7 +44,7 @@ view sightings = view_at 1 sightings
 abbrev pub no_facts : Facts
 no_facts = view []
 
--- every cell that the facts have at a key is in range there
+-- every cell of the facts is in range for its key
 abbrev pub AreInRange : Facts → Type 0
 AreInRange facts = (key : Key) (c : Cell Value) → cell_for facts key ≡ Some c → IsSighting (key, c)
 
@@ -60,11 +60,11 @@ pub record IsView (floor : ℕ) (sightings : List (Key × Cell Value)) (facts : 
   pub at : facts.floor ≡ max 1 floor
   pub cells : IsSeen (kept floor sightings) facts.found
 
--- each view has it
+-- each view satisfies the law of a view
 abbrev pub ViewLaw : Type 0
 ViewLaw = (floor : ℕ) (sightings : List (Key × Cell Value)) → IsView floor sightings (view_at floor sightings)
 
--- and no other facts have it
+-- two facts that satisfy the law of one view are equal
 abbrev pub ViewIsUnique : Type 0
 ViewIsUnique = (floor : ℕ) (sightings : List (Key × Cell Value)) (x y : Facts) → IsView floor sightings x
     → IsView floor sightings y → x ≡ y
@@ -78,7 +78,7 @@ MembersDecideView =
 abbrev pub ViewOfItsCells : Type 0
 ViewOfItsCells = (x : Facts) → view_at x.floor (cells_of x) ≡ x
 
--- to raise a floor is to look at the same sightings from the greater one
+-- raising a floor gives the view of the sightings at the greater floor
 abbrev pub RaisingForgets : Type 0
 RaisingForgets = (floor greater : ℕ) (sightings : List (Key × Cell Value)) → raised (view_at floor sightings) greater
     ≡ view_at (max floor greater) sightings

@@ -1,4 +1,4 @@
--- What a walk of a store has yet to give.
+-- What an iterator over a store's cells still has to give.
 use Rattle.std.specs.Prelude.{List}
 use Rattle.page_list.specs.Rest.{rest_of}
 use Rattle.fact_join.specs.declared.cell.Cell.{Cell}

@@ -18,7 +18,7 @@ use smp_bytes::Generation;
 use std::alloc::AllocError;
 use std::cmp::Ordering;
 
-/// What two cells of a key say together.
+/// Returns what two cells of one key say together.
 fn join_cells(first: &Sighting, second: &Sighting) -> Sighting
     requires { first.now.0 ≡ second.now.0 }
     ensures value { result ≡ (first.now.0, join first.now.1 second.now.1) }
@@ -27,7 +27,8 @@ fn join_cells(first: &Sighting, second: &Sighting) -> Sighting
     Sighting::new(first.key(), first.cell().join(&second.cell())).unwrap()
 }
 
-/// Puts in a cell where its key has none, and else joins the two. The fingers of its kind and of its GUID go there.
+/// Adds a cell: inserts it if its key has none, and joins the two otherwise. Moves the fingers of its kind and of its
+/// GUID there.
 pub(crate) fn put(cells: &mut PageList<Sighting>, fingers: &mut Fingers, sighting: Sighting)
     requires cells { AreCells cells.old.items }
     requires room { 0 < cells.old.room }
@@ -41,7 +42,7 @@ pub(crate) fn put(cells: &mut PageList<Sighting>, fingers: &mut Fingers, sightin
     fingers.put(&key, slot);
 }
 
-/// Does so where its key was found to have its cell, or not.
+/// Adds a cell at the index that was found for its key: joins it with the key's cell, or inserts it. Returns its slot.
 fn put_found(cells: &mut PageList<Sighting>, found: Found, sighting: Sighting) -> Slot
     requires cells { AreCells cells.old.items }
     requires in_range { IsSighting sighting }
@@ -60,7 +61,7 @@ fn put_found(cells: &mut PageList<Sighting>, found: Found, sighting: Sighting) -
     }
 }
 
-/// The same, where a cell below the floor is left out.
+/// Adds a cell, unless it is below the floor.
 pub(crate) fn put_kept(
     cells: &mut PageList<Sighting>,
     fingers: &mut Fingers,
@@ -79,7 +80,8 @@ pub(crate) fn put_kept(
     }
 }
 
-/// The cells of two lists, walked in step: at each step a key of one or of both is done.
+/// Merges the cells of two lists, walked in step: each step passes a key of one or of both. Adds the number of
+/// comparisons to `steps`.
 pub(crate) fn merge_cells(
     first: &PageList<Sighting>,
     second: &PageList<Sighting>,
@@ -122,7 +124,7 @@ pub(crate) fn merge_cells(
     Ok(cells)
 }
 
-/// Puts one cell, if there is one, and then the others at the end.
+/// Appends `first`, if there is one, and then the others.
 fn append(
     cells: &mut PageList<Sighting>,
     first: Option<Sighting>,
@@ -139,14 +141,14 @@ fn append(
     Ok(())
 }
 
-/// Whether a cell is at a floor or above it.
+/// Returns whether a cell is at `floor` or above it.
 pub(crate) fn is_at_least(sighting: &Sighting, floor: Generation) -> bool
     ensures { result ≡ is_kept floor sighting.now.1 }
 {
     floor <= sighting.cell().generation()
 }
 
-/// Takes out the cells below a floor, in one walk.
+/// Removes the cells below `floor`, in one walk.
 pub(crate) fn drop_below(cells: &mut PageList<Sighting>, floor: Generation)
     ensures { cells.new.items ≡ kept floor cells.old.items }
 {

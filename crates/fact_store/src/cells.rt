@@ -7,7 +7,7 @@ ghost use Rattle.fact_store.specs.Walk.{cells_left};
 use page_list::Iter;
 use reply_facts::Sighting;
 
-/// The cells of a store with their keys, in the order of keys.
+/// An iterator over the cells of a store with their keys, in the order of keys.
 #[derive(Drop)]
 pub struct Cells<'a> {
     pub(crate) cells: Iter<'a, Sighting>,

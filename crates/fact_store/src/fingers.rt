@@ -4,31 +4,31 @@ use page_list::Slot;
 use reply_facts::Key;
 use smp_bytes::Guid;
 
-/// How many GUIDs are told apart at most.
+/// The number of hash values of GUIDs.
 const GUIDS: usize = 256;
 
-/// Where cells were put last, by the kind of their keys: the next key of a kind is looked for there first. What is told
-/// of a link is told from both its ends, so for links it is the last cell but one. A switch is spoken of by its
-/// neighbours in turn, so for nodes, port GUIDs and links it is also the last cell of a GUID, as far as a hash tells.
+/// The slots where cells were put last, by the kind of their keys. The next key of a kind is looked for there first.
+/// Both ends of a link are told one after the other, so for links it is the last slot but one. The neighbours of a
+/// switch tell of it in turn, so for nodes, port GUIDs and links there is also the last slot by the hash of the GUID.
 #[derive(Clone, Copy)]
 pub(crate) struct Fingers {
     node: Slot,
     port_guid: Slot,
-    /// The last but one, and the last.
+    /// The last slot but one, and the last.
     links: [Slot; 2],
     port: Slot,
     claim: Slot,
     cap: Slot,
-    /// By the hash of a GUID.
+    /// By the hash of a node's GUID.
     nodes: [Slot; GUIDS],
-    /// The same.
+    /// By the hash of a node's GUID.
     port_guids: [Slot; GUIDS],
-    /// The same.
+    /// By the hash of a node's GUID.
     link_ends: [Slot; GUIDS],
 }
 
 impl Fingers {
-    /// All at the first cell.
+    /// Creates fingers that are all at the first cell.
     pub(crate) fn new() -> Self {
         let first = Slot::first();
         Fingers {
@@ -44,7 +44,7 @@ impl Fingers {
         }
     }
 
-    /// Where to look for a key first.
+    /// Returns the slot where a key is looked for first.
     pub(crate) fn by_kind(&self, key: &Key) -> Slot {
         match key {
             Key::Node(_) => self.node,
@@ -56,7 +56,7 @@ impl Fingers {
         }
     }
 
-    /// Where to look for it next.
+    /// Returns the slot where a key is looked for next, if its kind has one by GUID.
     pub(crate) fn by_guid(&self, key: &Key) -> Option<Slot> {
         match key {
             Key::Node(node) => Some(self.nodes[hash(*node)]),
@@ -66,7 +66,7 @@ impl Fingers {
         }
     }
 
-    /// The cell of a key was put there.
+    /// Notes that the cell of a key was put at `slot`.
     pub(crate) fn put(&mut self, key: &Key, slot: Slot) {
         match key {
             Key::Node(node) => {
@@ -88,7 +88,7 @@ impl Fingers {
     }
 }
 
-/// A number for a GUID, mostly another one for another GUID.
+/// Returns a hash of a GUID, which mostly differs for different GUIDs.
 fn hash(guid: Guid) -> usize
     ensures { result < 256 }
 {

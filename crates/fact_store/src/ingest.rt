@@ -7,12 +7,12 @@ use crate::store::Store;
 use reply_facts::{Report, ReportFault, sightings};
 use thiserror::Error;
 
-/// Why a store did not take a report.
+/// Why a store refused a report.
 #[derive(Clone, Copy, Debug, PartialEq, Eq, Error)]
 pub enum IngestFault {
     #[error("{0}")]
     Report(ReportFault),
-    /// The growth that the report's facts need was refused.
+    /// There was no memory for the report's facts.
     #[error("out of memory")]
     Memory,
 }
@@ -21,7 +21,11 @@ impl Store {
     ghost use Rattle.smp_bytes.specs.Judges.{JudgesButFor};
     ghost use Rattle.fact_store.specs.Ingest.{ingest_fault, is_memory};
 
-    /// Takes in what a report tells. Out of memory is the last check.
+    /// Adds the facts of a report.
+    ///
+    /// # Errors
+    ///
+    /// Returns the report's first fault, or `Memory` if it has none and memory runs out. Nothing changes then.
     pub fn ingest(&mut self, report: &Report) -> Result<(), IngestFault>
         ensures judged { JudgesButFor is_memory result (ingest_fault report.now) }
         ensures ok { OnOk result (self.new ≡ merge self.old (view (sightings_of report.now))) }

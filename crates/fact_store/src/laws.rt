@@ -1,36 +1,37 @@
-//! The laws of views and merges: what a store holds depends on nothing but which sightings were put
-//! in and which floor is the greatest that was raised, in whatever order, however often, and through whatever stores.
+//! The laws of views and merges: what a store holds depends only on which sightings were put in and which floor is the
+//! greatest that was raised, in whatever order, however often, and through whatever stores.
 ghost use Rattle.fact_store.specs.View.{ViewLaw, ViewIsUnique, MembersDecideView, ViewOfItsCells, RaisingForgets};
 ghost use Rattle.fact_store.specs.Merge.{MergeLaw, MergeIsUnique, ViewOfBoth, MergeIsCommutative};
 ghost use Rattle.fact_store.specs.Merge.{MergeIsAssociative, MergeIsIdempotent, GroupingIsFree, MergingInTurn};
 
-/// A view at a floor has a cell exactly for each key that was sighted there or above: at the newest generation of
-/// its sightings, with the value that all of these say, or disputed where no value is said by all.
+/// A view at a floor has a cell exactly for each key that was sighted at the floor or above it: of the newest
+/// generation of its sightings, known with a value if all sightings of that generation say that value, and else
+/// disputed.
 pub fn view_has_its_law()
     ensures { ViewLaw }
 {}
 
-/// No other facts have that law.
+/// No facts but the view satisfy the law of a view.
 pub fn view_is_unique()
     ensures { ViewIsUnique }
 {}
 
-/// Neither the order of sightings nor their repetition matters.
+/// A view depends neither on the order of its sightings nor on their repetition.
 pub fn members_decide_view()
     ensures { MembersDecideView }
 {}
 
-/// Facts are the view of their own cells, so a list of their cells stands for them.
+/// Facts are the view of their own cells at their floor, so a list of their cells stands for them.
 pub fn view_of_its_cells()
     ensures { ViewOfItsCells }
 {}
 
-/// A floor that is raised later forgets the same as one that stood from the first.
+/// A floor that is raised later gives the view that it would have given from the first.
 pub fn raising_forgets()
     ensures { RaisingForgets }
 {}
 
-/// What two lists of sightings say together at the greater of two floors is the merge of what each says at its own.
+/// The merge of two views is the view of both lists of sightings at the greater of the two floors.
 pub fn view_of_both()
     ensures { ViewOfBoth }
 {}
@@ -40,34 +41,34 @@ pub fn merge_is_least_above_both()
     ensures { MergeLaw }
 {}
 
-/// No other facts are so.
+/// Only the merge is above both facts and below all that is above both.
 pub fn merge_is_unique()
     ensures { MergeIsUnique }
 {}
 
-/// Which of two stores is merged into the other does not matter.
+/// The merge of two stores does not depend on which of them is merged into the other.
 pub fn merge_is_commutative()
     ensures { MergeIsCommutative }
 {}
 
-/// Nor does it matter which of three are merged first.
+/// The merge of three stores does not depend on which two are merged first.
 pub fn merge_is_associative()
     ensures { MergeIsAssociative }
 {}
 
-/// Facts that are merged with themselves stay as they are.
+/// Merging facts with themselves changes nothing.
 pub fn merge_is_idempotent()
     ensures { MergeIsIdempotent }
 {}
 
-/// Stores that are merged in any grouping, with floors raised at any moment, hold what all their sightings say together
-/// at the greatest floor.
+/// Stores hold the view of all their sightings at the greatest floor, however they are grouped for merging and whenever
+/// floors are raised.
 pub fn grouping_is_free()
     ensures { GroupingIsFree }
 {}
 
-/// Stores, however many, that are merged one after another into an empty one hold what all their sightings say
-/// together at the greatest of their floors.
+/// An empty store into which any number of stores are merged in turn holds the view of all their sightings at the
+/// greatest of their floors.
 pub fn merging_in_turn()
     ensures { MergingInTurn }
 {}

@@ -1,4 +1,4 @@
-//! The view that all facts together give of a subnet.
+//! The view of a subnet: what all its facts say together.
 #![tactic(auto)]
 
 mod cell_list;

@@ -7,9 +7,9 @@ use fact_join::Cell;
 use reply_facts::{Key, Value};
 use smp_bytes::{Guid, Lid, NodeType, PortNum};
 
-// None where nothing was told, and where what was told is disputed. Each takes a search.
+// Readers return None for what was not told, and for what is disputed. Each takes a search.
 impl Store {
-    /// The value of a key.
+    /// Returns the known value of a key.
     pub fn known(&self, key: Key) -> Option<Value>
         ensures { result ≡ known_in (cells_of self.now) key }
     {
@@ -19,7 +19,7 @@ impl Store {
         }
     }
 
-    /// The type of a node and the number of its ports.
+    /// Returns the type of a node and its number of ports.
     pub fn node(&self, node: Guid) -> Option<(NodeType, u8)>
         ensures { result ≡ node_of (cells_of self.now) node }
     {
@@ -29,7 +29,7 @@ impl Store {
         }
     }
 
-    /// The GUID of a port.
+    /// Returns the GUID of a port.
     pub fn port_guid(&self, node: Guid, port: PortNum) -> Option<Guid>
         ensures { result ≡ port_guid_of (cells_of self.now) node port }
     {
@@ -39,7 +39,7 @@ impl Store {
         }
     }
 
-    /// The node and the port at the other end of a link.
+    /// Returns the node and the port at the other end of a link.
     pub fn link(&self, node: Guid, port: PortNum) -> Option<(Guid, PortNum)>
         ensures { result ≡ link_of (cells_of self.now) node port }
     {
@@ -49,7 +49,7 @@ impl Store {
         }
     }
 
-    /// Whether a port is up.
+    /// Returns whether a port is up.
     pub fn is_up(&self, node: Guid, port: PortNum) -> Option<bool>
         ensures { result ≡ up_of (cells_of self.now) node port }
     {
@@ -59,7 +59,7 @@ impl Store {
         }
     }
 
-    /// The LID that a port claims.
+    /// Returns the LID that a port claims.
     pub fn claim(&self, node: Guid, port: PortNum) -> Option<Lid>
         ensures { result ≡ claim_of (cells_of self.now) node port }
     {
@@ -69,7 +69,7 @@ impl Store {
         }
     }
 
-    /// How many LIDs a switch's linear forwarding table has room for.
+    /// Returns how many LIDs a switch's linear forwarding table has room for.
     pub fn cap(&self, node: Guid) -> Option<u16>
         ensures { result ≡ cap_of (cells_of self.now) node }
     {

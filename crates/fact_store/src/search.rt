@@ -10,7 +10,7 @@ use page_list::{PageList, Slot};
 use reply_facts::{Key, Sighting};
 use std::cmp::Ordering;
 
-/// How the key of a cell stands to another, which is one step. A store compares keys by this alone.
+/// Compares the key of a cell with `key`, and counts one step. A store compares keys only by this function.
 pub(crate) fn compare(held: &Sighting, key: &Key, steps: &mut u128) -> Ordering
     requires { steps.old < 2 ^ 127 }
     ensures order { result ≡ key_cmp held.now.0 key.now }
@@ -20,16 +20,16 @@ pub(crate) fn compare(held: &Sighting, key: &Key, steps: &mut u128) -> Ordering
     held.key_cmp(key)
 }
 
-/// Where a key has its cell, or would.
+/// Where a key has its cell: `index` is `Ok` with its index, or `Err` with the index where it would be inserted.
 #[derive(Clone, Copy)]
 pub(crate) struct Found {
     pub index: Result<usize, usize>,
-    /// Where its cell may lie, or the one beside it.
+    /// The slot where the cell may be, or the one beside it.
     pub near: Slot,
 }
 
-/// Where a key has its cell, or would, to put one in there: at a finger, behind the last cell, or where a search finds
-/// it.
+/// Finds the index of a key's cell, or the one where it would be inserted: at a finger, behind the last cell, or else
+/// by a search.
 pub(crate) fn index_of(cells: &PageList<Sighting>, key: &Key, fingers: &Fingers) -> Found
     requires { AreCells cells.now.items }
     ensures { IsSearched key.now cells.now.items result.index }
@@ -50,7 +50,8 @@ pub(crate) fn index_of(cells: &PageList<Sighting>, key: &Key, fingers: &Fingers)
     find(cells, key).found
 }
 
-/// The same, if the key is at the finger of its kind or of its GUID.
+/// Finds the index of a key's cell, or the one where it would be inserted, if that is at the finger of its kind or of
+/// its GUID.
 fn found_by_fingers(cells: &PageList<Sighting>, key: &Key, fingers: &Fingers) -> Option<Found>
     requires { AreCells cells.now.items }
     ensures { IfSome result (λ found. IsSearched key.now cells.now.items found.index) }
@@ -61,7 +62,7 @@ fn found_by_fingers(cells: &PageList<Sighting>, key: &Key, fingers: &Fingers) ->
     }
 }
 
-/// The same, at a finger.
+/// Finds the index of a key's cell, or the one where it would be inserted, if that is at `finger`.
 fn found_at_finger(cells: &PageList<Sighting>, key: &Key, finger: Slot) -> Option<Found>
     requires { AreCells cells.now.items }
     ensures { IfSome result (λ found. IsSearched key.now cells.now.items found.index) }
@@ -73,7 +74,8 @@ fn found_at_finger(cells: &PageList<Sighting>, key: &Key, finger: Slot) -> Optio
     })
 }
 
-/// Its index, if the key is that of the cell at the finger or comes right behind it, as two steps tell.
+/// Returns the index of a key's cell, or the one where it would be inserted, if the key is that of the cell at
+/// `finger`, that of the next cell, or between the two. Takes at most two comparisons.
 fn index_at_finger(
     cells: &PageList<Sighting>,
     key: &Key,
@@ -96,7 +98,7 @@ fn index_at_finger(
     }
 }
 
-/// How the key of the cell at an index stands to another. Past the end it is greater than any.
+/// Compares the key of the cell at index `i` with `key`. Past the end it is greater than any key.
 fn order_at(cells: &PageList<Sighting>, i: usize, near: Slot, key: &Key) -> Ordering
     ensures { result ≡ option_map_or (λ s. key_cmp s.0 key.now) (slice_get cells.now.items i) Greater }
 {
@@ -106,15 +108,16 @@ fn order_at(cells: &PageList<Sighting>, i: usize, near: Slot, key: &Key) -> Orde
     }
 }
 
-/// What a search finds.
+/// The result of a search.
 #[derive(Clone, Copy)]
 pub(crate) struct SearchResult {
     pub found: Found,
-    /// How many keys were compared with it.
+    /// The number of keys that were compared with the key.
     pub steps: u32,
 }
 
-/// Where a key has its cell, or would. Each step leaves less than half of the next power of two.
+/// Searches for the index of a key's cell, or the one where it would be inserted. Compares at most as many keys as the
+/// number of cells has binary digits.
 pub(crate) fn find(cells: &PageList<Sighting>, key: &Key) -> SearchResult
     requires { AreCells cells.now.items }
     ensures index { IsSearched key.now cells.now.items result.found.index }
@@ -160,7 +163,7 @@ pub(crate) fn find(cells: &PageList<Sighting>, key: &Key) -> SearchResult
     }
 }
 
-/// The least number that is at least `n` and has no binary digit but 1.
+/// Returns the least 2^k - 1 that is at least `n`.
 fn all_ones(n: usize) -> usize
     ensures least { IsBudget n 0 result }
     ensures enough { n ≤ result }

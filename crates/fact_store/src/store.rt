@@ -21,7 +21,7 @@ use thiserror::Error;
 /// Why a store did not grow.
 #[derive(Clone, Copy, Debug, PartialEq, Eq, Error)]
 pub enum Refused {
-    /// The memory that the growth needs was refused.
+    /// There was no memory for the growth.
     #[error("out of memory")]
     Memory,
 }
@@ -32,10 +32,10 @@ impl From<AllocError> for Refused {
     }
 }
 
-/// As many sightings as a report tells go in one after the other.
+/// The greatest number of sightings that are added one by one: a report has no more.
 const SIGHTINGS_PER_REPORT: usize = 4;
 
-/// What is held of a subnet: the view of all that was put in, a cell for each key. What is older than its floor is
+/// What is known of a subnet: the view of all that was put in, a cell for each key. What is below its floor is
 /// forgotten for good.
 #[derive(Drop)]
 pub struct Store {
@@ -43,7 +43,7 @@ pub struct Store {
     floor: Generation,
     /// One cell for each key, in the order of keys.
     cells: PageList<Sighting>,
-    /// Where the last ones were put.
+    /// The slots where cells were put last.
     fingers: Fingers,
 }
 
@@ -62,7 +62,7 @@ impl Model for Store {
 }
 
 impl Store {
-    /// An empty store at floor 1, which takes its memory from `alloc` later.
+    /// Creates an empty store at floor 1, which takes its memory from `alloc` later.
     pub fn new(alloc: Global) -> Self
         ensures { result ≡ no_facts }
     {
@@ -73,15 +73,16 @@ impl Store {
         }
     }
 
-    /// The least generation that counts, 1 for a new store.
+    /// Returns the least generation that counts, 1 for a new store.
     pub fn floor(&self) -> Generation
         ensures { result ≡ self.now.floor }
     {
         self.floor
     }
 
-    /// Forgets what is older than a generation, now and whenever it comes again. Takes no memory, and gives back what
-    /// the cells took. Walks the cells where this floor is greater than the one held, and else does nothing.
+    /// Forgets all cells below `floor`, and ignores sightings below it from then on. Takes no memory, and frees pages
+    /// that are not needed then. Walks the cells if `floor` is greater than the store's floor, and otherwise does
+    /// nothing.
     pub fn raise_floor(&mut self, floor: Generation)
         ensures { self.new ≡ raised self.old floor }
     {
@@ -91,10 +92,10 @@ impl Store {
         }
     }
 
-    /// Adds what the sighting says to what is held, which is nothing where it is below the floor. Takes two comparisons
-    /// where its key comes behind the one of its kind that was put in last, or is that key or the next; of a node, a
-    /// port's GUID or a link four where it is so of its GUID, as far as a hash tells; else a search. Moves no more than
-    /// a page.
+    /// Adds the sighting; ignores it if it is below the floor. Takes two comparisons if its key is that of the last
+    /// sighting added of its kind (for links, the last but one), the next key held, or between the two; four if that is
+    /// so only for the last one with its GUID, for a node, a port's GUID or a link, as far as a hash tells; otherwise a
+    /// search. Moves at most a page.
     pub fn add(&mut self, sighting: Sighting) -> Result<(), Refused>
         ensures ok { OnOk result (self.new ≡ merge self.old (view (sighting ∷ []))) }
         ensures err { OnErr result (self.new ≡ self.old) }
@@ -104,8 +105,8 @@ impl Store {
         Ok(())
     }
 
-    /// Adds all of them or, where memory runs out, none. A few are added one by one; more are put in order first,
-    /// and then merged.
+    /// Adds all sightings or, if memory runs out, none. A few are added one by one; more are put in order first, and
+    /// then merged.
     pub fn add_all(&mut self, sightings: &[Sighting]) -> Result<(), Refused>
         ensures ok { OnOk result (self.new ≡ merge self.old (view sightings.now)) }
         ensures err { OnErr result (self.new ≡ self.old) }
@@ -117,8 +118,8 @@ impl Store {
         }
     }
 
-    /// The same, by a store of them alone. It is a call of its own, since a store is large to lay out, and a report has
-    /// few sightings.
+    /// Builds a store of the sightings and merges it. It is a function of its own since a `Store` is large on the
+    /// stack, and a report has few sightings.
     fn add_many(&mut self, sightings: &[Sighting]) -> Result<(), Refused>
         ensures ok { OnOk result (self.new ≡ merge self.old (view sightings.now)) }
         ensures err { OnErr result (self.new ≡ self.old) }
@@ -128,7 +129,7 @@ impl Store {
         Ok(())
     }
 
-    /// The same, with room for a page each before the first goes in.
+    /// Reserves a page for each sighting, and then adds them one by one.
     fn add_few(&mut self, sightings: &[Sighting]) -> Result<(), Refused>
         ensures ok { OnOk result (self.new ≡ merge self.old (view sightings.now)) }
         ensures err { OnErr result (self.new ≡ self.old) }
@@ -140,7 +141,8 @@ impl Store {
         Ok(())
     }
 
-    /// Adds all that the other store holds, and takes the greater floor of the two. Walks both.
+    /// Adds all that `other` holds, and takes the greater of the two floors. Walks both stores. If memory runs out,
+    /// nothing changes.
     pub fn merge(&mut self, other: &Store) -> Result<(), Refused>
         ensures ok { OnOk result (self.new ≡ merge self.old other.now) }
         ensures least { OnOk result (IsMerge self.old other.now self.new) }
@@ -150,7 +152,7 @@ impl Store {
         Ok(())
     }
 
-    /// Does what `merge` does, and says how many times two keys were compared.
+    /// Merges `other` as `merge` does, and returns how many times two keys were compared.
     pub fn merge_steps(&mut self, other: &Store) -> Result<u128, Refused>
         ensures ok { OnOk result (self.new ≡ merge self.old other.now) }
         ensures least { OnOk result (IsMerge self.old other.now self.new) }
@@ -174,7 +176,7 @@ impl Store {
         Ok(steps)
     }
 
-    /// Does what `merge` does. An empty store takes the other one over as it is.
+    /// Merges `other` as `merge` does. An empty store takes the contents of `other` without a walk.
     pub fn merge_owned(&mut self, other: Store) -> Result<(), Refused>
         ensures ok { OnOk result (self.new ≡ merge self.old other) }
         ensures err { OnErr result (self.new ≡ self.old) }
@@ -188,7 +190,7 @@ impl Store {
         self.merge(&other)
     }
 
-    /// A store of its own that holds the same, with the same allocator.
+    /// Creates a store with equal contents and the same allocator.
     pub fn try_clone(&self) -> Result<Store, Refused>
         ensures ok { IfOk result (λ store. store ≡ self.now) }
     {
@@ -197,7 +199,7 @@ impl Store {
         Ok(store)
     }
 
-    /// The cell of a key, if there is one. Halves the cells at each step.
+    /// Returns the cell of a key, if there is one. Takes a binary search.
     pub fn get(&self, key: Key) -> Option<Cell<Value>>
         ensures found { result ≡ cell_for self.now key }
         ensures in_range { AreInRange self.now }
@@ -205,7 +207,7 @@ impl Store {
         self.get_steps(key).0
     }
 
-    /// The cell of a key, if there is one, and how many times two keys were compared.
+    /// Returns the cell of a key, if there is one, and how many times two keys were compared.
     pub fn get_steps(&self, key: Key) -> (Option<Cell<Value>>, u32)
         ensures found { result.0 ≡ cell_for self.now key }
         ensures counted { CountsSearch key (cells_of self.now) result.1 }
@@ -225,7 +227,7 @@ impl Store {
         (cell, search.steps)
     }
 
-    /// The number of keys that have a cell. It is held.
+    /// Returns the number of keys with a cell. Takes one step.
     pub fn count(&self) -> usize
         ensures exact { result ≡ length (cells_of self.now) }
         ensures in_range { AreInRange self.now }
@@ -233,7 +235,8 @@ impl Store {
         self.cells.len()
     }
 
-    /// The key at index `i` in the order of the keys, from 0 on, with its cell. Halves the pages at each step.
+    /// Returns the cell at index `i` in the order of keys, from 0 on, with its key. Takes a binary search among the
+    /// pages.
     pub fn cell(&self, i: usize) -> Option<Sighting>
         ensures exact { result ≡ slice_get (cells_of self.now) i }
         ensures in_range { AreInRange self.now }
@@ -241,7 +244,7 @@ impl Store {
         self.cells.get(i)
     }
 
-    /// The cells with their keys, in the order of keys. Each is had in one step.
+    /// Iterates over the cells with their keys, in the order of keys. Each takes one step.
     pub fn cells(&self) -> Cells<'_>
         ensures cells { cells_left result ≡ cells_of self.now }
         ensures in_range { AreInRange self.now }
@@ -251,7 +254,7 @@ impl Store {
         }
     }
 
-    /// The greatest generation of a cell. Walks the cells.
+    /// Returns the greatest generation of a cell, or `None` if there is no cell. Walks the cells.
     pub fn newest(&self) -> Option<Generation>
         ensures none { IsNone result ↔ (cells_of self.now ≡ []) }
         ensures newest { IfSome result (IsNewestGeneration self.now) }
@@ -264,7 +267,7 @@ impl Store {
     }
 }
 
-/// The newer of two generations, where there may be none yet.
+/// Returns the newer of two generations, the first of which may be missing.
 fn newer(held: Option<Generation>, other: Generation) -> Generation
     ensures { result ≡ max (unwrap_or held 0) other }
 {
@@ -274,7 +277,7 @@ fn newer(held: Option<Generation>, other: Generation) -> Generation
     }
 }
 
-/// A store of what the sightings say at a floor.
+/// Creates a store of what the sightings say at `floor`.
 fn store_of(alloc: Global, floor: Generation, sightings: &[Sighting]) -> Result<Store, Refused>
     ensures { IfOk result (λ store. store ≡ view_at floor sightings.now) }
 {

@@ -1,25 +1,25 @@
--- The blocks of a number that switches hold, row by row.
+-- The blocks with a number that switches hold, row by row.
 use Rattle.std.specs.Prelude.{◌≡◌, ◌<◌, ℕ, List, [], Option, length, slice_index_or, slice_set}
 use Rattle.std.specs.Option.{option_map_or}
 use Rattle.plan_file.specs.declared.held.HeldBlock.{HeldBlock}
 use Rattle.plan_file.specs.Held.{HeldPlan}
 use Rattle.held_tables.specs.Tables.{block_at, entry_in}
 
--- so many blocks with no entry
+-- `count` rows without an entry
 pub record AreBlank (count : ℕ) (rows : List (List ℕ)) : Type 0 where
   pub as_many : length rows ≡ count
   pub entry : (index i : ℕ) → slice_index_or (slice_index_or rows index []) i 255 ≡ 255
 
--- the blocks of a number, by the indices of their switches
+-- `rows` has the blocks with this number, by the indices of the held switches
 pub record AreBlocks (held : HeldPlan) (number : ℕ) (rows : List (List ℕ)) : Type 0 where
   pub as_many : length rows ≡ length held.switches
   pub entry : (index i : ℕ) → index < length rows → slice_index_or (slice_index_or rows index []) i 255
       ≡ entry_in (block_at held index number) i
 
--- with a block where that of its switch is
+-- `rows` with `block` in the row of its switch
 abbrev pub with_row : List (List ℕ) → HeldBlock → List (List ℕ)
 with_row rows block = slice_set rows block.switch block.entries
 
--- the same, if there is one
+-- `rows` with `block`, if there is one, in the row of its switch
 abbrev pub with_block : List (List ℕ) → Option HeldBlock → List (List ℕ)
 with_block rows block = option_map_or (with_row rows) block rows

@@ -1,15 +1,15 @@
--- Which block is the next of a number.
+-- For each block, where the next one with its number is.
 use Rattle.std.specs.Prelude.{◌≡◌, ◌≢◌, ◌<◌, ◌≤◌, ℕ, suc, List, length, slice_index_or}
 use Rattle.held_tables.specs.declared.chains.Chains.{Chains}
 
--- the index of the first of some numbers that is this one, from an index on; how many they are where none is
+-- `index` is that of the first occurrence of `number` from `from` on, or the list's length if there is none
 pub record IsNext (numbers : List ℕ) (number from index : ℕ) : Type 0 where
   pub past : from ≤ index
   pub within : index ≤ length numbers
   pub is : index < length numbers → slice_index_or numbers index 0 ≡ number
   pub none : (other : ℕ) → from ≤ other → other < index → slice_index_or numbers other 0 ≢ number
 
--- the first of each number, and the next behind each
+-- `chains` has the first occurrence of each number, and the next one after each index
 pub record AreChains (numbers : List ℕ) (chains : Chains) : Type 0 where
   pub firsts : (number : ℕ) → number < 65536 → IsNext numbers number 0 (slice_index_or chains.firsts.items number 0)
   pub nexts : (index : ℕ) → index < length numbers

@@ -8,44 +8,44 @@ use Rattle.held_tables.specs.Tables.{holders, is_owner, is_same_end, owners_of}
 use Rattle.held_tables.specs.declared.owners.Owner.{Owner}
 use Rattle.held_tables.specs.declared.owners.Owner.TheVariants.{Nobody, Sole, Several}
 
--- what is told of the end ports that hold a LID
+-- who holds a LID that these end ports hold
 abbrev pub owner_among : List EndPort → Owner
 owner_among [] = Nobody
 owner_among (e ∷ []) = Sole e
 owner_among (e ∷ x ∷ es) = Several
 
--- the end port that alone holds it
+-- the end port that alone holds the LID
 abbrev pub sole_among : Owner → Option EndPort
 sole_among Nobody = None
 sole_among (Sole e) = Some e
 sole_among Several = None
 
--- more than one
+-- more than one end port holds the LID
 abbrev pub is_several : Owner → Bool
 is_several Nobody = false
 is_several (Sole e) = false
 is_several Several = true
 
--- with one more
+-- who holds a LID if `e` holds it besides
 abbrev pub owner_more : Owner → EndPort → Owner
 owner_more Nobody e = Sole e
 owner_more (Sole x) e = Several
 owner_more Several e = Several
 
--- no other end port is one of these
+-- all owners are `port`
 abbrev pub is_sole : EndPort → List EndPort → Bool
 is_sole port owners = list_all (is_same_end port) owners
 
--- an owner beside which is no other is the only one: whichever way it is asked, one end port alone holds the LID
+-- an owner of a LID is its only one exactly if all its owners are that end port
 abbrev pub SoleOwnersAreAlone : Type 0
 SoleOwnersAreAlone =
     (held : HeldPlan) (lid : ℕ) (port : EndPort) → IsTrue (is_owner (owners_of held lid) port)
     → IsTrue (is_sole port (owners_of held lid)) ↔ (owners_of held lid ≡ port ∷ [])
 
--- more than one of these lines tells the LID: where each tells something else, more than one end port holds it
+-- more than one of `lines` tells the LID; if the lines differ, more than one end port holds it
 abbrev pub is_told_twice : List HeldLid → ℕ → Bool
 is_told_twice lines lid = nat_lt 1 (count_by (λ (line : HeldLid). line.lid == lid) lines)
 
--- who holds each LID, by these lines
+-- `owners` says who holds each LID by `lines`
 pub record AreOwners (lines : List HeldLid) (owners : List Owner) : Type 0 where
   pub each : (lid : ℕ) → lid < length owners → slice_index_or owners lid Several ≡ owner_among (holders lines lid)

@@ -3,11 +3,11 @@ use Rattle.std.specs.Prelude.{ℕ, ◌+◌, ◌-◌, List, ◌++◌, length, rep
 use Rattle.held_tables.specs.declared.far_end.Far.{Far}
 use Rattle.held_tables.specs.declared.far_end.Far.TheVariants.{Nothing, Switch, Port}
 
--- there is no wire in those behind it
+-- the list filled up to `count` ports, without wires in the others
 abbrev pub padded : ℕ → List Far → List Far
 padded count fars = fars ++ replicate (count - length fars) Nothing
 
--- how many the first ports are up to the last one that has a wire, by those before a port and its own
+-- the number of ports up to the last one that has a wire, at most `port`; `count` is that number for the ports before
 abbrev pub wired_more : Far → ℕ → ℕ → ℕ
 wired_more Nothing port count = count
 wired_more (Switch index) port count = port + 1

@@ -12,7 +12,7 @@ use Rattle.held_tables.specs.declared.far_end.Far.{Far}
 use Rattle.held_tables.specs.declared.far_end.Far.TheVariants.{Nothing, Switch, Port}
 use Rattle.held_tables.specs.declared.senders.Sender.{Sender}
 
--- the index of a GUID
+-- the index of `guid`
 abbrev pub index_in : List ℕ → ℕ → Option ℕ
 index_in guids guid = position (λ g. g == guid) guids
 
@@ -28,17 +28,17 @@ far_to guids (Some q) = far_at q (index_in guids q.0)
 abbrev pub far_of : Cells → ℕ → ℕ → Far
 far_of cells g p = far_to (switches cells) (across cells g p)
 
--- where the wires in the ports from 0 to 254 of a node lead: 255 is no port
+-- where the wires in the ports of a node lead, from 0 to 254; 255 is no port
 abbrev pub row_of : Cells → ℕ → List Far
 row_of cells g = map (far_of cells g) (range_with_len 0 255)
 
--- where the wire leads in port n % 256 of the usable switch at index n / 256
+-- where the wire in port n % 256 of the usable switch at index n / 256 leads
 abbrev pub far_by : Cells → ℕ → Far
 far_by cells n =
     option_map_or (λ g. slice_index_or (row_of cells g) (n % 256) Nothing) (slice_get (switches cells) (n / 256))
     Nothing
 
--- an end port as a source: the index of its switch, where it is one's, and where its wire leads
+-- an end port as a sender: the index of its switch, if it is that of a usable switch, and where its wire leads
 abbrev pub sender_of : Cells → EndPort → Sender
 sender_of cells e = record { port = e; switch = index_in (switches cells) e.node; far = far_of cells e.node e.port }
 
@@ -48,7 +48,7 @@ switch_over Nothing = None
 switch_over (Switch index) = Some index
 switch_over (Port e) = None
 
--- the index of the switch to which a source's packets come first: its own, or that to which its wire leads
+-- the index of the first switch that a sender's packets reach: its own, or that to which its wire leads
 abbrev pub first_by : Option ℕ → Far → Option ℕ
 first_by (Some index) far = Some index
 first_by None far = switch_over far
@@ -56,17 +56,17 @@ first_by None far = switch_over far
 abbrev pub first_switch : Sender → Option ℕ
 first_switch source = first_by source.switch source.far
 
--- one of so many switches
+-- the index is below `count`
 abbrev pub is_among : ℕ → Option ℕ → Bool
 is_among count None = false
 is_among count (Some index) = nat_lt index count
 
--- the packets of each source come first to one
+-- the packets of each sender first reach one of `count` switches
 abbrev pub all_begin : ℕ → List (Option ℕ) → Bool
 all_begin count firsts = list_all (is_among count) firsts
 
--- a usable switch: where the wires in its ports lead, its index among the switches that are held, its top, and the
--- number of its ports
+-- a usable switch: where the wires in its ports lead, its index among the held switches, its top, and the number of its
+-- ports
 abbrev pub node_of : Cells → HeldPlan → ℕ → AuditedSwitch
 node_of cells held g = record {
   guid = g;

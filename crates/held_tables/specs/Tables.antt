@@ -1,4 +1,4 @@
--- What the tables held say: who holds a LID, and by which port a switch sends a packet on.
+-- What the held tables say: who holds a LID, and by which port a switch forwards a packet.
 use Rattle.std.specs.Prelude.{ℕ, ◌/◌, ◌%◌, ◌==◌, ◌&&◌, ◌||◌, Bool, not, List, [], ◌∷◌, Option, map, filter, option_and_then, nat_lt, slice_get, slice_index_or, reverse, if◌then◌else◌}
 use Rattle.std.specs.Option.{option_map_or}
 use Rattle.std.specs.List.{find, list_any, position}
@@ -14,16 +14,16 @@ is_same_end e x = x.node == e.node && x.port == e.port
 abbrev pub is_same_line : HeldLid → HeldLid → Bool
 is_same_line x y = y.lid == x.lid && is_same_end x.port y.port
 
--- of some lines the first of those that tell the same
+-- the lines without those that tell the same as an earlier one
 abbrev pub told_once : List HeldLid → List HeldLid
 told_once [] = []
 told_once (x ∷ xs) = x ∷ filter (λ y. not (is_same_line x y)) (told_once xs)
 
--- the LIDs that are held, each with the end ports that hold it, which are told once each, in the order of the lines
+-- the held LIDs in the order of the lines, each with every end port that holds it once
 abbrev pub lines_of : HeldPlan → List HeldLid
 lines_of held = told_once held.lids
 
--- of some lines the end ports of those that tell a LID
+-- the end ports of the lines that tell `lid`
 abbrev pub holders : List HeldLid → ℕ → List EndPort
 holders lines lid = map (λ x. x.port) (filter (λ x. x.lid == lid) lines)
 
@@ -31,46 +31,46 @@ holders lines lid = map (λ x. x.port) (filter (λ x. x.lid == lid) lines)
 abbrev pub owners_of : HeldPlan → ℕ → List EndPort
 owners_of held lid = holders (lines_of held) lid
 
--- the end port is one of these
+-- `e` is one of `owners`
 abbrev pub is_owner : List EndPort → EndPort → Bool
 is_owner owners e = list_any (is_same_end e) owners
 
--- the index of a switch among those that are held
+-- the index of switch g among the held switches
 abbrev pub index_of : HeldPlan → ℕ → Option ℕ
 index_of held g = position (λ s. s.guid == g) held.switches
 
--- the top of the switch at an index, and 0 where there is none
+-- the top of the switch at `index`, 0 if there is none
 abbrev pub top_at : HeldPlan → Option ℕ → ℕ
 top_at held index = option_map_or (λ s. s.top) (option_and_then (slice_get held.switches) index) 0
 
 abbrev pub number_of : HeldBlock → ℕ
 number_of x = x.number
 
--- the block of a number of the switch at an index
+-- x is the block `number` of the switch at `index`
 abbrev pub is_block_of : ℕ → ℕ → HeldBlock → Bool
 is_block_of index number x = x.switch == index && x.number == number
 
--- the last such block; a text that is read has no two
+-- the last block `number` of the switch at `index`; a text that is read has no two
 abbrev pub block_at : HeldPlan → ℕ → ℕ → Option HeldBlock
 block_at held index number = find (is_block_of index number) (reverse held.blocks)
 
--- the entry in a block, and 255 where the block is not held
+-- the entry at i in a block, 255 if the block is not held
 abbrev pub entry_in : Option HeldBlock → ℕ → ℕ
 entry_in block i = option_map_or (λ x. slice_index_or x.entries i 255) block 255
 
--- the entry of the switch at an index for a LID, and 255 where it is not held
+-- the entry for `lid` of the switch at `index`, 255 if it is not held
 abbrev pub entry_at : HeldPlan → Option ℕ → ℕ → ℕ
 entry_at held index lid = option_map_or (λ k. entry_in (block_at held k (lid / 64)) (lid % 64)) index 255
 
--- the top of a switch, and 0 where it is not held
+-- the top of switch g, 0 if it is not held
 abbrev pub top_of : HeldPlan → ℕ → ℕ
 top_of held g = top_at held (index_of held g)
 
--- the entry of a switch for a LID, and 255 where it is not held
+-- the entry of switch g for `lid`, 255 if it is not held
 abbrev pub entry_of : HeldPlan → ℕ → ℕ → ℕ
 entry_of held g lid = entry_at held (index_of held g) lid
 
--- the entry that counts: none does for LID 0 and LIDs over the top
+-- the effective entry: 255 for LID 0 and LIDs over the top
 abbrev pub counted : ℕ → ℕ → ℕ → ℕ
 counted lid top entry = if lid == 0 || nat_lt top lid then 255 else entry
 

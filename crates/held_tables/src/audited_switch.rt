@@ -17,15 +17,15 @@ pub struct AuditedSwitch {
     pub guid: Guid,
     /// Where the wires in its ports lead.
     pub row: FarEnds,
-    /// Its index among the switches that are held.
+    /// Its index among the held switches.
     pub index: Option<usize>,
-    /// The greatest LID that it forwards, and 0 where it is not held.
+    /// The greatest LID that it forwards, 0 if none is held.
     pub top: Lid,
     /// The number of its ports.
     pub ports: u8,
 }
 
-/// The usable switches of the view, by rising GUID.
+/// Returns the usable switches of the view, by rising GUID.
 pub fn nodes(
     alloc: Global,
     wires: &Wires,
@@ -42,7 +42,7 @@ pub fn nodes(
     Ok(nodes)
 }
 
-/// A usable switch.
+/// Returns the usable switch with this GUID.
 fn node_at(
     alloc: Global,
     wires: &Wires,
@@ -66,7 +66,7 @@ fn node_at(
     })
 }
 
-/// The index of a switch among those that are held. Takes a walk.
+/// Returns the index of a switch among the held switches. Takes a walk.
 pub fn index_of(held: &Held, guid: Guid) -> Option<usize>
     ensures { result ≡ index_of held.now guid }
 {
@@ -75,7 +75,7 @@ pub fn index_of(held: &Held, guid: Guid) -> Option<usize>
         .position(|switch| switch.guid == guid)
 }
 
-/// The top of the switch at an index, and 0 where there is none.
+/// Returns the top of the held switch at `index`, or 0 if there is none.
 pub fn top_at(held: &Held, index: Option<usize>) -> Lid
     ensures { result ≡ top_at held.now index }
 {

@@ -7,8 +7,8 @@ use crate::chains::{Chains, chains_of};
 use plan_file::{Held, HeldBlock};
 use std::alloc::{AllocError, Global};
 
-/// The blocks of a number, by the indices of their switches among those that are held; entries that are not held
-/// are 255. Takes a step for each switch and each of these blocks.
+/// Returns the blocks with this number, by the indices of the held switches; entries that are not held are 255. Takes a
+/// step for each switch and each of these blocks.
 pub fn block_rows(
     alloc: Global,
     held: &Held,
@@ -27,7 +27,7 @@ pub fn block_rows(
     Ok(rows)
 }
 
-/// Puts the block at an index where that of its switch is.
+/// Puts the block at `index` into the row of its switch.
 fn put_block(rows: &mut Vec<[u8; 64]>, blocks: &[HeldBlock], index: usize)
     ensures { rows.new.items ≡ with_block rows.old.items (slice_get blocks.now index) }
 {
@@ -37,7 +37,7 @@ fn put_block(rows: &mut Vec<[u8; 64]>, blocks: &[HeldBlock], index: usize)
     }
 }
 
-/// Puts a block where that of its switch is.
+/// Puts `block` into the row of its switch.
 fn put_row(rows: &mut Vec<[u8; 64]>, block: &HeldBlock)
     ensures { rows.new.items ≡ with_row rows.old.items block.now }
 {
@@ -46,7 +46,7 @@ fn put_row(rows: &mut Vec<[u8; 64]>, block: &HeldBlock)
     }
 }
 
-/// The chains of the numbers of the blocks that are held.
+/// Returns the chains of the held blocks' numbers.
 pub fn block_chains(alloc: Global, held: &Held) -> Result<Chains, AllocError>
     ensures { IfOk result (λ chains. AreChains (map number_of held.now.blocks) chains) }
 {
@@ -54,7 +54,7 @@ pub fn block_chains(alloc: Global, held: &Held) -> Result<Chains, AllocError>
     chains_of(alloc, &numbers)
 }
 
-/// The numbers of the blocks that are held.
+/// Returns the numbers of the held blocks.
 fn numbers(alloc: Global, held: &Held) -> Result<Vec<u16>, AllocError>
     ensures { IfOk result (λ numbers. numbers.items ≡ map number_of held.now.blocks) }
 {
@@ -65,7 +65,7 @@ fn numbers(alloc: Global, held: &Held) -> Result<Vec<u16>, AllocError>
 }
 
 #[tactic(auto, using(crate::proofs::Gathered::no_rows, crate::proofs::Gathered::blank_more))]
-/// A block for each switch that is held, with no entry.
+/// Returns a row of 64 times 255 for each held switch.
 fn no_blocks(alloc: Global, held: &Held) -> Result<Vec<[u8; 64]>, AllocError>
     ensures { IfOk result (λ rows. AreBlank (length held.now.switches) rows.items) }
 {

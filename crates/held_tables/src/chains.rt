@@ -1,22 +1,22 @@
-//! Where the next block of a number is.
+//! For each block, where the next one with its number is.
 ghost use Rattle.std.specs.Prelude.{◌≡◌, ◌<◌, ◌+◌, IfOk, length, replicate, slice_index_or};
 ghost use Rattle.held_tables.specs.Chains.{AreChains, IsNext};
 
 use std::alloc::{AllocError, Global};
 
-/// Numbers, chained with those behind them that are the same.
+/// A list of numbers, each chained to its next occurrence.
 #[derive(Drop)]
 pub struct Chains {
-    /// For each number the index of the first that is it, and how many there are where none is.
+    /// For each number, the index of its first occurrence, or the list's length if it does not occur.
     pub firsts: Vec<usize>,
-    /// For each index that of the next which has the same number, and how many there are where none has.
+    /// For each index, the index of the next occurrence of its number, or the list's length if there is none.
     pub nexts: Vec<usize>,
 }
 
-/// More than the greatest number.
+/// One more than the greatest number.
 const NUMBERS: usize = 0x1_0000;
 
-/// The chains of numbers. Takes a step for each.
+/// Returns the chains of `numbers`. Takes a step for each number.
 pub(crate) fn chains_of(alloc: Global, numbers: &[u16]) -> Result<Chains, AllocError>
     ensures { IfOk result (λ chains. AreChains numbers.now chains) }
 {
@@ -32,7 +32,7 @@ pub(crate) fn chains_of(alloc: Global, numbers: &[u16]) -> Result<Chains, AllocE
     Ok(Chains { firsts, nexts })
 }
 
-/// So many indices that are all this one.
+/// Returns `count` times `index`.
 fn so_many(alloc: Global, count: usize, index: usize) -> Result<Vec<usize>, AllocError>
     ensures { IfOk result (λ indices. indices.items ≡ replicate count index) }
 {
@@ -40,7 +40,7 @@ fn so_many(alloc: Global, count: usize, index: usize) -> Result<Vec<usize>, Allo
 }
 
 impl Chains {
-    /// The index of the first number that is this one, and how many there are where none is.
+    /// Returns the index of the first occurrence of `number`, or the list's length if it does not occur.
     pub(crate) fn first(&self, number: u16) -> usize
         ensures { result ≡ slice_index_or self.now.firsts.items number 0 }
     {
@@ -50,7 +50,7 @@ impl Chains {
         }
     }
 
-    /// The index of the next number that is the same as that at an index, and how many there are where none is.
+    /// Returns the index of the next occurrence of the number at `index`, or the list's length if there is none.
     pub(crate) fn next(&self, index: usize) -> usize
         ensures { result ≡ slice_index_or self.now.nexts.items index 0 }
     {

@@ -17,7 +17,7 @@ pub enum Far {
     Port(EndPort),
 }
 
-/// Where the wire in a port leads, among the usable switches of the view. Takes two searches, and a walk over
+/// Returns where the wire in a port leads, among the usable switches of the view. Takes two searches, and a walk over
 /// the switches.
 pub(crate) fn far_of(wires: &Wires, guids: &[Guid], node: Guid, port: PortNum) -> Far
     requires { guids.now ≡ switches (cells_of wires.now) }
@@ -32,14 +32,14 @@ pub(crate) fn far_of(wires: &Wires, guids: &[Guid], node: Guid, port: PortNum) -
     }
 }
 
-/// The index of a GUID. Takes a walk.
+/// Returns the index of `guid`. Takes a walk.
 pub(crate) fn index(guids: &[Guid], guid: Guid) -> Option<usize>
     ensures { result ≡ index_in guids.now guid }
 {
     guids.iter().position(|g| *g == guid)
 }
 
-/// The index of the usable switch to which a wire leads.
+/// Returns the index of the usable switch to which a wire leads.
 pub(crate) fn switch_over(far: Far) -> Option<usize>
     ensures { result ≡ switch_over far }
 {

@@ -13,7 +13,7 @@ use subnet_view::Wires;
 /// Where the wires in a switch's ports lead.
 #[derive(Drop)]
 pub struct FarEnds {
-    /// Up to the last port that has a wire.
+    /// The far ends up to the last port that has a wire.
     fars: Vec<Far>,
 }
 
@@ -28,14 +28,14 @@ impl Model for FarEnds {
 }
 
 impl FarEnds {
-    /// Where the wire in a port leads. Takes one step.
+    /// Returns where the wire in `port` leads. Takes one step.
     pub fn far(&self, port: u8) -> Far
         ensures { result ≡ slice_index_or self.now port Far.Nothing }
     {
         far_at(&self.fars, port)
     }
 
-    /// The index of the usable switch to which the wire in a port leads. Takes one step.
+    /// Returns the index of the usable switch to which the wire in `port` leads. Takes one step.
     pub fn switch(&self, port: u8) -> Option<usize>
         ensures { result ≡ switch_over (slice_index_or self.now port Far.Nothing) }
     {
@@ -43,7 +43,7 @@ impl FarEnds {
     }
 }
 
-/// Where the wire in a port leads.
+/// Returns where the wire in `port` leads.
 fn far_at(fars: &[Far], port: u8) -> Far
     ensures { result ≡ slice_index_or fars.now port Far.Nothing }
 {
@@ -53,7 +53,7 @@ fn far_at(fars: &[Far], port: u8) -> Far
     }
 }
 
-/// The index of the usable switch to which the wire in a port leads.
+/// Returns the index of the usable switch to which the wire in `port` leads.
 fn switch_at(fars: &[Far], port: u8) -> Option<usize>
     ensures { result ≡ switch_over (slice_index_or fars.now port Far.Nothing) }
 {
@@ -63,7 +63,7 @@ fn switch_at(fars: &[Far], port: u8) -> Option<usize>
     }
 }
 
-/// The row of a switch.
+/// Returns where the wires in a switch's ports lead.
 pub(crate) fn row_of(
     alloc: Global,
     wires: &Wires,
@@ -78,7 +78,7 @@ pub(crate) fn row_of(
     Ok(FarEnds { fars })
 }
 
-/// Where the wires in all ports of a switch lead.
+/// Returns where the wires in all ports of a switch, from 0 to 254, lead.
 fn all_fars(
     alloc: Global,
     wires: &Wires,
@@ -95,7 +95,7 @@ fn all_fars(
     Ok(fars)
 }
 
-/// Those of the ports up to the last that has a wire.
+/// Returns the far ends up to the last port that has a wire.
 fn shortened(alloc: Global, fars: &[Far]) -> Result<Vec<Far>, AllocError>
     ensures { IfOk result (λ short. padded (length fars.now) short.items ≡ fars.now) }
 {
@@ -103,7 +103,7 @@ fn shortened(alloc: Global, fars: &[Far]) -> Result<Vec<Far>, AllocError>
     Vec::from_slice(alloc, &fars[..count])
 }
 
-/// How many ports there are up to the last that has a wire.
+/// Returns the number of ports up to the last one that has a wire.
 fn wired(fars: &[Far]) -> usize
     ensures within { result ≤ length fars.now }
     ensures others { fars.now ≡ take result fars.now ++ replicate (length fars.now - result) Far.Nothing }
@@ -115,7 +115,8 @@ fn wired(fars: &[Far]) -> usize
     count
 }
 
-/// The same by those before a port, and where its own wire leads.
+/// Returns the number of ports up to the last one that has a wire, at most `port`; `count` is that number for the ports
+/// before it.
 fn wired_more(far: &Far, port: usize, count: usize) -> usize
     requires { port < 2 ^ 64 - 1 }
     ensures { result ≡ wired_more far.now port count }

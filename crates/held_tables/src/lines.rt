@@ -1,4 +1,4 @@
-//! The LIDs that are held, with the end ports that hold each.
+//! The held LIDs, with the end ports that hold each.
 ghost use Rattle.std.specs.Prelude.{◌≡◌, IfOk};
 ghost use Rattle.held_tables.specs.Tables.{lines_of};
 
@@ -6,8 +6,8 @@ use plan_file::{Held, HeldLid};
 use std::alloc::{AllocError, Global};
 use std::collections::BTreeSet;
 
-/// The LIDs that are held, each with the end ports that hold it, which are told once each, in the order of the lines.
-/// Takes a search for each line.
+/// Returns the held LIDs in the order of the lines, each with every end port that holds it once. Takes a search for
+/// each line.
 pub fn lines_of(alloc: Global, held: &Held) -> Result<Vec<HeldLid>, AllocError>
     ensures { IfOk result (λ lines. lines.items ≡ lines_of held.now) }
 {

@@ -20,10 +20,10 @@ pub enum Owner {
     Several,
 }
 
-/// More than the greatest LID that an end port can hold.
+/// One more than the greatest LID that an end port can hold.
 const LIDS: usize = Lid::UNICAST_END as usize;
 
-/// Who holds each LID by these lines. Takes a step for each.
+/// Returns who holds each LID by `lines`. Takes a step for each line.
 pub fn lid_owners(alloc: Global, lines: &[HeldLid]) -> Result<Vec<Owner>, AllocError>
     ensures { IfOk result (λ owners. AreOwners lines.now owners.items) }
 {
@@ -34,7 +34,7 @@ pub fn lid_owners(alloc: Global, lines: &[HeldLid]) -> Result<Vec<Owner>, AllocE
     Ok(owners)
 }
 
-/// An end port more that holds a LID.
+/// Adds that the end port of `line` holds its LID.
 fn add_owner(owners: &mut Vec<Owner>, line: &HeldLid)
     ensures { owners.new.items ≡ slice_set owners.old.items line.now.lid
         (owner_more (slice_index_or owners.old.items line.now.lid Several) line.now.port) }
@@ -45,7 +45,7 @@ fn add_owner(owners: &mut Vec<Owner>, line: &HeldLid)
     }
 }
 
-/// What is told of a LID that one end port more holds.
+/// Returns who holds a LID if `port` holds it besides `owner`.
 fn owner_more(owner: Owner, port: EndPort) -> Owner
     ensures { result ≡ owner_more owner port }
 {
@@ -55,8 +55,8 @@ fn owner_more(owner: Owner, port: EndPort) -> Owner
     }
 }
 
-/// The end ports that hold a LID by these lines, by who holds each. Takes a step or two where there are not several,
-/// and else a walk over all lines.
+/// Returns the end ports that hold `lid` by `lines`. Takes a step or two if at most one does, and else a walk over all
+/// lines.
 pub fn owners_of(
     alloc: Global,
     lines: &[HeldLid],
@@ -73,7 +73,7 @@ pub fn owners_of(
     }
 }
 
-/// Who holds a LID, and several where that is not told.
+/// Returns who holds `lid`, or `Several` if `owners` does not tell.
 fn owner_at(owners: &[Owner], lid: Lid) -> Owner
     ensures { result ≡ slice_index_or owners.now lid Several }
 {
@@ -83,7 +83,7 @@ fn owner_at(owners: &[Owner], lid: Lid) -> Owner
     }
 }
 
-/// The end port that alone holds a LID. Takes one step.
+/// Returns the end port that alone holds `lid`. Takes one step.
 pub fn sole_owner(owners: &[Owner], lid: Lid) -> Option<EndPort>
     ensures { result ≡ sole_among (slice_index_or owners.now lid Several) }
 {
@@ -93,7 +93,7 @@ pub fn sole_owner(owners: &[Owner], lid: Lid) -> Option<EndPort>
     }
 }
 
-/// One end port.
+/// Returns a list of one end port.
 fn one(alloc: Global, port: EndPort) -> Result<Vec<EndPort>, AllocError>
     ensures { IfOk result (λ ports. ports.items ≡ port ∷ []) }
 {
@@ -102,7 +102,7 @@ fn one(alloc: Global, port: EndPort) -> Result<Vec<EndPort>, AllocError>
     Ok(ports)
 }
 
-/// The end ports that hold a LID by these lines. Takes a walk over all lines.
+/// Returns the end ports that hold `lid` by `lines`. Takes a walk over all lines.
 fn all_owners_of(alloc: Global, lines: &[HeldLid], lid: Lid) -> Result<Vec<EndPort>, AllocError>
     ensures { IfOk result (λ owners. owners.items ≡ holders lines.now lid) }
 {
@@ -113,8 +113,8 @@ fn all_owners_of(alloc: Global, lines: &[HeldLid], lid: Lid) -> Result<Vec<EndPo
         .collect(alloc)
 }
 
-/// Whether more than one of these lines tells a LID, by who holds each. Takes a step or two if the LID is below 49152,
-/// and else a walk over all lines.
+/// Returns whether more than one of `lines` tells `lid`. Takes a step or two if the LID is below 49152, and else a walk
+/// over all lines.
 pub fn is_told_twice(lines: &[HeldLid], owners: &[Owner], lid: Lid) -> bool
     requires { AreOwners lines.now owners.now }
     ensures { result ≡ is_told_twice lines.now lid }
@@ -125,7 +125,7 @@ pub fn is_told_twice(lines: &[HeldLid], owners: &[Owner], lid: Lid) -> bool
     }
 }
 
-/// Whether more than one end port holds a LID.
+/// Returns whether more than one end port holds the LID.
 fn is_several(owner: &Owner) -> bool
     ensures { result ≡ is_several owner.now }
 {
@@ -135,15 +135,15 @@ fn is_several(owner: &Owner) -> bool
     }
 }
 
-/// Whether more than one of these lines tells a LID. Takes a walk over all lines.
+/// Returns whether more than one of `lines` tells `lid`. Takes a walk over all lines.
 fn is_told_twice_by(lines: &[HeldLid], lid: Lid) -> bool
     ensures { result ≡ is_told_twice lines.now lid }
 {
     1 < lines.iter().filter(|line| line.lid == lid).count()
 }
 
-/// Whether by these lines no other end port holds the LID of one, by who holds each. Takes a step or two where there
-/// are not several, and else a walk over all lines.
+/// Returns whether no end port but the line's holds the LID of `line` by `lines`. Takes a step or two if at most one
+/// holds it, and else a walk over all lines.
 pub fn is_sole_owner(lines: &[HeldLid], owners: &[Owner], line: &HeldLid) -> bool
     requires { AreOwners lines.now owners.now }
     ensures { result ≡ is_sole line.now.port (holders lines.now line.now.lid) }
@@ -155,7 +155,7 @@ pub fn is_sole_owner(lines: &[HeldLid], owners: &[Owner], line: &HeldLid) -> boo
     }
 }
 
-/// Whether by these lines no other end port holds the LID of one. Takes a walk over all lines.
+/// Returns whether no end port but the line's holds the LID of `line` by `lines`. Takes a walk over all lines.
 fn is_sole_of_all(lines: &[HeldLid], line: &HeldLid) -> bool
     ensures { result ≡ is_sole line.now.port (holders lines.now line.now.lid) }
 {
@@ -166,7 +166,7 @@ fn is_sole_of_all(lines: &[HeldLid], line: &HeldLid) -> bool
         .all(|owner| is_same_end(&line.port, &owner))
 }
 
-/// Whether two end ports are one. Takes one step.
+/// Returns whether two end ports are the same. Takes one step.
 pub fn is_same_end(port: &EndPort, other: &EndPort) -> bool
     ensures { result ≡ is_same_end port.now other.now }
 {

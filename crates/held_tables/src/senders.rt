@@ -13,13 +13,13 @@ use subnet_view::{EndPort, Wires};
 pub struct Sender {
     /// The end port.
     pub port: EndPort,
-    /// The index of its switch, where it is a usable switch's.
+    /// The index of its switch, if it is the end port of a usable switch.
     pub switch: Option<usize>,
     /// Where its wire leads.
     pub far: Far,
 }
 
-/// The end ports as sources.
+/// Returns the end ports as senders.
 pub fn sources(
     alloc: Global,
     wires: &Wires,
@@ -42,7 +42,7 @@ pub fn sources(
     Ok(sources)
 }
 
-/// For each source the index of the switch to which its packets come first.
+/// Returns, for each sender, the index of the first switch that its packets reach.
 pub fn firsts(alloc: Global, sources: &[Sender]) -> Result<Vec<Option<usize>>, AllocError>
     ensures { IfOk result (λ firsts. firsts.items ≡ map first_switch sources.now) }
 {
@@ -52,7 +52,7 @@ pub fn firsts(alloc: Global, sources: &[Sender]) -> Result<Vec<Option<usize>>, A
         .collect(alloc)
 }
 
-/// The index of the switch to which a source's packets come first.
+/// Returns the index of the first switch that a sender's packets reach.
 fn first_switch(source: &Sender) -> Option<usize>
     ensures { result ≡ first_switch source.now }
 {
@@ -62,14 +62,14 @@ fn first_switch(source: &Sender) -> Option<usize>
     }
 }
 
-/// Whether the packets of each source come first to one of so many switches.
+/// Returns whether the packets of each sender first reach one of `count` switches.
 pub fn all_begin(count: usize, firsts: &[Option<usize>]) -> bool
     ensures { result ≡ all_begin count firsts.now }
 {
     firsts.iter().all(|first| is_among(count, *first))
 }
 
-/// Whether it is one of so many switches.
+/// Returns whether `first` is one of `count` switches.
 fn is_among(count: usize, first: Option<usize>) -> bool
     ensures { result ≡ is_among count first }
 {

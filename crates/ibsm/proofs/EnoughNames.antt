@@ -9,7 +9,7 @@ use Rattle.sm_cli.specs.Asked.{rule_for}
 use Rattle.cli_arguments.specs.Words.{files_named, word_named}
 use Rattle.cli_task.specs.Asked.{followed_by, names_asked, names_in, texts_asked, texts_of_rule}
 use Rattle.cli_task.specs.declared.task.Task.{Task}
-use Rattle.cli_task.specs.declared.task.Task.TheVariants.{Answer, Audit, Next, Run}
+use Rattle.cli_task.specs.declared.task.Task.TheVariants.{Answer, Audit, OrderOf, Next, Run, Serve}
 use Rattle.cli_task.proofs.RuleTexts.{one_word, texts_counted}
 use Rattle.ibsm.specs.Ending.{HasEnoughNames}
 
@@ -27,6 +27,10 @@ two_words None schedule xs e = absurd (cc)
 two_words (Some t) None xs e = absurd (cc)
 two_words (Some t) (Some s) xs e = ap length (sym (same_Some _ _ e))
 
+lines_counted : (guid : Option (List ℕ)) (xs : List (List ℕ)) → option_map (λ g. codes "/dev/stdin" ∷ []) guid ≡ Some xs → length xs ≡ 1
+lines_counted None xs e = absurd (cc)
+lines_counted (Some g) xs e = ap length (sym (same_Some _ _ e))
+
 -- there are as many inputs as the task takes
 pub names_suffice : (word : List ℕ → Option (List ℕ)) (files : Option (List (List ℕ))) (task : Task) (names : List (List ℕ))
     → names_in word files task ≡ Some names → HasEnoughNames task (length names)
@@ -34,9 +38,15 @@ names_suffice word files (Answer request) names e =
     let all = both_named (texts_of_rule word (rule_for request.output)) (followed_by (Some []) files) names e in
     let texts = texts_counted word (rule_for request.output) all.0 all.2 in
     let count = all.4 in omega arith
-names_suffice word files (Audit floor) names e =
-    let all = both_named (Some []) (followed_by (texts_asked word (Audit floor)) files) names e in
-    let rest = both_named (texts_asked word (Audit floor)) files all.1 all.3 in
+names_suffice word files (Audit asked) names e =
+    let all = both_named (Some []) (followed_by (texts_asked word (Audit asked)) files) names e in
+    let rest = both_named (texts_asked word (Audit asked)) files all.1 all.3 in
+    let one = one_word (word (codes "TABLES")) rest.0 rest.2 in
+    let count = all.4 in
+    let others = rest.4 in omega arith
+names_suffice word files (OrderOf floor) names e =
+    let all = both_named (Some []) (followed_by (texts_asked word (OrderOf floor)) files) names e in
+    let rest = both_named (texts_asked word (OrderOf floor)) files all.1 all.3 in
     let one = one_word (word (codes "TABLES")) rest.0 rest.2 in
     let count = all.4 in
     let others = rest.4 in omega arith
@@ -52,6 +62,14 @@ names_suffice word files (Run lmc rule) names e =
     let texts = texts_counted word rule all.0 all.2 in
     let rest = both_named (texts_asked word (Run lmc rule)) (Some []) all.1 all.3 in
     let two = two_words (word (codes "TOPOLOGY")) (word (codes "SCHEDULE")) rest.0 rest.2 in
+    let none = ap length (same_Some _ _ rest.3) in
+    let count = all.4 in
+    let others = rest.4 in omega arith
+names_suffice word files (Serve asked) names e =
+    let all = both_named (texts_of_rule word asked.rule) (followed_by (texts_asked word (Serve asked)) (Some [])) names e in
+    let texts = texts_counted word asked.rule all.0 all.2 in
+    let rest = both_named (texts_asked word (Serve asked)) (Some []) all.1 all.3 in
+    let one = lines_counted (word (codes "GUID")) rest.0 rest.2 in
     let none = ap length (same_Some _ _ rest.3) in
     let count = all.4 in
     let others = rest.4 in omega arith

@@ -13,41 +13,50 @@ use Rattle.sm_cli.specs.declared.fault.Fault.{Fault}
 use Rattle.sm_cli.specs.declared.fault.Fault.TheVariants.{Open, File, Text, NoRoom, Write, Memory}
 use Rattle.audit_report.specs.RunAudit.{HasAudited, IsAuditFault}
 use Rattle.next_run.specs.RunNext.{HasStepped, IsStepFault}
+use Rattle.order_run.specs.OrderRun.{HasTold, IsOrderFault}
+use Rattle.record_file.specs.declared.file_fault.FileFault.TheVariants.{Read}
 use Rattle.schedule_run.specs.Run.{HasRun, IsRunFault}
+use Rattle.serve_task.specs.RunServe.{HasServedLines, IsServeFault}
 use Rattle.cli_task.specs.Asked.{names_asked, task_asked}
 use Rattle.ibsm.specs.declared.opener.OpenFault.{OpenFault}
 use Rattle.cli_task.specs.declared.task.Task.{Task}
-use Rattle.cli_task.specs.declared.task.Task.TheVariants.{Answer, Audit, Next, Run}
+use Rattle.cli_task.specs.declared.task.Task.TheVariants.{Answer, Audit, OrderOf, Next, Run, Serve}
 use Rattle.ibsm.specs.Opening.{AreOpened, IsOpenFault}
 
 -- what is done ----------------------------------------------------------------------------------
 
--- so many names are enough for the texts that a task takes; a run takes no files behind them
+-- `count` names are enough for the texts that a task takes; a run and a manager take no files behind them
 abbrev pub HasEnoughNames : Task → ℕ → Type 0
 HasEnoughNames (Answer request) count = texts_for (rule_for request.output) ≤ count
-HasEnoughNames (Audit floor) count = 1 ≤ count
+HasEnoughNames (Audit asked) count = 1 ≤ count
+HasEnoughNames (OrderOf floor) count = 1 ≤ count
 HasEnoughNames (Next asked) count = texts_for asked.rule + 1 ≤ count
 HasEnoughNames (Run lmc rule) count = count ≡ texts_for rule + 2
+HasEnoughNames (Serve asked) count = count ≡ texts_for asked.rule + 1
 
--- what a task does with open inputs, where this holds of what it prints, and this of what it says on standard error;
--- what judges nothing passes
+-- what a task does with open inputs, if `prints` holds of what it prints and `says` of what it writes to standard
+-- error; a task that judges nothing passes
 abbrev pub Does : {S : Type 0} → (S → SourceState) → Task → List S → List S → (List ℕ → Type 0)
     → (List ℕ → Type 0) → Bool → Type 0
 Does state (Answer request) olds news prints says passed =
     (passed ≡ true) × HasAnswered state request olds news prints
-Does state (Audit floor) olds news prints says passed =
-    HasAudited state floor olds news prints passed
+Does state (Audit asked) olds news prints says passed =
+    HasAudited state asked olds news prints passed
+Does state (OrderOf floor) olds news prints says passed =
+    HasTold state floor olds news prints passed
 Does state (Next asked) olds news prints says passed =
     HasStepped state asked olds news prints says passed
 Does state (Run lmc rule) olds news prints says passed =
     (passed ≡ true) × HasRun state lmc rule olds news prints
+Does state (Serve asked) olds news prints says passed =
+    (passed ≡ true) × HasServedLines state asked olds news prints
 
--- where a task is done, standard error stays as it was; but a step says there what it has to
+-- a task that is done leaves standard error as it was; only a step may write there
 abbrev pub StaysSilent : {E : Type 0} → Task → E → E → Type 0
 StaysSilent (Next asked) errors errors' = Unit {0}
 StaysSilent task errors errors' = errors' ≡ errors
 
--- the files with these names were opened, and the task was done with them
+-- the files `names` were opened, and the task was done with them
 pub record Performs {S : Type 0} (answers : List ℕ → Result S OpenFault → Type 0) (state : S → SourceState)
     (task : Task) (names : List (Bor (List ℕ))) (prints says : List ℕ → Type 0) (passed : Bool) : Type 0 where
   pub olds : List S
@@ -62,13 +71,13 @@ pub record AsksWhole (matches : ArgMatches) : Type 0 where
   pub names : List (Bor (List ℕ))
   pub named : names_asked matches task ≡ Some (map (λ name. name.now) names)
 
--- so they do, and it was done with these
+-- the words ask for a task and name its inputs, and the task was done with them
 pub record PerformsWords {S : Type 0} (answers : List ℕ → Result S OpenFault → Type 0) (state : S → SourceState)
     (matches : ArgMatches) (prints says : List ℕ → Type 0) (passed : Bool) : Type 0 where
   pub asked : AsksWhole matches
   pub performed : Performs answers state asked.task asked.names prints says passed
 
--- what the program ends with where all is done, and where what was audited does not pass
+-- the exit status if all is done: `Done`, or `Failed` if what was judged does not pass
 abbrev pub status_after : Bool → ExitStatus
 status_after true = Done
 status_after false = Failed
@@ -79,50 +88,56 @@ IsDone status = (passed : Bool) × (status ≡ status_after passed)
 
 -- faults ----------------------------------------------------------------------------------------
 
--- why a task over open inputs ends early; where memory was refused as a run went on, this holds of what it would have
--- printed
+-- why a task over open inputs ends early; if memory was refused as it went on, `prints` holds of what it would have
+-- printed, and if no more lines could be read, `whole` does
 abbrev pub IsFaultOver : {S : Type 0} → (S → SourceState) → Task → List S → List S
-    → (List ℕ → Type 0) → Bool → Fault → Type 0
-IsFaultOver state (Answer request) olds news prints output_failed fault =
+    → (List ℕ → Type 0) → (List ℕ → Type 0) → Bool → Fault → Type 0
+IsFaultOver state (Answer request) olds news prints whole output_failed fault =
     IsFaultOf state request olds news output_failed fault
-IsFaultOver state (Audit floor) olds news prints output_failed fault =
-    IsAuditFault state floor olds news output_failed fault
-IsFaultOver state (Next asked) olds news prints output_failed fault =
+IsFaultOver state (Audit asked) olds news prints whole output_failed fault =
+    IsAuditFault state asked.floor olds news output_failed fault
+IsFaultOver state (OrderOf floor) olds news prints whole output_failed fault =
+    IsOrderFault state floor olds news output_failed fault
+IsFaultOver state (Next asked) olds news prints whole output_failed fault =
     IsStepFault state asked olds news output_failed fault
-IsFaultOver state (Run lmc rule) olds news prints output_failed fault =
+IsFaultOver state (Run lmc rule) olds news prints whole output_failed fault =
     IsRunFault state lmc rule olds news prints output_failed fault
+IsFaultOver state (Serve asked) olds news prints whole output_failed fault =
+    IsServeFault state asked olds news prints whole output_failed fault
 
 -- the files were opened, and the task over them ends with the fault
 pub record FailsOverFiles {S : Type 0} (answers : List ℕ → Result S OpenFault → Type 0) (state : S → SourceState)
-    (task : Task) (names : List (Bor (List ℕ))) (prints : List ℕ → Type 0) (output_failed : Bool)
+    (task : Task) (names : List (Bor (List ℕ))) (prints whole : List ℕ → Type 0) (output_failed : Bool)
     (fault : Fault) : Type 0 where
   pub olds : List S
   pub news : List S
   pub opened : AreOpened answers names olds
-  pub fails : IsFaultOver state task olds news prints output_failed fault
+  pub fails : IsFaultOver state task olds news prints whole output_failed fault
 
--- why a task is not done: its files are not open, or it ends early
+-- why a task fails: a file does not open, or the task over the files ends early
 abbrev pub IsTaskFault : {S : Type 0} → (List ℕ → Result S OpenFault → Type 0) → (S → SourceState) → Task
-    → List (Bor (List ℕ)) → (List ℕ → Type 0) → Bool → Fault → Type 0
-IsTaskFault answers state task names prints output_failed fault =
+    → List (Bor (List ℕ)) → (List ℕ → Type 0) → (List ℕ → Type 0) → Bool → Fault → Type 0
+IsTaskFault answers state task names prints whole output_failed fault =
     IsOpenFault answers names fault
-    ⊎ FailsOverFiles answers state task names prints output_failed fault
+    ⊎ FailsOverFiles answers state task names prints whole output_failed fault
 
--- a run prints as it goes on, and may lack memory then; each other task prints once it is done
-abbrev pub PrintsAsItGoes : Task → Type 0
-PrintsAsItGoes (Run lmc rule) = Unit {0}
-PrintsAsItGoes task = ⊥
+-- a run prints as it goes on, and may then lack memory; a manager too, and its lines may fail to be read; each other
+-- task prints once it is done
+abbrev pub StopsAsItGoes : Task → Fault → Type 0
+StopsAsItGoes (Run lmc rule) fault = fault ≡ Memory
+StopsAsItGoes (Serve asked) fault = (fault ≡ Memory) ⊎ (fault ≡ File (texts_for asked.rule) Read)
+StopsAsItGoes task fault = ⊥
 
--- where a task ends with a fault the output stays as it was, but where it took no more, or a run lacked memory
+-- a task that ends with a fault leaves the output as it was, unless a write failed or it stopped as it went on
 abbrev pub KeepsOutput : Task → Type 0 → Fault → Type 0
-KeepsOutput task stays fault = (fault ≡ Write) ⊎ ((PrintsAsItGoes task × (fault ≡ Memory)) ⊎ stays)
+KeepsOutput task stays fault = (fault ≡ Write) ⊎ (StopsAsItGoes task fault ⊎ stays)
 
--- the name of a file, and nothing where there is no file of that input
+-- the name of a file, empty if there is none
 abbrev pub name_at : Option (Bor (List ℕ)) → List ℕ
 name_at None = []
 name_at (Some name) = name.now
 
--- the name of the file that a fault speaks of
+-- the name of the file that a fault concerns
 abbrev pub name_of : List (Bor (List ℕ)) → Fault → List ℕ
 name_of names (Open input) = name_at (slice_get names input)
 name_of names (File input fault) = name_at (slice_get names input)
@@ -131,12 +146,12 @@ name_of names (NoRoom why) = []
 name_of names Write = []
 name_of names Memory = []
 
--- the line that says a fault of a run over the files with these names
+-- the line that the program writes of a fault of a run over the files `names`
 abbrev pub fault_line : List (Bor (List ℕ)) → Fault → List ℕ
 fault_line names fault = program_line (fault_text (name_of names fault) fault)
 
--- a task over the files with these names has a fault: it ends with the fault's status, this holds of the line that says
--- the fault, and the output stays
+-- a task over the files `names` has a fault: it ends with the fault's status, `says` holds of the line that says the
+-- fault, and the output stays if it is kept
 pub record SaysWhy (task : Task) (names : List (Bor (List ℕ))) (IsFault : Fault → Type 0) (stays : Type 0)
     (status : ExitStatus) (says : List ℕ → Type 0) : Type 0 where
   pub fault : Fault
@@ -145,10 +160,10 @@ pub record SaysWhy (task : Task) (names : List (Bor (List ℕ))) (IsFault : Faul
   pub ends : status ≡ status_of fault
   pub said : says (fault_line names fault)
 
--- so it is with the task that words ask for, over the files that they name
+-- the task that words ask for has a fault, over the files that they name
 pub record SaysWhyOfWords {S : Type 0} (answers : List ℕ → Result S OpenFault → Type 0) (state : S → SourceState)
-    (matches : ArgMatches) (prints : List ℕ → Type 0) (output_failed : Bool) (stays : Type 0) (status : ExitStatus)
-    (says : List ℕ → Type 0) : Type 0 where
+    (matches : ArgMatches) (prints whole : List ℕ → Type 0) (output_failed : Bool) (stays : Type 0)
+    (status : ExitStatus) (says : List ℕ → Type 0) : Type 0 where
   pub asked : AsksWhole matches
   pub why : SaysWhy asked.task asked.names
-      (IsTaskFault answers state asked.task asked.names prints output_failed) stays status says
+      (IsTaskFault answers state asked.task asked.names prints whole output_failed) stays status says

@@ -1,4 +1,4 @@
--- Opening files by their names, in their order. What opens them is known by its answers to names.
+-- Opening files by their names, in their order. An opener is known by its answers to names.
 use Rattle.std.specs.Prelude.{◌≡◌, ◌⊎◌, ◌<◌, ℕ, List, [], ◌∷◌, ◌++◌, Some, Result, Ok, Err, length, slice_get}
 use Rattle.std.specs.Borrow.{Bor}
 use Rattle.sm_cli.specs.declared.fault.Fault.{Fault}
@@ -6,13 +6,13 @@ use Rattle.sm_cli.specs.declared.fault.Fault.TheVariants as faults
 use Rattle.ibsm.specs.declared.opener.OpenFault.{OpenFault}
 use Rattle.ibsm.specs.declared.opener.OpenFault.TheVariants.{Missing, Memory}
 
--- a file was opened, and stands behind the others; or none was, and they are as they were
+-- a file was opened and appended to the others; or none was, and they are as they were
 abbrev pub OpensBehind : {S : Type 0} → (Result S OpenFault → Type 0) → Result (Unit {0}) OpenFault → List S → List S
     → Type 0
 OpensBehind {S} answers (Ok u) old new = (file : S) × answers (Ok file) × (new ≡ old ++ file ∷ [])
 OpensBehind answers (Err fault) old new = answers (Err fault) × (new ≡ old)
 
--- these files were opened by these names, one by each, in their order
+-- the files were opened by the names, one for each, in their order
 pub record AreOpened {S : Type 0} (answers : List ℕ → Result S OpenFault
     → Type 0) (names : List (Bor (List ℕ))) (files : List S) : Type 0 where
   pub one_each : length files ≡ length names
@@ -20,16 +20,16 @@ pub record AreOpened {S : Type 0} (answers : List ℕ → Result S OpenFault
       ≡ Some file
       → answers name.now (Ok file)
 
--- a name was asked for, and is not missing: its file was opened, or memory was refused for that
+-- a name was asked for and is not missing: its file was opened, or memory was refused for it
 abbrev pub IsThere : {S : Type 0} → (Result S OpenFault → Type 0) → Type 0
 IsThere {S} answers = ((file : S) × answers (Ok file)) ⊎ answers (Err Memory)
 
--- the names before an input are there
+-- none of the names before `input` is missing
 abbrev pub AreThere : {S : Type 0} → (List ℕ → Result S OpenFault → Type 0) → List (Bor (List ℕ)) → ℕ → Type 0
 AreThere answers names input =
     (k : ℕ) (name : Bor (List ℕ)) → k < input → slice_get names k ≡ Some name → IsThere (answers name.now)
 
--- the name at an input is missing, and none before it
+-- the name at `input` is missing, and none before it
 pub record IsFirstMissing {S : Type 0} (answers : List ℕ → Result S OpenFault
     → Type 0) (names : List (Bor (List ℕ))) (input : ℕ) : Type 0 where
   pub name : Bor (List ℕ)
@@ -45,13 +45,13 @@ pub record WasRefusedMemory {S : Type 0} (answers : List ℕ → Result S OpenFa
   pub there : slice_get names input ≡ Some name
   pub refused : answers name.now (Err Memory)
 
--- so it was, and none of the names is missing
+-- memory was refused as a name was asked for, and none of the names is missing
 pub record LacksMemory {S : Type 0} (answers : List ℕ → Result S OpenFault
     → Type 0) (names : List (Bor (List ℕ))) : Type 0 where
   pub refused : WasRefusedMemory answers names
   pub there : AreThere answers names (length names)
 
--- why the files with these names are not open
+-- why the files `names` are not open
 abbrev pub IsOpenFault : {S : Type 0} → (List ℕ → Result S OpenFault → Type 0) → List (Bor (List ℕ)) → Fault → Type 0
 IsOpenFault answers names (faults.Open input) = IsFirstMissing answers names input
 IsOpenFault answers names faults.Memory = LacksMemory answers names

@@ -1,4 +1,4 @@
-//! A task over files of some names.
+//! A task over files, given by their names.
 ghost use Rattle.std.specs.Prelude.{◌≡◌, ◌⊎◌, Bool, length, IfOk, IfErr, OnOk, OnErr, IsTrue, true};
 ghost use Rattle.std.specs.Io.KnownBytes.{Appends};
 ghost use Rattle.sm_cli.specs.ExitStatus.{status_of};
@@ -14,13 +14,15 @@ use audit_report::run_audit;
 use byte_io::{Sink, Source, ToWrite};
 use cli_task::Task;
 use next_run::run_next;
+use order_run::run_order_of;
 use schedule_run::run_schedule;
+use serve_task::run_serve;
 use sm_cli::{ExitStatus, Fault, run_files, write_fault};
 use std::alloc::Global;
 use std::io::Write;
 
-/// Does a task over the files of these names, which are its inputs in the order in which they are read, and says on
-/// `errors` why it cannot. All are opened before the first is read.
+/// Performs `task` over the files `names`, its inputs in the order in which they are read. All files are opened before
+/// the first is read. If the task cannot be done, writes the reason to `errors`.
 pub(crate) fn perform_or_explain<R, O, E>(
     rt: &R,
     task: Task,
@@ -42,6 +44,7 @@ where
     ensures says_why { IsDone result ⊎ SaysWhy task names.now
         (IsTaskFault (R.answers rt.now) R.Opened.state task names.now
         (PrintsSome ⟦<ToWrite<O> as Sink>⟧.written ⟦<ToWrite<O> as Sink>⟧.has_failed output.old output.new)
+        (Appends (⟦<ToWrite<O> as Sink>⟧.written output.old) (⟦<ToWrite<O> as Sink>⟧.written output.new))
         (⟦<ToWrite<O> as Sink>⟧.has_failed output.new))
         (output.new ≡ output.old) result
         (IsSaid ⟦<ToWrite<E> as Sink>⟧.written ⟦<ToWrite<E> as Sink>⟧.has_failed errors.old errors.new) }
@@ -52,7 +55,7 @@ where
     }
 }
 
-/// What the program ends with where all is done, and where what was audited does not pass.
+/// Returns the exit status of a task that is done: `Done`, or `Failed` if what it judged does not pass.
 fn status_after(passed: bool) -> ExitStatus
     ensures { result ≡ status_after passed }
 {
@@ -63,7 +66,7 @@ fn status_after(passed: bool) -> ExitStatus
     }
 }
 
-/// Does a task over the files of these names; answers whether what it judges passes.
+/// Performs `task` over the files `names`. Returns whether what it judges passes; a task that judges nothing passes.
 fn perform<R, O, E>(
     rt: &R,
     task: Task,
@@ -84,6 +87,7 @@ where
         (IsTaskFault (R.answers rt.now) R.Opened.state
         task names.now
         (PrintsSome ⟦<ToWrite<O> as Sink>⟧.written ⟦<ToWrite<O> as Sink>⟧.has_failed output.old output.new)
+        (Appends (⟦<ToWrite<O> as Sink>⟧.written output.old) (⟦<ToWrite<O> as Sink>⟧.written output.new))
         (⟦<ToWrite<O> as Sink>⟧.has_failed output.new)) }
     ensures kept { IfErr result (KeepsOutput task (output.new ≡ output.old)) }
     ensures silent { OnOk result (StaysSilent task errors.old errors.new) }
@@ -95,7 +99,7 @@ where
     }
 }
 
-/// Does a task over its inputs; answers whether what it judges passes.
+/// Performs `task` over its open inputs. Returns whether what it judges passes; a task that judges nothing passes.
 fn do_task<S: Source, W: Sink, E: Sink>(
     alloc: Global,
     task: Task,
@@ -109,7 +113,8 @@ fn do_task<S: Source, W: Sink, E: Sink>(
         (IsSaid E.written E.has_failed errors.old errors.new)) }
     ensures flushed { OnOk result (IsTrue (W.is_flushed output.new)) }
     ensures refused { IfErr result (IsFaultOver S.state task inputs.old inputs.new
-        (PrintsSome W.written W.has_failed output.old output.new) (W.has_failed output.new)) }
+        (PrintsSome W.written W.has_failed output.old output.new)
+        (Appends (W.written output.old) (W.written output.new)) (W.has_failed output.new)) }
     ensures kept { IfErr result (KeepsOutput task (output.new ≡ output.old)) }
     ensures silent { OnOk result (StaysSilent task errors.old errors.new) }
     ensures nothing_said { OnErr result (errors.new ≡ errors.old) }
@@ -119,16 +124,21 @@ fn do_task<S: Source, W: Sink, E: Sink>(
             Ok(()) => Ok(true),
             Err(fault) => Err(fault),
         },
-        Task::Audit(floor) => run_audit(alloc, inputs, floor, output),
+        Task::Audit(asked) => run_audit(alloc, inputs, asked, output),
+        Task::OrderOf(floor) => run_order_of(alloc, inputs, floor, output),
         Task::Next(asked) => run_next(alloc, inputs, asked, output, errors),
         Task::Run(lmc, rule) => match run_schedule(alloc, inputs, lmc, rule, output) {
+            Ok(()) => Ok(true),
+            Err(fault) => Err(fault),
+        },
+        Task::Serve(asked) => match run_serve(alloc, inputs, asked, output) {
             Ok(()) => Ok(true),
             Err(fault) => Err(fault),
         },
     }
 }
 
-/// Says the fault of a run over the files with these names, and what the program ends with.
+/// Writes the line of `fault` to `errors`, and returns the exit status. `names` are the files of the run.
 pub(crate) fn say<E: Write>(errors: &mut ToWrite<E>, names: &[&str], fault: &Fault) -> ExitStatus
     ensures status { result ≡ status_of fault.now }
     ensures said { IsSaid ⟦<ToWrite<E> as Sink>⟧.written ⟦<ToWrite<E> as Sink>⟧.has_failed errors.old errors.new
@@ -138,8 +148,8 @@ pub(crate) fn say<E: Write>(errors: &mut ToWrite<E>, names: &[&str], fault: &Fau
     fault.status()
 }
 
-/// Opens the files with these names, in their order. Where memory is wanting the names behind are
-/// still asked for: one that is missing counts first.
+/// Opens the files `names` in their order. After memory was refused the remaining names are still tried, since a
+/// missing file is reported first.
 fn open_all<R>(rt: &R, names: &[&str]) -> Result<Vec<R::Opened>, Fault>
 where
     R: Opener + AllocGlobal,
@@ -162,7 +172,7 @@ where
     }
 }
 
-/// The name of the file that a fault speaks of.
+/// Returns the name of the file that `fault` concerns, empty if it concerns none.
 fn name_of<'a>(names: &[&'a str], fault: &Fault) -> &'a str
     ensures { result.now ≡ name_of names.now fault.now }
 {

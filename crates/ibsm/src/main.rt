@@ -1,4 +1,4 @@
-//! `ibsm`: what InfiniBand subnet managers know and do.
+//! `ibsm`: the program, which shows what InfiniBand subnet managers know and do.
 #![tactic(auto)]
 
 mod files;

@@ -1,4 +1,4 @@
-//! What opens files by their names.
+//! Opening files by their names.
 ghost use Rattle.std.specs.Prelude.{ℕ, List, Result};
 ghost use Rattle.ibsm.specs.Opening.{OpensBehind};
 
@@ -7,27 +7,27 @@ use std::io::BufReader;
 use std::rt::Files;
 use std::{fs, io};
 
-/// Why no file was opened.
+/// The reason why a file was not opened.
 #[derive(Clone, Copy, Debug, PartialEq, Eq)]
 pub(crate) enum OpenFault {
-    /// There is none of this name that can be opened.
+    /// No file of that name can be opened.
     Missing,
     /// Memory was refused.
     Memory,
 }
 
-/// What opens files by their names. Which files there are no contract can say: an answer is known
-/// from the call alone that gave it, and so is the name that was asked for.
+/// Opens files by their names. No contract can say which files exist: an answer, and the name that it is for, are known
+/// only from the call that gave it.
 pub(crate) trait Opener {
     ghost use Rattle.ibsm.specs.declared.opener.OpenFault.{OpenFault};
 
-    /// An open file.
+    /// The type of an open file.
     type Opened: Source + Drop;
 
-    // A call that asked for the name had this answer.
+    // `answers` holds of a name and an answer that a call gave for it.
     ghost answers: { Self → List ℕ → Result Self.Opened OpenFault → Type 0 };
 
-    /// Opens the file with this name, and puts it behind those that are open.
+    /// Opens the file `name`, and appends it to `files`.
     fn open_behind(&self, name: &str, files: &mut Vec<Self::Opened>) -> Result<(), OpenFault>
         ensures { OpensBehind (answers self.now name.now) result files.old.items files.new.items };
 }

@@ -19,7 +19,7 @@ use std::io::{BufWriter, Write};
 use std::rt::Env;
 use std::{env, io};
 
-/// Does what the command line asks for, and says on `errors` why it cannot.
+/// Performs what the command line asks for. If it cannot, writes the reason to `errors`.
 pub(crate) fn run<R, O, E>(rt: &R, output: O, errors: E) -> ExitStatus
 where
     R: Env + Opener + Print + Eprint + AllocGlobal,
@@ -33,7 +33,7 @@ where
     }
 }
 
-/// The same; an `Err` says that memory ran out, of which nothing has been said yet.
+/// Performs what the command line asks for. Returns `Err` if memory ran out and nothing was written about it yet.
 fn try_run<R, O, E>(rt: &R, output: O, errors: &mut ToWrite<E>) -> Result<ExitStatus, AllocError>
 where
     R: Env + Opener + Print + Eprint + AllocGlobal,
@@ -50,7 +50,7 @@ where
     }
 }
 
-/// The words of the command line; of what is not UTF-8 it says so.
+/// Returns the words of the command line. If one is not UTF-8, prints that and returns `None`.
 fn words<R: Env + Eprint + AllocGlobal>(rt: &R) -> Result<Option<Vec<String>>, AllocError> {
     match env::args(rt) {
         Ok(words) => Ok(Some(words.collect(rt.alloc())?)),
@@ -62,11 +62,11 @@ fn words<R: Env + Eprint + AllocGlobal>(rt: &R) -> Result<Option<Vec<String>>, A
     }
 }
 
-/// Does what well-formed words ask for, and says on `errors` why it cannot.
+/// Performs what well-formed words ask for. If it cannot, writes the reason to `errors`.
 ///
 /// # Errors
 ///
-/// Memory ran out before anything was begun.
+/// Returns an error if memory ran out before the task began.
 fn dispatch<R, O, E>(
     rt: &R,
     matches: &ArgMatches<'_>,
@@ -86,6 +86,7 @@ where
     ensures says_why { IfOk result (λ status. IsDone status
         ⊎ SaysWhyOfWords (R.answers rt.now) R.Opened.state matches.now
         (PrintsSome ⟦<ToWrite<O> as Sink>⟧.written ⟦<ToWrite<O> as Sink>⟧.has_failed output.old output.new)
+        (Appends (⟦<ToWrite<O> as Sink>⟧.written output.old) (⟦<ToWrite<O> as Sink>⟧.written output.new))
         (⟦<ToWrite<O> as Sink>⟧.has_failed output.new) (output.new ≡ output.old) status
         (IsSaid ⟦<ToWrite<E> as Sink>⟧.written ⟦<ToWrite<E> as Sink>⟧.has_failed errors.old errors.new)) }
     ensures no_usage { IfOk result (λ status. status ≢ ExitStatus.Usage) }
@@ -95,7 +96,7 @@ where
     Ok(perform_or_explain(rt, task, &names, output, errors))
 }
 
-/// Prints help on standard output, and what is wrong with the command line on standard error.
+/// Prints help to standard output, or what is wrong with the command line to standard error.
 pub(crate) fn explain<R: Print + Eprint, E: Write>(
     rt: &R,
     error: &Error,

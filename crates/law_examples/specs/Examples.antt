@@ -1,4 +1,4 @@
--- What is met: each says that there is such a thing.
+-- Premises that can be met: each definition says that there is an example.
 use Rattle.std.specs.Prelude.{◌≢◌, ℕ, IsTrue, List}
 use Rattle.smp_bytes.specs.NodeType.{is_switch}
 use Rattle.fabric_model.specs.declared.cable.NodePort.{NodePort}
@@ -15,7 +15,7 @@ use Rattle.audit_channels.specs.Fabrics.{TakeInTurn, Travels}
 use Rattle.next_tables.specs.ChangingFabric.{IsInChange, entry_now}
 use Rattle.next_tables.specs.NextTables.{IsKept, next_tables, settled_first}
 
--- facts describe what is joined to an end port, and that holds tables
+-- facts describe what is joined to an end port, and that part holds tables
 pub record PartSeen : Type 0 where
   pub facts : Facts
   pub held : HeldPlan
@@ -24,11 +24,11 @@ pub record PartSeen : Type 0 where
   pub is_end : IsEndPort fabric origin
   pub seen : IsSeenIn (IsJoinedTo fabric origin) (cells_of facts) held fabric
 
--- so is the whole fabric
+-- in some example facts also describe the whole fabric exactly, and it holds the tables
 abbrev pub SomeFabricIsSeen : Type 0
 SomeFabricIsSeen = (part : PartSeen) × IsSeen (cells_of part.facts) part.held part.fabric
 
--- a packet takes two channels there, one after the other
+-- a packet takes two channels in the part, one after the other
 pub record TravelsThere (part : PartSeen) : Type 0 where
   pub hops : List Hop
   pub travels : Travels (IsJoinedTo part.fabric part.origin) part.fabric hops
@@ -39,15 +39,15 @@ pub record TravelsThere (part : PartSeen) : Type 0 where
 abbrev pub SomePacketTravels : Type 0
 SomePacketTravels = (part : PartSeen) × TravelsThere part
 
--- a switch there
+-- a switch in the part
 pub record SwitchThere (part : PartSeen) : Type 0 where
   pub port : NodePort
   pub node : Node
   pub there : IsEndPortIn (IsJoinedTo part.fabric part.origin) part.fabric port node
   pub kind : IsTrue (is_switch node.kind)
 
--- in a change towards a plan one switch there has another entry than before for a LID that one end port keeps, and one
--- has not its next entry yet
+-- in a change towards a plan, one switch in the part has another entry than before for a LID that one end port keeps,
+-- and one has not its next entry yet
 pub record ChangesThere (part : PartSeen) : Type 0 where
   pub plan : HeldPlan
   pub line : HeldLid

@@ -21,7 +21,7 @@ up_before = (key.Port 16 1, Known 1 (Up true))
 abbrev pub down_now : Key × Cell Value
 down_now = (key.Port 16 2, Known 3 (Up false))
 
--- what one store forgot is not brought back by another one that tells it, whatever came first
+-- what one store forgot is not brought back by another store that tells it, whatever came first
 abbrev pub FloorsStayInGroupings : Type 0
 FloorsStayInGroupings =
     (cells_of (merged (of_two (of_raised (of_sightings (up_before ∷ [])) 2) (of_sightings (up_before ∷ down_now ∷ []))))
@@ -29,7 +29,7 @@ FloorsStayInGroupings =
     × (cells_of (merged (of_raised (of_two (of_sightings (up_before ∷ [])) (of_sightings (down_now ∷ []))) 2))
     ≡ down_now ∷ [])
 
--- a way that meets two switches and then the first of them again is none of a rule
+-- a way that meets two switches and then the first of them again is no way of a rule
 abbrev pub NoSwitchTwice : Type 0
 NoSwitchTwice =
     (rule : Routing) (f : Fabric) (source : NodePort) (hops : List Hop) (s t : ℕ) → switches_met f source hops

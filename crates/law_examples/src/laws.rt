@@ -2,28 +2,28 @@
 ghost use Rattle.law_examples.specs.Examples.{SomeFabricIsSeen, SomePacketTravels, SomeTablesChange};
 ghost use Rattle.law_examples.specs.Weaker.{FloorsStayInGroupings, NoSwitchTwice};
 
-/// Facts describe a fabric exactly, and what is joined to an end port of it, and it holds tables.
+/// Some facts describe a fabric exactly, and the part that is joined to an end port of it, and it holds tables.
 pub fn some_fabric_is_seen()
     ensures law { SomeFabricIsSeen }
 {}
 
-/// In such a part a packet takes two channels in turn.
+/// In some part that facts describe and that holds tables a packet takes two channels in turn.
 pub fn some_packet_travels()
     ensures law { SomePacketTravels }
 {}
 
-/// In such a part tables go over to the next ones for a LID that one end port keeps: one switch has another entry than
-/// before, and one has not its next entry yet.
+/// In some part that facts describe and that holds tables, the tables go over to the next ones for a LID that one end
+/// port keeps: one switch has another entry than before, and one has not its next entry yet.
 pub fn some_tables_change()
     ensures law { SomeTablesChange }
 {}
 
-/// What one store forgot is not brought back by another one that tells it, whatever came first.
+/// What one store forgot is not brought back by another store that tells it, whatever came first.
 pub fn floors_stay_in_groupings()
     ensures law { FloorsStayInGroupings }
 {}
 
-/// A way that meets two switches and then the first of them again is none of a rule of routing.
+/// A way that meets two switches and then the first of them again is no way of a rule of routing.
 pub fn no_switch_twice()
     ensures law { NoSwitchTwice }
 {}

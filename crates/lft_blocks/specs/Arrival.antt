@@ -19,7 +19,7 @@ use Rattle.subnet_view.specs.Routing.{Routing, IsRouting}
 use Rattle.lft_blocks.specs.Rules.{RuleValue, routing_by}
 use Rattle.lft_blocks.specs.Plan.{PlanValue, plan_by, plan_of, block_at}
 
--- the block stands in the table of a switch, from LID 64 b on
+-- the switch's table has the block, from LID 64 b on
 abbrev pub HoldsBlock : Fabric → ℕ → ℕ → List ℕ → Type 0
 HoldsBlock f node b block = (i : ℕ) → i < 64 → slice_get block i ≡ Some (f.entry node (64 * b + i))
 
@@ -30,17 +30,17 @@ pub record HoldsPlanAt (plan : PlanValue) (f : Fabric) (port : NodePort) (node :
   pub top : IsTrue (is_switch node.kind) → (top : ℕ) → top_of plan.given ≡ Some top → top ≤ f.top port.node
   pub blocks : (b : ℕ) (block : List ℕ) → block_at plan node.guid b ≡ Some block → HoldsBlock f port.node b block
 
--- each end port of the part does
+-- the part holds the plan: each of its end ports does
 abbrev pub HoldsPlan : Part → PlanValue → Fabric → Type 0
 HoldsPlan part plan f = (port : NodePort) (node : Node) → IsEndPortIn part f port node → HoldsPlanAt plan f port node
 
--- a part of a fabric that the facts describe exactly, and where the plan is in force
+-- the facts describe the part exactly, and the part holds the plan
 pub record IsInForce (part : Part) (cells : Cells) (plan : PlanValue) (f : Fabric) : Type 0 where
   pub is_fabric : IsFabric f
   pub agrees : AgreesOn part cells f
   pub holds : HoldsPlan part plan f
 
--- a part of a fabric that the facts describe, and where the plan is in force
+-- the facts describe the part, and the part holds the plan
 pub record IsInForceWithin (part : Part) (cells : Cells) (plan : PlanValue) (f : Fabric) : Type 0 where
   pub is_fabric : IsFabric f
   pub covers : Covers part cells f
@@ -50,7 +50,7 @@ pub record IsInForceWithin (part : Part) (cells : Cells) (plan : PlanValue) (f :
 abbrev pub guid_at : Fabric → NodePort → ℕ
 guid_at f p = option_map_or (λ node. node.guid) (slice_get f.nodes p.node) 0
 
--- a wire from a switch to a switch
+-- the wire leads from a switch to a switch
 abbrev pub is_between_switches : Fabric → Hop → Bool
 is_between_switches f h = is_switch_at f h.out.node && is_switch_at f h.into.node
 
@@ -71,13 +71,13 @@ abbrev pub last_or : ℕ → List ℕ → ℕ
 last_or d [] = d
 last_or d (x ∷ xs) = last_or x xs
 
--- the cost of routing from the first of some switches to the last is so much
+-- the cost of routing from the first of these switches to the last is n
 abbrev pub IsCostAlong : Routing → List ℕ → ℕ → Type 0
 IsCostAlong rule [] n = Unit {0}
 IsCostAlong rule (s ∷ switches) n = rule.cost s (last_or s switches) ≡ Some n
 
--- what the way of a packet is like: from its first switch to its last it takes as many wires as routing costs, it meets
--- no switch twice, it takes at most two wires to or from adapter ports, and its channels rise
+-- the way of a packet: from its first switch to its last it takes as many wires as routing costs, it meets no switch
+-- twice, it takes at most two wires to or from adapter ports, and its channels rise
 pub record IsRoutedWay (rule : Routing) (f : Fabric) (source : NodePort) (hops : List Hop) : Type 0 where
   pub at_cost : IsCostAlong rule (switches_met f source hops) (length (switch_hops f hops))
   pub no_switch_twice : AllPairs (λ a b. a ≢ b) (switches_met f source hops)
@@ -94,12 +94,12 @@ pub record ArrivesBy (rule : Routing) (part : Part) (f : Fabric) (lid : ℕ) (so
   pub delivered : IsDelivered f lid source hops target
   pub way : IsRoutedWay rule f source hops
 
--- over a way of a rule that can be asked for
+-- a packet for a LID is delivered at the end port that owns it, over a way of a rule that can be asked for
 abbrev pub Arrives : RuleValue → Part → Cells → Fabric → ℕ → NodePort → EndPort → Type 0
 Arrives rule part cells f lid source owner = ArrivesBy (routing_by rule cells) part f lid source owner
 
--- where the plan is in force in what an end port is joined to, a packet from each end port there for each LID of the
--- plan arrives
+-- if the plan is in force in what an end port is joined to, a packet from each end port there for each LID of the plan
+-- arrives
 abbrev pub EveryPacketArrivesBy : Routing → Cells → PlanValue → Type 0
 EveryPacketArrivesBy rule cells plan =
     (f : Fabric) (origin : NodePort) → IsEndPort f origin → IsInForce (IsJoinedTo f origin) cells plan f
@@ -107,14 +107,14 @@ EveryPacketArrivesBy rule cells plan =
     → (lid : ℕ) (owner : EndPort) → owner_of plan.given lid ≡ Some owner
     → ArrivesBy rule (IsJoinedTo f origin) f lid source owner
 
--- so it is with the plan of each view that has one, by whatever rule of routing
+-- every packet arrives by the plan of each view with room, by any rule of routing
 abbrev pub PacketsArriveByEachRouting : Type 0
 PacketsArriveByEachRouting = (lmc : ℕ) (facts : Facts) (rule : Routing) → IsRouting (graph_of (cells_of facts)) rule
     → ¬ (IsNoRoom lmc (cells_of facts))
     → EveryPacketArrivesBy rule (cells_of facts) (plan_by rule lmc (cells_of facts))
 
--- and where the facts describe what an end port is joined to, whatever else they tell, so does a packet for each LID of
--- the plan that an end port there owns
+-- if the facts of a view with room describe what an end port is joined to, and that holds the plan, a packet for each
+-- LID of the plan that an end port there owns arrives, whatever else the facts tell
 abbrev pub PacketsArriveWhereCovered : Type 0
 PacketsArriveWhereCovered =
     (lmc : ℕ) (facts : Facts) (rule : Routing) → IsRouting (graph_of (cells_of facts)) rule
@@ -126,11 +126,11 @@ PacketsArriveWhereCovered =
     → HasEndPort (IsJoinedTo f origin) f owner.node owner.port
     → ArrivesBy rule (IsJoinedTo f origin) f lid source owner
 
--- by a rule that can be asked for
+-- every packet arrives, by a rule that can be asked for
 abbrev pub EveryPacketArrives : RuleValue → Cells → PlanValue → Type 0
 EveryPacketArrives rule cells plan = EveryPacketArrivesBy (routing_by rule cells) cells plan
 
--- where the plan is in force in the whole of a connected fabric, a packet from each end port for each LID of the plan
+-- if the plan is in force in the whole of a connected fabric, a packet from each end port for each LID of the plan
 -- arrives
 abbrev pub EveryPacketArrivesIfConnected : RuleValue → Cells → PlanValue → Type 0
 EveryPacketArrivesIfConnected rule cells plan = (f : Fabric) → IsConnected f → IsInForce WholeFabric cells plan f
@@ -138,7 +138,7 @@ EveryPacketArrivesIfConnected rule cells plan = (f : Fabric) → IsConnected f �
     → (lid : ℕ) (owner : EndPort) → owner_of plan.given lid ≡ Some owner
     → Arrives rule WholeFabric cells f lid source owner
 
--- so it is with the plan of each view that has one
+-- if a fabric is connected, every packet arrives by the plan of each view with room
 abbrev pub PacketsArriveIfConnected : Type 0
 PacketsArriveIfConnected = (rule : RuleValue) (lmc : ℕ) (facts : Facts) → ¬ (IsNoRoom lmc (cells_of facts))
     → EveryPacketArrivesIfConnected rule (cells_of facts) (plan_of rule lmc (cells_of facts))

@@ -7,11 +7,11 @@ use Rattle.updown_routes.specs.Ports.{next_port_at}
 use Rattle.lft_blocks.specs.declared.attachment.Attachment.{Attachment}
 use Rattle.lft_blocks.specs.Plan.{SwitchTable}
 
--- the switch and the port that are meant
+-- the switch and the port of an attachment
 abbrev pub meant : List ℕ → Attachment → ℕ × ℕ
 meant guids h = (slice_index guids h.switch, h.port)
 
--- the attachment, by the index of its switch
+-- the attachment, with the index of its switch
 pub record IsIndexed (guids : List ℕ) (attachment : Option (ℕ × ℕ)) (indexed : Option Attachment) : Type 0 where
   pub same : option_map (meant guids) indexed ≡ attachment
   pub within : MatchOption indexed (Unit {0}) (λ h. h.switch < length guids)
@@ -20,25 +20,25 @@ pub record IsIndexed (guids : List ℕ) (attachment : Option (ℕ × ℕ)) (inde
 abbrev pub AreIndexed : List ℕ → (ℕ → Option (ℕ × ℕ)) → List (Option Attachment) → Type 0
 AreIndexed guids attachments indexed = (lid : ℕ) → IsIndexed guids (attachments lid) (slice_index_or indexed lid None)
 
--- each attachment's switch is one of so many
+-- each attachment's switch is one of the first n
 abbrev pub AreWithin : ℕ → List (Option Attachment) → Type 0
 AreWithin n indexed = (lid : ℕ) → MatchOption (slice_index_or indexed lid None) (Unit {0}) (λ h. h.switch < n)
 
--- the next port from the switch at the index own towards each of so many switches, and 255 where there is no way
+-- the next port from the switch at index `own` towards each of the first n switches, 255 if there is no way
 abbrev pub row_of : List SwitchEdges → ℕ → ℕ → List ℕ
 row_of graph own n = map (λ to. unwrap_or (next_port_at graph own to) 255) (range_with_len 0 n)
 
--- the entry for a LID of the switch at the index own, by its row
+-- the entry for a LID of the switch at index `own`, by its row
 abbrev pub entry_in : List (Option Attachment) → List ℕ → ℕ → ℕ → ℕ
 entry_in indexed row own lid =
     option_map_or (λ h. if h.switch == own then h.port else slice_index row h.switch) (slice_index_or indexed lid None)
     255
 
--- its block b
+-- block b of the switch at index `own`, by its row
 abbrev pub block_in : List (Option Attachment) → List ℕ → ℕ → ℕ → List ℕ
 block_in indexed row own b = map (λ i. entry_in indexed row own (64 * b + i)) (range_with_len 0 64)
 
--- the table of the switch at an index
+-- the table of the switch at index `own`
 abbrev pub table_in : List (Option Attachment) → List SwitchEdges → List ℕ → ℕ → ℕ → SwitchTable
 table_in indexed graph guids count own =
     record {

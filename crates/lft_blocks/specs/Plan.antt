@@ -13,7 +13,7 @@ pub record SwitchTable : Type 0 where
   pub guid : ℕ
   pub blocks : List (List ℕ)
 
--- the end ports in their order with their LIDs, and the usable switches by rising GUID
+-- the end ports in their order with their LIDs, and the tables of the usable switches by rising GUID
 pub record PlanValue : Type 0 where
   pub given : Given
   pub tables : List SwitchTable
@@ -22,7 +22,7 @@ pub record PlanValue : Type 0 where
 abbrev pub tables_of : (ℕ → Option (ℕ × ℕ)) → Next → ℕ → List ℕ → List SwitchTable
 tables_of attachments next count guids = map (λ s. record { guid = s; blocks = blocks attachments next count s }) guids
 
--- the tables of a view by a rule of routing, where end ports have these LIDs
+-- the tables of a view by a rule of routing, if end ports have these LIDs
 abbrev pub tables_by : Routing → Cells → Given → List SwitchTable
 tables_by rule cells given =
     tables_of (attachment_of_lid cells given) rule.next (block_count (top_of given)) (switches cells)
@@ -41,7 +41,7 @@ plan_by rule lmc cells =
 abbrev pub plan_of : RuleValue → ℕ → Cells → PlanValue
 plan_of rule lmc cells = plan_by (routing_by rule cells) lmc cells
 
--- a block of a switch; none where the GUID is no usable switch's, or there is no such block
+-- block b of a switch; None if the GUID is no usable switch's, or there is no such block
 abbrev pub block_at : PlanValue → ℕ → ℕ → Option (List ℕ)
 block_at plan guid b =
     option_and_then (λ table. slice_get table.blocks b) (find (λ table. table.guid == guid) plan.tables)

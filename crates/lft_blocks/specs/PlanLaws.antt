@@ -23,13 +23,13 @@ LidsStayInPlans = (rule : RuleValue) (lmc : ℕ) (x z : Facts) → ¬ (IsNoRoom 
     → (e : EndPort) (lid : ℕ) → lid_of (plan_of rule lmc (cells_of x)).given e ≡ Some lid
     → lid_of (plan_of rule lmc (cells_of z)).given e ≡ Some lid
 
--- block b has the entry for the LID 64 b + i at the index i
+-- block b has the entry for the LID 64 b + i at index i
 abbrev pub BlocksHoldEntries : Type 0
 BlocksHoldEntries = (attachments : ℕ → Option (ℕ × ℕ)) (next : Next) (count s b i : ℕ) (ports : List ℕ)
     → slice_get (blocks attachments next count s) b ≡ Some ports → i < 64 → slice_get ports i
     ≡ Some (entry attachments next s (64 * b + i))
 
--- the GUID is a usable switch's, and the greatest LID is in this block or a later one
+-- the GUID is a usable switch's, and the greatest LID is in block b or a later one
 abbrev pub HasBlock : ℕ → Cells → ℕ → ℕ → Type 0
 HasBlock lmc cells g b = IsUsable cells g × (b < block_count (top_of (lids lmc cells)))
 
@@ -37,13 +37,13 @@ HasBlock lmc cells g b = IsUsable cells g × (b < block_count (top_of (lids lmc 
 abbrev pub block_of : Routing → ℕ → Cells → ℕ → ℕ → List ℕ
 block_of rule lmc cells g b = block (attachment_of_lid cells (lids lmc cells)) rule.next g b
 
--- a plan has just these blocks, by whatever rule
+-- a plan has exactly these blocks, by any rule
 abbrev pub BlocksAreOfSwitches : Type 0
 BlocksAreOfSwitches = (rule : Routing) (lmc : ℕ) (facts : Facts) (g b : ℕ)
     → MatchOption (block_at (plan_by rule lmc (cells_of facts)) g b) (¬ (HasBlock lmc (cells_of facts) g b))
     (λ x. HasBlock lmc (cells_of facts) g b × (x ≡ block_of rule lmc (cells_of facts) g b))
 
--- switches that are named as they stand in the order of a plan stand so again, and give the same plan
+-- switches that are named in the order of a plan are in that order again, and give an equal plan
 pub record OrderHolds (order : OrderValue) (lmc : ℕ) (cells : Cells) : Type 0 where
   pub order_stands : order_of (as_named (order_of order cells)) cells ≡ order_of order cells
   pub plan_stands : plan_of (spread_in (as_named (order_of order cells))) lmc cells

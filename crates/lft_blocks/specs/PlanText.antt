@@ -8,15 +8,15 @@ use Rattle.subnet_view.specs.declared.end_port.EndPort.{EndPort}
 use Rattle.lid_assign.specs.Lids.{Given, owner_of, lmc_of, top_of, rising_lids}
 use Rattle.lft_blocks.specs.Plan.{SwitchTable, PlanValue}
 
--- what is said of an LMC: nothing of 0
+-- the text of an LMC; nothing for 0
 abbrev pub lmc_text : ℕ → List ℕ
 lmc_text lmc = if lmc == 0 then [] else codes " lmc " ++ decimal lmc
 
--- the line of a LID, which an end port has with an LMC
+-- the line of a LID, with its LMC and the end port that has it
 abbrev pub lid_line : ℕ × ℕ × EndPort → List ℕ
 lid_line x = codes "lid " ++ decimal x.0 ++ codes " " ++ port_text x.2.node x.2.port ++ lmc_text x.1 ++ codes "\n"
 
--- the line of a LID, where an end port has it
+-- the line of a LID, if an end port has it
 abbrev pub owner_line : Given → ℕ → List ℕ
 owner_line given lid = option_map_or (λ port. lid_line (lid, lmc_of given port, port)) (owner_of given lid) []
 
@@ -36,14 +36,14 @@ block_line x = codes "block " ++ decimal x.0 ++ codes " " ++ encode_lower x.1 ++
 abbrev pub blocks_text : List (List ℕ) → List ℕ
 blocks_text blocks = flat_map block_line (enumerate_from 0 blocks)
 
--- a switch with the greatest LID, and its blocks
+-- the line of a switch with the greatest LID, and its blocks
 abbrev pub table_text : ℕ → SwitchTable → List ℕ
 table_text top table = switch_line top table.guid ++ blocks_text table.blocks
 
--- the switches, where a LID is given
+-- the switches, if there is a LID
 abbrev pub tables_text : PlanValue → List ℕ
 tables_text plan = option_map_or (λ top. flat_map (table_text top) plan.tables) (top_of plan.given) []
 
--- the LIDs, and then the switches
+-- the lines of the LIDs, and then of the switches
 abbrev pub plan_text : PlanValue → List ℕ
 plan_text plan = lids_text plan.given ++ tables_text plan

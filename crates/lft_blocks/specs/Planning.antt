@@ -2,30 +2,35 @@
 use Rattle.std.specs.Prelude.{◌≡◌, ℕ, Bool, true, false, List, Option, None, Some, refl}
 use Rattle.std.specs.Coded.{Coded, code_by, coded×, coded_bool, coded_ℕ, coded_list, coded_option}
 use Rattle.lft_blocks.specs.Rules.{RuleValue, spread_in, up_and_down}
-use Rattle.spread_routes.specs.SwitchOrders.{OrderValue, as_named, from_roots}
+use Rattle.spread_routes.specs.SwitchOrders.{OrderValue, as_named, from_roots, least_loaded}
 
 -- the LMC of adapter ports, and the rule of routing
 pub record Planning : Type 0 where
   pub lmc : ℕ
   pub rule : RuleValue
 
--- an order is stored by its GUIDs, and by whether they are named in its order
-abbrev guids_in : OrderValue → Bool × List ℕ
-guids_in (from_roots roots) = (false, roots)
-guids_in (as_named switches) = (true, switches)
+-- an order is stored by its GUIDs, if it has some, and by whether they are named in its order
+abbrev guids_in : OrderValue → Option (Bool × List ℕ)
+guids_in (from_roots roots) = Some (false, roots)
+guids_in (as_named switches) = Some (true, switches)
+guids_in least_loaded = None
 
-abbrev order_by : Bool × List ℕ → OrderValue
-order_by (false, roots) = from_roots roots
-order_by (true, switches) = as_named switches
+abbrev order_by : Option (Bool × List ℕ) → OrderValue
+order_by (Some (false, roots)) = from_roots roots
+order_by (Some (true, switches)) = as_named switches
+order_by None = least_loaded
 
 pub same_order : (order : OrderValue) → order_by (guids_in order) ≡ order
 same_order (from_roots roots) = refl
 same_order (as_named switches) = refl
+same_order least_loaded = refl
 
 abbrev order_code : Coded OrderValue
-order_code = code_by (Bool × List ℕ) (coded× coded_bool (coded_list coded_ℕ)) guids_in order_by same_order
+order_code =
+    code_by (Option (Bool × List ℕ)) (coded_option (coded× coded_bool (coded_list coded_ℕ))) guids_in order_by
+    same_order
 
--- a rule is stored by its order, of which up and down has none
+-- a rule is stored by its order; up and down has none
 abbrev order_in : RuleValue → Option OrderValue
 order_in up_and_down = None
 order_in (spread_in order) = Some order
@@ -41,7 +46,7 @@ same_rule (spread_in order) = refl
 abbrev rule_code : Coded RuleValue
 rule_code = code_by (Option OrderValue) (coded_option order_code) order_in rule_by same_rule
 
--- and both as a pair
+-- a planning is stored as the pair of its LMC and its rule
 abbrev pub planning_code : Coded Planning
 planning_code =
     code_by (ℕ × RuleValue) (coded× coded_ℕ rule_code)

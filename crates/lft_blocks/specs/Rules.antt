@@ -20,7 +20,7 @@ abbrev pub value_of : Rule → RuleValue
 value_of UpDown = up_and_down
 value_of (Spread order) = spread_in (order_value_of order)
 
--- what such a rule makes of the wires of a view
+-- the routing of a rule on the wires of a view
 abbrev pub routing_by : RuleValue → Cells → Routing
 routing_by up_and_down cells = updown (graph_of cells)
 routing_by (spread_in order) cells = spread_by (graph_of cells) (leaf_switches_of cells) order
@@ -29,16 +29,16 @@ routing_by (spread_in order) cells = spread_by (graph_of cells) (leaf_switches_o
 abbrev pub order_of : OrderValue → Cells → List ℕ
 order_of order cells = switches_in_order (graph_of cells) (leaf_switches_of cells) order
 
--- what a rule does
+-- the routing of a rule as code has it
 abbrev pub rule_of : Rule → Cells → Routing
 rule_of rule cells = routing_by (value_of rule) cells
 
--- each is a rule of routing
+-- each rule that can be asked for is a rule of routing
 abbrev pub RulesAreRoutings : Type 0
 RulesAreRoutings =
     (rule : RuleValue) (facts : Facts) → IsRouting (graph_of (cells_of facts)) (routing_by rule (cells_of facts))
 
--- of a view they hang on the wires between switches, and on the leaf switches
+-- a rule depends only on the view's wires between switches and on its leaf switches
 abbrev pub RulesStay : Type 0
 RulesStay = (rule : RuleValue) (x y : Facts) → graph_of (cells_of x) ≡ graph_of (cells_of y)
     → leaf_switches_of (cells_of x) ≡ leaf_switches_of (cells_of y)

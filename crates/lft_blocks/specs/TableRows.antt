@@ -1,4 +1,4 @@
--- The entries of each switch, LID by LID, as they are written from target to target.
+-- The entries of each switch, LID by LID, as they are written target by target.
 use Rattle.std.specs.Prelude.{◌≡◌, ◌<◌, ℕ, ◌+◌, ◌*◌, Bool, false, List, [], map, filter, length, Option, None, Some, ◌==◌, nat_lt, unwrap_or, option_map, slice_index, slice_index_or, if◌then◌else◌}
 use Rattle.std.specs.List.{range_with_len}
 use Rattle.spread_labels.specs.Orders.{numbers_from}
@@ -7,42 +7,42 @@ use Rattle.lft_blocks.specs.Entries.{Next}
 use Rattle.lft_blocks.specs.Attachments.{meant}
 use Rattle.lft_blocks.specs.Plan.{SwitchTable}
 
--- the attachment of a LID, by the GUID of its switch
+-- the attachment of a LID, with the GUID of its switch
 abbrev pub attachment_by_index : List ℕ → List (Option Attachment) → ℕ → Option (ℕ × ℕ)
 attachment_by_index guids attachments lid = option_map (meant guids) (slice_index_or attachments lid None)
 
--- whether an attachment lies at the switch at an index
+-- whether an attachment is at the switch at index t
 abbrev pub is_attachment_at : ℕ → Option Attachment → Bool
 is_attachment_at t None = false
 is_attachment_at t (Some h) = h.switch == t
 
--- the LIDs whose attachments lie there
+-- the LIDs that are attached to the switch at index t
 abbrev pub lids_at : List (Option Attachment) → ℕ → List ℕ
 lids_at attachments t =
     filter (λ lid. is_attachment_at t (slice_index_or attachments lid None)) (numbers_from 0 (length attachments))
 
--- those of them less than n
+-- the LIDs less than n that are attached to the switch at index t
 abbrev pub lids_before : List (Option Attachment) → ℕ → ℕ → List ℕ
 lids_before attachments n t =
     filter (λ lid. is_attachment_at t (slice_index_or attachments lid None)) (numbers_from 0 n)
 
--- at each of so many switches
+-- for each switch the LIDs less than n that are attached to it
 pub record AreLidsAt (attachments : List (Option Attachment)) (n switches : ℕ) (lists : List (List ℕ)) : Type 0 where
   pub all : length lists ≡ switches
   pub each : (t : ℕ) → t < switches → slice_index_or lists t [] ≡ lids_before attachments n t
 
--- the port of an attachment, and 255 of none
+-- the port of an attachment, 255 if there is none
 abbrev pub attachment_port : Option Attachment → ℕ
 attachment_port None = 255
 attachment_port (Some h) = h.port
 
--- the entry for a LID: at its attachment's switch the attachment's port, elsewhere this port, and 255 where there is
--- none
+-- the entry for a LID: its attachment's port at the attachment's switch; elsewhere `port`, and 255 if there is none
 abbrev pub entry_by : List (Option Attachment) → Bool → ℕ → Option ℕ → ℕ
 entry_by attachments is_own lid port =
     if is_own then attachment_port (slice_index_or attachments lid None) else unwrap_or port 255
 
--- the entry for a LID of the switch at an index, where its attachment's switch has an index less than t, and else 255
+-- the entry for a LID of the switch at index `own`, if the index of its attachment's switch is less than t, and else
+-- 255
 abbrev pub entry_before : Next → List ℕ → ℕ → ℕ → ℕ → Option Attachment → ℕ
 entry_before next guids t own lid None = 255
 entry_before next guids t own lid (Some h) =
@@ -50,14 +50,14 @@ entry_before next guids t own lid (Some h) =
     (if h.switch == own then h.port else unwrap_or (next lid (slice_index guids own) (slice_index guids h.switch))
     255) else 255
 
--- a row of such entries
+-- the row of the switch at index `own`, with the entries for LIDs that are attached to the first t switches
 pub record IsRow (next : Next) (guids : List ℕ) (attachments : List (Option Attachment)) (t own : ℕ) (row : List ℕ) :
     Type 0 where
   pub all : length row ≡ length attachments
   pub entries : (lid : ℕ) → lid < length attachments → slice_index row lid
       ≡ entry_before next guids t own lid (slice_index_or attachments lid None)
 
--- the rows of all switches
+-- the rows of all switches, with the entries for LIDs that are attached to the first t switches
 pub record AreRows (next : Next) (guids : List ℕ) (attachments : List (Option Attachment)) (t : ℕ)
     (rows : List (List ℕ)) : Type 0 where
   pub all : length rows ≡ length guids
@@ -67,11 +67,11 @@ pub record AreRows (next : Next) (guids : List ℕ) (attachments : List (Option 
 abbrev pub block_of_row : List ℕ → ℕ → List ℕ
 block_of_row row b = map (λ i. slice_index row (64 * b + i)) (range_with_len 0 64)
 
--- so many blocks
+-- the first `count` blocks of a row
 abbrev pub blocks_of_row : List ℕ → ℕ → List (List ℕ)
 blocks_of_row row count = map (block_of_row row) (range_with_len 0 count)
 
--- the table of the switch at an index, by its row
+-- the table of the switch at index `own`, by its row
 abbrev pub table_of_row : List ℕ → List (List ℕ) → ℕ → ℕ → SwitchTable
 table_of_row guids rows count own =
     record { guid = slice_index guids own; blocks = blocks_of_row (slice_index_or rows own []) count }

@@ -1,9 +1,9 @@
--- What a call promises that writes a part of a text, which may be empty.
+-- What a call that writes a part of a text, possibly an empty one, promises.
 use Rattle.std.specs.Prelude.{ℕ, Bool, List, Option, Result, OnOk, OnErr, IsTrue}
 use Rattle.std.specs.Io.KnownBytes.{Appends}
 use Rattle.byte_io.specs.declared.sink.WriteFault.{WriteFault}
 
--- at Ok what the sink holds has grown by the part, and at Err the sink has failed
+-- at Ok the sink's bytes have grown by the part, and at Err the sink has failed
 pub record WritesPart {W : Type 0} (written : W → Option (List ℕ)) (has_failed : W
     → Bool) (result : Result (Unit {0}) WriteFault) (old new : W)
     (text : List ℕ) : Type 0 where

@@ -12,16 +12,16 @@ use smp_bytes::{Guid, Lid, PortNum};
 use std::alloc::{AllocError, Global};
 use subnet_view::{EndPort, Wires, is_usable};
 
-/// Where an end port lies.
+/// The switch and its port at which an end port is attached.
 #[derive(Clone, Copy)]
 pub(crate) struct Attachment {
-    /// The index of a switch among the usable ones, by rising GUID.
+    /// The index of the switch among the usable ones, by rising GUID.
     pub(crate) switch: usize,
-    /// The port of it.
+    /// The port of the switch.
     pub(crate) port: PortNum,
 }
 
-/// The attachment of each LID that has an entry in one of so many blocks, at the LID.
+/// Returns the attachment of each LID that has an entry in the first `count` blocks, at the LID.
 pub(crate) fn attachments(
     alloc: Global,
     wires: &Wires,
@@ -43,7 +43,7 @@ pub(crate) fn attachments(
     Ok(attachments)
 }
 
-/// The attachment of a LID. Takes some six searches.
+/// Returns the attachment of a LID. Takes some six searches.
 fn attachment_of_lid(wires: &Wires, guids: &[Guid], lids: &LidMap, lid: Lid) -> Option<Attachment>
     requires { guids.now ≡ switches (cells_of wires.now) }
     ensures { IsIndexed guids.now (attachment_of_lid (cells_of wires.now) lids.now lid) result }
@@ -53,7 +53,7 @@ fn attachment_of_lid(wires: &Wires, guids: &[Guid], lids: &LidMap, lid: Lid) -> 
     Some(Attachment { switch, port })
 }
 
-/// The usable switch and the port of it at which an end port lies.
+/// Returns the usable switch and its port at which an end port is attached.
 fn attachment_of(wires: &Wires, port: EndPort) -> Option<(Guid, PortNum)>
     ensures { result ≡ attachment_of (cells_of wires.now) port }
 {
@@ -64,7 +64,7 @@ fn attachment_of(wires: &Wires, port: EndPort) -> Option<(Guid, PortNum)>
     }
 }
 
-/// The index of a GUID among GUIDs that rise. A search.
+/// Returns the index of a GUID among rising GUIDs. Takes a search.
 pub(crate) fn index_of(guids: &[Guid], guid: Guid) -> Option<usize>
     requires { IsStrictlyIncreasing guids.now }
     ensures { IsIndexIn guids.now guid result }

@@ -7,10 +7,10 @@ use crate::attachment::Attachment;
 use smp_bytes::Lid;
 use std::alloc::{AllocError, Global};
 
-/// The entry where no way leads to a LID. No switch has this port.
+/// The entry if no way leads to a LID. No switch has this port.
 pub(crate) const NO_WAY: u8 = 255;
 
-/// How many blocks there are, so that the last one has the greatest LID.
+/// Returns the number of blocks that hold all LIDs up to `top`.
 pub fn block_count(top: Option<Lid>) -> usize
     ensures count { result ≡ block_count top }
     ensures few { result ≤ 1024 }
@@ -21,7 +21,7 @@ pub fn block_count(top: Option<Lid>) -> usize
     }
 }
 
-/// The blocks of the switch at the index `own`, by the ports of its row.
+/// Returns the blocks of the switch at the index `own`, given its row of ports.
 pub(crate) fn blocks(
     alloc: Global,
     attachments: &[Option<Attachment>],
@@ -41,7 +41,7 @@ pub(crate) fn blocks(
     Ok(blocks)
 }
 
-/// A block of the switch.
+/// Returns block `b` of the switch at the index `own`.
 fn block(attachments: &[Option<Attachment>], row: &[u8], own: usize, b: usize) -> [u8; 64]
     requires within { AreWithin (length row.now) attachments.now }
     requires few { b < 1024 }
@@ -54,7 +54,7 @@ fn block(attachments: &[Option<Attachment>], row: &[u8], own: usize, b: usize) -
     block
 }
 
-/// The entry of the switch for a LID.
+/// Returns the entry of the switch at the index `own` for a LID.
 fn entry(attachments: &[Option<Attachment>], row: &[u8], own: usize, lid: usize) -> u8
     requires { AreWithin (length row.now) attachments.now }
     ensures { result ≡ entry_in attachments.now row.now own lid }

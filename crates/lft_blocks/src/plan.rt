@@ -38,7 +38,7 @@ pub struct Plan {
     lids: LidMap,
     /// The usable switches, by rising GUID.
     switches: Vec<Guid>,
-    /// The table of each.
+    /// The table of each switch.
     tables: Vec<Table>,
 }
 
@@ -53,14 +53,13 @@ impl Model for Plan {
 }
 
 impl Plan {
-    /// The plan of a view by a rule of routing, with 2^LMC LIDs for each adapter port. It is refused where there is no
-    /// room for the LIDs. Takes what LIDs and routes take, some six searches for each LID, and two steps for each
-    /// entry. It holds 64 bytes for each block of each switch, and beside them while it is made 2 for each two
-    /// switches.
+    /// Plans a view by a rule of routing, with 2^LMC LIDs for each adapter port. Takes what LIDs and routes take, some
+    /// six searches for each LID, and two steps for each entry. The plan takes 64 bytes for each block of each switch
+    /// and, while it is made, 2 more for each two switches.
     ///
     /// # Errors
     ///
-    /// `NoRoom`, and `Memory` where there is room.
+    /// Returns `NoRoom` if there is no room for the LIDs, and otherwise `Memory` if memory runs out.
     pub fn of(alloc: Global, store: &Store, lmc: Lmc, rule: &Rule) -> Result<Self, PlanFault>
         ensures judged { JudgesButFor is_memory result (lid_fault (no_room lmc (cells_of store.now))) }
         ensures plan { IfOk result (λ plan.
@@ -78,31 +77,30 @@ impl Plan {
         })
     }
 
-    /// The LID of each end port.
+    /// Returns the LID of each end port.
     pub fn lids(&self) -> &LidMap
         ensures { result.now ≡ self.now.given }
     {
         &self.lids
     }
 
-    /// The greatest LID. It is held.
+    /// Returns the greatest LID. Takes one step.
     pub fn top(&self) -> Option<Lid>
         ensures { result ≡ top_of self.now.given }
     {
         self.lids.top()
     }
 
-    /// The usable switches, by rising GUID.
+    /// Returns the usable switches, by rising GUID.
     pub fn switches(&self) -> &[Guid]
         ensures { result.now ≡ switches_of self.now }
     {
         &self.switches
     }
 
-    /// A block of a switch. Entry `i` of block `b` has the port by which packets for the LID `64 * b + i`
-    /// leave: 0 where the switch has that LID itself, and 255 where nobody has it or no way leads there.
-    /// None exactly where the GUID is no usable switch's, or the block comes after that of the greatest LID.
-    /// Takes a search.
+    /// Returns block `b` of a switch. Entry `i` has the port by which packets for the LID `64 * b + i` leave: 0 if the
+    /// switch has that LID itself, and 255 if nobody has it or no way leads there. Returns `None` exactly if the GUID
+    /// is no usable switch's, or the block is behind that of the greatest LID. Takes a search.
     pub fn block(&self, guid: Guid, b: usize) -> Option<&[u8; 64]>
         ensures { option_copied result ≡ block_at self.now guid b }
     {
@@ -110,7 +108,7 @@ impl Plan {
         self.tables[index].block(b)
     }
 
-    /// The table of each usable switch, by rising GUID.
+    /// Returns the table of each usable switch, by rising GUID.
     pub fn tables(&self) -> &[Table]
         ensures { result.now ≡ self.now.tables }
     {
@@ -118,7 +116,7 @@ impl Plan {
     }
 }
 
-/// The usable switches, by rising GUID, and the table of each.
+/// Returns the usable switches, by rising GUID, and the table of each.
 fn tables_of(
     alloc: Global,
     wires: &Wires,
@@ -135,7 +133,7 @@ fn tables_of(
     }
 }
 
-/// The same by the rule that spreads.
+/// Returns the usable switches, by rising GUID, and the table of each by the rule that spreads.
 fn by_spread(
     alloc: Global,
     wires: &Wires,
@@ -154,7 +152,7 @@ fn by_spread(
     Ok((graph.into_switches(), tables))
 }
 
-/// The same by routes that go up and then down.
+/// Returns the usable switches, by rising GUID, and the table of each by routes that go up and then down.
 fn by_updown(
     alloc: Global,
     wires: &Wires,
@@ -171,7 +169,7 @@ fn by_updown(
     Ok((graph.into_switches(), tables))
 }
 
-/// The table of each switch of a graph, by routes that go up and then down.
+/// Returns the table of each switch of a graph, by routes that go up and then down.
 fn updown_tables(
     alloc: Global,
     graph: &Graph,

@@ -16,9 +16,9 @@ use lid_assign::LidMap;
 use smp_bytes::{Guid, Lid};
 use subnet_view::EndPort;
 
-/// Writes a line for each LID, rising, and then for each usable switch, by rising GUID, a line with the
-/// greatest LID and a line for each block; and flushes. Without end ports there is no line. It takes no
-/// memory, and writes each block's digits at once.
+/// Writes a line for each LID, rising; then for each usable switch, by rising GUID, a line with the greatest LID and a
+/// line for each block; and flushes. Without end ports there are no lines. Takes no memory, and writes each block's
+/// digits at once.
 pub fn write_plan<W: Sink>(sink: &mut W, plan: &Plan) -> Result<(), WriteFault>
     ensures writes { Writes W.written W.has_failed result sink.old sink.new (plan_text plan.now) }
     ensures flushed { OnOk result (IsTrue (W.is_flushed sink.new)) }
@@ -28,7 +28,7 @@ pub fn write_plan<W: Sink>(sink: &mut W, plan: &Plan) -> Result<(), WriteFault>
     sink.flush()
 }
 
-/// Writes a line for each LID, rising, and none where there is no end port.
+/// Writes a line for each LID, rising. Writes nothing if there is no end port.
 pub fn write_lids<W: Sink>(sink: &mut W, lids: &LidMap) -> Result<(), WriteFault>
     ensures { WritesPart W.written W.has_failed result sink.old sink.new (lids_text lids.now) }
 {
@@ -38,7 +38,7 @@ pub fn write_lids<W: Sink>(sink: &mut W, lids: &LidMap) -> Result<(), WriteFault
     Ok(())
 }
 
-/// Writes the line of a LID, where an end port has it.
+/// Writes the line of a LID, if an end port has it.
 fn write_owner<W: Sink>(sink: &mut W, lids: &LidMap, lid: Lid) -> Result<(), WriteFault>
     ensures { WritesPart W.written W.has_failed result sink.old sink.new (owner_line lids.now lid) }
 {
@@ -74,7 +74,7 @@ fn write_lmc<W: Sink>(sink: &mut W, lmc: Lmc) -> Result<(), WriteFault>
     write_number(sink, u64::from(lmc.number()))
 }
 
-/// Writes the switches, where a LID is given.
+/// Writes the switches, if there is a LID.
 fn write_tables<W: Sink>(sink: &mut W, plan: &Plan) -> Result<(), WriteFault>
     ensures { WritesPart W.written W.has_failed result sink.old sink.new (tables_text plan.now) }
 {
@@ -84,7 +84,7 @@ fn write_tables<W: Sink>(sink: &mut W, plan: &Plan) -> Result<(), WriteFault>
     }
 }
 
-/// Writes these switches.
+/// Writes the switches of these tables.
 fn write_each_table<W: Sink>(sink: &mut W, top: Lid, tables: &[Table]) -> Result<(), WriteFault>
     ensures { WritesPart W.written W.has_failed result sink.old sink.new
         (flat_map (table_text top) tables.now) }

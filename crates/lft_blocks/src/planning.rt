@@ -12,12 +12,12 @@ use fact_store::Store;
 use std::alloc::{AllocError, Global};
 use std::marker::Model;
 
-/// How a manager plans. Managers of one subnet plan alike.
+/// How a manager plans. Managers of one subnet are to plan alike.
 #[derive(Drop)]
 pub struct Planning {
-    /// An adapter port has 2^LMC LIDs.
+    /// The LMC: an adapter port has 2^LMC LIDs.
     pub lmc: Lmc,
-    /// How packets are led between switches.
+    /// The rule of routing: how packets are routed between switches.
     pub rule: Rule,
 }
 
@@ -33,14 +33,14 @@ impl Model for Planning {
 }
 
 impl Planning {
-    /// By an LMC and a rule of routing.
+    /// Creates a planning with this LMC and rule of routing.
     pub fn new(lmc: Lmc, rule: Rule) -> Self
         ensures { result ≡ record { lmc = lmc; rule = value_of rule } }
     {
         Planning { lmc, rule }
     }
 
-    /// The same once more. Takes a step for each root of the rule.
+    /// Returns a copy. Takes one step for each root of the rule.
     pub fn try_clone(&self, alloc: Global) -> Result<Self, AllocError>
         ensures { IfOk result (λ planning. planning ≡ self.now) }
     {
@@ -50,7 +50,11 @@ impl Planning {
         })
     }
 
-    /// The plan of what a store holds.
+    /// Plans what a store holds.
+    ///
+    /// # Errors
+    ///
+    /// Returns `NoRoom` if there is no room for the LIDs, and otherwise `Memory` if memory runs out.
     pub fn plan(&self, alloc: Global, store: &Store) -> Result<Plan, PlanFault>
         ensures judged { JudgesButFor is_memory result (lid_fault (no_room self.now.lmc (cells_of store.now))) }
         ensures plan { IfOk result (λ plan. plan ≡ plan_of self.now.rule self.now.lmc (cells_of store.now)) }

@@ -4,20 +4,20 @@ ghost use Rattle.lft_blocks.specs.Rules.{value_of};
 use spread_routes::SwitchOrder;
 use std::alloc::{AllocError, Global};
 
-/// How packets are led between switches.
+/// A rule of routing: how packets are routed between switches.
 #[derive(Drop)]
 pub enum Rule {
-    /// Up as far as they must, towards the root of the component, and then down, each by the least port.
+    /// Up as far as needed, towards the root of the component, and then down, by the least port each time.
     UpDown,
     /// Spread over the wires, by an order of switches.
     Spread {
-        /// By what that order grows.
+        /// What that order grows by.
         order: SwitchOrder,
     },
 }
 
 impl Rule {
-    /// A copy of it. Takes a step for each GUID that the order grows by.
+    /// Returns a copy. Takes one step for each GUID that the order grows by.
     pub fn try_clone(&self, alloc: Global) -> Result<Self, AllocError>
         ensures { IfOk result (λ copy. value_of copy ≡ value_of self.now) }
     {

@@ -20,7 +20,7 @@ use std::alloc::{AllocError, Global};
 use std::mem;
 use subnet_view::{SwitchGraph, Wires};
 
-/// The table of each switch by the rule that spreads, by an order of switches.
+/// Returns the table of each switch by the rule that spreads, in an order of switches.
 pub(crate) fn spread_tables(
     alloc: Global,
     wires: &Wires,
@@ -45,7 +45,7 @@ pub(crate) fn spread_tables(
     tables_of(alloc, guids, &mut rows, count)
 }
 
-/// The entries of each switch.
+/// Returns the row of entries of each switch.
 fn rows(
     alloc: Global,
     spread: &Spread,
@@ -69,7 +69,7 @@ fn rows(
     Ok(rows)
 }
 
-/// Writes the entries of all switches for the LIDs whose attachments lie at some of them.
+/// Writes the entries of all switches for the LIDs that are attached to one of the targets.
 fn write_rows(
     alloc: Global,
     rows: &mut [TableRow],
@@ -94,7 +94,8 @@ fn write_rows(
     Ok(())
 }
 
-/// Writes those of the switch at an index. What was found for another is replaced.
+/// Writes the entries of the switch at index `own` for the LIDs that are attached to one of the targets. Replaces what
+/// `exits` had before.
 fn write_row(
     row: &mut TableRow,
     own: usize,
@@ -128,7 +129,7 @@ fn write_row(
     Ok(())
 }
 
-/// So many rows of so many entries, and no way anywhere.
+/// Returns `switches` rows of `len` entries, with no way to any LID.
 fn no_ways(alloc: Global, switches: usize, len: usize) -> Result<Vec<TableRow>, AllocError>
     ensures { IfOk result (λ rows. rows.items ≡ replicate switches (replicate len 255)) }
 {
@@ -139,7 +140,7 @@ fn no_ways(alloc: Global, switches: usize, len: usize) -> Result<Vec<TableRow>, 
     Ok(rows)
 }
 
-/// The tables of switches with these entries, each of which is let go once its table is made.
+/// Returns the tables of switches with these entries. Drops each row once its table is made.
 fn tables_of(
     alloc: Global,
     guids: &[Guid],

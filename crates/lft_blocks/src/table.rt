@@ -5,7 +5,7 @@ use crate::block::blocks;
 use smp_bytes::Guid;
 use std::marker::Model;
 
-/// The forwarding table of a switch: no block comes after that of the greatest LID that a packet can name.
+/// The forwarding table of a switch: its blocks, at most as many as hold all LIDs that a packet can name.
 #[derive(Drop)]
 pub struct Table {
     pub(crate) guid: Guid,
@@ -24,7 +24,7 @@ impl Model for Table {
 }
 
 impl Table {
-    /// The table of a switch with these blocks.
+    /// Creates the table of a switch with these blocks.
     pub(crate) fn new(guid: Guid, blocks: Vec<[u8; 64]>) -> Self
         requires { length blocks.items ≤ 1024 }
         ensures { result ≡ record { guid = guid; blocks = blocks.items } }
@@ -32,21 +32,21 @@ impl Table {
         Table { guid, blocks }
     }
 
-    /// The GUID of the switch.
+    /// Returns the GUID of the switch.
     pub fn guid(&self) -> Guid
         ensures { result ≡ self.now.guid }
     {
         self.guid
     }
 
-    /// A block, where there is one.
+    /// Returns block `b`, if there is one.
     pub(crate) fn block(&self, b: usize) -> Option<&[u8; 64]>
         ensures { option_copied result ≡ slice_get self.now.blocks b }
     {
         self.blocks.get(b)
     }
 
-    /// The blocks from 0 on.
+    /// Returns the blocks from 0 on.
     pub fn blocks(&self) -> &[[u8; 64]]
         ensures blocks { result.now ≡ self.now.blocks }
         ensures few { length result.now ≤ 1024 }

@@ -1,4 +1,4 @@
-//! The entries of switches, LID by LID, written from target to target.
+//! The entries of switches, LID by LID, written target by target.
 ghost use Rattle.std.specs.Prelude.{◌≡◌, ◌<◌, ◌≤◌, ◌+◌, ◌*◌, [], All, IfOk, None, length, map, replicate};
 ghost use Rattle.std.specs.Prelude.{slice_index_or};
 ghost use Rattle.spread_routes.specs.Tables.{port_by, with_entries};
@@ -27,7 +27,7 @@ impl Model for TableRow {
 }
 
 impl TableRow {
-    /// So many entries, from LID 0 on, and no way anywhere.
+    /// Creates a row of `len` entries, from LID 0 on, with no way to any LID.
     pub(crate) fn new(alloc: Global, len: usize) -> Result<Self, AllocError>
         ensures { IfOk result (λ row. row ≡ replicate len 255) }
     {
@@ -35,7 +35,7 @@ impl TableRow {
         Ok(TableRow { entries })
     }
 
-    /// No entry. It takes no memory.
+    /// Creates an empty row. Takes no memory.
     pub(crate) fn empty(alloc: Global) -> Self
         ensures { result ≡ [] }
     {
@@ -44,8 +44,8 @@ impl TableRow {
         }
     }
 
-    /// Writes the entries for these LIDs, whose attachments lie at a target of these exits: the attachments' ports
-    /// where that is this switch, and else the ports by which packets leave for it.
+    /// Writes the entries for these LIDs, which are attached to a target of the exits: the attachments' ports if
+    /// `is_own`, and otherwise the ports by which packets leave for the target.
     pub(crate) fn write(
         &mut self,
         attachments: &[Option<Attachment>],
@@ -67,7 +67,7 @@ impl TableRow {
         }
     }
 
-    /// The entries in blocks of 64.
+    /// Returns the entries in `count` blocks of 64.
     pub(crate) fn blocks(&self, alloc: Global, count: usize) -> Result<Vec<[u8; 64]>, AllocError>
         requires few { count ≤ 1024 }
         requires all { length self.now ≡ 64 * count }
@@ -81,7 +81,7 @@ impl TableRow {
     }
 }
 
-/// Writes the entries for these LIDs at the switch where their attachments lie.
+/// Writes the entries for these LIDs at the switch that they are attached to.
 fn write_own(entries: &mut [u8], attachments: &[Option<Attachment>], lids: &[Lid])
     requires lids { All (λ lid. lid < length entries.old) lids.now }
     requires attachments { length entries.old ≡ length attachments.now }
@@ -93,7 +93,7 @@ fn write_own(entries: &mut [u8], attachments: &[Option<Attachment>], lids: &[Lid
     }
 }
 
-/// A block of entries.
+/// Returns block `b` of the entries.
 fn block(entries: &[u8], b: usize) -> [u8; 64]
     requires few { b < 1024 }
     requires within { 64 * b + 64 ≤ length entries.now }
@@ -106,7 +106,7 @@ fn block(entries: &[u8], b: usize) -> [u8; 64]
     block
 }
 
-/// The port of the attachment of a LID.
+/// Returns the port of a LID's attachment, or 255 if it has none.
 fn own_entry(attachments: &[Option<Attachment>], lid: Lid) -> u8
     requires { lid < length attachments.now }
     ensures { result ≡ attachment_port (slice_index_or attachments.now lid None) }
@@ -117,7 +117,7 @@ fn own_entry(attachments: &[Option<Attachment>], lid: Lid) -> u8
     }
 }
 
-/// The LIDs whose attachments lie at each of so many switches, rising.
+/// Returns for each switch the LIDs that are attached to it, rising.
 pub(crate) fn lids_by_switch(
     alloc: Global,
     attachments: &[Option<Attachment>],
@@ -138,7 +138,7 @@ pub(crate) fn lids_by_switch(
     Ok(lists)
 }
 
-/// So many lists of no LIDs.
+/// Returns `switches` empty lists of LIDs.
 fn no_lids(alloc: Global, switches: usize) -> Result<Vec<Vec<Lid>>, AllocError>
     ensures { IfOk result (λ lists. map (λ lids. lids.items) lists.items ≡ replicate switches []) }
 {

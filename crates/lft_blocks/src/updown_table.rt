@@ -10,7 +10,7 @@ use smp_bytes::Guid;
 use std::alloc::{AllocError, Global};
 use updown_routes::Routes;
 
-/// The table of each switch. Each entry takes two steps.
+/// Returns the table of each switch. Takes two steps for each entry.
 pub(crate) fn tables(
     alloc: Global,
     routes: &Routes,
@@ -31,7 +31,7 @@ pub(crate) fn tables(
     Ok(tables)
 }
 
-/// The table of the switch at the index `own`.
+/// Returns the table of the switch at the index `own`.
 fn table_at(
     alloc: Global,
     routes: &Routes,
@@ -54,7 +54,7 @@ fn table_at(
     })
 }
 
-/// The next port from the switch at the index `own` towards each of so many, and 255 where there is no way.
+/// Returns the next port from the switch at the index `own` towards each of `len` switches, or 255 if there is no way.
 fn row(alloc: Global, routes: &Routes, own: usize, len: usize) -> Result<Vec<u8>, AllocError>
     ensures { IfOk result (λ row. row.items ≡ row_of routes.now own len) }
 {
@@ -65,7 +65,7 @@ fn row(alloc: Global, routes: &Routes, own: usize, len: usize) -> Result<Vec<u8>
     Ok(row)
 }
 
-/// The next port, and 255 where there is no way.
+/// Returns the next port from the switch at the index `own` towards the one at `to`, or 255 if there is no way.
 fn port_towards(routes: &Routes, own: usize, to: usize) -> u8
     ensures { result ≡ unwrap_or (next_port_at routes.now own to) 255 }
 {

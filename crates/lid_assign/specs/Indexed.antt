@@ -1,4 +1,4 @@
--- The tables by which the owner of a number and the LID of an end port are found.
+-- The tables that give the owner of a number and the LID of an end port.
 use Rattle.std.specs.Prelude.{◌≡◌, ◌≤◌, ◌+◌, ◌-◌, ℕ, List, Contains, Bool, false, Option, None, Some, filter, length, slice_index_or, if◌then◌else◌}
 use Rattle.subnet_view.specs.declared.end_port.EndPort.{EndPort}
 use Rattle.std.specs.declared.cmp.Ordering.{Ordering}
@@ -11,20 +11,20 @@ use Rattle.lid_assign.specs.Lids.{Given, count_up, owner_of, lid_among, top_of, 
 abbrev pub AreOwners : Given → List (Option EndPort) → Type 0
 AreOwners given owners = (n : ℕ) → slice_index_or owners n None ≡ owner_of given n
 
--- the table with an end port at each number of a range
+-- the table, with an end port written at each number of a range
 pub record AreOwnersMore (e : EndPort) (r : Range) (old new : List (Option EndPort)) : Type 0 where
   pub all : length new ≡ length old
   pub each : (n : ℕ) → slice_index_or new n None ≡ (if is_in r n then Some e else slice_index_or old n None)
 
--- a number is marked where it is an end port's LID
+-- a number is marked exactly if it is an end port's LID
 abbrev pub AreLidMarks : List (EndPort × ℕ) → List Bool → Type 0
 AreLidMarks given marks = (n : ℕ) → slice_index_or marks n false ≡ is_lid given n
 
--- the numbers from the first on that are marked
+-- the marked numbers, from `first` on
 abbrev pub marked_from : List Bool → ℕ → List ℕ
 marked_from marks first = filter (λ n. slice_index_or marks n false) (count_up first (length marks - first))
 
--- no number of an end port is over the bound
+-- the range of each end port ends at or below the bound
 abbrev pub AreBelow : ℕ → ℕ → List (EndPort × ℕ) → Type 0
 AreBelow bound lmc given = (e : EndPort) (n : ℕ) → Contains given (e, n) → n + width_of lmc e ≤ bound
 
@@ -32,11 +32,11 @@ AreBelow bound lmc given = (e : EndPort) (n : ℕ) → Contains given (e, n) →
 abbrev pub node_port_cmp : ℕ × ℕ → ℕ × ℕ → Ordering
 node_port_cmp a b = ordering_then (nat_cmp a.0 b.0) (nat_cmp a.1 b.1)
 
--- the table has at each node and port the LID of that end port
+-- the table has for each node and port the LID of that end port
 abbrev pub ByPort : List (EndPort × ℕ) → BTreeMap (ℕ × ℕ) ℕ → Type 0
 ByPort given lids = (e : EndPort) → get node_port_cmp lids (e.node, e.port) ≡ lid_among given e
 
--- a map's tables, of end ports that have unicast LIDs
+-- a map's tables, if its end ports have unicast LIDs
 pub record IsIndexed (given : Given) (owners : List (Option EndPort)) (lids : BTreeMap (ℕ × ℕ) ℕ) (top : Option ℕ)
     (rising : List ℕ) : Type 0 where
   pub owned : AreOwners given owners

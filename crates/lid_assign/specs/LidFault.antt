@@ -1,4 +1,4 @@
--- When there are no LIDs for end ports, and the names of what is wrong.
+-- When end ports get no LIDs, and the names of the faults.
 use Rattle.std.specs.Prelude.{ℕ, Bool, true, false, List, Option, None, Some, length, codes, if◌then◌else◌}
 use Rattle.subnet_view.specs.Reading.{Cells}
 use Rattle.subnet_view.specs.EndPorts.{end_ports}
@@ -16,12 +16,12 @@ abbrev pub is_memory : LidFault → Bool
 is_memory (NoRoom why) = false
 is_memory Memory = true
 
--- how many end ports there are and how much room, where one of them finds no LID
+-- the number of end ports and the room, if an end port finds no LID
 abbrev pub no_room : ℕ → Cells → Option Room
 no_room lmc cells =
     if is_no_room lmc cells then Some (record { endports = length (end_ports cells); room = room cells }) else None
 
--- why no LIDs are given, memory aside
+-- why no LIDs are assigned, except for memory
 abbrev pub lid_fault : Option Room → Option LidFault
 lid_fault None = None
 lid_fault (Some why) = Some (NoRoom why)

@@ -10,38 +10,38 @@ use Rattle.subnet_view.specs.EndPorts.{end_ports}
 use Rattle.smp_bytes.specs.LidRange.{has_lid}
 use Rattle.lid_assign.specs.Ranges.{lmc_at, width_of, Range, range_at, is_in, meets, fits, IsIn, IsInBoth, Fits}
 
--- the least of some table rooms, and at most the first number that is no unicast LID
+-- the least of some table rooms, but at most the first number past the unicast LIDs
 abbrev pub least_room : List ℕ → ℕ
 least_room [] = 0xC000
 least_room (cap ∷ caps) = min cap (least_room caps)
 
--- the least table room of a usable switch, and at most the first number that is no unicast LID: LIDs are below it
+-- the least table room of a usable switch, but at most the first number past the unicast LIDs; all LIDs are below it
 abbrev pub room : Cells → ℕ
 room cells = least_room (filter_map (cap_of cells) (switches cells))
 
 -- claims that are kept: -----------------------------------------------------------
 
--- the number, where the range from it on fits
+-- the number c, if the range from it on fits
 abbrev pub if_fits : ℕ → ℕ → EndPort → ℕ → Option ℕ
 if_fits room lmc e c = if fits room (range_at lmc e c) then Some c else None
 
--- the number that an end port claims, where its range fits
+-- the number that an end port claims, if its range fits
 abbrev pub fitting_claim : ℕ → Cells → EndPort → Option ℕ
 fitting_claim lmc cells e = option_and_then (if_fits (room cells) lmc e) (claim_of cells e.node e.port)
 
--- the end port claims a range that fits and meets this one
+-- the end port claims a range that fits and meets r
 abbrev pub claims : ℕ → Cells → Range → EndPort → Bool
 claims lmc cells r e = option_map_or (λ c. meets r (range_at lmc e c)) (fitting_claim lmc cells e) false
 
--- the number, where none of these end ports claims a range that fits and meets that from it on
+-- the number c, if none of the end ports `earlier` claims a range that fits and meets that of c
 abbrev pub if_first : ℕ → Cells → List EndPort → EndPort → ℕ → Option ℕ
 if_first lmc cells earlier e c = if list_any (claims lmc cells (range_at lmc e c)) earlier then None else Some c
 
--- the claim that an end port keeps after these
+-- the claim that an end port keeps; `earlier` are the end ports before it
 abbrev pub kept_claim : ℕ → Cells → List EndPort → EndPort → Option ℕ
 kept_claim lmc cells earlier e = option_and_then (if_first lmc cells earlier e) (fitting_claim lmc cells e)
 
--- end ports in their order, each with the claim that it keeps
+-- end ports in their order, each with the claim that it keeps; `earlier` come before them
 abbrev pub with_kept : ℕ → Cells → List EndPort → List EndPort → List (EndPort × Option ℕ)
 with_kept lmc cells earlier [] = []
 with_kept lmc cells earlier (e ∷ rest) = (e, kept_claim lmc cells earlier e) ∷ with_kept lmc cells (e ∷ earlier) rest
@@ -56,22 +56,21 @@ kept_range lmc x = option_map (range_at lmc x.0) x.1
 
 -- LIDs that are handed out: -------------------------------------------------------
 
--- so many numbers, counting up
+-- n numbers, counting up from `start`
 abbrev pub count_up : ℕ → ℕ → List ℕ
 count_up start zero = []
 count_up start (suc n) = start ∷ count_up (suc start) n
 
--- the range fits, and meets none of these
+-- the range fits, and meets none of the ranges `taken`
 abbrev pub is_open : ℕ → List Range → Range → Bool
 is_open room taken r = fits room r && not (list_any (meets r) taken)
 
--- the least number from which on so many fit and meet none of these ranges
+-- the least number whose range of this width fits and meets none of the ranges `taken`
 abbrev pub least_open : ℕ → List Range → ℕ → Option ℕ
 least_open room taken width =
     find (λ c. is_open room taken (record { first = c; width = width })) (count_up 1 (room - 1))
 
--- kept claims stay, and each other end port in turn takes the least number whose range is open; None where one finds
--- none
+-- kept claims stay, and each other end port in turn takes the least number whose range is open; None if one finds none
 abbrev pub hand_out : ℕ → ℕ → List Range → List (EndPort × Option ℕ) → Option (List (EndPort × ℕ))
 hand_out room lmc taken [] = Some []
 hand_out room lmc taken ((e, Some c) ∷ rest) = option_map (λ given. (e, c) ∷ given) (hand_out room lmc taken rest)
@@ -79,7 +78,7 @@ hand_out room lmc taken ((e, None) ∷ rest) =
     option_and_then (λ c. option_map (λ given. (e, c) ∷ given) (hand_out room lmc (range_at lmc e c ∷ taken) rest))
     (least_open room taken (width_of lmc e))
 
--- the end ports in their order, with their LIDs, where each has one
+-- the end ports in their order, with their LIDs, if each finds one
 abbrev pub handed_out : ℕ → Cells → Option (List (EndPort × ℕ))
 handed_out lmc cells = hand_out (room cells) lmc (filter_map (kept_range lmc) (kept lmc cells)) (kept lmc cells)
 
@@ -92,7 +91,7 @@ pub record Given : Type 0 where
 abbrev pub lids : ℕ → Cells → Given
 lids lmc cells = record { lmc = lmc; ports = unwrap_or (handed_out lmc cells) [] }
 
--- one of the end ports finds no LID
+-- an end port finds no LID
 abbrev pub is_no_room : ℕ → Cells → Bool
 is_no_room lmc cells = not (is_some (handed_out lmc cells))
 
@@ -101,7 +100,7 @@ IsNoRoom lmc cells = IsTrue (is_no_room lmc cells)
 
 -- what the LIDs say: ---------------------------------------------------------------
 
--- the number is one of this end port's
+-- the number n is in the end port's range
 abbrev pub has_number : ℕ → ℕ → EndPort × ℕ → Bool
 has_number lmc n x = is_in (range_at lmc x.0 x.1) n
 
@@ -109,7 +108,7 @@ has_number lmc n x = is_in (range_at lmc x.0 x.1) n
 abbrev pub owner_of : Given → ℕ → Option EndPort
 owner_of given n = option_map (λ x. x.0) (find (has_number given.lmc n) given.ports)
 
--- the LID is this end port's
+-- the entry is the end port's
 abbrev pub is_end_port_at : EndPort → EndPort × ℕ → Bool
 is_end_port_at e x = e.node == x.0.node && e.port == x.0.port
 
@@ -128,7 +127,7 @@ lmc_of given e = lmc_at given.lmc e
 abbrev pub range_of : Given → EndPort → Option (ℕ × ℕ)
 range_of given e = option_map (λ lid. (lid, lmc_of given e)) (lid_of given e)
 
--- the greatest of some numbers, and 0 where there is none
+-- the greatest of some numbers, 0 if there are none
 abbrev pub greatest : List ℕ → ℕ
 greatest [] = 0
 greatest (n ∷ ns) = max n (greatest ns)
@@ -146,7 +145,7 @@ top_among lmc (x ∷ given) = Some (max (last_of lmc x) (greatest (map (last_of 
 abbrev pub top_of : Given → Option ℕ
 top_of given = top_among given.lmc given.ports
 
--- one more than the greatest number, and 0 where there is none
+-- one more than the greatest number, 0 if there is none
 abbrev pub end_of : Option ℕ → ℕ
 end_of None = 0
 end_of (Some top) = suc top
@@ -155,13 +154,13 @@ end_of (Some top) = suc top
 abbrev pub is_lid : List (EndPort × ℕ) → ℕ → Bool
 is_lid given n = list_any (λ x. x.1 == n) given
 
--- the LIDs that are given, rising
+-- the LIDs that are assigned, rising
 abbrev pub rising_lids : Given → List ℕ
 rising_lids given = filter (is_lid given.ports) (count_up 0 (end_of (top_of given)))
 
--- the law of the LIDs, in words: ---------------------------------------------------
+-- the law of LIDs, as statements: -----------------------------------------------------
 
--- the parts of a list round an element
+-- the list `all` is `earlier`, then x, then `later`
 abbrev pub Stands : {X : Type 0} → List X → X → List X → List X → Type 0
 Stands earlier x later all = all ≡ earlier ++ x ∷ later
 
@@ -170,7 +169,8 @@ pub record ClaimsFitting (lmc : ℕ) (cells : Cells) (e : EndPort) (c : ℕ) : T
   pub claimed : claim_of cells e.node e.port ≡ Some c
   pub claim_fits : Fits (room cells) (range_at lmc e c)
 
--- such a claim, whose range has no number in common with one that an earlier end port claims so
+-- the end port claims c with a range that fits, and no earlier end port claims a range that fits and has a number in
+-- common with it
 abbrev pub Keeps : ℕ → Cells → EndPort → ℕ → Type 0
 Keeps lmc cells e c =
     (earlier later : List EndPort) → Stands earlier e later (end_ports cells) → ClaimsFitting lmc cells e c
@@ -181,7 +181,7 @@ Keeps lmc cells e c =
 abbrev pub KeepsNothing : ℕ → Cells → EndPort → Type 0
 KeepsNothing lmc cells e = (c : ℕ) → Keeps lmc cells e c → ⊥
 
--- a number of an end port that keeps its claim, or was before
+-- the number n is in the range of an earlier end port, or of one that keeps its claim
 pub record WasTaken (lmc : ℕ) (cells : Cells) (earlier given : List (EndPort × ℕ)) (n : ℕ) : Type 0 where
   pub by : EndPort
   pub lid : ℕ
@@ -189,8 +189,8 @@ pub record WasTaken (lmc : ℕ) (cells : Cells) (earlier given : List (EndPort �
   pub is_before : Contains earlier (by, lid) ⊎ Keeps lmc cells by lid
   pub is_its : IsIn (range_at lmc by lid) n
 
--- the end ports in order, each with the claim that it keeps, or the least number whose range fits and has none that was
--- taken
+-- the end ports in order, each with the claim that it keeps, or the least number whose range fits and has no number
+-- that was taken
 pub record AreLids (lmc : ℕ) (cells : Cells) (given : List (EndPort × ℕ)) : Type 0 where
   pub end_ports_in_order : map (λ x. x.0) given ≡ end_ports cells
   pub each_fits : (e : EndPort) (n : ℕ) → Contains given (e, n) → Fits (room cells) (range_at lmc e n)
@@ -202,22 +202,22 @@ pub record AreLids (lmc : ℕ) (cells : Cells) (given : List (EndPort × ℕ)) :
       → Fits (room cells) (range_at lmc e m) → m < n → (k : ℕ) × IsIn (range_at lmc e m) k
       × WasTaken lmc cells earlier given k
 
--- where there is room, the LIDs are so
+-- if there is room, the LIDs satisfy the law
 abbrev pub LidsLaw : Type 0
 LidsLaw = (lmc : ℕ) (facts : Facts) → ¬ (IsNoRoom lmc (cells_of facts))
     → AreLids lmc (cells_of facts) (lids lmc (cells_of facts)).ports
 
--- nothing else is so
+-- no other LIDs satisfy the law
 abbrev pub LidsAreUnique : Type 0
 LidsAreUnique = (lmc : ℕ) (facts : Facts) (given : List (EndPort × ℕ)) → AreLids lmc (cells_of facts) given
     → given ≡ (lids lmc (cells_of facts)).ports
 
--- and where there is no room, nothing is
+-- there is no room exactly if no LIDs satisfy the law
 abbrev pub NoRoomLaw : Type 0
 NoRoomLaw = (lmc : ℕ) (facts : Facts) → IsNoRoom lmc (cells_of facts)
     ↔ ((given : List (EndPort × ℕ)) → AreLids lmc (cells_of facts) given → ⊥)
 
--- with one LID a port, there is no room where there are end ports, and not fewer than the room
+-- with one LID for each port, there is no room exactly if there are end ports, and at least as many as the room
 abbrev pub NoRoomAtLmc0 : Type 0
 NoRoomAtLmc0 = (cells : Cells) → IsNoRoom 0 cells
     ↔ ((0 < length (end_ports cells)) × (room cells ≤ length (end_ports cells)))
@@ -229,14 +229,14 @@ OthersRise = (lmc : ℕ) (facts : Facts) (given earlier middle later : List (End
     → given ≡ earlier ++ (e, n) ∷ middle ++ (f, m) ∷ later → width_of lmc e ≡ width_of lmc f
     → KeepsNothing lmc (cells_of facts) e → KeepsNothing lmc (cells_of facts) f → n < m
 
--- who owns a number has it, as one of the LIDs of its port, and who has it so owns it
+-- if there is room, an end port owns a number exactly if it has the number as one of its LIDs
 abbrev pub OwnersAreInverse : Type 0
 OwnersAreInverse = (lmc : ℕ) (facts : Facts) → ¬ (IsNoRoom lmc (cells_of facts)) → (e : EndPort) (n : ℕ)
     → (owner_of (lids lmc (cells_of facts)) n ≡ Some e)
     ↔ ((lid : ℕ) × (lid_of (lids lmc (cells_of facts)) e ≡ Some lid)
     × IsTrue (has_lid lid (lmc_of (lids lmc (cells_of facts)) e) n))
 
--- the rising LIDs are those that are given, each once
+-- the rising LIDs are those that are assigned, each once
 abbrev pub RisingLidsLaw : Type 0
 RisingLidsLaw = (given : Given)
     → ((n : ℕ) → Contains (rising_lids given) n ↔ ((e : EndPort) × Contains given.ports (e, n)))

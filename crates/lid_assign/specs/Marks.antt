@@ -14,28 +14,28 @@ is_marked marks n = slice_index_or marks n false
 abbrev pub any_marked : List Bool → Range → Bool
 any_marked marks r = list_any (is_marked marks) (count_up r.first r.width)
 
--- the numbers from one on
+-- the range of this width from c on
 abbrev pub from_on : ℕ → ℕ → Range
 from_on width c = record { first = c; width = width }
 
--- the number is one of the range, where there is one
+-- the number is in the range, if there is one
 abbrev pub is_in_some : Option Range → ℕ → Bool
 is_in_some r n = option_map_or (λ r. is_in r n) r false
 
--- the marks, with those of a range set, where there is one
+-- the marks, with those of a range set, if there is one
 pub record AreMarkedMore (r : Option Range) (old new : List Bool) : Type 0 where
   pub all : length new ≡ length old
   pub each : (n : ℕ) → n < length old → is_marked new n ≡ (is_in_some r n || is_marked old n)
 
--- the number, where so many from it on have marks
+-- the number c, if the range of this width from it on fits
 abbrev pub if_within : ℕ → ℕ → ℕ → Option ℕ
 if_within room width c = if fits room (from_on width c) then Some c else None
 
--- the claim, where the range from it on fits
+-- the claim, if its range fits
 abbrev pub fitting : ℕ → ℕ → Option ℕ → Option ℕ
 fitting room width claim = option_and_then (if_within room width) claim
 
--- the number, where none from it on is marked
+-- the number c, if nothing in the range from it on is marked
 abbrev pub if_unmarked : List Bool → ℕ → ℕ → Option ℕ
 if_unmarked marks width c = if any_marked marks (from_on width c) then None else Some c
 
@@ -48,33 +48,33 @@ pub record IsUnmarked (marks : List Bool) (width c : ℕ) : Type 0 where
   pub is_fit : fits (length marks) (from_on width c) ≡ true
   pub is_open : any_marked marks (from_on width c) ≡ false
 
--- no number from one on and below another is such
+-- no number from `low` up to, but not including, `high` has an unmarked range
 abbrev pub NoneUnmarked : List Bool → ℕ → ℕ → ℕ → Type 0
 NoneUnmarked marks width low high = (c : ℕ) → low ≤ c → c < high → IsUnmarked marks width c → ⊥
 
--- the least such number from one on
+-- c is the least number from `low` on with an unmarked range
 pub record IsLeastUnmarked (marks : List Bool) (width low c : ℕ) : Type 0 where
   pub unmarked_there : IsUnmarked marks width c
   pub from_low : low ≤ c
   pub none_before : NoneUnmarked marks width low c
 
--- the numbers that these ranges have are marked, below the room
+-- the marked numbers are those of the ranges, below the room
 pub record AreTaken (room : ℕ) (ranges : List Range) (marks : List Bool) : Type 0 where
   pub all : length marks ≡ room
   pub each : (n : ℕ) → n < room → is_marked marks n ≡ list_any (λ r. is_in r n) ranges
 
--- no number below this one is open for so many, and it may be the next
+-- no number below `next` has an open range of this width, and `next` may be tried
 pub record IsPassed (marks : List Bool) (width next : ℕ) : Type 0 where
   pub aligned : next % width ≡ 0
   pub not_0 : 1 ≤ next
   pub near : next ≤ length marks + width
   pub none_before : NoneUnmarked marks width 0 next
 
--- so it is for switches, and for adapters
+-- `next` is passed for switches, and for adapter ports
 pub record ArePassed (lmc : ℕ) (marks : List Bool) (next : Next) : Type 0 where
   pub switches : IsPassed marks 1 next.switch
   pub adapters : IsPassed marks (2 ^ lmc) next.adapter
 
--- what was found: the LIDs, or that one of the end ports finds none
+-- the result is the LIDs, or None if an end port finds none
 abbrev pub IsFound : {V : Type 0} → (V → List (EndPort × ℕ)) → Option (List (EndPort × ℕ)) → Option V → Type 0
 IsFound items handed found = option_map items found ≡ handed

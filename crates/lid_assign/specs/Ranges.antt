@@ -3,15 +3,15 @@ use Rattle.std.specs.Prelude.{◌≡◌, ◌↔◌, ◌<◌, ◌≤◌, ◌+◌,
 use Rattle.smp_bytes.specs.LidRange.{is_among}
 use Rattle.subnet_view.specs.declared.end_port.EndPort.{EndPort}
 
--- the LMC of an end port: 0 of port 0, which is a switch's, and else the subnet's
+-- the LMC of an end port: 0 for port 0, which is a switch's, and else the subnet's
 abbrev pub lmc_at : ℕ → EndPort → ℕ
 lmc_at lmc e = if e.port == 0 then 0 else lmc
 
--- how many LIDs it has
+-- the number of LIDs of an end port
 abbrev pub width_of : ℕ → EndPort → ℕ
 width_of lmc e = 2 ^ lmc_at lmc e
 
--- numbers that follow one another: the first one, and how many they are
+-- consecutive numbers: the first one, and how many there are
 pub record Range : Type 0 where
   pub first : ℕ
   pub width : ℕ
@@ -28,12 +28,12 @@ is_in r n = is_among r.first r.width n
 abbrev pub meets : Range → Range → Bool
 meets a b = nat_lt a.first (b.first + b.width) && nat_lt b.first (a.first + a.width)
 
--- the range can be an end port's below the room: it begins at a multiple of its width, and not at 0, and its last
--- number is below the room
+-- the range can be an end port's below the room: it begins at a multiple of its width, not at 0, and its last number is
+-- below the room
 abbrev pub fits : ℕ → Range → Bool
 fits room r = nat_le 1 r.first && (r.first % r.width == 0 && nat_le (r.first + r.width) room)
 
--- the same in words: -------------------------------------------------------------
+-- as statements: -----------------------------------------------------------------
 
 abbrev pub IsIn : Range → ℕ → Type 0
 IsIn r n = (r.first ≤ n) × (n < r.first + r.width)
@@ -47,7 +47,7 @@ pub record Fits (room : ℕ) (r : Range) : Type 0 where
   pub aligned : r.first % r.width ≡ 0
   pub in_room : r.first + r.width ≤ room
 
--- the tests say what the words say, of ranges that have a number
+-- the tests agree with the statements, if the ranges are not empty
 abbrev pub RangesLaw : Type 0
 RangesLaw = (room n : ℕ) (a b : Range) → 1 ≤ a.width → 1 ≤ b.width
     → (IsTrue (is_in a n) ↔ IsIn a n) × (IsTrue (meets a b) ↔ ((k : ℕ) × IsInBoth a b k))

@@ -9,20 +9,20 @@ use Rattle.subnet_view.specs.Reading.{Cells}
 use Rattle.subnet_view.specs.EndPorts.{end_ports}
 use Rattle.lid_assign.specs.Lids.{IsNoRoom, room, lids, lid_of, top_of}
 
--- two views say the same of everything but claims
+-- the views differ at most in claims
 abbrev pub DifferInClaims : Facts → Facts → Type 0
 DifferInClaims x y = (key : Key) → ((g p : ℕ) → key ≢ Claim g p) → cell_for x key ≡ cell_for y key
 
--- each end port of the first claims in the second the LID that it has in the first
+-- each end port of view x claims in y the LID that it has in x
 abbrev pub ClaimLids : ℕ → Cells → Cells → Type 0
 ClaimLids lmc x y = (e : EndPort) (lid : ℕ) → lid_of (lids lmc x) e ≡ Some lid → claim_of y e.node e.port ≡ Some lid
 
--- the second view is the first once its LIDs are claimed
+-- view y is x once its LIDs are claimed
 pub record IsClaimed (lmc : ℕ) (x y : Facts) : Type 0 where
   pub same : DifferInClaims x y
   pub claimed : ClaimLids lmc (cells_of x) (cells_of y)
 
--- once the LIDs of a view are claimed, they are given again under the same LMC
+-- once the LIDs of a view are claimed, they are assigned again under the same LMC
 abbrev pub LidsSettle : Type 0
 LidsSettle = (lmc : ℕ) (x y : Facts) → ¬ (IsNoRoom lmc (cells_of x)) → IsClaimed lmc x y
     → ¬ (IsNoRoom lmc (cells_of y)) × (lids lmc (cells_of y) ≡ lids lmc (cells_of x))
@@ -31,8 +31,7 @@ LidsSettle = (lmc : ℕ) (x y : Facts) → ¬ (IsNoRoom lmc (cells_of x)) → Is
 abbrev pub ClaimsNothing : Cells → EndPort → Type 0
 ClaimsNothing cells e = (claim_of cells e.node e.port ≡ None) ⊎ (claim_of cells e.node e.port ≡ Some 0)
 
--- the second view has the first's end ports, which claim their LIDs, other end ports that claim nothing, and room for
--- these LIDs
+-- view z has x's end ports, which claim their LIDs, other end ports that claim nothing, and room for these LIDs
 pub record GrowsFrom (lmc : ℕ) (x z : Cells) : Type 0 where
   pub has : (e : EndPort) → Contains (end_ports x) e → Contains (end_ports z) e
   pub claimed : ClaimLids lmc x z

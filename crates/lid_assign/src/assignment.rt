@@ -17,15 +17,15 @@ use smp_bytes::Lid;
 use std::alloc::Global;
 use subnet_view::{EndPort, end_ports};
 
-/// A LID for each end port of the view: a switch has that number, and an adapter's port has 2^LMC from it on,
-/// its range. It begins at a multiple of its width, and not at 0, and ends below the room of every usable
-/// switch's table. An end port keeps its claim where that range fits so, and meets none that fits and that an
-/// earlier end port claims; each other one in turn takes the least number whose range is open. Walks the cells
-/// twice, and takes a search for each end port.
+/// Assigns a LID to each end port of the view. A switch has that one number, and an adapter's port has 2^LMC numbers
+/// from it on: its range. A range fits if it begins at a multiple of its width, not at 0, and ends below the room of
+/// every usable switch's table. An end port keeps its claim if the claim's range fits and meets no range that fits and
+/// that an earlier end port claims. Each other end port in turn takes the least number whose range is open. Walks the
+/// cells twice, and takes a search for each end port.
 ///
 /// # Errors
 ///
-/// `NoRoom` where an end port finds no LID, and `Memory` where each would find one.
+/// Returns `NoRoom` if an end port finds no LID, and `Memory` if each would find one but memory runs out.
 pub fn assign(alloc: Global, store: &Store, lmc: Lmc) -> Result<LidMap, LidFault>
     ensures judged { JudgesButFor is_memory result (lid_fault (no_room lmc (cells_of store.now))) }
     ensures lids { IfOk result (λ map. map ≡ lids lmc (cells_of store.now)) }
@@ -37,7 +37,8 @@ pub fn assign(alloc: Global, store: &Store, lmc: Lmc) -> Result<LidMap, LidFault
     }
 }
 
-/// What is answered where memory is refused before the LIDs are known.
+/// Returns the fault if memory runs out before the LIDs are known: `NoRoom` if there is no room, and otherwise
+/// `Memory`.
 fn out_of_memory(store: &Store, lmc: Lmc) -> LidFault
     ensures { result ≡ unwrap_or (lid_fault (no_room lmc (cells_of store.now))) Memory }
 {
@@ -47,7 +48,7 @@ fn out_of_memory(store: &Store, lmc: Lmc) -> LidFault
     }
 }
 
-/// The end ports in their order, each with its LID. None where one of them finds none.
+/// Returns the end ports in their order, each with its LID, or `None` if one of them finds none.
 fn handed_out(
     alloc: Global,
     store: &Store,

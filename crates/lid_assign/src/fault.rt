@@ -7,19 +7,19 @@ use thiserror::Error;
 /// An end port finds no LID: no range that fits is left below the room of the smallest forwarding table.
 #[derive(Clone, Copy, Debug, PartialEq, Eq)]
 pub struct NoRoom {
-    /// How many end ports there are.
+    /// The number of end ports.
     pub endports: usize,
-    /// How many LIDs the table has room for, 0 among them.
+    /// The number of LIDs that the smallest table has room for, including 0.
     pub room: u16,
 }
 
-/// Why no LIDs are given.
+/// Why no LIDs are assigned.
 #[derive(Clone, Copy, Debug, PartialEq, Eq, Error)]
 pub enum LidFault {
     /// There is no room for the LIDs.
     #[error("NoRoom")]
     NoRoom(NoRoom),
-    /// The memory that the LIDs need was refused.
+    /// There was no memory for the LIDs.
     #[error("Memory")]
     Memory,
 }
@@ -27,7 +27,7 @@ pub enum LidFault {
 impl LidFault {
     ghost use Rattle.lid_assign.specs.LidFault.{lid_fault_name};
 
-    /// The name that `{}` writes.
+    /// Returns the name that `{}` writes.
     pub fn name(self) -> &'static str
         ensures { result.now ≡ lid_fault_name self }
     {

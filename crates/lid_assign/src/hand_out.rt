@@ -11,15 +11,15 @@ use smp_bytes::Lid;
 use std::alloc::{AllocError, Global};
 use subnet_view::EndPort;
 
-/// The numbers below which none is open any more: for a switch, and for an adapter's port.
+/// The next number to try, for switches and for adapter ports. No range below it is open.
 #[derive(Clone, Copy)]
 pub(crate) struct Next {
     switch: usize,
     adapter: usize,
 }
 
-/// The end ports in their order, each with its LID: the claim that it keeps, or the least number whose range
-/// fits and has no number that is taken. None where one of them finds none.
+/// Returns the end ports in their order, each with its LID: the claim that it keeps, or the least number whose range
+/// fits and has no number that is taken. Returns `None` if one of them finds none.
 pub(crate) fn hand_out(
     alloc: Global,
     lmc: Lmc,
@@ -46,7 +46,7 @@ pub(crate) fn hand_out(
     Ok(Some(given))
 }
 
-/// The least numbers that fit.
+/// Returns the least numbers that fit.
 pub(crate) fn first(lmc: Lmc) -> Next
     ensures { result ≡ record { switch = 1; adapter = 2 ^ lmc } }
 {
@@ -56,7 +56,7 @@ pub(crate) fn first(lmc: Lmc) -> Next
     }
 }
 
-/// The least number whose range fits an end port and is open. Takes it.
+/// Takes and returns the least number whose range fits an end port and is open.
 pub(crate) fn take(taken: &mut [bool], next: &mut Next, lmc: Lmc, port: EndPort) -> Option<Lid>
     requires room { length taken.old ≤ 0xC000 }
     requires passed { ArePassed lmc taken.old next.old }
@@ -74,7 +74,7 @@ pub(crate) fn take(taken: &mut [bool], next: &mut Next, lmc: Lmc, port: EndPort)
     }
 }
 
-/// The least number whose range is open, which is not below `next`. Takes it.
+/// Takes and returns the least number whose range is open. It is not below `next`.
 fn take_from(taken: &mut [bool], next: &mut usize, width: usize) -> Option<Lid>
     requires some { 1 ≤ width }
     requires few { width ≤ 128 }
@@ -91,7 +91,7 @@ fn take_from(taken: &mut [bool], next: &mut usize, width: usize) -> Option<Lid>
     Some(Lid::new(first as u16))
 }
 
-/// The least number from one on whose range has no mark.
+/// Returns the least number from `next` on whose range has no mark.
 fn least_unmarked(marks: &[bool], mut next: usize, width: usize) -> Option<usize>
     requires some { 1 ≤ width }
     requires few { width ≤ 128 }

@@ -13,8 +13,9 @@ use smp_bytes::Lid;
 use std::alloc::{AllocError, Global};
 use subnet_view::EndPort;
 
-/// The end ports in their order, each with the claim that it keeps: its range fits, and meets none that fits
-/// and that an earlier end port claims. Marks what is claimed, and what is taken by those who keep it.
+/// Returns the end ports in their order, each with the claim that it keeps: its range fits, and meets none that fits
+/// and that an earlier end port claims. Marks in `claimed` what is claimed, and in `taken` the ranges of claims that
+/// are kept.
 pub(crate) fn keep_claims(
     alloc: Global,
     store: &Store,
@@ -38,14 +39,15 @@ pub(crate) fn keep_claims(
     Ok(keepers)
 }
 
-/// The LID that an end port claims. Takes a search.
+/// Returns the LID that an end port claims. Takes a search.
 pub(crate) fn claim(store: &Store, port: EndPort) -> Option<Lid>
     ensures { result ≡ claim_of (cells_of store.now) port.node port.port }
 {
     store.claim(port.node, port.port)
 }
 
-/// The claim, where its range fits and has no mark of a claim yet. Marks it as claimed, and as taken.
+/// Returns the claim if its range fits and has no mark of a claim yet. Then marks it as taken. Marks it as claimed if
+/// it fits.
 pub(crate) fn keep(
     claim: Option<Lid>,
     width: usize,
@@ -65,7 +67,7 @@ pub(crate) fn keep(
     Some(lid)
 }
 
-/// The claim, where its range fits and has no mark yet. Marks it where it fits.
+/// Returns the claim if its range fits and has no mark yet. Marks the range if it fits.
 pub(crate) fn claims_first(claim: Option<Lid>, width: usize, claimed: &mut [bool]) -> Option<Lid>
     requires some { 1 ≤ width }
     requires few { width ≤ 128 }

@@ -11,7 +11,7 @@ use std::collections::BTreeMap;
 use std::marker::Model;
 use subnet_view::EndPort;
 
-/// The LID of each end port, and with it its range: one number of a switch, and 2^LMC of an adapter's port.
+/// The LID of each end port, and with it its range: one number for a switch, and 2^LMC for an adapter's port.
 #[derive(Drop)]
 pub struct LidMap {
     lmc: Lmc,
@@ -23,7 +23,7 @@ pub struct LidMap {
     by_port: BTreeMap<(Guid, PortNum), Lid>,
     /// The greatest number that an end port has.
     top: Option<Lid>,
-    /// The LIDs that are given, rising.
+    /// The LIDs that are assigned, rising.
     rising: Vec<Lid>,
 }
 
@@ -40,7 +40,7 @@ impl Model for LidMap {
 }
 
 impl LidMap {
-    /// The map that gives these end ports these LIDs.
+    /// Creates the map that gives these end ports these LIDs.
     pub(crate) fn new(
         alloc: Global,
         lmc: Lmc,
@@ -63,21 +63,21 @@ impl LidMap {
         })
     }
 
-    /// The LMC of an end port: 0 of port 0, which is a switch's, and else the one under which the LIDs are given.
+    /// Returns the LMC of an end port: 0 for port 0, which is a switch's, and otherwise the map's LMC.
     pub fn lmc_of(&self, port: &EndPort) -> Lmc
         ensures { result ≡ lmc_of self.now port.now }
     {
         lmc_at(self.lmc, *port)
     }
 
-    /// The end ports in their order, each with its LID.
+    /// Returns the end ports in their order, each with its LID.
     pub fn given(&self) -> &[(EndPort, Lid)]
         ensures { result.now ≡ self.now.ports }
     {
         &self.given
     }
 
-    /// The end port whose range has a number. Takes one step.
+    /// Returns the end port whose range has the number `lid`. Takes one step.
     pub fn owner(&self, lid: Lid) -> Option<EndPort>
         ensures owner { result ≡ owner_of self.now lid }
         ensures unicast { IfSome result (λ port. lid < 0xC000) }
@@ -88,21 +88,21 @@ impl LidMap {
             .flatten()
     }
 
-    /// The LID of an end port, the first number of its range. Takes a search.
+    /// Returns the LID of an end port, the first number of its range. Takes a search.
     pub fn lid_of(&self, port: EndPort) -> Option<Lid>
         ensures { result ≡ lid_of self.now port }
     {
         self.by_port.get(&(port.node, port.port)).copied()
     }
 
-    /// The LIDs that are given, one for each end port, rising.
+    /// Returns the LIDs that are assigned, one for each end port, rising.
     pub fn lids(&self) -> &[Lid]
         ensures { result.now ≡ rising_lids self.now }
     {
         &self.rising
     }
 
-    /// The greatest number that an end port has, the last of the highest range. It is held.
+    /// Returns the greatest number that an end port has, the last of the highest range. Takes one step.
     pub fn top(&self) -> Option<Lid>
         ensures { result ≡ top_of self.now }
     {
@@ -110,7 +110,7 @@ impl LidMap {
     }
 }
 
-/// The end port that has a number, at the number. The first one's entries are written last.
+/// Returns a table with the end port that has a number, at the number. Writes the first end port's entries last.
 fn owners(
     alloc: Global,
     lmc: Lmc,
@@ -128,7 +128,7 @@ fn owners(
     Ok(owners)
 }
 
-/// Gives an end port the numbers of its range.
+/// Writes an end port at each number of its range.
 fn own(owners: &mut Vec<Option<EndPort>>, lmc: Lmc, given: &(EndPort, Lid))
     requires { given.now.1 + width_of lmc given.now.0 ≤ vec_len owners.old }
     ensures owned { AreOwnersMore given.now.0 (range_at lmc given.now.0 given.now.1)
@@ -141,7 +141,7 @@ fn own(owners: &mut Vec<Option<EndPort>>, lmc: Lmc, given: &(EndPort, Lid))
     }
 }
 
-/// A mark for each number, which says whether it is an end port's LID.
+/// Returns a mark for each number: whether it is an end port's LID.
 fn lid_marks(
     alloc: Global,
     lmc: Lmc,
@@ -159,7 +159,7 @@ fn lid_marks(
     Ok(marks)
 }
 
-/// The numbers that are marked, rising.
+/// Returns the marked numbers, rising.
 fn rising(alloc: Global, marks: &[bool]) -> Result<Vec<Lid>, AllocError>
     requires { length marks.now ≤ 2 ^ 16 }
     ensures { IfOk result (λ lids. lids.items ≡ marked_from marks.now 0) }
@@ -173,7 +173,7 @@ fn rising(alloc: Global, marks: &[bool]) -> Result<Vec<Lid>, AllocError>
     Ok(lids)
 }
 
-/// One more than the greatest number, and 0 where there is none.
+/// Returns one more than the greatest number, or 0 if there is none.
 fn end(top: &Option<Lid>) -> usize
     ensures { result ≡ end_of top.now }
 {
@@ -183,7 +183,7 @@ fn end(top: &Option<Lid>) -> usize
     }
 }
 
-/// The LID of a port of a node. The first one's entry is written last.
+/// Returns a table with the LID of each port of a node. Writes the first end port's entry last.
 fn by_port(
     alloc: Global,
     given: &[(EndPort, Lid)],
@@ -197,7 +197,7 @@ fn by_port(
     Ok(lids)
 }
 
-/// The greatest number that an end port has.
+/// Returns the greatest number that an end port has.
 fn top(lmc: Lmc, given: &[(EndPort, Lid)]) -> Option<Lid>
     requires { AreBelow 0xC000 lmc given.now }
     ensures { result ≡ top_among lmc given.now }
@@ -209,7 +209,7 @@ fn top(lmc: Lmc, given: &[(EndPort, Lid)]) -> Option<Lid>
     top
 }
 
-/// The last number of an end port's range.
+/// Returns the last number of an end port's range.
 fn last(lmc: Lmc, port: EndPort, lid: Lid) -> Lid
     requires { lid + width_of lmc port ≤ 0xC000 }
     ensures { result ≡ last_of lmc (port, lid) }
@@ -217,7 +217,7 @@ fn last(lmc: Lmc, port: EndPort, lid: Lid) -> Lid
     Lid::new(lid.number() + width(lmc, port) as u16 - 1)
 }
 
-/// The greater of two numbers, where there may be one only.
+/// Returns the greater of two numbers, the first of which may be missing.
 fn greater(top: Option<Lid>, lid: Lid) -> Lid
     ensures { result ≡ max lid (unwrap_or top 0) }
 {

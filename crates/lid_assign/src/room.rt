@@ -12,9 +12,9 @@ use fact_store::{Sighting, Store};
 use smp_bytes::Lid;
 use subnet_view::{count_end_ports, usable_guid};
 
-/// Whether an end port of the view finds no LID, and how many end ports there are then. Takes no memory. Walks
-/// the cells twice where there are no fewer end ports than the room, or where their ranges have room one beside
-/// the other, as always with one LID a port; else twice for each end port.
+/// Returns `Some`, with the room and the number of end ports, if an end port of the view finds no LID. Takes no memory.
+/// Walks the cells twice if there are at least as many end ports as the room, or if their ranges fit side by side, as
+/// always with one LID for each port; otherwise twice for each end port.
 pub fn no_room(store: &Store, lmc: Lmc) -> Option<NoRoom>
     ensures { result ≡ no_room lmc (cells_of store.now) }
 {
@@ -25,7 +25,7 @@ pub fn no_room(store: &Store, lmc: Lmc) -> Option<NoRoom>
     }
 }
 
-/// Whether an end port of the view finds no LID.
+/// Returns whether an end port of the view finds no LID.
 fn lacks_room(store: &Store, lmc: Lmc) -> bool
     ensures { result ≡ is_no_room lmc (cells_of store.now) }
 {
@@ -40,7 +40,7 @@ fn lacks_room(store: &Store, lmc: Lmc) -> bool
     }
 }
 
-/// How many end ports there are, and how much room.
+/// Returns the number of end ports and the room.
 pub(crate) fn room_and_end_ports(store: &Store) -> NoRoom
     ensures { result ≡ record
         { endports = length (end_ports (cells_of store.now)); room = room (cells_of store.now) } }
@@ -51,7 +51,7 @@ pub(crate) fn room_and_end_ports(store: &Store) -> NoRoom
     }
 }
 
-/// The least table room of a usable switch, and at most the first number that is no unicast LID. Walks the
+/// Returns the least table room of a usable switch, but at most the first number past the unicast LIDs. Walks the
 /// cells.
 pub(crate) fn room(store: &Store) -> u16
     ensures { result ≡ room (cells_of store.now) }
@@ -65,7 +65,7 @@ pub(crate) fn room(store: &Store) -> u16
     least
 }
 
-/// The table room of a cell's node, where that is a usable switch.
+/// Returns the table room of a cell's node, if that is a usable switch.
 fn usable_cap(store: &Store, sighting: &Sighting) -> Option<u16>
     requires { cell_for store.now sighting.now.0 ≡ Some sighting.now.1 }
     ensures { result ≡ usable_cap (cells_of store.now) sighting.now }

@@ -1,4 +1,4 @@
-//! Whether LIDs run out, told without memory: each next end port is sought among all cells.
+//! Whether LIDs run out, found without memory: each next end port is looked for among all cells.
 ghost use Rattle.std.specs.Prelude.{◌≡◌, ◌≤◌, false, replicate};
 ghost use Rattle.std.specs.List.{filter_map};
 ghost use Rattle.fact_store.specs.View.{cells_of};
@@ -14,17 +14,17 @@ use fact_store::Store;
 use smp_bytes::Lid;
 use subnet_view::next_end_port;
 
-/// How many numbers are below the first that is no unicast LID.
+/// The count of numbers below the first one past the unicast LIDs.
 const NUMBERS: usize = Lid::UNICAST_END as usize;
 
-/// Whether one of the end ports finds no LID. Takes no memory, and walks the cells twice for each end port.
+/// Returns whether an end port finds no LID. Takes no memory, and walks the cells twice for each end port.
 pub(crate) fn runs_out(store: &Store, lmc: Lmc) -> bool
     ensures { result ≡ is_no_room lmc (cells_of store.now) }
 {
     runs_out_below::<NUMBERS>(store, lmc, usize::from(room(store)))
 }
 
-/// The same, below a room of at most `N` numbers.
+/// Returns whether an end port finds no LID, if the room `most` is at most `N`.
 fn runs_out_below<const N: usize>(store: &Store, lmc: Lmc, most: usize) -> bool
     requires room { most ≡ room (cells_of store.now) }
     requires within { most ≤ N }
@@ -50,7 +50,8 @@ fn keep_in_turn(store: &Store, lmc: Lmc, claimed: &mut [bool], taken: &mut [bool
     }
 }
 
-/// Whether one of the end ports that keep no claim finds no LID, where the numbers of those that do are taken.
+/// Returns whether an end port that keeps no claim finds no LID. The numbers of those that keep one are marked in
+/// `taken`.
 fn runs_out_after(store: &Store, lmc: Lmc, claimed: &mut [bool], taken: &mut [bool]) -> bool
     requires claimed { claimed.old ≡ replicate (room (cells_of store.now)) false }
     requires taken { AreTaken (room (cells_of store.now))

@@ -1,4 +1,4 @@
--- A sweep that is done has found the part of the fabric that is joined to its seat: all of it, and nothing else.
+-- A sweep with every answer has found the part of the fabric that is joined to its seat, all of it and nothing else.
 use Rattle.std.specs.Prelude.{◌≡◌, ℕ, true, List, Some, All, flat_map}
 use Rattle.fabric_model.specs.declared.cable.NodePort.{NodePort}
 use Rattle.fabric_model.specs.Fabric.{Fabric, IsNodeAt, Node}
@@ -18,18 +18,18 @@ use Rattle.lft_blocks.specs.Arrival.{HoldsPlan}
 use Rattle.manager_laws.specs.Pings.{EachPingArrives}
 use Rattle.manager_laws.specs.Sweeping.{Sweeping, SweepEvent, CanBe, Begins, after_sweep_events}
 
--- nothing is to be sent or waits, each request that was not answered was for SMInfo, which tells no facts, and none had
--- to go over a path that is too long
+-- the sweep has every answer: nothing is to be sent or waits, each request that was not answered was for SMInfo, which
+-- tells no facts, and none had to go over a path that is too long
 pub record IsWhole (s : Sweep) : Type 0 where
   pub done : is_done s ≡ true
   pub answered : s.unanswered ≡ s.silent_managers
   pub near : s.too_far ≡ 0
 
--- what reports tell together
+-- what the reports tell together
 abbrev pub facts_of : List Report → Facts
 facts_of reports = view (flat_map sightings_of reports)
 
--- the facts of reports are those of the part of a simulated fabric that is joined to an end port
+-- the facts of the reports describe exactly the part of a simulated fabric that is joined to an end port
 abbrev pub AgreeWith : List Report → Simulation → NodePort → Type 0
 AgreeWith reports s seat = AgreesOn (IsJoinedTo (fabric_of s) seat) (cells_of (facts_of reports)) (fabric_of s)
 
@@ -44,22 +44,21 @@ pub record HasWay (f : Fabric) (seat : NodePort) (s : Sweep) (guid port : ℕ) :
   pub named : node.guid ≡ guid
   pub vertex : vertex_of f end ≡ record { node = end.node; port = port }
 
--- they describe the seat's part of the fabric exactly, as it was when the sweep began, and as it is when the sweep has
--- ended, and the sweep has a way to each of their end ports
+-- the reports describe the seat's part of the fabric exactly, as it was when the sweep began and as it is when it has
+-- ended, and the sweep has a path to each end port there
 pub record HasFoundAll (begun ended : Sweeping) : Type 0 where
   pub at_first : AgreeWith ended.reports begun.scene.fabric begun.seat
   pub at_last : AgreeWith ended.reports ended.scene.fabric begun.seat
   pub ways : (guid port : ℕ) → IsEndPort (cells_of (facts_of ended.reports)) guid port
       → HasWay (fabric_of begun.scene.fabric) begun.seat ended.sweep guid port
 
--- whatever else happens, a sweep that has every answer has found all that is joined to its seat
+-- a sweep that has every answer has found all that is joined to its seat, whatever else happens
 abbrev pub DoneSweepsAreComplete : Type 0
 DoneSweepsAreComplete =
     (w : Sweeping) (generation first : ℕ) (events : List SweepEvent) → Begins w generation first → All CanBe events
     → IsWhole (after_sweep_events events w).sweep → HasFoundAll w (after_sweep_events events w)
 
--- so once the fabric holds the plan of what it has found under an LMC, as far as its seat is joined to, each ping there
--- arrives
+-- once what is joined to the seat holds the plan of what the sweep has found, each ping there arrives
 abbrev pub SweptPingsArrive : Type 0
 SweptPingsArrive =
     (rule : RuleValue) (lmc : ℕ) (w : Sweeping) (generation first : ℕ) (events : List SweepEvent)
@@ -71,7 +70,7 @@ SweptPingsArrive =
     ¬ (IsNoRoom lmc cells) → HoldsPlan (IsJoinedTo f w.seat) (plan_of rule lmc cells) f
     → EachPingArrives rule cells (plan_of rule lmc cells) ended.scene.fabric w.seat
 
--- there is such a sweep: a fabric, and events after which a sweep on it has every answer
+-- a fabric, and events after which a sweep on it has every answer
 pub record SomeSweepIsWhole : Type 0 where
   pub sweeping : Sweeping
   pub generation : ℕ
@@ -81,7 +80,7 @@ pub record SomeSweepIsWhole : Type 0 where
   pub can_be : All CanBe events
   pub whole : IsWhole (after_sweep_events events sweeping).sweep
 
--- and there is one in which a manager that is there does not answer
+-- a sweep that has every answer while a manager is silent
 pub record SomeManagerIsSilent : Type 0 where
   pub some : SomeSweepIsWhole
   pub silent : (after_sweep_events some.events some.sweeping).sweep.silent_managers ≡ 1

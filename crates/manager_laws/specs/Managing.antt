@@ -1,4 +1,4 @@
--- A manager at its seat on a fabric on which other managers work too: its calls, and the packets that it gave out.
+-- A manager at its seat on a fabric where other managers work too: its calls, and the packets that it gave out.
 use Rattle.std.specs.Prelude.{◌≡◌, ◌<◌, ◌≢◌, ℕ, true, false, List, [], ◌∷◌, ◌++◌, All, slice_get, if◌then◌else◌, Option, Some, None, IsTrue}
 use Rattle.std.specs.Option.{unwrap_or}
 use Rattle.fabric_model.specs.declared.cable.NodePort.{NodePort}
@@ -26,9 +26,9 @@ pub record Managing : Type 0 where
   pub out : List Outgoing
 
 -- Something happens on the fabric; the manager is told to begin a sweep, or to write its plan; it gives its first
--- packet out; a packet that it gave out is sent from its seat, and may be again; a packet that was handed up at its
--- seat is given to it, and may be again; one of its requests times out; its floor is raised; facts of others at a floor
--- are merged with its own; it is told to poll a LID, or to hand over.
+-- packet out; a packet that it gave out is sent from its seat, and may be sent again; a packet that was handed up at
+-- its seat is given to it, and may be given again; one of its requests times out; its floor is raised; facts of others
+-- at a floor are merged with its own; it is told to poll a LID, or to hand over.
 pub data ManagerEvent : Type 0 where
   Around : (event : Event) → ManagerEvent
   Begin : ManagerEvent
@@ -42,7 +42,7 @@ pub data ManagerEvent : Type 0 where
   Poll : (lid : ℕ) → ManagerEvent
   HandOver : ManagerEvent
 
--- which of these there are --------------------------------------------------------------------
+-- which events there are --------------------------------------------------------------------------
 
 -- other managers send from other seats
 abbrev pub IsElsewhere : NodePort → Event → Type 0
@@ -55,9 +55,9 @@ CanBe seat (Raise floor) = IsTrue (is_generation floor)
 CanBe seat (Merge floor sightings) = IsTrue (is_generation floor) × All IsSighting sightings
 CanBe seat event = Unit {0}
 
--- what they do --------------------------------------------------------------------------------
+-- what events do ---------------------------------------------------------------------------------
 
--- the manager is called; a call that it refuses leaves it as it is
+-- the manager is called; a call that it refuses leaves it as it was
 abbrev pub calling : Managing → Call → Managing
 calling w call = record w { manager = after_call w.manager call }
 
@@ -68,7 +68,7 @@ one_more out (Some packet) = out ++ packet ∷ []
 abbrev pub taking : Managing → Taken → Managing
 taking w t = record w { manager = t.manager; out = one_more w.out t.packet }
 
--- by the path that it carries, or to a LID
+-- the packet as it is sent: along the path that it carries, or to a LID
 abbrev pub packet_of : Outgoing → Packet
 packet_of o = record { bytes = o.packet; slid = permissive_lid; dlid = unwrap_or o.to permissive_lid }
 
@@ -76,7 +76,7 @@ abbrev pub sending : Managing → Option Outgoing → Managing
 sending w None = w
 sending w (Some o) = record w { scene = sent_from w.scene w.seat (packet_of o) }
 
--- with the LID that it came from
+-- the manager is given a packet that was handed up at its seat, with the LID that it came from
 abbrev pub hearing : Managing → Option Handed → Managing
 hearing w None = w
 hearing w (Some h) =
@@ -99,17 +99,17 @@ abbrev pub after_manager_events : List ManagerEvent → Managing → Managing
 after_manager_events [] w = w
 after_manager_events (event ∷ events) w = after_manager_events events (after_manager_event w event)
 
--- where they begin ----------------------------------------------------------------------------
+-- where runs begin -------------------------------------------------------------------------------
 
--- a manager that has nothing to send and waits for nothing: one that was just made, or one between its tasks
+-- a manager that has nothing to send and waits for nothing: a new one, or one between its tasks
 pub record IsAtRest (m : Manager) : Type 0 where
-  -- no sweep of it goes on
+  -- no sweep is running
   pub sweep : is_running m.sweep ≡ false
   -- no request outside sweeps waits for its answer
   pub pending : m.pending ≡ []
   -- no packet is to be sent
   pub outgoing : m.outgoing ≡ []
-  -- what it knows is of keys, generations and values that there are
+  -- what it knows has keys, generations and values in their ranges
   pub facts : AreInRange m.store
   pub floor : IsTrue (is_generation m.store.floor)
 
@@ -121,15 +121,15 @@ pub record Starts (w : Managing) : Type 0 where
   pub distinct : AreGuidsDistinct (fabric_of w.scene.fabric)
   -- the manager sits at a port of an adapter
   pub seat : is_seat_at w.scene.fabric w.seat ≡ true
-  -- it was told this port's number
+  -- the manager was told the port's number
   pub port : w.manager.port ≡ w.seat.port
-  -- and an LMC that there is
+  -- the manager's LMC is at most 7
   pub lmc : w.manager.planning.lmc < 8
   pub at_rest : IsAtRest w.manager
-  -- it gave no packet out
+  -- the manager has given no packet out
   pub out : w.out ≡ []
 
--- a manager that was just made is at rest
+-- a new manager is at rest
 abbrev pub NewManagersRest : Type 0
 NewManagersRest =
     (port_guid port priority : ℕ) (planning : Planning) → IsAtRest (new_manager port_guid port priority planning)

@@ -21,13 +21,13 @@ pub record Handed : Type 0 where
   pub at : NodePort
   pub packet : Packet
 
--- the fabric, and all that was handed up so far
+-- the fabric, and all packets that were handed up so far
 pub record Scene : Type 0 where
   pub fabric : Simulation
   pub handed : List Handed
 
--- what a manager may send from its port: any packet that is forwarded by LIDs; a request that a path routes; the answer
--- to a request for SMInfo that was handed up there
+-- what a manager may send from its port: any packet that is forwarded by LIDs; a request along a path; the answer to a
+-- request for SMInfo that was handed up there
 pub data Sending : Type 0 where
   ByLid : (packet : Packet) → Sending
   ByPath : (method attribute modifier tid : ℕ) (path payload : List ℕ) → Sending
@@ -40,7 +40,7 @@ pub data Event : Type 0 where
   Repeat : (serial : ℕ) → Event
   Send : (seat : NodePort) (sending : Sending) → Event
 
--- which of these there are --------------------------------------------------------------------
+-- which events there are --------------------------------------------------------------------------
 
 -- a directed path leaves by the port of its sender's seat
 abbrev pub CanSend : NodePort → Sending → Type 0
@@ -56,7 +56,7 @@ CanHappen (Deliver serial) = Unit {0}
 CanHappen (Lose serial) = Unit {0}
 CanHappen (Repeat serial) = Unit {0}
 
--- what they do --------------------------------------------------------------------------------
+-- what events do ---------------------------------------------------------------------------------
 
 abbrev pub with_fabric : Scene → Simulation → Scene
 with_fabric s fabric = record s { fabric = fabric }
@@ -77,7 +77,7 @@ abbrev pub asks_manager : NodePort → Handed → Bool
 asks_manager seat h =
     is_same_port h.at seat && not (is_response h.packet.bytes) && number_in attribute_id h.packet.bytes == sm_info
 
--- the answer to a directed request goes back by its path, and another one to the LID where its request came from
+-- the answer to a directed request goes back along its path, and any other goes to the LID where its request came from
 abbrev pub answer_to : Packet → ℕ → List ℕ → Packet
 answer_to request status payload =
     let answer = answer_packet request.bytes status payload in

@@ -1,6 +1,5 @@
--- Sets that agents take, and when they carry the values of a plan.
--- InfiniBand Architecture Specification, Volume 1: subnet management, PortInfo (LID), SwitchInfo (LinearFDBTop) and
--- LinearForwardingTable.
+-- Sets that agents take, and when they carry a plan's values. InfiniBand Architecture Specification, Volume 1: subnet
+-- management, PortInfo (LID), SwitchInfo (LinearFDBTop) and LinearForwardingTable.
 use Rattle.std.specs.Prelude.{◌≡◌, ◌⊎◌, ℕ, List, Contains, Ok, Some}
 use Rattle.fabric_model.specs.declared.cable.NodePort.{NodePort}
 use Rattle.fabric_model.specs.Fabric.{Fabric}
@@ -23,7 +22,7 @@ use Rattle.fabric_sim.specs.Simulation.{Simulation, agent_at, port_of, flight_wi
 use Rattle.fabric_sim.specs.Delivery.{after_deliver}
 use Rattle.manager_laws.specs.Scene.{Event, Deliver}
 
--- by the delivery of a packet an agent takes a Set that came to a port of it
+-- the delivery of a packet makes an agent take a Set, which came to a port of it
 pub record TakesSet (s : Simulation) (serial : ℕ) (at : NodePort) (a : Agent) (packet : List ℕ) : Type 0 where
   pub flight : Flight
   pub waits : flight_with s.flights serial ≡ Some flight
@@ -34,8 +33,8 @@ pub record TakesSet (s : Simulation) (serial : ℕ) (at : NodePort) (a : Agent) 
   pub method : number_in method packet ≡ set
   pub done : status (after_answer a packet at.port).packet ≡ done
 
--- what a Set would write at an agent is what the plan has there, wherever it has something: the LID and the LMC of the
--- port that is meant, the switch's top, and the block
+-- what a Set would write at an agent is what the plan has there, if it has anything: the LID and the LMC of the port
+-- that is meant, the switch's top, and the block
 pub record Carries (plan : PlanValue) (a : Agent) (arrival : ℕ) (packet : List ℕ) : Type 0 where
   pub lids : number_in attribute_id packet ≡ port_info
       → (port : ℕ) (range : ℕ × ℕ) → port_meant a (number_in attribute_modifier packet) arrival ≡ Some port
@@ -48,8 +47,7 @@ pub record Carries (plan : PlanValue) (a : Agent) (arrival : ℕ) (packet : List
       → (block : List ℕ) → block_at plan a.node.guid (number_in attribute_modifier packet) ≡ Some block
       → bytes_in attribute_data packet ≡ block
 
--- at the end of the path of a step of these phases, over which it is sent from a seat, a packet asks for what the step
--- sets
+-- a packet asks for what a step of these phases sets, at the end of the path over which the step is sent from a seat
 pub record IsOwnSet (f : Fabric) (seat : NodePort) (phases : List Phase) (at : NodePort) (packet : List ℕ) : Type 0
   where
     pub phase : Phase
@@ -61,11 +59,11 @@ pub record IsOwnSet (f : Fabric) (seat : NodePort) (phases : List Phase) (at : N
     pub modifier : number_in attribute_modifier packet ≡ step.modifier
     pub payload : bytes_in attribute_data packet ≡ step.payload
 
--- which Sets are a writing's own steps: by the port that they come to, and what they ask for
+-- which Sets are a writing's own, by the port that they come to and what they ask for
 abbrev pub OwnSets : Type 1
 OwnSets = NodePort → List ℕ → Type 0
 
--- each other Set that an agent takes carries the plan's values
+-- each Set that an agent takes is one of the writing's own, or carries the plan's values
 abbrev pub KeepsPlan : PlanValue → OwnSets → Simulation → Event → Type 0
 KeepsPlan plan own s (Deliver serial) =
     (at : NodePort) (a : Agent) (packet : List ℕ) → TakesSet s serial at a packet → own at packet

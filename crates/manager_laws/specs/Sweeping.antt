@@ -1,4 +1,4 @@
--- A sweep on a fabric on which other managers work too: what it asks, and which replies it accepts.
+-- A sweep on a fabric where other managers work too: what it asks, and which replies it accepts.
 use Rattle.std.specs.Prelude.{◌≡◌, ℕ, ◌<◌, ◌≤◌, ◌^◌, true, List, [], ◌∷◌, ◌++◌, All, slice_get, if◌then◌else◌, Option, Some, None, Result, Ok, Err}
 use Rattle.fabric_model.specs.declared.cable.NodePort.{NodePort}
 use Rattle.fabric_model.specs.Cables.{is_same_port}
@@ -23,8 +23,8 @@ pub record Sweeping : Type 0 where
   pub reports : List Report
 
 -- something happens on the fabric; the sweep gives its next request out; a request that it gave out is sent from its
--- seat, and may be again; a packet that was handed up at its seat is given to it, and may be again; one of its requests
--- times out
+-- seat, and may be sent again; a packet that was handed up at its seat is given to it, and may be given again; one of
+-- its requests times out
 pub data SweepEvent : Type 0 where
   Around : (event : Event) → SweepEvent
   Ask : SweepEvent
@@ -39,7 +39,7 @@ CanBe (Send which) = Unit {0}
 CanBe (Hear which) = Unit {0}
 CanBe (TimeOut transaction) = Unit {0}
 
--- what they do -------------------------------------------------------------------------------
+-- what events do --------------------------------------------------------------------------------
 
 abbrev pub one_more : List (List ℕ) → Option (List ℕ) → List (List ℕ)
 one_more asked None = asked
@@ -52,7 +52,7 @@ abbrev pub sending : Sweeping → Option (List ℕ) → Sweeping
 sending w None = w
 sending w (Some packet) = record w { scene = sent_from w.scene w.seat (directed_packet packet) }
 
--- what a manager tells of itself is no report
+-- what a manager tells of itself is not a report
 abbrev pub reports_of : Answer → List Report
 reports_of (Facts report) = report ∷ []
 reports_of (Seen guid port info) = []
@@ -78,7 +78,7 @@ abbrev pub after_sweep_events : List SweepEvent → Sweeping → Sweeping
 after_sweep_events [] w = w
 after_sweep_events (event ∷ events) w = after_sweep_events events (after_sweep_event w event)
 
--- a fabric on which nothing goes on and whose nodes have different GUIDs, and a sweep that has just begun at a seat,
+-- a fabric where nothing is going on and whose nodes have different GUIDs, and a sweep that has just begun at a seat,
 -- with the number of its port
 pub record Begins (w : Sweeping) (at from : ℕ) : Type 0 where
   pub quiet : IsQuiet w.scene
@@ -90,7 +90,7 @@ pub record Begins (w : Sweeping) (at from : ℕ) : Type 0 where
   pub asked : w.asked ≡ []
   pub reports : w.reports ≡ []
 
--- whatever happens, each fact of a report that the sweep accepts is true of the fabric
+-- each fact of a report that the sweep accepts is true of the fabric, whatever happens
 abbrev pub AcceptedFactsAreTrue : Type 0
 AcceptedFactsAreTrue =
     (w : Sweeping) (generation first : ℕ) (events : List SweepEvent) → Begins w generation first → All CanBe events

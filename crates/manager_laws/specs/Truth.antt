@@ -1,5 +1,5 @@
--- When a fact is true of a fabric. What a port claims as its LID may be anything.
--- InfiniBand Architecture Specification, Volume 1: subnet management, NodeInfo, PortInfo and SwitchInfo.
+-- When a fact is true of a fabric. The LID that a port claims may be anything. InfiniBand Architecture Specification,
+-- Volume 1: subnet management, NodeInfo, PortInfo and SwitchInfo.
 use Rattle.std.specs.Prelude.{◌≡◌, ◌↔◌, ℕ, ◌≤◌, true, Some, IsTrue}
 use Rattle.fabric_model.specs.declared.cable.NodePort.{NodePort}
 use Rattle.smp_bytes.specs.NodeType.{is_switch}
@@ -13,12 +13,12 @@ use Rattle.reply_facts.specs.declared.value.Value.{Value}
 use Rattle.reply_facts.specs.declared.value.Value.TheVariants.{Kind, Guid, Peer, Up, Lid, Count}
 use Rattle.fabric_sim.specs.Tells.{IsUp}
 
--- the node of a GUID, at a id
+-- the node with this GUID, and its id
 pub record HasNode (f : Fabric) (guid id : ℕ) (node : fabric.Node) : Type 0 where
   pub there : IsNodeAt f id node
   pub named : node.guid ≡ guid
 
--- a cable from a port to a port of the node of another GUID
+-- a cable from a port to a port of the node with GUID `peer`
 pub record HasCable (f : Fabric) (id port peer via : ℕ) : Type 0 where
   pub far : NodePort
   pub other : fabric.Node
@@ -26,7 +26,7 @@ pub record HasCable (f : Fabric) (id port peer via : ℕ) : Type 0 where
   pub node : HasNode f peer far.node other
   pub port_is : far.port ≡ via
 
--- a value of a key
+-- the fabric has this value of the key
 abbrev pub IsTrueOf : Fabric → Key → Value → Type 0
 IsTrueOf f (Node guid) (Kind kind ports) =
     (id : ℕ) × (node : fabric.Node) × HasNode f guid id node × (node.kind ≡ kind) × (node.ports ≡ ports)
@@ -41,7 +41,7 @@ IsTrueOf f (Cap guid) (Count cap) =
     (id : ℕ) × (node : fabric.Node) × HasNode f guid id node × (is_switch node.kind ≡ true) × (node.cap ≡ cap)
 IsTrueOf f key value = ⊥
 
--- a sighting: a reply never tells that a fact is disputed
+-- the fabric has what a sighting says; a reply never tells that a fact is disputed
 abbrev pub IsTrueSighting : Fabric → Key × Cell Value → Type 0
 IsTrueSighting f (key, Known generation value) = IsTrueOf f key value
 IsTrueSighting f (key, Disputed generation) = ⊥

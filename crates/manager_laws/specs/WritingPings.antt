@@ -1,4 +1,4 @@
--- Once the plan of a sweep that has every answer is written, pings arrive.
+-- Once the plan of a sweep with every answer is written, pings arrive.
 use Rattle.std.specs.Prelude.{◌≡◌, ◌≢◌, ◌≤◌, ℕ, true, List, [], ◌∷◌, Some, None}
 use Rattle.fact_store.specs.View.{cells_of}
 use Rattle.sweep.specs.Sweep.{Sweep}
@@ -10,7 +10,7 @@ use Rattle.manager_laws.specs.Complete.{IsWhole}
 use Rattle.manager_laws.specs.Managing.{Managing, ManagerEvent, Begin, Raise, Merge, after_manager_event, after_manager_events}
 use Rattle.manager_laws.specs.Written.{IsWritingRun, at_writing, at_end, plan_at}
 
--- no other sweep begins, no facts of others are merged, and no floor comes above that of the store
+-- no other sweep begins, no facts of others are merged, and no floor is given above that of the store
 abbrev pub BeginsNoSweep : Managing → ManagerEvent → Type 0
 BeginsNoSweep w Begin = begin_fault w.manager ≢ None
 BeginsNoSweep w (Raise floor) = floor ≤ w.manager.store.floor
@@ -21,10 +21,10 @@ abbrev pub AreNoSweeps : List ManagerEvent → Managing → Type 0
 AreNoSweeps [] w = Unit {0}
 AreNoSweeps (event ∷ events) w = BeginsNoSweep w event × AreNoSweeps events (after_manager_event w event)
 
--- A manager that holds no facts sweeps, and writes the plan of what it was told.
+-- A manager that held no facts sweeps, and writes the plan of what it was told.
 pub record BringsUp (w : Managing) (before between after : List ManagerEvent) : Type 0 where
   pub run : IsWritingRun w before between after
-  -- it holds no facts when the sweep begins; its floor may have been raised
+  -- the manager holds no facts when the sweep begins; its floor may have been raised
   pub knew_nothing : cells_of (after_manager_events before w).manager.store ≡ []
   -- until the writing it learns from this sweep alone
   pub alone : AreNoSweeps between (after_manager_event (after_manager_events before w) Begin)
@@ -35,7 +35,8 @@ pub record BringsUp (w : Managing) (before between after : List ManagerEvent) : 
   -- the plan is written in the end
   pub written : is_written (at_end w before between after).manager ≡ true
 
--- then each ping from an end port of what the seat is joined to, for each LID of the plan, reaches its owner
+-- each ping from an end port of what the seat is joined to, for each LID of the plan, reaches its owner, if a manager
+-- brings the subnet up
 abbrev pub PingsArriveOnceWritten : Type 0
 PingsArriveOnceWritten =
     (w : Managing) (before between after : List ManagerEvent) → BringsUp w before between after
@@ -43,7 +44,7 @@ PingsArriveOnceWritten =
     (cells_of (at_writing w before between).manager.store) (plan_at (at_writing w before between))
     (at_end w before between after).scene.fabric w.seat
 
--- there is a manager that brings a subnet up: one that was just made, on a fabric, with what happens there
+-- a new manager that brings a subnet up: the fabric, and what happens there
 pub record SomeManagerBringsUp : Type 0 where
   pub managing : Managing
   pub port_guid : ℕ

@@ -1,5 +1,5 @@
--- Once a plan is written, whatever else happened, the fabric holds it wherever the sweep before came to.
--- InfiniBand Architecture Specification, Volume 1: subnet management, initialization.
+-- Once a plan is written, the fabric holds it wherever the sweep before reached, whatever else happened. InfiniBand
+-- Architecture Specification, Volume 1: subnet management, initialization.
 use Rattle.std.specs.Prelude.{◌≡◌, ◌≢◌, ◌⊎◌, ℕ, true, List, [], ◌∷◌, All, Contains, Some, None, IsSome}
 use Rattle.fabric_model.specs.declared.cable.NodePort.{NodePort}
 use Rattle.fabric_model.specs.Fabric as fabric
@@ -20,13 +20,13 @@ use Rattle.manager_laws.specs.Truth.{HasNode}
 use Rattle.manager_laws.specs.Managing.{Managing, ManagerEvent, Around, Begin, Write, CanBe, Starts, after_manager_event, after_manager_events}
 use Rattle.manager_laws.specs.Sets.{IsOwnSet, OwnSets, KeepsPlan}
 
--- a plan where a sweep came to -----------------------------------------------------------------
+-- a plan where a sweep reached ----------------------------------------------------------------------
 
--- the sweep came to a switch, by port 0, or to an adapter's port
+-- the sweep reached a switch, by port 0, or an adapter's port
 abbrev pub IsReached : Sweep → ℕ → ℕ → Type 0
 IsReached s guid port = IsSome (path_to s guid port)
 
--- each end port and each switch of the plan that the sweep came to holds what the plan has for it
+-- each end port and each switch of the plan that the sweep reached holds what the plan has for it
 pub record IsHeldWhere (plan : PlanValue) (s : Sweep) (f : Fabric) : Type 0 where
   pub lids : (e : EndPort) (range : ℕ × ℕ) (port : NodePort) → range_of plan.given e ≡ Some range
       → IsReached s e.node e.port
@@ -54,14 +54,14 @@ SweepsFirst [] w = Unit {0}
 SweepsFirst (event ∷ events) w =
     BeginsSweep w event ⊎ (BeginsNoWriting w event × SweepsFirst events (after_manager_event w event))
 
--- that is so of whatever happens to a manager that was just made
+-- a new manager begins no writing before a sweep, whatever happens to it
 abbrev pub NewManagersSweepFirst : Type 0
 NewManagersSweepFirst =
     (port_guid port priority : ℕ) (planning : Planning) (w : Managing) (events : List ManagerEvent) → w.manager
     ≡ new_manager port_guid port priority planning
     → SweepsFirst events w
 
--- no writing begins, and each Set that an agent takes is one of the own, or carries the plan's values
+-- no writing begins, and each Set that an agent takes is one of the writing's own or carries the plan's values
 abbrev pub Keeps : PlanValue → OwnSets → Managing → ManagerEvent → Type 0
 Keeps plan own w (Around event) = KeepsPlan plan own w.scene.fabric event
 Keeps plan own w event = BeginsNoWriting w event
@@ -70,7 +70,7 @@ abbrev pub AllKeep : PlanValue → OwnSets → List ManagerEvent → Managing �
 AllKeep plan own [] w = Unit {0}
 AllKeep plan own (event ∷ events) w = Keeps plan own w event × AllKeep plan own events (after_manager_event w event)
 
--- when the writing begins: after a sweep began and more happened
+-- when the writing begins: after a sweep began, and more events
 abbrev pub at_writing : Managing → List ManagerEvent → List ManagerEvent → Managing
 at_writing w before between = after_manager_events between (after_manager_event (after_manager_events before w) Begin)
 
@@ -82,7 +82,7 @@ plan_at w = plan_of w.manager.planning.rule w.manager.planning.lmc (cells_of w.m
 abbrev pub own_sets : Managing → Managing → OwnSets
 own_sets start w = IsOwnSet (fabric_of start.scene.fabric) start.seat (phases_by w.manager w.manager.sweep)
 
--- when its first steps are to be sent
+-- when the writing's first steps are to be sent
 abbrev pub at_first_steps : Managing → List ManagerEvent → List ManagerEvent → Managing
 at_first_steps w before between = after_manager_event (at_writing w before between) Write
 
@@ -93,21 +93,21 @@ at_end w before between after = after_manager_events after (at_first_steps w bef
 -- A sweep begins, and some time later a writing.
 pub record IsWritingRun (w : Managing) (before between after : List ManagerEvent) : Type 0 where
   pub starts : Starts w
-  -- before the sweep, between it and the writing, and after this began, only such things happen as there are
+  -- before the sweep, between it and the writing, and after that began, only events happen that there are
   pub before_can : All (CanBe w.seat) before
   pub between_can : All (CanBe w.seat) between
   pub after_can : All (CanBe w.seat) after
-  -- the manager wrote nothing over the paths of a sweep that it began before the run
+  -- no writing begins before a sweep, so none goes over the paths of a sweep from before the run
   pub sweeps_first : SweepsFirst before w
   -- neither the sweep nor the writing is refused
   pub sweep_begins : begin_fault (after_manager_events before w).manager ≡ None
   pub writing_begins : writing_fault (at_writing w before between).manager ≡ None
-  -- from the writing's first step on no other writing begins, and each Set that an agent takes, unless it is one of the
-  -- writing's own, carries the plan's values
+  -- from the writing's first step on, no other writing begins, and each Set that an agent takes, unless it is one of
+  -- the writing's own, carries the plan's values
   pub keep : AllKeep (plan_at (at_writing w before between)) (own_sets w (at_writing w before between)) after
       (at_first_steps w before between)
 
--- once the plan is written, all that the last sweep before came to holds it
+-- once the plan is written, all that the last sweep before the writing reached holds it
 abbrev pub WrittenPlansAreHeld : Type 0
 WrittenPlansAreHeld =
     (w : Managing) (before between after : List ManagerEvent) → IsWritingRun w before between after

@@ -1,4 +1,4 @@
--- Several masters at once on a subnet that holds the LIDs of a plan: what they write, and that the plan stays in force
+-- Several masters at once on a subnet that has the LIDs of a plan: what they write, and that the plan stays in force
 -- once it is held.
 use Rattle.std.specs.Prelude.{◌≡◌, ℕ, true, false, List, [], ◌∷◌, ◌++◌, None, Some}
 use Rattle.fabric_model.specs.declared.cable.NodePort.{NodePort}
@@ -30,8 +30,8 @@ abbrev pub HoldsLids : Part → PlanValue → Fabric → Type 0
 HoldsLids part plan f = (port : NodePort) (node : fabric.Node) → IsEndPortIn part f port node
     → range_of plan.given (record { node = node.guid; port = port.port }) ≡ Some (range_at f port)
 
--- Facts describe all that is joined to a seat exactly, and its end ports have the LIDs of their plan by the rule and the
--- LMC of each of the managers.
+-- Facts describe all that is joined to each seat exactly, and its end ports have the LIDs of their plan, by the rule
+-- and the LMC of every manager.
 pub record ShareLids (facts : Facts) (planning : Planning) (t : Masters) : Type 0 where
   pub starts : StartTogether t
   pub has_room : ¬ (IsNoRoom planning.lmc (cells_of facts))
@@ -58,13 +58,13 @@ pub record ShareRest (earlier facts : Facts) (planning : Planning) (t : Masters)
   pub lids : (which : ℕ) (m : Seated) → IsAt t which m
       → HoldsLids (IsJoinedTo (fabric_of t.scene.fabric) m.seat) (plan_by_it planning earlier) (fabric_of t.scene.fabric)
 
--- then the end ports have the LIDs of the plan of what is left
+-- after a cut, the end ports have the LIDs of the plan of what is left
 abbrev pub RestSharesLids : Type 0
 RestSharesLids =
     (earlier facts : Facts) (planning : Planning) (t : Masters) → ShareRest earlier facts planning t
     → ShareLids facts planning t
 
--- others set nothing but SMInfo, and what a manager writes it knows from one sweep, which has every answer
+-- other senders set nothing but SMInfo, and a manager knows what it writes from one sweep, which has every answer
 abbrev pub SweepsWhole : Masters → MastersEvent → Type 0
 SweepsWhole t (Around event) = SetsInfoOnly event
 SweepsWhole t (At which event) = (m : Seated) → IsAt t which m → WritesWhole m event
@@ -73,14 +73,14 @@ abbrev pub AllSweepWhole : List MastersEvent → Masters → Type 0
 AllSweepWhole [] t = Unit {0}
 AllSweepWhole (event ∷ events) t = SweepsWhole t event × AllSweepWhole events (after_masters_event t event)
 
--- no port gets another LID
+-- no port gets another LID, however many masters sweep and write
 abbrev pub MastersKeepLids : Type 0
 MastersKeepLids =
     (facts : Facts) (planning : Planning) (t : Masters) (events : List MastersEvent) → ShareLids facts planning t
     → AllCanBe events t → AllSweepWhole events t
     → HasLidsOf (fabric_of t.scene.fabric) (after_masters_events events t).scene
 
--- what a manager would write that knows one sweep with every answer is the plan of these facts
+-- a manager that knows one sweep with every answer would write the plan of these facts
 abbrev pub MastersWriteTheSame : Type 0
 MastersWriteTheSame =
     (facts : Facts) (planning : Planning) (t : Masters) (events : List MastersEvent) → ShareLids facts planning t
@@ -91,24 +91,24 @@ MastersWriteTheSame =
 
 -- on a subnet that holds a plan -------------------------------------------------------------------
 
--- what is joined to the seats holds it
+-- what is joined to each seat holds the plan
 abbrev pub AllHold : Facts → Planning → Masters → Type 0
 AllHold facts planning t = (which : ℕ) (m : Seated) → IsAt t which m
     → HoldsPlan (IsJoinedTo (fabric_of t.scene.fabric) m.seat) (plan_by_it planning facts) (fabric_of t.scene.fabric)
 
--- and each ping there arrives
+-- what is joined to each seat holds the plan, and each ping there arrives
 abbrev pub AllInUse : Facts → Planning → Masters → Type 0
 AllInUse facts planning t =
     (which : ℕ) (m : Seated) → IsAt t which m
     → IsInUse planning.rule facts (plan_by_it planning facts) t.scene.fabric m.seat
 
--- so it is at each moment
+-- the plan is in use at each moment of these events
 abbrev pub InUseAlong : Facts → Planning → List MastersEvent → Masters → Type 0
 InUseAlong facts planning [] t = AllInUse facts planning t
 InUseAlong facts planning (event ∷ events) t =
     AllInUse facts planning t × InUseAlong facts planning events (after_masters_event t event)
 
--- the manager of an index begins no writing
+-- the manager at index `which` begins no writing
 abbrev pub WritesNothing : ℕ → Masters → MastersEvent → Type 0
 WritesNothing which t (Around event) = Unit {0}
 WritesNothing which t (At other event) =
@@ -119,7 +119,7 @@ WriteNothing which [] t = Unit {0}
 WriteNothing which (event ∷ events) t =
     WritesNothing which t event × WriteNothing which events (after_masters_event t event)
 
--- a manager begins a writing, and no other one since; then the plan counts as written
+-- a manager begins a writing, and no other one since, and the plan counts as written
 pub record HasWritten (t : Masters) (before after : List MastersEvent) (which : ℕ) : Type 0 where
   pub writer : Seated
   pub there : IsAt (after_masters_events before t) which writer
@@ -129,7 +129,7 @@ pub record HasWritten (t : Masters) (before after : List MastersEvent) (which : 
   pub there_later : IsAt (after_masters_events (before ++ At which one.Write ∷ after) t) which later
   pub written : is_written later.manager ≡ true
 
--- once one of them has written its plan, whatever the others do meanwhile, all that is joined to the seats holds it
+-- once one manager has written its plan, all that is joined to the seats holds it, whatever the others do meanwhile
 abbrev pub WrittenByOneIsHeld : Type 0
 WrittenByOneIsHeld =
     (facts : Facts) (planning : Planning) (t : Masters) (before after : List MastersEvent) (which : ℕ)
@@ -138,7 +138,7 @@ WrittenByOneIsHeld =
     → HasWritten t before after which
     → AllHold facts planning (after_masters_events (before ++ At which one.Write ∷ after) t)
 
--- once it is held, however many masters sweep and write at once, it stays in force
+-- once the plan is held, it stays in force, however many masters sweep and write at once
 abbrev pub MastersChangeNothing : Type 0
 MastersChangeNothing =
     (facts : Facts) (planning : Planning) (t : Masters) (before after : List MastersEvent) → ShareLids facts planning t
@@ -146,9 +146,9 @@ MastersChangeNothing =
     → AllHold facts planning (after_masters_events before t)
     → InUseAlong facts planning after (after_masters_events before t)
 
--- there are two managers that were just made and write such a subnet at once ----------------------
+-- two new managers that write one subnet at once ---------------------------------------------------
 
--- at its seat, where it has done nothing
+-- a new manager at its seat, where it has done nothing
 abbrev pub new_at : NodePort → ℕ → Planning → Seated
 new_at seat port_guid planning =
     record {
@@ -175,6 +175,6 @@ pub record SomeMastersWriteAtOnce : Type 0 where
   pub writing : List MastersEvent
   pub can_be : AllCanBe (sweeping ++ At 0 one.Write ∷ At 1 one.Write ∷ writing) masters
   pub whole : AllSweepWhole (sweeping ++ At 0 one.Write ∷ At 1 one.Write ∷ writing) masters
-  -- neither is refused, and both have written their plans in the end
+  -- neither writing is refused, and both plans are written in the end
   pub first : HasWritten masters sweeping (At 1 one.Write ∷ writing) 0
   pub second : HasWritten masters (sweeping ++ At 0 one.Write ∷ []) writing 1

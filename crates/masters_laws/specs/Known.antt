@@ -1,4 +1,4 @@
--- What it means, of a run, that a manager has swept, and that it knows one sweep.
+-- When a manager has swept, and when it knows one sweep, in a run.
 use Rattle.std.specs.Prelude.{◌≡◌, ◌↔◌, ℕ, true, false, List, [], ◌∷◌, ◌++◌, None}
 use Rattle.fact_store.specs.View.{cells_of}
 use Rattle.sm_manager.specs.Manager.{begin_fault}
@@ -6,7 +6,7 @@ use Rattle.manager_laws.specs.Managing as one
 use Rattle.manager_laws.specs.WritingPings.{BeginsNoSweep}
 use Rattle.masters_laws.specs.Masters.{Seated, Masters, MastersEvent, Around, At, IsAt, seen_by, after_masters_event, after_masters_events}
 
--- a manager begins a sweep at some moment of a run
+-- the manager begins a sweep at some moment of the run
 pub record BeganSweep (t : Masters) (events : List MastersEvent) (which : ℕ) : Type 0 where
   pub before : List MastersEvent
   pub between : List MastersEvent
@@ -15,7 +15,7 @@ pub record BeganSweep (t : Masters) (events : List MastersEvent) (which : ℕ) :
   pub there : IsAt (after_masters_events before t) which then
   pub begins : begin_fault then.manager ≡ None
 
--- the manager of an index begins no sweep, merges no facts of others, and raises its floor to none above its own
+-- the manager at index `which` begins no sweep, merges no facts of others, and is given no floor above its own
 abbrev pub LearnsNothingElse : ℕ → Masters → MastersEvent → Type 0
 LearnsNothingElse which t (Around event) = Unit {0}
 LearnsNothingElse which t (At other event) =
@@ -26,20 +26,20 @@ LearnNothingElse which [] t = Unit {0}
 LearnNothingElse which (event ∷ events) t =
     LearnsNothingElse which t event × LearnNothingElse which events (after_masters_event t event)
 
--- as it begins one it knows nothing, and it learns of nothing else afterwards
+-- the manager held no facts when it began a sweep, and has learnt of nothing else since
 pub record LearntFromOne (t : Masters) (events : List MastersEvent) (which : ℕ) : Type 0 where
   pub swept : BeganSweep t events which
   pub knew_nothing : cells_of swept.then.manager.store ≡ []
   pub alone : LearnNothingElse which swept.between (after_masters_events (swept.before ++ At which one.Begin ∷ []) t)
 
--- so it is exactly where a manager knows one sweep that knew none at first
+-- a manager that knew no sweep at first knows one exactly if it learnt from one
 abbrev pub KnowsOneSweepMeans : Type 0
 KnowsOneSweepMeans =
     (t : Masters) (events : List MastersEvent) (which : ℕ) (m later : Seated) → IsAt t which m
     → m.knows_one_sweep ≡ false → IsAt (after_masters_events events t) which later
     → (later.knows_one_sweep ≡ true) ↔ LearntFromOne t events which
 
--- and it has swept exactly where it began a sweep
+-- a manager that had not swept at first has swept exactly if it began a sweep
 abbrev pub HasSweptMeans : Type 0
 HasSweptMeans =
     (t : Masters) (events : List MastersEvent) (which : ℕ) (m later : Seated) → IsAt t which m

@@ -1,4 +1,4 @@
--- Managers at seats of one fabric, each doing what it does in any order with the others.
+-- Managers at seats of one fabric, which act in any order.
 use Rattle.std.specs.Prelude.{◌≡◌, ℕ, Bool, true, false, ◌&&◌, List, [], ◌∷◌, length, slice_get, slice_set, ◌==◌, nat_le, is_none, if◌then◌else◌, Option, Some, None}
 use Rattle.fabric_model.specs.declared.cable.NodePort.{NodePort}
 use Rattle.smp_bytes.specs.Header.{set, sm_info}
@@ -15,8 +15,8 @@ use Rattle.manager_laws.specs.Managing as one
 use Rattle.manager_laws.specs.Managing.{Managing, ManagerEvent, Starts, IsElsewhere, after_manager_event}
 use Rattle.manager_laws.specs.Complete.{IsWhole}
 
--- a manager at its seat, the packets that it gave out, whether a sweep of it began here, and whether all that it knows
--- is from one sweep: the last one that it began, as it knew nothing
+-- a manager at its seat, the packets that it gave out, whether a sweep of it began in the run, and whether all that it
+-- knows is from one sweep: its last one, which began when it held no facts
 pub record Seated : Type 0 where
   pub seat : NodePort
   pub manager : Manager
@@ -29,28 +29,28 @@ pub record Masters : Type 0 where
   pub scene : Scene
   pub managers : List Seated
 
--- something happens on the fabric, or to a manager, which is told by its index in the list
+-- something happens on the fabric, or to the manager at index `which`
 pub data MastersEvent : Type 0 where
   Around : (event : Event) → MastersEvent
   At : (which : ℕ) → (event : ManagerEvent) → MastersEvent
 
--- the manager of an index
+-- m is the manager at index `which`
 abbrev pub IsAt : Masters → ℕ → Seated → Type 0
 IsAt t which m = slice_get t.managers which ≡ Some m
 
--- one of them on its own, to which the others are what happens around it
+-- one of several managers on its own, to which the others are what happens around it
 abbrev pub seen_by : Scene → Seated → Managing
 seen_by scene m = record { scene = scene; seat = m.seat; manager = m.manager; out = m.out }
 
--- what they do --------------------------------------------------------------------------------
+-- what events do --------------------------------------------------------------------------
 
--- whether a sweep began by then
+-- whether a sweep has begun after the event
 abbrev pub has_swept_after : Seated → ManagerEvent → Bool
 has_swept_after m one.Begin = if is_none (begin_fault m.manager) then true else m.has_swept
 has_swept_after m event = m.has_swept
 
--- whether what it knows is from one sweep afterwards: it is, once a sweep begins as it knows nothing, until facts of
--- others are merged or its floor is raised
+-- whether all that the manager knows after the event is from one sweep: so from the moment at which a sweep begins
+-- while it holds no facts, until facts of others are merged or its floor is raised
 abbrev pub knows_one_after : Seated → ManagerEvent → Bool
 knows_one_after m one.Begin =
     if is_none (begin_fault m.manager) then length (cells_of m.manager.store) == 0 else m.knows_one_sweep
@@ -83,9 +83,9 @@ abbrev pub after_masters_events : List MastersEvent → Masters → Masters
 after_masters_events [] t = t
 after_masters_events (event ∷ events) t = after_masters_events events (after_masters_event t event)
 
--- what there may be ------------------------------------------------------------------------------
+-- which events there may be ----------------------------------------------------------------
 
--- whoever else sends sets nothing but SMInfo
+-- other senders set nothing but SMInfo
 abbrev pub SetsInfoOnly : Event → Type 0
 SetsInfoOnly (around.Send seat (ByLid packet)) =
     number_in method packet.bytes ≡ set → number_in attribute_id packet.bytes ≡ sm_info
@@ -93,7 +93,7 @@ SetsInfoOnly (around.Send seat (ByPath method_number attribute modifier tid path
     method_number ≡ set → attribute ≡ sm_info
 SetsInfoOnly event = Unit {0}
 
--- what happens to a manager itself
+-- the event happens to a manager itself
 abbrev pub IsItsOwn : ManagerEvent → Type 0
 IsItsOwn (one.Around event) = ⊥
 IsItsOwn event = Unit {0}
@@ -102,7 +102,7 @@ abbrev pub IsWholeSweep : Option Sweep → Type 0
 IsWholeSweep None = ⊥
 IsWholeSweep (Some s) = IsWhole s
 
--- it begins a writing only once all that it knows is from one sweep, which has every answer
+-- the manager begins a writing only if all that it knows is from one sweep, which has every answer
 abbrev pub WritesWhole : Seated → ManagerEvent → Type 0
 WritesWhole m one.Write =
     writing_fault m.manager ≡ None → (m.knows_one_sweep ≡ true) × IsWholeSweep m.manager.sweep
@@ -118,9 +118,9 @@ abbrev pub AllCanBe : List MastersEvent → Masters → Type 0
 AllCanBe [] t = Unit {0}
 AllCanBe (event ∷ events) t = CanBe t event × AllCanBe events (after_masters_event t event)
 
--- where they begin ----------------------------------------------------------------------------
+-- where runs begin -------------------------------------------------------------------------
 
--- nothing is on its way, and each manager is at rest at a seat of its own
+-- no packet is on its way, and each manager is at rest at a seat of its own
 pub record StartTogether (t : Masters) : Type 0 where
   pub quiet : IsQuiet t.scene
   pub each : (which : ℕ) (m : Seated) → IsAt t which m → Starts (seen_by t.scene m)

@@ -1,4 +1,4 @@
--- What one of several managers does on its own: what it gives out, and the run of it alone.
+-- What one of several managers does on its own: which packets it gives out, and its own run.
 use Rattle.std.specs.Prelude.{◌≡◌, ℕ, true, List, [], ◌∷◌, All, slice_get, Some, None}
 use Rattle.sm_manager.specs.declared.outgoing.Outgoing.{Outgoing}
 use Rattle.sm_manager.specs.Plans.{writing_fault}
@@ -15,14 +15,14 @@ pub record IsSendable (w : Managing) (o : Outgoing) : Type 0 where
   pub can_send : CanSend w.seat sending
   pub is : sent w.scene w.seat sending ≡ sent_from w.scene w.seat (packet_of o)
 
--- so is each of a manager that begins no writing before a sweep
+-- each packet that a manager gives out can be sent, if it begins no writing before a sweep
 abbrev pub WhatIsGivenOutCanBeSent : Type 0
 WhatIsGivenOutCanBeSent =
     (w : Managing) (events : List ManagerEvent) → Starts w → SweepsFirst events w → All (one.CanBe w.seat) events
     → (which : ℕ) (o : Outgoing) → slice_get (after_manager_events events w).out which ≡ Some o
     → IsSendable (after_manager_events events w) o
 
--- one of several managers begins no writing before a sweep
+-- a manager begins no writing before a sweep
 abbrev pub WritesSwept : Seated → ManagerEvent → Type 0
 WritesSwept m one.Write = writing_fault m.manager ≡ None → m.has_swept ≡ true
 WritesSwept m event = Unit {0}
@@ -31,7 +31,7 @@ abbrev pub SweepsBefore : Masters → MastersEvent → Type 0
 SweepsBefore t (Around event) = Unit {0}
 SweepsBefore t (At which event) = (m : Seated) → IsAt t which m → WritesSwept m event
 
--- nor does any other one
+-- no manager begins a writing before a sweep
 abbrev pub AllSweepBefore : List MastersEvent → Masters → Type 0
 AllSweepBefore [] t = Unit {0}
 AllSweepBefore (event ∷ events) t = SweepsBefore t event × AllSweepBefore events (after_masters_event t event)
@@ -45,7 +45,8 @@ pub record OwnRun (t : Masters) (m : Seated) (after : Masters) (which : ℕ) : T
   pub there : IsAt after which later
   pub is : after_manager_events events (seen_by t.scene m) ≡ seen_by after.scene later
 
--- each has such a run, whatever they do: so what is so of a manager among others is so of each of them
+-- each of several managers has a run of its own, whatever they do, so what holds for a manager among others holds for
+-- each of them
 abbrev pub EachRunsOnItsOwn : Type 0
 EachRunsOnItsOwn =
     (t : Masters) (events : List MastersEvent) → StartTogether t → AllCanBe events t → AllSweepBefore events t

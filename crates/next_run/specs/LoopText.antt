@@ -7,11 +7,11 @@ use Rattle.audit_report.specs.AuditText.{cycle_line}
 abbrev pub lid_word : ℕ → List ℕ
 lid_word lid = codes " " ++ decimal lid
 
--- the LIDs of its channels, if there are any
+-- the line of LIDs, if there are any
 abbrev pub lids_line : List ℕ → List ℕ
 lids_line [] = []
 lids_line (lid ∷ later) = codes "lids" ++ flat_map lid_word (lid ∷ later) ++ codes "\n"
 
--- a loop as an audit says it, and for which LIDs its channels wait; or that there is none
+-- a credit loop as an audit says it, and for which LIDs its channels wait; or that there is none
 abbrev pub loop_text : Cells → List ℕ → List ℕ → List ℕ
 loop_text cells cycle lids = cycle_line cells cycle ++ lids_line lids

@@ -1,5 +1,5 @@
--- What a step from tables that are held towards a plan does: it reads its inputs in order, and writes the tables to
--- write next, or says why it can't.
+-- What a step from held tables towards a plan does: it reads its inputs in order and writes the tables to write next,
+-- or says why it cannot.
 use Rattle.std.specs.Prelude.{◌≡◌, ◌⊎◌, ◌↔◌, ℕ, Bool, List, [], ◌∷◌, Option, None, Some, IsTrue, if◌then◌else◌}
 use Rattle.std.specs.Io.KnownBytes.{Appends}
 use Rattle.byte_io.specs.Source.{SourceState}
@@ -30,41 +30,43 @@ use Rattle.next_run.specs.declared.run_step.StepAsked.{StepAsked}
 
 -- steps -----------------------------------------------------------------------------------------
 
--- the tables of the plan of facts, under an LMC and by a rule
+-- the tables of the plan of `facts`, under `lmc` and by `rule`
 abbrev pub planned : ℕ → RuleValue → Facts → HeldPlan
 planned lmc rule facts = held_plan (plan_of rule lmc (cells_of facts))
 
--- how a step towards it chooses: by the order of the plan's switches if the tables held are right by that
+-- how a step towards the plan chooses: by the order of the plan's switches if the held tables are right by that order,
+-- else by settled entries
 abbrev pub chosen_by : Cells → List ℕ → HeldPlan → StepRuleValue
 chosen_by cells positions held = if are_right cells (position_at positions) held then by_order positions else settled_first
 
 abbrev pub step_rule : RuleValue → Facts → HeldPlan → StepRuleValue
 step_rule rule facts held = chosen_by (cells_of facts) (positions_by rule (cells_of facts)) held
 
--- the tables to write next towards it
+-- the tables to write next towards the plan
 abbrev pub stepped : ℕ → RuleValue → Facts → HeldPlan → HeldPlan
 stepped lmc rule facts held = next_tables (cells_of facts) (step_rule rule facts held) held (planned lmc rule facts)
 
--- the same as text, below the LIDs of the plan
+-- the text of the tables to write next, below the LIDs of the plan
 abbrev pub step_text : ℕ → RuleValue → Facts → HeldPlan → List ℕ
 step_text lmc rule facts held = next_text (plan_of rule lmc (cells_of facts)).given (stepped lmc rule facts held)
 
--- channels that wait for each other by some mixture of two tables, as few as there are; none where numbers rise
+-- a shortest credit loop that some mixture of the two tables makes; empty if numbers rise
 abbrev pub IsCycleInStep : Cells → HeldPlan → HeldPlan → List ℕ → Type 0
 IsCycleInStep cells held next [] = (numbers : List ℕ) × NumbersRise cells held next numbers
 IsCycleInStep cells held next (channel ∷ later) =
     WaitInCycle cells held next (channel ∷ later) × NoneShorter cells held next (channel ∷ later)
 
--- these channels, and for each the least LID for which packets that hold it wait for the one after it
+-- a credit loop in a step, and for each of its channels the least LID for which packets that hold it wait for the next
+-- one
 abbrev pub IsLoopInStep : Cells → HeldPlan → HeldPlan → List ℕ → List ℕ → Type 0
 IsLoopInStep cells held next cycle lids = IsCycleInStep cells held next cycle × AreLoopLids cells held next cycle lids
 
--- a text was written, or what it is written on has failed
+-- `text` was written, or the sink has failed
 abbrev pub IsSaid : {W : Type 0} → (W → Option (List ℕ)) → (W → Bool) → W → W → List ℕ → Type 0
 IsSaid written has_failed old new text = IsTrue (has_failed new) ⊎ Appends (written old) (written new) text
 
--- there is room for the plan and no LID moves; of what was written and said this holds: the step, and a shortest credit
--- loop, or that there is none, as it passes
+-- there is room for the plan, and no LID moves; `prints` holds of the step's text, `says` of the text of a shortest
+-- credit loop or that there is none, and `passed` is whether there is none
 pub record IsStep (lmc : ℕ) (rule : RuleValue) (facts : Facts) (held : HeldPlan) (prints says : List ℕ
     → Type 0) (passed : Bool) : Type 0 where
   pub has_room : no_room lmc (cells_of facts) ≡ None
@@ -76,18 +78,19 @@ pub record IsStep (lmc : ℕ) (rule : RuleValue) (facts : Facts) (held : HeldPla
   pub said : says (loop_text (cells_of facts) cycle lids)
   pub judged : IsTrue passed ↔ (cycle ≡ [])
 
--- why there are no next tables, as a fault of a run in which the tables held are at an input
+-- why there are no next tables, as a fault of the run; `at` is the input of the held tables
 abbrev pub fault_of_step : ℕ → StepFault → Fault
 fault_of_step at (steps.Moves lid) = Text at (Moves lid)
 fault_of_step at steps.Memory = Memory
 
--- a LID of the tables, which are at this input, moves to another end port in the plan; else memory was refused
+-- why there are no next tables: a LID of the held tables, the input `at`, moves to another end port in the plan; else
+-- memory was refused
 abbrev pub StopsNext : ℕ → HeldPlan → HeldPlan → Fault → Type 0
 StopsNext at held plan (Text input (Moves lid)) = (input ≡ at) × (first_moved held plan ≡ Some lid)
 StopsNext at held plan Memory = Unit {0}
 StopsNext at held plan fault = ⊥
 
--- why there is none: the plan has no room, or a LID of the tables, which are at this input, moves; else the output has
+-- why there is no step: the plan has no room, or a LID of the held tables, the input `at`, moves; else the output has
 -- failed, or memory was refused
 abbrev pub StopsStep : ℕ → ℕ → RuleValue → Facts → HeldPlan → Bool → Fault → Type 0
 StopsStep at lmc rule facts held sink_failed (NoRoom why) = no_room lmc (cells_of facts) ≡ Some why
@@ -99,14 +102,14 @@ StopsStep at lmc rule facts held sink_failed fault = ⊥
 
 -- runs ------------------------------------------------------------------------------------------
 
--- the inputs were read, the text that the rule takes, the tables and the files; and the step was written
+-- the inputs were read (the text that the rule takes, the tables and the files), and the step was written
 abbrev pub HasStepped : {S : Type 0} → (S → SourceState) → StepAsked → List S → List S
     → (List ℕ → Type 0) → (List ℕ → Type 0) → Bool → Type 0
 HasStepped state asked olds news prints says passed =
     WithInputs state (tables_reader state asked.floor) asked.rule olds news
     (λ rule told. IsStep asked.lmc rule told.store told.held prints says passed)
 
--- why a step over open inputs ends early: they are not read, or the step is not written
+-- why a step over open inputs ends early: the inputs are not read, or the step is not written
 abbrev pub IsStepFault : {S : Type 0} → (S → SourceState) → StepAsked → List S → List S
     → Bool → Fault → Type 0
 IsStepFault state asked olds news sink_failed fault =

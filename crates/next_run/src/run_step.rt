@@ -1,4 +1,4 @@
-//! A step from tables that are held towards the plan of what files say.
+//! A step from held tables towards the plan of what files say.
 ghost use Rattle.std.specs.Prelude.{◌≡◌, ◌⊎◌, ◌+◌, ◌≤◌, Err, IfErr, IfOk, IsTrue, None, OnErr, OnOk, false, length};
 ghost use Rattle.std.specs.Io.KnownBytes.{Appends};
 ghost use Rattle.fact_store.specs.View.{cells_of};
@@ -23,23 +23,27 @@ use sm_cli::{Fault, RuleAsked, TablesAndFiles, TextFault, read_inputs};
 use smp_bytes::Generation;
 use std::alloc::{AllocError, Global};
 
-/// How a step is asked for.
+/// What is asked of a step.
 #[derive(Clone, Copy, Debug, PartialEq, Eq)]
 pub struct StepAsked {
     /// Each adapter port has 2^LMC LIDs in the plan.
     pub lmc: Lmc,
-    /// By which rule it is planned.
+    /// The rule that the plan is made by.
     pub rule: RuleAsked,
-    /// What is older than this generation does not count.
+    /// Facts of generations before this one are ignored.
     pub floor: Generation,
 }
 
-/// Reads the inputs in order, the text that a rule takes, the text of tables that switches hold, and then the files
-/// (`read_inputs`); writes the tables to write next towards the plan of what the files say together, as text; and says
-/// on `told`, in a line as an audit's, whether channels can wait for each other by any mixture of both tables, and in
-/// another for which LIDs. Answers whether none can. The first fault of the inputs counts; then that there is no room
-/// for the plan, and that a LID is given to another end port than the one that holds it. Where an input is refused, or
-/// memory is, nothing is written; how much went out before a write failed is not said.
+/// Reads the inputs in order (`read_inputs`): the text that the rule takes, the text of the held tables, then the
+/// files. Writes to `sink` the tables to write next towards the plan of what the files say together. Writes to `told`,
+/// in a line like an audit's, whether channels can wait for each other by any mixture of both tables, and if so in
+/// another line for which LIDs. Returns whether none can.
+///
+/// # Errors
+///
+/// Returns the first fault of the inputs; then that there is no room for the plan; then that the plan gives a LID to
+/// another end port than the one that holds it. If an input is refused or memory runs out, nothing is written. If a
+/// write fails, how much was written before is unspecified.
 pub fn run_next<S: Source, W: Sink, E: Sink>(
     alloc: Global,
     inputs: &mut [S],
@@ -74,8 +78,8 @@ pub fn run_next<S: Source, W: Sink, E: Sink>(
     }
 }
 
-/// Writes the step from tables that are held, whose text is at an input, towards the plan of what a store holds, and
-/// says whether channels can wait for each other in it.
+/// Writes the step from the held tables, whose text is the input number `input`, towards the plan of what a store
+/// holds. Writes to `told` whether channels can wait for each other in it, and returns whether none can.
 fn step<W: Sink, E: Sink>(
     alloc: Global,
     input: usize,
@@ -115,8 +119,8 @@ fn step<W: Sink, E: Sink>(
     Ok(found.is_none())
 }
 
-/// Returns the tables to write next by a rule, from those of a network, whose text is at an input, towards a plan of the
-/// same facts.
+/// Returns the tables to write next by the rule `by`, from those of the network `from` towards a plan of the same
+/// facts. `input` is the number of the held tables' text, for faults.
 fn next_towards(
     alloc: Global,
     input: usize,
@@ -143,7 +147,7 @@ fn next_towards(
     }
 }
 
-/// Whether channels can wait for each other by a mixture of the tables of a network and the next ones of its facts.
+/// Returns the credit loop that some mixture of the network's tables and the next ones can make, if there is one.
 fn loop_towards(
     alloc: Global,
     store: &Store,
@@ -160,7 +164,7 @@ fn loop_towards(
     StepLoop::of(alloc, from, &after)
 }
 
-/// Why there is no step, as a fault of a run in which the tables are at an input.
+/// Turns the reason why there is no step into a fault of the run. `input` is the number of the held tables' text.
 fn fault_of_step(input: usize, fault: &StepFault) -> Fault
     ensures { result ≡ fault_of_step input fault.now }
 {

@@ -1,4 +1,4 @@
-//! A credit loop that can come about in a step, and its text.
+//! A credit loop that a step can make, and its text.
 ghost use Rattle.std.specs.Prelude.{◌≡◌, ◌↔◌, [], IfOk, IsTrue};
 ghost use Rattle.std.specs.List.{flat_map};
 ghost use Rattle.fact_store.specs.View.{cells_of};
@@ -14,16 +14,16 @@ use smp_bytes::Lid;
 use std::alloc::{AllocError, Global};
 use step_loops::{loop_lids, step_order};
 
-/// Channels that wait for each other in a step; none where there is no credit loop.
+/// Channels that wait for each other in a step; empty if there is no credit loop.
 #[derive(Drop)]
 pub(crate) struct StepLoop {
     pub channels: Vec<usize>,
-    /// For each channel the least LID for which packets that hold it wait for the one after it.
+    /// For each channel, the least LID for which packets that hold it wait for the next channel.
     pub lids: Vec<Lid>,
 }
 
 impl StepLoop {
-    /// Channels that wait for each other by some mixture of two tables, as few as there are; none where there are none.
+    /// Returns a shortest credit loop that some mixture of the two tables makes, or an empty one if there is none.
     pub fn of(alloc: Global, held: &Network, next: &Network) -> Result<Self, AllocError>
         requires { next.now.facts ≡ held.now.facts }
         ensures { IfOk result (λ found. IsLoopInStep (cells_of held.now.facts) held.now.held next.now.held
@@ -41,14 +41,14 @@ impl StepLoop {
         }
     }
 
-    /// Whether there are no channels.
+    /// Returns whether there is no credit loop.
     pub fn is_none(&self) -> bool
         ensures { IsTrue result ↔ (self.now.channels.items ≡ []) }
     {
         self.channels.is_empty()
     }
 
-    /// Writes the channels, and behind them their LIDs.
+    /// Writes the channels, and after them their LIDs.
     pub fn write<W: Sink>(&self, sink: &mut W, network: &Network) -> Result<(), WriteFault>
         ensures { WritesPart W.written W.has_failed result sink.old sink.new
             (loop_text (cells_of network.now.facts) self.now.channels.items self.now.lids.items) }
@@ -70,7 +70,7 @@ fn write_lids<W: Sink>(sink: &mut W, lids: &[Lid]) -> Result<(), WriteFault>
     sink.write(b"\n")
 }
 
-/// Writes each of these LIDs.
+/// Writes each LID.
 fn write_each_lid<W: Sink>(sink: &mut W, lids: &[Lid]) -> Result<(), WriteFault>
     ensures { WritesPart W.written W.has_failed result sink.old sink.new (flat_map lid_word lids.now) }
 {
@@ -80,7 +80,7 @@ fn write_each_lid<W: Sink>(sink: &mut W, lids: &[Lid]) -> Result<(), WriteFault>
     Ok(())
 }
 
-/// Writes a LID behind a blank.
+/// Writes a blank and a LID.
 fn write_lid<W: Sink>(sink: &mut W, lid: Lid) -> Result<(), WriteFault>
     ensures { WritesPart W.written W.has_failed result sink.old sink.new (lid_word lid) }
 {

@@ -12,8 +12,8 @@ use ordered_steps::are_right;
 use plan_order::plan_positions;
 use std::alloc::{AllocError, Global};
 
-/// Returns how a step from the tables of a network chooses, towards the plan of the same facts by a rule: by the order
-/// of the plan's switches, if the tables are right by that.
+/// Returns how a step from the network's tables chooses entries, towards the plan of the same facts by `rule`: by the
+/// order of the plan's switches if the tables are right by that order, and else by settled entries.
 pub(crate) fn step_rule(
     alloc: Global,
     store: &Store,

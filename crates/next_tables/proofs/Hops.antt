@@ -1,6 +1,7 @@
 -- What switches do by entries.
-use Rattle.std.proofs.Common.{◌≡◌, ℕ, zero, suc, ◌<◌, true, false, cond, List, [], ◌∷◌, length, Option, None, Some, refl, sym, ap, ◌∙◌, subst, arith, inl, inr}
-use Rattle.std.specs.Prelude.{slice_get, slice_index_or, ◌==◌}
+use Rattle.std.proofs.Common.{◌≡◌, ℕ, zero, suc, ◌<◌, true, false, ◌≤◌, ◌+◌, ◌*◌, cond, List, [], ◌∷◌, length, Option, None, Some, refl, sym, ap, ◌∙◌, subst, arith, inl, inr}
+use Rattle.std.specs.Option.{option_map_or}
+use Rattle.std.specs.Prelude.{slice_get, slice_index_or, ◌==◌, ◌/◌, ◌%◌}
 use Rattle.std.proofs.lemmas.Bool.{cases_lt}
 use Rattle.std.proofs.lemmas.List.{get_or_past}
 use Rattle.std.proofs.lemmas.List.FromFn.{get_or-map-range_with_len, length-map-range_with_len}
@@ -16,10 +17,11 @@ use Rattle.audit.specs.declared.next_hop.NextHop.TheVariants.{To, Ends}
 use Rattle.audit.specs.declared.end.End.TheVariants.{Taken}
 use Rattle.held_tables.specs.declared.far_end.Far.{Far}
 use Rattle.held_tables.specs.declared.far_end.Far.TheVariants.{Nothing, Switch, Port}
-use Rattle.held_tables.specs.Switches.{far_at, far_of, far_to, index_in, row_of}
+use Rattle.held_tables.specs.Switches.{far_at, far_by, far_of, far_to, index_in, row_of}
 use Rattle.held_tables.specs.Tables.{owners_of, entry_for}
 use Rattle.audit.specs.NextHops.{by_entry, over, cause_of}
 use Rattle.audit.specs.Edges.{edge_by, edge_to, edges_of}
+use Rattle.audit_channels.specs.Columns.{number_of}
 use Rattle.held_tables.proofs.HeldTables.{within_length}
 use Rattle.next_tables.specs.Next.{step_at}
 use Rattle.next_tables.proofs.Entries.{at_mapped, past_mapped}
@@ -103,6 +105,49 @@ edge_is cells tables lid i edge h =
       is_there = placed (switches cells) i here.0;
       goes = edge_leads (owners_of tables lid) g (cause_of cells tables lid g) (row_of cells g) (entry_for tables lid g) edge here.1;
     }
+
+-- an edge is that of its port, which has a number below 255
+pub edge_port : (row : List Far) (entry : ℕ) (edge : Edge) → edge_by row entry ≡ Some edge
+    → (edge.port ≡ entry) × (slice_index_or row entry Nothing ≡ Switch edge.to)
+edge_port row entry edge =
+    elim (entry == 0) as (λ t. cond t None (edge_to entry (slice_index_or row entry Nothing)) ≡ Some edge
+    → (edge.port ≡ entry) × (slice_index_or row entry Nothing ≡ Switch edge.to)) [
+      | true ↦ λ h. absurd (cc)
+      | false ↦ λ h. far_is entry (slice_index_or row entry Nothing) edge h
+    ]
+  where
+    far_is : (entry : ℕ) (far : Far) (edge : Edge) → edge_to entry far ≡ Some edge → (edge.port ≡ entry) × (far ≡ Switch edge.to)
+    far_is entry Nothing edge h = absurd (cc)
+    far_is entry (Switch index) edge h =
+        let e = same_Some (record { port = entry; to = index }) edge h in
+        (sym (ap (λ (x : Edge). x.port) e), ap (λ (x : Edge). Switch x.to) e)
+    far_is entry (Port e) edge h = absurd (cc)
+
+-- the channel of an edge: whose it is, and where it leads
+pub channel_leads : (cells : Cells) (tables : HeldPlan) (lid i : ℕ) (edge : Edge) → slice_index_or (edges_of cells tables lid) i None ≡ Some edge
+    → (number_of i edge / 256 ≡ i) × (far_by cells (number_of i edge) ≡ Switch edge.to) × (number_of i edge < 256 * length (switches cells))
+channel_leads cells tables lid i edge h =
+    let here = edge_here cells tables lid i edge h in
+    let g = switch_at cells i in
+    let row = row_of cells g in
+    let is = edge_port row (entry_for tables lid g) edge here.1 in
+    let far : slice_index_or row edge.port Nothing ≡ Switch edge.to = ap (λ p. slice_index_or row p Nothing) is.0 ∙ is.1 in
+    let small : edge.port < 255 =
+    (elim (cases_lt edge.port 255) [
+      | inl less ↦ less
+      | inr more ↦ let past : slice_index_or row edge.port Nothing ≡ Nothing =
+          get_or_past row edge.port Nothing (omega (arith, length-map-range_with_len (far_of cells g) 0 255)) in absurd (cc)
+    ]) in
+    let c : ℕ = 256 * i + edge.port in
+    let over : c / 256 ≡ i = omega arith in
+    let rest : c % 256 ≡ edge.port = omega arith in
+    let less : i < length (switches cells) = here.0 in
+    let at : slice_get (switches cells) (c / 256) ≡ Some g = ap (slice_get (switches cells)) over ∙ placed (switches cells) i less in (
+      over,
+      ap (λ o. option_map_or (λ x. slice_index_or (row_of cells x) (c % 256) Nothing) o Nothing) at
+          ∙ ap (λ p. slice_index_or row p Nothing) rest ∙ far,
+      omega arith,
+    )
 
 -- one leads so by another's entry
 pub leads_same : (cells : Cells) (a b : HeldPlan) (lid i j : ℕ) (l : Leads cells a lid i j) → entry_for a lid l.switch ≡ entry_for b lid l.switch

@@ -1,4 +1,4 @@
--- An order of switches, turns by it, and the next entry of each switch for a LID: towards a goal's tables by that order.
+-- An order of switches, turns by it, and the next entry of each switch for a LID by it, towards a goal's tables.
 use Rattle.std.specs.Prelude.{◌≡◌, ◌<◌, ◌⊎◌, ◌==◌, ◌&&◌, ◌||◌, ◌+◌, ◌-◌, ◌*◌, ◌/◌, ℕ, Bool, true, false, not, List, Some, length, map, nat_lt, slice_get, slice_index_or, if◌then◌else◌}
 use Rattle.std.specs.List.{list_all, range_with_len}
 use Rattle.subnet_view.specs.Reading.{Cells, switches}
@@ -13,98 +13,98 @@ use Rattle.held_tables.specs.Tables.{owners_of, entry_for}
 use Rattle.audit.specs.NextHops.{is_at}
 use Rattle.next_tables.specs.Next.{step_at, comes_to, delivers}
 
--- each usable switch has a position, by its index; q says which
+-- `q` gives each usable switch, by its index, a position
 abbrev pub IsOrder : Cells → (ℕ → ℕ) → Type 0
 IsOrder cells q = (i : ℕ) → i < length (switches cells) → q i < length (switches cells)
 
--- the position of the switch at an index, by those of all
+-- the position of the switch at index i, 0 past the end
 abbrev pub position_at : List ℕ → ℕ → ℕ
 position_at positions i = slice_index_or positions i 0
 
--- the switch at an index
+-- the switch at index i, 0 past the end
 abbrev pub switch_at : Cells → ℕ → ℕ
 switch_at cells i = slice_index_or (switches cells) i 0
 
--- a wire leads from one switch to another
+-- a wire leads from the switch at index i to the one at index j
 abbrev pub IsWired : Cells → ℕ → ℕ → Type 0
 IsWired cells i j = (p : ℕ) × (slice_index_or (row_of cells (switch_at cells i)) p Nothing ≡ Switch j)
 
--- and no two that a wire joins have the same
+-- two different switches that a wire joins have different positions
 abbrev pub AreApart : Cells → (ℕ → ℕ) → Type 0
 AreApart cells q =
     (i j : ℕ) → i < length (switches cells) → j < length (switches cells) → IsWired cells i j → q i ≡ q j → i ≡ j
 
--- a channel from one switch to another leads down where that is no earlier, and up where it is no later
+-- a channel leads down to a switch that is no earlier, and up to one that is no later
 abbrev pub is_down : (ℕ → ℕ) → ℕ → ℕ → Bool
 is_down q i j = not (nat_lt (q j) (q i))
 
 abbrev pub is_up : (ℕ → ℕ) → ℕ → ℕ → Bool
 is_up q i j = not (nat_lt (q i) (q j))
 
--- down to a switch and up again
+-- the turn from i to j and on to k goes down and then up
 abbrev pub is_bad : (ℕ → ℕ) → ℕ → ℕ → ℕ → Bool
 is_bad q i j k = is_down q i j && is_up q j k
 
--- by the tables a switch sends packets for the LID on to another
+-- the switch at index i forwards packets for `lid` by `tables` to the one at index j
 pub record Leads (cells : Cells) (tables : HeldPlan) (lid i j : ℕ) : Type 0 where
   pub switch : ℕ
   pub is_there : slice_get (switches cells) i ≡ Some switch
   pub goes : step_at cells tables lid switch ≡ To j
 
--- no packet for the LID comes to a switch by the ones and leaves it by the others so that the turn is bad
+-- no packet for `lid` comes to a switch by `before` and leaves it by `now` with a bad turn
 abbrev pub TurnsWell : Cells → (ℕ → ℕ) → HeldPlan → HeldPlan → ℕ → Type 0
 TurnsWell cells q before now lid =
     (i j k : ℕ) → Leads cells before lid i j → Leads cells now lid j k → is_bad q i j k ≡ false
 
--- tables are right by the order
+-- `tables` are right by the order for `lid`
 abbrev pub AreRight : Cells → (ℕ → ℕ) → HeldPlan → ℕ → Type 0
 AreRight cells q tables lid = TurnsWell cells q tables tables lid
 
--- a switch's entries for the LID by two tables are the same
+-- the entries of switch `g` for `lid` are equal in both tables
 abbrev pub is_same : Cells → HeldPlan → HeldPlan → ℕ → ℕ → Bool
 is_same cells held goal lid g = entry_for held lid g == entry_for goal lid g
 
--- what a switch does comes down to that at index i, from that at index x
+-- the hop of the switch at index x leads down to the switch at index i
 abbrev pub comes_down : (ℕ → ℕ) → ℕ → ℕ → NextHop → Bool
 comes_down q x i (To j) = (j == i) && is_down q x i
 comes_down q x i (Ends e) = false
 
--- each switch whose held entry is a channel down to that at index i holds the goal's entry already
+-- each switch whose held entry leads down to the switch at index i has the goal's entry already
 abbrev pub none_comes_down : Cells → (ℕ → ℕ) → HeldPlan → HeldPlan → ℕ → ℕ → Bool
 none_comes_down cells q held goal lid i =
     list_all (λ x. not (comes_down q x i (step_at cells held lid (switch_at cells x)))
     || is_same cells held goal lid (switch_at cells x)) (range_with_len 0 (length (switches cells)))
 
--- what a switch at index j does is no channel up
+-- the hop of the switch at index j leads up
 abbrev pub goes_up : (ℕ → ℕ) → ℕ → NextHop → Bool
 goes_up q j (To k) = is_up q j k
 goes_up q j (Ends e) = false
 
--- the held entry of the switch at index j is no channel up, or it is the goal's already
+-- the held entry of the switch at index j does not lead up, or is the goal's already
 abbrev pub none_goes_up : Cells → (ℕ → ℕ) → HeldPlan → HeldPlan → ℕ → ℕ → Bool
 none_goes_up cells q held goal lid j =
     not (goes_up q j (step_at cells held lid (switch_at cells j))) || is_same cells held goal lid (switch_at cells j)
 
--- the goal's entry of the switch at index i leads up only where none comes down to it, and down only to one that does
--- not go up
+-- the goal's entry of the switch at index i leads up only if no packet comes down to the switch, and down only to a
+-- switch that does not send it up
 abbrev pub turns_well : Cells → (ℕ → ℕ) → HeldPlan → HeldPlan → ℕ → ℕ → NextHop → Bool
 turns_well cells q held goal lid i (To j) =
     (not (is_up q i j) || none_comes_down cells q held goal lid i)
     && (not (is_down q i j) || none_goes_up cells q held goal lid j)
 turns_well cells q held goal lid i (Ends e) = true
 
--- it leads to the end port or to a switch from which the held tables deliver
+-- the hop leads to the end port, or to a switch from which the held tables deliver
 abbrev pub leads_in : Cells → HeldPlan → HeldLid → NextHop → Bool
 leads_in cells held line (To j) = delivers cells held line (switch_at cells j)
 leads_in cells held line (Ends e) = is_at line.port (Some e)
 
--- the switch g at index i may take the goal's entry
+-- the switch `g` at index i may take the goal's entry
 abbrev pub may_change : Cells → (ℕ → ℕ) → HeldPlan → HeldPlan → HeldLid → ℕ → ℕ → Bool
 may_change cells q held goal line i g =
     turns_well cells q held goal line.lid i (step_at cells goal line.lid g)
     && (not (delivers cells held line g) || leads_in cells held line (step_at cells goal line.lid g))
 
--- then it does, and else it keeps the held one
+-- the entry that a switch tries: the goal's if it may change to it, else the held one
 abbrev pub tried_entry : Cells → (ℕ → ℕ) → HeldPlan → HeldPlan → HeldLid → ℕ → ℕ → ℕ
 tried_entry cells q held goal line i g =
     if may_change cells q held goal line i g then entry_for goal line.lid g else entry_for held line.lid g
@@ -117,19 +117,19 @@ tried_at cells q held goal line i =
 abbrev pub tried : Cells → (ℕ → ℕ) → HeldPlan → HeldPlan → HeldLid → List NextHop
 tried cells q held goal line = map (tried_at cells q held goal line) (range_with_len 0 (length (switches cells)))
 
--- that is the next entry where these deliver from the switch, and else there is none
+-- the tried entry if the tried entries deliver from the switch, else 255
 abbrev pub next_by_order : Cells → (ℕ → ℕ) → HeldPlan → HeldPlan → HeldLid → ℕ → ℕ → ℕ
 next_by_order cells q held goal line i g =
     if comes_to line.port (tried cells q held goal line) (To i) then tried_entry cells q held goal line i g else 255
 
--- tables have these entries for the LID of a line, which the same end ports hold
+-- `next` has the next entries by the order for the LID of `line`, which the same end ports hold
 pub record IsNextByOrder (cells : Cells) (q : ℕ → ℕ) (held goal : HeldPlan) (line : HeldLid) (next : HeldPlan) : Type 0
   where
     pub owners : owners_of next line.lid ≡ owners_of held line.lid
     pub entries : (i g : ℕ) → slice_get (switches cells) i ≡ Some g
         → entry_for next line.lid g ≡ next_by_order cells q held goal line i g
 
--- they may also have what is tried where that does not deliver: there it is nothing to packets that arrive
+-- `next` may also have a tried entry that does not deliver: it does not matter to packets that arrive
 pub record IsTriedByOrder (cells : Cells) (q : ℕ → ℕ) (held goal : HeldPlan) (line : HeldLid) (next : HeldPlan) : Type 0
   where
     pub owners : owners_of next line.lid ≡ owners_of held line.lid
@@ -137,7 +137,7 @@ pub record IsTriedByOrder (cells : Cells) (q : ℕ → ℕ) (held goal : HeldPla
         → (entry_for next line.lid g ≡ tried_entry cells q held goal line i g)
         ⊎ ((comes_to line.port (tried cells q held goal line) (To i) ≡ false) × (entry_for next line.lid g ≡ 255))
 
--- each next entry for the LID is the held one, or none, or the goal's where that turns well: of these any may be chosen
+-- each next entry for `lid` is the held one, or 255, or the goal's if that turns well; which of them is open
 abbrev pub IsChoice : Cells → (ℕ → ℕ) → HeldPlan → HeldPlan → ℕ → HeldPlan → Type 0
 IsChoice cells q held goal lid next =
     (i g : ℕ) → slice_get (switches cells) i ≡ Some g
@@ -146,7 +146,7 @@ IsChoice cells q held goal lid next =
     ⊎ ((entry_for next lid g ≡ entry_for goal lid g)
     × (turns_well cells q held goal lid i (step_at cells goal lid g) ≡ true)))
 
--- the number of a channel by the positions of its ends, among n
+-- the number of a channel from position a to position b, among n positions
 abbrev pub channel_number : ℕ → ℕ → ℕ → ℕ
 channel_number n a b = if nat_lt b a then n - b else n + 1 + b
 
@@ -155,7 +155,7 @@ number_over n q i Nothing = 0
 number_over n q i (Switch j) = channel_number n (q i) (q j)
 number_over n q i (Port e) = 0
 
--- those of all ports of the usable switches
+-- the numbers of the channels of all ports of the usable switches
 abbrev pub numbers_by : Cells → (ℕ → ℕ) → List ℕ
 numbers_by cells q =
     map (λ c. number_over (length (switches cells)) q (c / 256) (far_by cells c))

@@ -1,5 +1,5 @@
--- A fabric whose switches change their tables while a packet travels there. Its wiring stands still. InfiniBand
--- Architecture Specification, Volume 1: switches, unicast forwarding by the linear forwarding table; subnet management,
+-- A fabric whose switches change their tables while a packet travels. Its wiring stands still. InfiniBand Architecture
+-- Specification, Volume 1: switches, unicast forwarding by the linear forwarding table; subnet management,
 -- LinearForwardingTable and SwitchInfo (LinearFDBTop), which are written block by block.
 use Rattle.std.specs.Prelude.{◌≡◌, ◌≤◌, ◌⊎◌, ℕ, suc, ◌+◌, ◌*◌, List, [], ◌∷◌, length, Some, IsTrue}
 use Rattle.fabric_model.specs.declared.cable.NodePort.{NodePort}
@@ -23,11 +23,11 @@ use Rattle.held_tables.specs.Tables.{counted, entry_for, entry_of, top_of}
 use Rattle.next_tables.specs.Next.{step_at}
 use Rattle.next_tables.specs.NextTables.{IsKept, StepRuleValue, next_tables, settled_first}
 
--- the entry of a switch for a LID that counts, by the top and the table that its agent has now
+-- the effective entry of the node `number` for `lid`, by the top and the table of its agent in the fabric `now`
 abbrev pub entry_now : Fabric → ℕ → ℕ → ℕ
 entry_now now lid number = counted lid (now.top number) (now.entry number lid)
 
--- it is the held one or the next one; or any, at a switch that drops the packet by the held tables
+-- `entry` is the held one or the next one; or any, if switch `g` drops the packet by the held tables
 abbrev pub IsLooseEntry : Cells → HeldPlan → HeldPlan → ℕ → ℕ → ℕ → Type 0
 IsLooseEntry cells held next lid g entry =
     (entry ≡ entry_for held lid g)
@@ -40,20 +40,20 @@ pub record StandsStill (part : Part) (lid : ℕ) (before now : Fabric) : Type 0 
   pub owners : (port : NodePort) (node : Node) → IsEndPortIn part before port node
       → owns now port lid ≡ owns before port lid
 
--- in the midst of a change each switch of the part has such an entry for the LID
+-- in the midst of a change each switch of the part has a loose entry for the LID
 pub record IsInChange (part : Part) (cells : Cells) (held next : HeldPlan) (lid : ℕ) (before now : Fabric) : Type 0
   where
     pub still : StandsStill part lid before now
     pub entries : (port : NodePort) (node : Node) → IsEndPortIn part before port node → IsTrue (is_switch node.kind)
         → IsLooseEntry cells held next lid node.guid (entry_now now lid port.node)
 
--- so it is whenever the packet comes to a node: first, then at the next one, and so on
+-- the fabric is in the change whenever the packet reaches a node; `fabrics k` is the fabric when it reaches its k-th
 abbrev pub ChangesMeanwhile : Part → Cells → HeldPlan → HeldPlan → ℕ → Fabric → (ℕ → Fabric) → Type 0
 ChangesMeanwhile part cells held next lid before fabrics =
     (k : ℕ) → IsInChange part cells held next lid before (fabrics k)
 
--- while it is written, a switch has the top that it had or that of the next tables, and either's entry for the LID:
--- which of these is written first is open
+-- while tables are written, a switch has its old top or that of the next tables, and the entry of either for the LID;
+-- which is written first is open
 pub record IsBeingWritten (part : Part) (next : HeldPlan) (lid : ℕ) (before now : Fabric) : Type 0 where
   pub still : StandsStill part lid before now
   pub tops : (port : NodePort) (node : Node) → IsEndPortIn part before port node → IsTrue (is_switch node.kind)
@@ -62,8 +62,7 @@ pub record IsBeingWritten (part : Part) (next : HeldPlan) (lid : ℕ) (before no
       → (now.entry port.node lid ≡ before.entry port.node lid)
       ⊎ (now.entry port.node lid ≡ entry_of next node.guid lid)
 
--- a packet goes from one standing to another over these wires in turn, and each node does with it what it does in the
--- fabric as it is then
+-- a packet goes from `s` to `end` over these wires in turn, and each node forwards it as in the fabric at that time
 abbrev pub GoesMeanwhile : (ℕ → Fabric) → ℕ → Standing → List Hop → Standing → Type 0
 GoesMeanwhile fabrics lid s [] end = s ≡ end
 GoesMeanwhile fabrics lid s (h ∷ hops) end =
@@ -71,13 +70,13 @@ GoesMeanwhile fabrics lid s (h ∷ hops) end =
     (course now lid s ≡ LeavesBy h.out) × (now.across h.out ≡ Some h.into)
     × GoesMeanwhile (λ k. fabrics (suc k)) lid (arrived_at h.into) hops end
 
--- one that is sent from a port is delivered at another over these wires, in the fabric as it is when it has come there
+-- a packet from `source` is delivered at `target` over these wires, in the fabric as it is when the packet gets there
 abbrev pub IsDeliveredMeanwhile : (ℕ → Fabric) → ℕ → NodePort → List Hop → NodePort → Type 0
 IsDeliveredMeanwhile fabrics lid source hops target =
     (end : Standing) × GoesMeanwhile fabrics lid (sent_from source) hops end
     × (course (fabrics (length hops)) lid end ≡ Delivers target)
 
--- at the end port of this name and nowhere else, over so many wires at most
+-- a packet from `source` is delivered at the end port `e` and nowhere else, over at most `most` wires
 pub record ArrivesMeanwhile (fabrics : ℕ → Fabric) (lid : ℕ) (source : NodePort) (e : EndPort) (most : ℕ) : Type 0 where
   pub hops : List Hop
   pub target : NodePort
@@ -87,9 +86,9 @@ pub record ArrivesMeanwhile (fabrics : ℕ → Fabric) (lid : ℕ) (source : Nod
   pub nowhere_else : (others : List Hop) (other : NodePort) → IsDeliveredMeanwhile fabrics lid source others other
       → other ≡ target
 
--- the facts describe what is joined to an end port, which holds the tables held, and goes over to the next tables
--- towards a plan, each switch at its own time: a packet that the tables held deliver at the end port that alone holds
--- its LID, in these and in the plan, is delivered there meanwhile
+-- a packet that the held tables deliver at the end port that alone holds its LID, in these and in the plan, is
+-- delivered there while the switches go over to the next tables, each at its own time, if the facts describe what is
+-- joined to an end port, and that holds the held tables at first
 abbrev pub PacketsArriveWhileTablesChange : Type 0
 PacketsArriveWhileTablesChange =
     (facts : Facts) (held plan : HeldPlan) (line : HeldLid) (before : Fabric) (origin : NodePort)
@@ -106,7 +105,7 @@ PacketsArriveWhileTablesChange =
     }) (Some (Taken line.port))
     → ArrivesMeanwhile fabrics line.lid source line.port (2 * length (switches (cells_of facts)) + 1)
 
--- what is being written is in such a change
+-- a fabric that is being written is in the change
 abbrev pub WrittenTablesAreInChange : Type 0
 WrittenTablesAreInChange =
     (facts : Facts) (rule : StepRuleValue) (held plan : HeldPlan) (lid : ℕ) (before now : Fabric) (origin : NodePort)

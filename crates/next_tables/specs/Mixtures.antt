@@ -1,5 +1,4 @@
--- What becomes of packets while switches go over from the tables that they hold to the next ones, each block at its own
--- time.
+-- What becomes of packets while switches go over from the held tables to the next ones, each block at its own time.
 use Rattle.std.specs.Prelude.{◌≡◌, ◌≤◌, ◌<◌, ◌⊎◌, ℕ, zero, suc, List, [], ◌∷◌, Contains, Option, Some, slice_get, slice_index_or}
 use Rattle.port_graph.specs.declared.edge.Edge.{Edge}
 use Rattle.audit_channels.specs.Columns.{TakesAcross}
@@ -19,25 +18,25 @@ use Rattle.audit.specs.WalkEnds.{IsEndOf, after, onward}
 use Rattle.audit.specs.NextHops.{IsBrought, first_hop, next_hops_of}
 use Rattle.next_tables.specs.Next.{step_at, IsNext}
 
--- tables of which each entry for the LID is of the one or of the other
+-- `mixed` has for `lid`, at each switch, the entry of `held` or of `next`
 pub record IsMixed (cells : Cells) (held next : HeldPlan) (lid : ℕ) (mixed : HeldPlan) : Type 0 where
   pub owners : owners_of mixed lid ≡ owners_of held lid
   pub entries : (g : ℕ) → Contains (switches cells) g → (entry_for mixed lid g ≡ entry_for held lid g)
       ⊎ (entry_for mixed lid g ≡ entry_for next lid g)
 
--- so many steps further, where other steps count each time
+-- the step that is n steps further, the k-th of them by `steps k`
 abbrev pub after_by : ℕ → (ℕ → List NextHop) → NextHop → NextHop
 after_by zero steps s = s
 after_by (suc n) steps s = after_by n (λ k. steps (suc k)) (onward (steps 0) s)
 
--- where forwarding brings a packet by tables that change: these are held when it has met so many switches
+-- forwarding brings a packet to `end` by tables that change; `tables k` are held when it has met k switches
 abbrev pub IsBroughtBy : Cells → (ℕ → HeldPlan) → ℕ → EndPort → End → Type 0
 IsBroughtBy cells tables lid e end =
     (n : ℕ) × (after_by n (λ k. next_hops_of cells (tables k) lid)
     (first_hop (owners_of (tables 0) lid) (sender_of cells e)) ≡ Ends end)
 
--- and a switch that drops the packet by the held tables may do anything: its top is raised before its blocks are
--- written
+-- a mixture in which a switch that drops the packet by the held tables may do anything, since its top is raised before
+-- its blocks are written
 pub record IsLoose (cells : Cells) (held next : HeldPlan) (lid : ℕ) (mixed : HeldPlan) : Type 0 where
   pub owners : owners_of mixed lid ≡ owners_of held lid
   pub entries : (g : ℕ) → Contains (switches cells) g
@@ -45,8 +44,8 @@ pub record IsLoose (cells : Cells) (held next : HeldPlan) (lid : ℕ) (mixed : H
       ⊎ ((entry_for mixed lid g ≡ entry_for next lid g)
       ⊎ ((x : ℕ) × (cause : Cause) × (step_at cells held lid g ≡ Ends (Lost x cause))))
 
--- a packet that the held tables deliver at an end port is delivered there by whatever mixtures of these and the next
--- ones
+-- a packet that the held tables deliver at an end port is delivered there by whatever loose mixtures of the held and
+-- the next tables
 abbrev pub NoneIsLost : Type 0
 NoneIsLost =
     (cells : Cells) (held plan next : HeldPlan) (line : HeldLid) → owners_of plan line.lid ≡ owners_of held line.lid
@@ -55,7 +54,7 @@ NoneIsLost =
     → (source : EndPort) → IsBrought cells held line.lid source (Some (Taken line.port))
     → IsBroughtBy cells mixed line.lid source (Taken line.port)
 
--- by the next tables each switch delivers the packet, or has no entry
+-- each switch delivers the packet by the next tables, or has no entry
 abbrev pub NextDeliverOrDrop : Type 0
 NextDeliverOrDrop =
     (cells : Cells) (held plan next : HeldPlan) (line : HeldLid) → owners_of plan line.lid ≡ owners_of held line.lid
@@ -63,7 +62,7 @@ NextDeliverOrDrop =
     → (i g : ℕ) → slice_get (switches cells) i ≡ Some g
     → (entry_for next line.lid g ≡ 255) ⊎ IsEndOf (next_hops_of cells next line.lid) (To i) (Some (Taken line.port))
 
--- a packet that the held tables do not send round for ever is sent round by none of these mixtures
+-- a packet that does not loop by the held tables loops by no mixtures of the held and the next tables
 abbrev pub NoneGoesRound : Type 0
 NoneGoesRound =
     (cells : Cells) (held plan next : HeldPlan) (line : HeldLid) → owners_of plan line.lid ≡ owners_of held line.lid
@@ -71,7 +70,7 @@ NoneGoesRound =
     → (source : EndPort) (end : End) → IsBrought cells held line.lid source (Some end) → (last : End)
     × IsBroughtBy cells mixed line.lid source last
 
--- step after step
+-- `tables n` are the tables after n steps
 pub record AreSteps (cells : Cells) (plan : HeldPlan) (line : HeldLid) (tables : ℕ → HeldPlan) : Type 0 where
   pub owners : owners_of plan line.lid ≡ owners_of (tables 0) line.lid
   pub steps : (n : ℕ) → IsNext cells (tables n) plan line (tables (suc n))
@@ -84,7 +83,7 @@ EndInThePlan =
     ≡ Ends (Taken line.port) → n ≤ m
     → entry_for (tables m) line.lid g ≡ entry_for plan line.lid g
 
--- where a step changes nothing, each switch from which the plan has a way has its entry
+-- if a step changes nothing, each switch from which the plan has a way has the plan's entry
 abbrev pub StillIsThePlan : Type 0
 StillIsThePlan =
     (cells : Cells) (held plan : HeldPlan) (line : HeldLid) → owners_of plan line.lid ≡ owners_of held line.lid
@@ -93,44 +92,44 @@ StillIsThePlan =
     ≡ Ends (Taken line.port)
     → entry_for held line.lid g ≡ entry_for plan line.lid g
 
--- after two steps each packet arrives that does so by the plan
+-- after two steps each packet arrives that arrives by the plan
 abbrev pub HealInTwo : Type 0
 HealInTwo =
     (cells : Cells) (plan : HeldPlan) (line : HeldLid) (tables : ℕ → HeldPlan) → AreSteps cells plan line tables
     → (source : EndPort) → IsBrought cells plan line.lid source (Some (Taken line.port))
     → IsBrought cells (tables 2) line.lid source (Some (Taken line.port))
 
--- a packet takes one channel and then another at some switch, by the edges that switches have then, and by those that
--- they have when it comes to the next
+-- a packet takes `channel` and then `next` at some switch, by the edges `before`, and by the edges `now` when it
+-- reaches the next switch
 abbrev pub TakesBy : List (Option Edge) → List (Option Edge) → ℕ → ℕ → Type 0
 TakesBy before now channel next = (switch : ℕ) × TakesAcross before now switch channel next
 
--- each by the edges of the held tables or of the next ones
+-- a packet takes channel a and then b, each by an edge of the held or of the next tables
 abbrev pub TakesInStep : List (Option Edge) → List (Option Edge) → ℕ → ℕ → Type 0
 TakesInStep held next a b =
     TakesBy held held a b ⊎ (TakesBy held next a b ⊎ (TakesBy next held a b ⊎ TakesBy next next a b))
 
--- so packets for a LID do: the channel that one holds waits for the other
+-- channel a waits for channel b: packets for `lid` that hold a take b next
 abbrev pub WaitsAcross : Cells → HeldPlan → HeldPlan → ℕ → ℕ → ℕ → Type 0
 WaitsAcross cells before now lid a b = TakesBy (edges_of cells before lid) (edges_of cells now lid) a b
 
 abbrev pub WaitsInStep : Cells → HeldPlan → HeldPlan → ℕ → ℕ → ℕ → Type 0
 WaitsInStep cells held next lid a b = TakesInStep (edges_of cells held lid) (edges_of cells next lid) a b
 
--- so it is with all that waits in any mixtures, whenever it came there
+-- what waits in any mixtures, whenever packets came there, waits by edges of the held or the next tables
 abbrev pub MixturesWaitSo : Type 0
 MixturesWaitSo =
     (cells : Cells) (held next before now : HeldPlan) (lid : ℕ) → IsMixed cells held next lid before
     → IsMixed cells held next lid now
     → (a b : ℕ) → WaitsAcross cells before now lid a b → WaitsInStep cells held next lid a b
 
--- numbers rise over all of these, for every LID, whether or not a port holds it
+-- numbers rise over all that waits in the step, for every LID, whether or not a port holds it
 abbrev pub RiseInStep : Cells → HeldPlan → HeldPlan → List ℕ → Type 0
 RiseInStep cells held next numbers =
     (lid a b : ℕ) → 1 ≤ lid → WaitsInStep cells held next lid a b → slice_index_or numbers a 0
     < slice_index_or numbers b 0
 
--- a channel waits for another in some mixtures
+-- channel a waits for channel b in some mixtures
 pub record WaitsMixed (cells : Cells) (held next : HeldPlan) (a b : ℕ) : Type 0 where
   pub lid : ℕ
   pub is_lid : 1 ≤ lid
@@ -145,7 +144,7 @@ WaitOnMixed cells held next channel [] last = WaitsMixed cells held next channel
 WaitOnMixed cells held next channel (c ∷ later) last =
     WaitsMixed cells held next channel c × WaitOnMixed cells held next c later last
 
--- then channels never wait in a cycle, whatever the mixtures
+-- if numbers rise in the step, channels never wait in a cycle, whatever the mixtures
 abbrev pub NoCycleInStep : Type 0
 NoCycleInStep =
     (cells : Cells) (held next : HeldPlan) (numbers : List ℕ) → RiseInStep cells held next numbers

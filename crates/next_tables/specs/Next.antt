@@ -1,4 +1,4 @@
--- The next entry of each switch for a LID: from the tables that switches hold towards those of a plan.
+-- The next entry of each switch for a LID, from the tables that switches hold towards those of a plan.
 use Rattle.std.specs.Prelude.{◌≡◌, ℕ, ◌==◌, Bool, List, Contains, length, map, if◌then◌else◌}
 use Rattle.subnet_view.specs.declared.end_port.EndPort.{EndPort}
 use Rattle.subnet_view.specs.Reading.{Cells, switches}
@@ -13,16 +13,16 @@ use Rattle.held_tables.specs.Tables.{owners_of, entry_for}
 use Rattle.audit.specs.WalkEnds.{after, end_of, is_to}
 use Rattle.audit.specs.NextHops.{by_entry, cause_of, is_at, next_hops_of}
 
--- what a usable switch does with a packet for the LID, by tables
+-- the next hop of switch `g` for `lid` by `tables`
 abbrev pub step_at : Cells → HeldPlan → ℕ → ℕ → NextHop
 step_at cells tables lid g =
     by_entry (owners_of tables lid) g (cause_of cells tables lid g) (row_of cells g) (entry_for tables lid g)
 
--- whether a walk comes to the port
+-- whether a walk from `s` arrives at the port
 abbrev pub comes_to : EndPort → List NextHop → NextHop → Bool
 comes_to port steps s = is_at port (end_of (after (length steps) steps s))
 
--- by the entries that are the plan's already: any other drops the packet
+-- the next hop of switch `g` if its entry is the plan's already; else it drops the packet
 abbrev pub agreed_at : Cells → HeldPlan → HeldPlan → ℕ → ℕ → NextHop
 agreed_at cells held plan lid g =
     if entry_for held lid g == entry_for plan lid g then step_at cells plan lid g else Ends (Lost g NoEntry)
@@ -30,15 +30,16 @@ agreed_at cells held plan lid g =
 abbrev pub agreed : Cells → HeldPlan → HeldPlan → ℕ → List NextHop
 agreed cells held plan lid = map (agreed_at cells held plan lid) (switches cells)
 
--- the plan's entry leads to the end port, or to a switch from which each entry on the way there is the plan's already
+-- the plan's entry leads to the end port, or to a switch from which each entry on the way is the plan's already
 abbrev pub leads_on : Cells → HeldPlan → HeldPlan → HeldLid → ℕ → Bool
 leads_on cells held plan line g = comes_to line.port (agreed cells held plan line.lid) (step_at cells plan line.lid g)
 
--- the tables that are held deliver it from here
+-- the held tables deliver the packet from switch `g`
 abbrev pub delivers : Cells → HeldPlan → HeldLid → ℕ → Bool
 delivers cells held line g = comes_to line.port (next_hops_of cells held line.lid) (step_at cells held line.lid g)
 
--- a switch that sends it on goes on so, and one that does not takes the plan's entry
+-- the entry and hop of a switch while mending: the held ones if the switch forwards the packet, else the plan's; it
+-- delivers if the held tables do
 abbrev pub patch_entry : Cells → HeldPlan → HeldPlan → ℕ → ℕ → ℕ
 patch_entry cells held plan lid g =
     if is_to (step_at cells held lid g) then entry_for held lid g else entry_for plan lid g
@@ -54,18 +55,18 @@ mending_at cells held plan line g =
 abbrev pub mending : Cells → HeldPlan → HeldPlan → HeldLid → List NextHop
 mending cells held plan line = map (mending_at cells held plan line) (switches cells)
 
--- in that way it comes to a switch that delivers it
+-- while mending, the packet gets to a switch that delivers it
 abbrev pub mends : Cells → HeldPlan → HeldPlan → HeldLid → ℕ → Bool
 mends cells held plan line g = comes_to line.port (mending cells held plan line) (mending_at cells held plan line g)
 
--- the plan's entry where that leads on; else the held one where it delivers; else what mends it; and else none
+-- the plan's entry if it leads on; else the held one if it delivers; else the mending entry if it mends; else 255
 abbrev pub next_entry : Cells → HeldPlan → HeldPlan → HeldLid → ℕ → ℕ
 next_entry cells held plan line g =
     if leads_on cells held plan line g then entry_for plan line.lid g else
     (if delivers cells held line g then entry_for held line.lid g else
     (if mends cells held plan line g then patch_entry cells held plan line.lid g else 255))
 
--- tables have the next entries for the LID of a line, which the same end ports hold
+-- `next` has the next entries for the LID of `line`, which the same end ports hold
 pub record IsNext (cells : Cells) (held plan : HeldPlan) (line : HeldLid) (next : HeldPlan) : Type 0 where
   pub owners : owners_of next line.lid ≡ owners_of held line.lid
   pub entries : (g : ℕ) → Contains (switches cells) g → entry_for next line.lid g ≡ next_entry cells held plan line g

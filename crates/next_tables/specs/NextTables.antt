@@ -19,7 +19,7 @@ use Rattle.next_tables.specs.declared.step_rule.StepRule.TheVariants.{SettledFir
 use Rattle.next_tables.specs.ByOrder.{next_by_order, position_at}
 use Rattle.next_tables.specs.Next.{next_entry}
 
--- another end port holds the LID of the line
+-- another end port than the line's holds the line's LID
 abbrev pub moves : HeldPlan → HeldLid → Bool
 moves held line = not (is_sole line.port (owners_of held line.lid))
 
@@ -27,19 +27,19 @@ moves held line = not (is_sole line.port (owners_of held line.lid))
 abbrev pub first_moved : HeldPlan → HeldPlan → Option ℕ
 first_moved held plan = option_map (λ line. line.lid) (find (moves held) plan.lids)
 
--- the end port, where it alone is one of these
+-- `e`, if it is the only end port in the list
 abbrev pub kept_by : EndPort → List EndPort → Option EndPort
 kept_by e [] = None
 kept_by e (x ∷ []) = if is_same_end e x then Some e else None
 kept_by e (x ∷ y ∷ xs) = None
 
--- the end port that alone holds a LID in the plan and in the held tables, by those that hold it in each
+-- the end port that alone holds a LID in the plan and in the held tables; the lists are those that hold it in each
 abbrev pub keeper : List EndPort → List EndPort → Option EndPort
 keeper [] held = None
 keeper (e ∷ []) held = kept_by e held
 keeper (e ∷ x ∷ es) held = None
 
--- the plan's entry for a LID, and none where the plan has it not
+-- the plan's entry for a LID that the plan has, else 255
 abbrev pub if_owned : List EndPort → ℕ → ℕ
 if_owned [] entry = 255
 if_owned (e ∷ es) entry = entry
@@ -48,8 +48,8 @@ abbrev pub next_for : Cells → HeldPlan → HeldPlan → ℕ → List EndPort �
 next_for cells held plan lid planned None g = if_owned planned (entry_for plan lid g)
 next_for cells held plan lid planned (Some port) g = next_entry cells held plan (record { lid = lid; port = port }) g
 
--- how a step chooses entries: a switch takes the plan's as soon as each switch on the plan's way has it; or by the
--- positions of the switches, by rising GUID, in an order
+-- how a step chooses entries: a switch takes the plan's once each switch on the plan's way has it; or by an order, with
+-- the position of each switch, by rising GUID
 pub data StepRuleValue : Type 0 where
   settled_first : StepRuleValue
   by_order : List ℕ → StepRuleValue
@@ -58,25 +58,25 @@ abbrev pub value_of : StepRule → StepRuleValue
 value_of SettledFirst = settled_first
 value_of (ByOrder positions) = by_order positions.items
 
--- the index of a usable switch
+-- the index of switch `g`
 abbrev pub index_at : Cells → ℕ → ℕ
 index_at cells g = unwrap_or (index_in (switches cells) g) 0
 
--- by an order, the next entry for a LID that the plan has is the one towards its first owner there; none for any other
+-- the next entry by an order: towards the first owner of a LID of the plan, else 255
 abbrev pub ordered_for : Cells → (ℕ → ℕ) → HeldPlan → HeldPlan → ℕ → List EndPort → ℕ → ℕ → ℕ
 ordered_for cells q held plan lid [] i g = 255
 ordered_for cells q held plan lid (port ∷ ports) i g =
     next_by_order cells q held plan (record { lid = lid; port = port }) i g
 
--- the next entry of a usable switch for a LID: if one end port alone holds the LID in both tables by the rule, and else
--- the plan's; by an order for each LID by the order
+-- the next entry of switch `g` for `lid`: by settled entries if one end port alone holds the LID in both tables, else
+-- the plan's; or, by an order, the order's for each LID
 unfoldable pub next_at : Cells → StepRuleValue → HeldPlan → HeldPlan → ℕ → ℕ → ℕ
 next_at cells settled_first held plan lid g =
     next_for cells held plan lid (owners_of plan lid) (keeper (owners_of plan lid) (owners_of held lid)) g
 next_at cells (by_order positions) held plan lid g =
     ordered_for cells (position_at positions) held plan lid (owners_of plan lid) (index_at cells g) g
 
--- those of all usable switches
+-- the next entries of all usable switches for `lid`
 abbrev pub column_of : Cells → StepRuleValue → HeldPlan → HeldPlan → ℕ → List ℕ
 column_of cells rule held plan lid = map (next_at cells rule held plan lid) (switches cells)
 
@@ -85,14 +85,14 @@ pub record IsKept (held plan : HeldPlan) (line : HeldLid) : Type 0 where
   pub in_plan : owners_of plan line.lid ≡ line.port ∷ []
   pub in_held : owners_of held line.lid ≡ line.port ∷ []
 
--- the greater of a switch's tops
+-- the greater of the switch's tops
 abbrev pub next_top : HeldPlan → HeldPlan → ℕ → ℕ
 next_top held plan g = max (top_of held g) (top_of plan g)
 
 abbrev pub next_switch : HeldPlan → HeldPlan → ℕ → HeldSwitch
 next_switch held plan g = record { guid = g; top = next_top held plan g }
 
--- its blocks, up to that of its top
+-- the blocks of the switch, up to that of its top
 abbrev pub next_block : Cells → StepRuleValue → HeldPlan → HeldPlan → ℕ → ℕ → List ℕ
 next_block cells rule held plan g b = map (λ i. next_at cells rule held plan (64 * b + i) g) (range_with_len 0 64)
 
@@ -102,7 +102,7 @@ next_table cells rule held plan g = record {
   blocks = map (next_block cells rule held plan g) (range_with_len 0 (block_count (Some (next_top held plan g))));
 }
 
--- the plan's LIDs; and the usable switches with the greater of their tops, and their next entries
+-- the plan's LIDs, and each usable switch with the greater of its tops and its next entries
 unfoldable pub next_tables : Cells → StepRuleValue → HeldPlan → HeldPlan → HeldPlan
 next_tables cells rule held plan = record {
   lids = plan.lids;
@@ -110,7 +110,7 @@ next_tables cells rule held plan = record {
   blocks = blocks_of 0 (map (next_table cells rule held plan) (switches cells));
 }
 
--- why there are none, memory aside
+-- why there are no next tables, except for lack of memory
 abbrev pub step_fault : Option ℕ → Option StepFault
 step_fault None = None
 step_fault (Some lid) = Some (Moves lid)

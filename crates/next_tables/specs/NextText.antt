@@ -1,4 +1,4 @@
--- The text of a step, read again.
+-- The text of a step, which is read again.
 use Rattle.std.specs.Prelude.{◌≤◌, ℕ, List}
 use Rattle.fact_store.specs.View.{Facts, cells_of, AreInRange}
 use Rattle.lid_assign.specs.Lids.{IsNoRoom}
@@ -11,19 +11,19 @@ use Rattle.plan_file.specs.Reading.{held_of}
 use Rattle.plan_file.specs.TablesText.{next_text}
 use Rattle.next_tables.specs.NextTables.{StepRuleValue, next_tables}
 
--- the next tables towards a plan have the text that says them
+-- the text of the next tables towards a plan is read as these tables
 abbrev pub IsStepRead : Facts → StepRuleValue → HeldPlan → PlanValue → Type 0
 IsStepRead facts by held plan =
     let next = next_tables (cells_of facts) by held (held_plan plan) in
     Says (next_text plan.given next) next
 
--- from tables in range towards a plan in range, in a subnet whose facts are in range
+-- the text of a step is read, if the facts, the held tables and the plan are in range
 abbrev pub NextTextsAreRead : Type 0
 NextTextsAreRead =
     (facts : Facts) (by : StepRuleValue) (held : HeldPlan) (plan : PlanValue) → AreInRange facts → IsHeldInRange held
     → IsPlanInRange plan → IsStepRead facts by held plan
 
--- so it is from what any text says towards the plan of a view with room
+-- the text of a step from what any text says towards the plan of a view with room is read
 abbrev pub StepTextsAreRead : Type 0
 StepTextsAreRead =
     (rule : RuleValue) (lmc : ℕ) (facts : Facts) (by : StepRuleValue) (text : List ℕ) → lmc ≤ 7 → AreInRange facts

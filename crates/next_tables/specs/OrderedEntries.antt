@@ -1,4 +1,4 @@
--- The next entries of the switches by an order, by what each does by the tables held and by the goal's.
+-- The next entries of the switches by an order, from what each switch does by the held tables and by the goal's.
 use Rattle.std.specs.Prelude.{◌≡◌, ℕ, ◌==◌, ◌&&◌, ◌||◌, not, Bool, true, false, List, length, map, slice_index_or, if◌then◌else◌, Some}
 use Rattle.std.specs.List.{enumerate_from, list_any, range_with_len, zip}
 use Rattle.subnet_view.specs.declared.end_port.EndPort.{EndPort}
@@ -10,15 +10,15 @@ use Rattle.next_tables.specs.Next.{comes_to}
 use Rattle.next_tables.specs.ByOrder.{comes_down, goes_up, is_down, is_up, position_at}
 use Rattle.next_tables.specs.SwitchSteps.{Both, hops_of}
 
--- the flag at an index
+-- the flag at index i, false past the end
 abbrev pub flag : List Bool → ℕ → Bool
 flag flags i = slice_index_or flags i false
 
--- a switch has different entries by both tables
+-- the switch has different entries in the two tables
 abbrev pub is_differing : SwitchStep → SwitchStep → Bool
 is_differing held goal = not (held.entry == goal.entry)
 
--- whether the tables held deliver the packet from each switch
+-- for each switch, whether the held tables deliver the packet from there
 abbrev pub delivered_of : EndPort → List SwitchStep → List Bool
 delivered_of port held = map (λ x. comes_to port (hops_of held) x.hop) held
 
@@ -29,7 +29,7 @@ goes_up_by positions x = goes_up (position_at positions) x.0 x.1.0.hop && is_dif
 abbrev pub going_up_of : List ℕ → List SwitchStep → List SwitchStep → List Bool
 going_up_of positions held goal = map (goes_up_by positions) (enumerate_from 0 (zip held goal))
 
--- from the switch at an index the packet comes down to that at i, by an entry that is not the goal's
+-- the packet comes down from the switch at `index` to the one at i, by an entry that is not the goal's
 abbrev pub enters : List ℕ → ℕ → SwitchStep → SwitchStep → ℕ → Bool
 enters positions index held goal i =
     comes_down (position_at positions) index i held.hop && is_differing held goal
@@ -37,31 +37,31 @@ enters positions index held goal i =
 abbrev pub enters_from : List ℕ → ℕ → ℕ × Both → Bool
 enters_from positions i x = enters positions x.0 x.1.0 x.1.1 i
 
--- from some switch it does
+-- the packet comes down to the switch at i from some switch, by an entry that is not the goal's
 abbrev pub is_entered : List ℕ → List SwitchStep → List SwitchStep → ℕ → Bool
 is_entered positions held goal i = list_any (enters_from positions i) (enumerate_from 0 (zip held goal))
 
 abbrev pub entered_of : List ℕ → List SwitchStep → List SwitchStep → List Bool
 entered_of positions held goal = map (is_entered positions held goal) (range_with_len 0 (length held))
 
--- no packet can turn up again behind a channel that leads down
+-- no packet can go up after a channel down
 abbrev pub turns_well_by : List ℕ → List Bool → List Bool → ℕ → NextHop → Bool
 turns_well_by positions going_up entered i (To j) =
     (not (is_up (position_at positions) i j) || not (flag entered i))
     && (not (is_down (position_at positions) i j) || not (flag going_up j))
 turns_well_by positions going_up entered i (Ends e) = true
 
--- the packet comes to the port, or to a switch from which the tables held deliver it
+-- the hop leads to the port, or to a switch from which the held tables deliver the packet
 abbrev pub leads_in : EndPort → List Bool → NextHop → Bool
 leads_in port delivered (To j) = flag delivered j
 leads_in port delivered (Ends e) = is_at port (Some e)
 
--- the switch at an index may do so by the goal's entry
+-- the switch at index i may take the goal's entry, by which its hop is `hop`
 abbrev pub may_change_by : List ℕ → EndPort → List Bool → List Bool → List Bool → ℕ → NextHop → Bool
 may_change_by positions port delivered going_up entered i hop =
     turns_well_by positions going_up entered i hop && (not (flag delivered i) || leads_in port delivered hop)
 
--- then it tries that, and else the entry held
+-- the step that a switch tries: the goal's if it may change to that, else the held one
 abbrev pub tried_by : List ℕ → EndPort → List Bool → List Bool → List Bool → ℕ × Both → SwitchStep
 tried_by positions port delivered going_up entered x =
     if may_change_by positions port delivered going_up entered x.0 x.1.1.hop then x.1.1 else x.1.0
@@ -71,14 +71,14 @@ abbrev pub tried_of : List ℕ → EndPort → List Bool → List Bool → List 
 tried_of positions port delivered going_up entered held goal =
     map (tried_by positions port delivered going_up entered) (enumerate_from 0 (zip held goal))
 
--- the entry that is tried, if the walk from there comes to the port
+-- the entry of a tried step, if the walk from the switch arrives at the port, else 255
 abbrev pub entry_by : (NextHop → Bool) → ℕ × SwitchStep → ℕ
 entry_by comes x = if comes (To x.0) then x.1.entry else 255
 
 abbrev pub entries_by : EndPort → List SwitchStep → List ℕ
 entries_by port tried = map (entry_by (comes_to port (hops_of tried))) (enumerate_from 0 tried)
 
--- those of all switches
+-- the next entries of all switches
 unfoldable pub ordered_of : List ℕ → EndPort → List SwitchStep → List SwitchStep → List ℕ
 ordered_of positions port held goal =
     entries_by port

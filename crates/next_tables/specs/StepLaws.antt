@@ -1,4 +1,4 @@
--- What the next tables bring, of a LID that one end port alone holds in the tables held and in the plan.
+-- What the next tables bring for a LID that one end port alone holds in the held tables and in the plan.
 use Rattle.std.specs.Prelude.{◌≡◌, ◌≤◌, ℕ, zero, suc, Contains, Some, slice_get}
 use Rattle.subnet_view.specs.declared.end_port.EndPort.{EndPort}
 use Rattle.subnet_view.specs.Reading.{Cells, switches}
@@ -14,7 +14,7 @@ use Rattle.next_tables.specs.Mixtures.{IsBroughtBy, IsLoose, IsMixed}
 use Rattle.next_tables.specs.Next.{IsNext}
 use Rattle.next_tables.specs.NextTables.{IsKept, StepRuleValue, next_at, next_tables, next_top, settled_first}
 
--- tables that have the plan's owners, and at each usable switch the greater top and the next entry for each LID
+-- `next` has the plan's owners, and at each usable switch the greater top and the next entry for each LID
 pub record AreNextTables (cells : Cells) (rule : StepRuleValue) (held plan next : HeldPlan) : Type 0 where
   pub owners : (lid : ℕ) → owners_of next lid ≡ owners_of plan lid
   pub tops : (g : ℕ) → Contains (switches cells) g → top_of next g ≡ next_top held plan g
@@ -26,13 +26,13 @@ NextTablesAreSo =
     (cells : Cells) (rule : StepRuleValue) (held plan : HeldPlan)
     → AreNextTables cells rule held plan (next_tables cells rule held plan)
 
--- so the rule holds for a LID that one end port alone holds in both
+-- the next tables by settled entries follow the rule for a LID that one end port alone holds in both tables
 abbrev pub StepsFollowTheRule : Type 0
 StepsFollowTheRule = (cells : Cells) (held plan : HeldPlan) (line : HeldLid) → IsKept held plan line
     → IsNext cells held plan line (next_tables cells settled_first held plan)
 
--- a packet that the tables held deliver at the end port is delivered there by whatever mixtures of these and the next
--- ones
+-- a packet that the held tables deliver at the end port is delivered there by whatever loose mixtures of the held and
+-- the next tables
 abbrev pub StepsLoseNone : Type 0
 StepsLoseNone =
     (cells : Cells) (held plan : HeldPlan) (line : HeldLid) → IsKept held plan line
@@ -40,7 +40,7 @@ StepsLoseNone =
     → (source : EndPort) → IsBrought cells held line.lid source (Some (Taken line.port))
     → IsBroughtBy cells mixed line.lid source (Taken line.port)
 
--- one that they do not send round for ever is sent round by none of these mixtures
+-- a packet that does not loop by the held tables loops by no mixtures of the held and the next tables
 abbrev pub StepsSendNoneRound : Type 0
 StepsSendNoneRound =
     (cells : Cells) (held plan : HeldPlan) (line : HeldLid) → IsKept held plan line
@@ -48,7 +48,7 @@ StepsSendNoneRound =
     → (source : EndPort) (end : End) → IsBrought cells held line.lid source (Some end) → (last : End)
     × IsBroughtBy cells mixed line.lid source last
 
--- the tables after so many steps towards a plan
+-- the tables after n steps from `held` towards the plan
 abbrev pub stepped : Cells → HeldPlan → HeldPlan → ℕ → HeldPlan
 stepped cells plan held zero = held
 stepped cells plan held (suc n) = next_tables cells settled_first (stepped cells plan held n) plan
@@ -61,7 +61,7 @@ StepsEndInThePlan =
     ≡ Ends (Taken line.port) → n ≤ m
     → entry_for (stepped cells plan held m) line.lid g ≡ entry_for plan line.lid g
 
--- after two steps each packet arrives that does so by the plan
+-- after two steps each packet arrives that arrives by the plan
 abbrev pub StepsHealInTwo : Type 0
 StepsHealInTwo =
     (cells : Cells) (held plan : HeldPlan) (line : HeldLid) → IsKept held plan line

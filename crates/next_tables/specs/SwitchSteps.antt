@@ -1,4 +1,4 @@
--- The next entries of the switches, by what each does by the tables held and by the plan.
+-- The next entries of the switches, from what each switch does by the held tables and by the plan.
 use Rattle.std.specs.Prelude.{ℕ, ◌==◌, ◌||◌, Bool, List, map, if◌then◌else◌}
 use Rattle.std.specs.List.{list_all, zip}
 use Rattle.subnet_view.specs.declared.end_port.EndPort.{EndPort}
@@ -11,36 +11,36 @@ use Rattle.audit.specs.WalkEnds.{end_of, is_to, onward}
 use Rattle.audit.specs.NextHops.{is_at}
 use Rattle.next_tables.specs.Next.{comes_to}
 
--- a switch by the tables held, and by the plan
+-- what a switch does by the held tables, and by the plan
 abbrev pub Both : Type 0
 Both = SwitchStep × SwitchStep
 
--- what it does by the entry that is in both; any other drops the packet
+-- the next hop if the entry is the same in both tables; a switch with different entries drops the packet
 abbrev pub agreed_by : Both → NextHop
 agreed_by x = if x.0.entry == x.1.entry then x.1.hop else Ends (Lost x.0.switch NoEntry)
 
 abbrev pub agreed_of : List SwitchStep → List SwitchStep → List NextHop
 agreed_of held plan = map agreed_by (zip held plan)
 
--- what the switches do
+-- the next hops of the switches
 abbrev pub hops_of : List SwitchStep → List NextHop
 hops_of steps = map (λ x. x.hop) steps
 
--- one that sends it on goes on so, and one that does not takes the plan's entry
+-- the held hop and entry if the switch forwards the packet, else the plan's
 abbrev pub patch_by : Both → NextHop
 patch_by x = if is_to x.0.hop then x.0.hop else x.1.hop
 
 abbrev pub patch_entry_by : Both → ℕ
 patch_entry_by x = if is_to x.0.hop then x.0.entry else x.1.entry
 
--- the same, but that it is delivered where it is by the tables held
+-- the hop while mending: delivery at the port if the held tables deliver, else the held hop or the plan's
 abbrev pub mending_by : EndPort → (NextHop → Bool) → Both → NextHop
 mending_by port delivers x = if delivers x.0.hop then Ends (Taken port) else patch_by x
 
 abbrev pub mending_of : EndPort → (NextHop → Bool) → List SwitchStep → List SwitchStep → List NextHop
 mending_of port delivers held plan = map (mending_by port delivers) (zip held plan)
 
--- the next entry, by whether walks come to the port from a step on
+-- the next entry, given by which hops a walk arrives at the port: of both tables, of the held ones, and while mending
 abbrev pub next_by : EndPort → (NextHop → Bool) → (NextHop → Bool) → (NextHop → Bool) → Both → ℕ
 next_by port leads delivers mends x =
     if leads x.1.hop then x.1.entry else
@@ -51,11 +51,11 @@ abbrev pub chosen_by : EndPort → (NextHop → Bool) → (NextHop → Bool) →
     → List SwitchStep → List ℕ
 chosen_by port leads delivers mends held plan = map (next_by port leads delivers mends) (zip held plan)
 
--- from each switch the plan leads on, or the tables held deliver: then nothing is to be mended
+-- from each switch the plan leads on or the held tables deliver, so nothing is to be mended
 abbrev pub is_whole : (NextHop → Bool) → (NextHop → Bool) → List SwitchStep → List SwitchStep → Bool
 is_whole leads delivers held plan = list_all (λ x. leads x.1.hop || delivers x.0.hop) (zip held plan)
 
--- those of all switches
+-- the next entries of all switches
 abbrev pub mends_of : EndPort → (NextHop → Bool) → List SwitchStep → List SwitchStep → NextHop → Bool
 mends_of port delivers held plan = comes_to port (mending_of port delivers held plan)
 
@@ -64,6 +64,6 @@ next_of port held plan =
     chosen_by port (comes_to port (agreed_of held plan)) (comes_to port (hops_of held))
     (mends_of port (comes_to port (hops_of held)) held plan) held plan
 
--- a walk comes to the port, by where walks from the switches end
+-- a walk that goes on from `s` arrives at the port; `ends` has the ends of the walks from the switches
 abbrev pub arrives_by : EndPort → List NextHop → NextHop → Bool
 arrives_by port ends s = is_at port (end_of (onward ends s))

@@ -52,7 +52,7 @@ pub(crate) fn columns(
     Ok(columns)
 }
 
-/// Returns the entries of all usable switches for a LID.
+/// Returns the entries of all usable switches for `lid`.
 fn column(
     alloc: Global,
     rule: &StepRule,
@@ -88,7 +88,7 @@ fn column(
     }
 }
 
-/// Returns the entries of all usable switches for a LID by an order.
+/// Returns the entries of all usable switches for `lid`, by an order of the switches.
 fn ordered_column(
     alloc: Global,
     positions: &[usize],
@@ -115,7 +115,7 @@ fn ordered_column(
     ordered_entries(alloc, &port, positions, &held_steps, &plan_steps)
 }
 
-/// Returns the entries of all usable switches for a LID, those of the plan as soon as its way is settled.
+/// Returns the entries of all usable switches for `lid`, by settled entries.
 fn settled_column(
     alloc: Global,
     held: &Network,
@@ -152,35 +152,36 @@ fn settled_column(
     next_entries(alloc, &port, &held_steps, &plan_steps)
 }
 
-/// Returns the first of end ports.
+/// Returns the first of `owners`.
 fn first_owner(owners: &[EndPort]) -> Option<EndPort>
     ensures { result ≡ slice_get owners.now 0 }
 {
     owners.first().copied()
 }
 
-/// Whether no end port is one of these.
+/// Returns whether `owners` is empty.
 fn is_nobodys(owners: &[EndPort]) -> bool
     ensures { result ≡ (length owners.now == 0) }
 {
     owners.is_empty()
 }
 
-/// So many entries that are none.
+/// Returns `count` times 255, no entry.
 fn no_entries(alloc: Global, count: usize) -> Result<Vec<u8>, AllocError>
     ensures { IfOk result (λ entries. entries.items ≡ replicate count 255) }
 {
     vec![in alloc; 255; count]
 }
 
-/// Whether the entries are the same.
+/// Returns whether the entries are equal.
 fn are_same(entries: &[u8], others: &[u8]) -> bool
     ensures { IsTrue result ↔ (entries.now ≡ others.now) }
 {
     entries == others
 }
 
-/// The end port that alone holds a LID in the plan and in the tables held, by those that hold it in each.
+/// Returns the end port that alone holds a LID both in the plan and in the held tables, if there is one. `planned` and
+/// `held` are the end ports that hold it in each.
 fn keeper(planned: &[EndPort], held: &[EndPort]) -> Option<EndPort>
     ensures { result ≡ keeper planned.now held.now }
 {
@@ -190,7 +191,7 @@ fn keeper(planned: &[EndPort], held: &[EndPort]) -> Option<EndPort>
     }
 }
 
-/// The end port, where it alone is one of these.
+/// Returns `port`, if it is the only end port in `held`.
 fn kept_by(port: &EndPort, held: &[EndPort]) -> Option<EndPort>
     ensures { result ≡ kept_by port.now held.now }
 {

@@ -5,10 +5,10 @@ use thiserror::Error;
 /// Why there are no next tables.
 #[derive(Clone, Copy, Debug, PartialEq, Eq, Error)]
 pub enum StepFault {
-    /// The plan gives this LID to an end port, and the held tables to another.
+    /// The plan gives this LID to an end port, and the held tables give it to another.
     #[error("lid {} moves", .0.number())]
     Moves(Lid),
-    /// The memory that the tables need was refused.
+    /// Memory for the tables was refused.
     #[error("out of memory")]
     Memory,
 }

@@ -1,4 +1,4 @@
-//! The next entries of the switches for a LID that the same end port holds in the tables held and in the plan.
+//! The next entries of the switches for a LID that the same end port holds in the held tables and in the plan.
 ghost use Rattle.std.specs.Prelude.{◌≡◌, ◌↔◌, IfOk, IsTrue};
 ghost use Rattle.audit.specs.WalkEnds.{HaveEnded};
 ghost use Rattle.next_tables.specs.SwitchSteps.{agreed_by, agreed_of, arrives_by, chosen_by, hops_of};
@@ -10,9 +10,10 @@ use audit::{Cause, End, NextHop, SwitchStep, is_at};
 use std::alloc::{AllocError, Global};
 use subnet_view::EndPort;
 
-/// The next entries of the switches, by what each does by the tables held and by the plan. Takes for each switch some
-/// steps for a walk, by the number of digits of the longest way's length, of a second where the tables held and the
-/// plan differ, and of a third where the plan does not lead on from each switch, or the tables held deliver.
+/// Returns the next entries of the switches, from what each switch does by the held tables and by the plan. Takes some
+/// steps for each switch and walk, by the number of digits of the longest way's length. There is one walk; a second if
+/// the held tables and the plan differ; and a third if from some switch neither the plan leads on nor the held tables
+/// deliver.
 pub(crate) fn next_entries(
     alloc: Global,
     port: &EndPort,
@@ -32,7 +33,8 @@ pub(crate) fn next_entries(
     entries_by(alloc, port, &settled, &delivered, held, plan)
 }
 
-/// The next entries, by where the walks end that keep to what is in both, and those by the tables held.
+/// Returns the next entries of the switches. `settled` has the ends of the walks by entries that are in both tables,
+/// `delivered` those of the walks by the held tables.
 fn entries_by(
     alloc: Global,
     port: &EndPort,
@@ -53,7 +55,7 @@ fn entries_by(
     chosen(alloc, port, settled, delivered, &mended, held, plan)
 }
 
-/// Whether these are what each switch does.
+/// Returns whether `hops` are the next hops of the switches.
 fn are_hops_of(hops: &[NextHop], steps: &[SwitchStep]) -> bool
     ensures { IsTrue result ↔ (hops.now ≡ hops_of steps.now) }
 {
@@ -68,14 +70,14 @@ fn are_hops_of(hops: &[NextHop], steps: &[SwitchStep]) -> bool
     true
 }
 
-/// Whether two are one.
+/// Returns whether two next hops are equal.
 fn is_same_hop(hop: &NextHop, other: &NextHop) -> bool
     ensures { IsTrue result ↔ (hop.now ≡ other.now) }
 {
     *hop == *other
 }
 
-/// What each switch does by the entry that is in both.
+/// Returns the next hop of each switch by the entry that is in both tables.
 fn agreed(
     alloc: Global,
     held: &[SwitchStep],
@@ -89,7 +91,8 @@ fn agreed(
         .collect(alloc)
 }
 
-/// What a switch does by the entry that is in both; any other drops the packet.
+/// Returns the next hop of a switch if its entry is the same in both tables; a switch with different entries drops the
+/// packet.
 fn agreed_by(held: &SwitchStep, plan: &SwitchStep) -> NextHop
     ensures { result ≡ agreed_by (held.now, plan.now) }
 {
@@ -100,14 +103,14 @@ fn agreed_by(held: &SwitchStep, plan: &SwitchStep) -> NextHop
     }
 }
 
-/// What each switch does.
+/// Returns the next hop of each switch.
 pub(crate) fn hops(alloc: Global, steps: &[SwitchStep]) -> Result<Vec<NextHop>, AllocError>
     ensures { IfOk result (λ hops. hops.items ≡ hops_of steps.now) }
 {
     steps.iter().map(|step| step.hop).collect(alloc)
 }
 
-/// Whether from each switch the plan's entry leads on, or the tables held deliver the packet, by where walks end.
+/// Returns whether, from each switch, the plan's entry leads on or the held tables deliver the packet.
 fn is_whole(
     port: &EndPort,
     settled: &[NextHop],
@@ -122,7 +125,7 @@ fn is_whole(
         || arrives_by(port, delivered, held.hop))
 }
 
-/// What each switch does where it is mended, by where the walks by the tables held end.
+/// Returns the next hop of each switch while mending. `delivered` has the ends of the walks by the held tables.
 fn mending(
     alloc: Global,
     port: &EndPort,
@@ -139,8 +142,8 @@ fn mending(
         .collect(alloc)
 }
 
-/// What a switch does where it is mended: one that does not deliver the packet sends it on as it does, or else by the
-/// plan's entry.
+/// Returns the next hop of a switch while mending: delivery at `port` if the held tables deliver from there, the held
+/// hop if the switch forwards the packet, and else the plan's hop.
 fn mending_by(
     port: &EndPort,
     delivered: &[NextHop],
@@ -156,14 +159,14 @@ fn mending_by(
     }
 }
 
-/// What a switch does by the entry that it keeps or takes.
+/// Returns the held hop if the switch forwards the packet, and else the plan's hop.
 fn patch_by(held: &SwitchStep, plan: &SwitchStep) -> NextHop
     ensures { result ≡ patch_by (held.now, plan.now) }
 {
     if is_to(&held.hop) { held.hop } else { plan.hop }
 }
 
-/// The entry that a switch keeps which sends the packet on, and that which another takes.
+/// Returns the held entry if the switch forwards the packet, and else the plan's entry.
 fn patch_entry_by(held: &SwitchStep, plan: &SwitchStep) -> u8
     ensures { result ≡ patch_entry_by (held.now, plan.now) }
 {
@@ -174,7 +177,8 @@ fn patch_entry_by(held: &SwitchStep, plan: &SwitchStep) -> u8
     }
 }
 
-/// The next entries, by where the walks end.
+/// Returns the next entries. `settled`, `delivered` and `mended` have the ends of the walks by entries in both tables,
+/// by the held tables, and by mending.
 fn chosen(
     alloc: Global,
     port: &EndPort,
@@ -193,7 +197,8 @@ fn chosen(
         .collect(alloc)
 }
 
-/// The next entry of a switch.
+/// Returns the next entry of a switch: the plan's if it leads on, the held one if it delivers, the mending one if that
+/// arrives, and else 255.
 fn next_by(
     port: &EndPort,
     settled: &[NextHop],
@@ -216,7 +221,8 @@ fn next_by(
     }
 }
 
-/// Whether the walk that goes on from a step comes to the port, by where the walks from the switches end.
+/// Returns whether the walk that goes on from `step` arrives at `port`. `ends` has the ends of the walks from the
+/// switches.
 pub(crate) fn arrives_by(port: &EndPort, ends: &[NextHop], step: NextHop) -> bool
     ensures { result ≡ arrives_by port.now ends.now step }
 {

@@ -1,4 +1,4 @@
-//! The next entries of the switches for a LID by an order of the switches.
+//! The next entries of the switches for a LID, by an order of the switches.
 ghost use Rattle.std.specs.Prelude.{◌≡◌, ◌<◌, ◌||◌, ℕ, IfOk, false, length, map, replicate};
 ghost use Rattle.std.specs.List.{enumerate_from};
 ghost use Rattle.next_tables.specs.ByOrder.{goes_up, position_at};
@@ -15,19 +15,19 @@ use audit::{NextHop, SwitchStep, is_at};
 use std::alloc::{AllocError, Global};
 use subnet_view::EndPort;
 
-/// What is known of the switches before any takes another entry.
+/// What is known of each switch before any takes another entry.
 #[derive(Drop)]
 struct SwitchFlags {
-    /// Whether the tables held deliver the packet from each switch.
+    /// For each switch, whether the held tables deliver the packet from there.
     delivered: Vec<bool>,
-    /// Whether each switch sends the packet up by an entry that is not the goal's.
+    /// For each switch, whether it sends the packet up by an entry that is not the goal's.
     going_up: Vec<bool>,
-    /// Whether the packet comes down to each switch by an entry that is not the goal's.
+    /// For each switch, whether the packet comes down to it by an entry that is not the goal's.
     entered: Vec<bool>,
 }
 
-/// Returns the next entries of the switches towards an end port, by what each does by the tables held and by the goal's,
-/// and by the position of each. Takes for each switch some steps for two walks, by the number of digits of the longest
+/// Returns the next entries of the switches towards an end port, from what each switch does by the held tables and by
+/// the goal's, and its position. Takes some steps for each switch and two walks, by the number of digits of the longest
 /// way's length.
 pub(crate) fn ordered_entries(
     alloc: Global,
@@ -50,7 +50,7 @@ pub(crate) fn ordered_entries(
     entries_by(alloc, port, &tried)
 }
 
-/// Returns whether the tables held deliver the packet from each switch.
+/// Returns, for each switch, whether the held tables deliver the packet from there.
 fn delivered(alloc: Global, port: &EndPort, held: &[SwitchStep]) -> Result<Vec<bool>, AllocError>
     ensures { IfOk result (λ delivered. delivered.items ≡ delivered_of port.now held.now) }
 {
@@ -59,7 +59,7 @@ fn delivered(alloc: Global, port: &EndPort, held: &[SwitchStep]) -> Result<Vec<b
     arrivals(alloc, port, &ends, held)
 }
 
-/// Returns whether the walk from each switch comes to the port, by where walks end.
+/// Returns, for each switch, whether the walk from there arrives at `port`. `ends` has the ends of the walks.
 fn arrivals(
     alloc: Global,
     port: &EndPort,
@@ -74,7 +74,7 @@ fn arrivals(
         .collect(alloc)
 }
 
-/// Returns whether each switch sends the packet up by an entry that is not the goal's.
+/// Returns, for each switch, whether it sends the packet up by an entry that is not the goal's.
 fn going_up(
     alloc: Global,
     positions: &[usize],
@@ -91,14 +91,14 @@ fn going_up(
         .collect(alloc)
 }
 
-/// Whether a switch has different entries by the tables held and by the goal's.
+/// Returns whether a switch has different entries in the held tables and the goal's.
 fn is_differing(held: &SwitchStep, goal: &SwitchStep) -> bool
     ensures { result ≡ is_differing held.now goal.now }
 {
     held.entry != goal.entry
 }
 
-/// Whether the switch at an index sends the packet up.
+/// Returns whether the switch at `index` sends the packet up.
 fn goes_up(positions: &[usize], index: usize, hop: &NextHop) -> bool
     ensures { result ≡ goes_up (position_at positions.now) index hop.now }
 {
@@ -108,7 +108,7 @@ fn goes_up(positions: &[usize], index: usize, hop: &NextHop) -> bool
     }
 }
 
-/// Returns whether the packet comes down to each switch by an entry that is not the goal's.
+/// Returns, for each switch, whether the packet comes down to it by an entry that is not the goal's.
 fn entered(
     alloc: Global,
     positions: &[usize],
@@ -131,7 +131,7 @@ fn none_entered(alloc: Global, count: usize) -> Result<Vec<bool>, AllocError>
     vec![in alloc; false; count]
 }
 
-/// Notes that the packet comes down from the switch at an index, if it does so by an entry that is not the goal's.
+/// Notes that the packet comes down from the switch at `index`, if it does so by an entry that is not the goal's.
 fn enter(
     entered: &mut [bool],
     positions: &[usize],
@@ -150,7 +150,7 @@ fn enter(
     }
 }
 
-/// Returns what each switch tries: the goal's entry if it may change to that, and else the one held.
+/// Returns the step that each switch tries: the goal's if it may change to that, and else the held one.
 fn tried(
     alloc: Global,
     port: &EndPort,
@@ -169,7 +169,7 @@ fn tried(
         .collect(alloc)
 }
 
-/// Returns what the switch at an index tries.
+/// Returns the step that the switch at `index` tries.
 fn tried_by(
     port: &EndPort,
     positions: &[usize],
@@ -188,7 +188,7 @@ fn tried_by(
     }
 }
 
-/// Whether the switch at an index may take the goal's entry, by what it does with the packet by that.
+/// Returns whether the switch at `index` may take the goal's entry; `hop` is its next hop by that entry.
 fn may_change(
     port: &EndPort,
     positions: &[usize],
@@ -203,9 +203,9 @@ fn may_change(
         && (!flag(&flags.delivered, index) || leads_in(port, &flags.delivered, hop))
 }
 
-/// Whether no packet can turn up again behind a channel that leads down, if the switch at an index does so by the goal's
-/// entry: it leads up only if the packet does not come down to the switch, and down only if the next switch does not
-/// send it up.
+/// Returns whether no packet can go up after a channel down if the switch at `index` takes the goal's entry. That entry
+/// may lead up only if the packet does not come down to the switch, and down only if the next switch does not send it
+/// up.
 fn turns_well(positions: &[usize], flags: &SwitchFlags, index: usize, hop: &NextHop) -> bool
     ensures { result ≡ turns_well_by positions.now flags.now.going_up.items flags.now.entered.items index hop.now }
 {
@@ -218,7 +218,7 @@ fn turns_well(positions: &[usize], flags: &SwitchFlags, index: usize, hop: &Next
     }
 }
 
-/// Whether the packet comes to the port, or to a switch from which the tables held deliver it.
+/// Returns whether `hop` leads to the port, or to a switch from which the held tables deliver the packet.
 fn leads_in(port: &EndPort, delivered: &[bool], hop: &NextHop) -> bool
     ensures { result ≡ leads_in port.now delivered.now hop.now }
 {
@@ -228,14 +228,14 @@ fn leads_in(port: &EndPort, delivered: &[bool], hop: &NextHop) -> bool
     }
 }
 
-/// Returns what stands at an index, and false if nothing does.
+/// Returns the flag at `index`, or false if there is none.
 fn flag(flags: &[bool], index: usize) -> bool
     ensures { result ≡ flag flags.now index }
 {
     flags.get(index).copied().unwrap_or(false)
 }
 
-/// Returns the entry that each switch tries, if all that are tried deliver the packet from it, and else none.
+/// Returns, for each switch, the entry that it tries if the tried entries deliver the packet from there, and else 255.
 fn entries_by(alloc: Global, port: &EndPort, tried: &[SwitchStep]) -> Result<Vec<u8>, AllocError>
     ensures { IfOk result (λ entries. entries.items ≡ entries_by port.now tried.now) }
 {
@@ -244,7 +244,8 @@ fn entries_by(alloc: Global, port: &EndPort, tried: &[SwitchStep]) -> Result<Vec
     entries_where(alloc, port, &ends, tried)
 }
 
-/// Returns the entry of each switch's step, if the walk from there comes to the port, by where walks end; and else none.
+/// Returns, for each switch, the entry of its step if the walk from there arrives at `port`, and else 255. `ends` has
+/// the ends of the walks.
 fn entries_where(
     alloc: Global,
     port: &EndPort,
@@ -261,7 +262,8 @@ fn entries_where(
         .collect(alloc)
 }
 
-/// Returns the entry of a switch's step, if the walk from its index comes to the port, by where walks end; and else none.
+/// Returns the entry of `step` if the walk from the switch at `index` arrives at `port`, and else 255. `ends` has the
+/// ends of the walks.
 fn entry_by(port: &EndPort, ends: &[NextHop], index: usize, step: &SwitchStep) -> u8
     ensures { result ≡ entry_by (arrives_by port.now ends.now) (index, step.now) }
 {

@@ -17,14 +17,14 @@ use plan_file::{Held, HeldBlock, HeldLid, HeldSwitch};
 use smp_bytes::Lid;
 use std::alloc::{AllocError, Global};
 
-/// Returns the tables to write next by a rule, from those held towards a plan's, which are both read with the same
-/// facts: the plan's LIDs, and for each usable switch the greater of its tops and the next entry for each LID up to it.
-/// Takes what an audit of both takes, and for each LID three walks from the switches, or two by an order.
+/// Returns the tables to write next by `rule`, from the held ones towards a plan's, both with the same facts. They have
+/// the plan's LIDs, and for each usable switch the greater of its tops and the next entry for each LID up to it. Costs
+/// what an audit of both tables takes, and for each LID three walks from the switches, or two by an order.
 ///
 /// # Errors
 ///
-/// `Moves`, with the first LID that the plan gives to an end port and the tables held to another, and `Memory` where
-/// there is none.
+/// `Moves`, with the first LID that the plan gives to an end port and the held tables to another; `Memory` only if
+/// there is no such LID.
 pub fn next_tables(
     alloc: Global,
     rule: &StepRule,
@@ -42,7 +42,7 @@ pub fn next_tables(
     }
 }
 
-/// The first LID that the plan gives to an end port and the tables held to another.
+/// Returns the first LID that the plan gives to an end port and the held tables to another.
 fn first_moved(held: &Network, plan: &Network) -> Option<Lid>
     ensures { result ≡ first_moved held.now.held plan.now.held }
 {
@@ -53,14 +53,14 @@ fn first_moved(held: &Network, plan: &Network) -> Option<Lid>
         .map(|line| line.lid)
 }
 
-/// Whether another end port holds the LID of a line.
+/// Returns whether another end port than the line's holds the line's LID.
 fn moves(held: &Network, line: &HeldLid) -> bool
     ensures { result ≡ moves held.now.held line.now }
 {
     !held.is_sole_owner(line)
 }
 
-/// Returns the tables.
+/// Returns the tables to write next, given that no LID moves.
 fn tables(
     alloc: Global,
     rule: &StepRule,
@@ -78,7 +78,7 @@ fn tables(
     Ok(Held::of(lids, switches, blocks))
 }
 
-/// So many blocks that the last one has the greatest of all tops.
+/// Returns the number of blocks that hold all LIDs up to the greatest top in both tables.
 fn most_blocks(held: &Network, plan: &Network) -> usize
     ensures few { result ≤ 1024 }
     ensures count { result ≡ block_count (Some (max
@@ -95,7 +95,7 @@ pub fn greater(lid: Lid, other: Lid) -> Lid
     Lid::new(lid.number().max(other.number()))
 }
 
-/// The usable switches, by rising GUID, with the greater of their tops.
+/// Returns the usable switches, by rising GUID, each with the greater of its tops.
 fn next_switches(
     alloc: Global,
     held: &Network,
@@ -115,7 +115,7 @@ fn next_switches(
     Ok(next)
 }
 
-/// The blocks of the switches, by the entries of all switches for each LID.
+/// Returns the blocks of the switches. `columns` has, for each LID, the entries of all switches.
 fn all_blocks(
     alloc: Global,
     columns: &[Vec<u8>],
@@ -132,7 +132,7 @@ fn all_blocks(
     Ok(blocks)
 }
 
-/// So many blocks of the switch at an index.
+/// Appends the first `count` blocks of the switch at `index`.
 fn add_blocks(
     blocks: &mut Vec<HeldBlock>,
     columns: &[Vec<u8>],
@@ -153,7 +153,7 @@ fn add_blocks(
     Ok(())
 }
 
-/// A block of the switch at an index.
+/// Returns the block `number` of the switch at `index`.
 fn block(columns: &[Vec<u8>], index: usize, number: usize) -> [u8; 64]
     requires { number < 1024 }
     ensures { result ≡ block_in (map (λ column. column.items) columns.now) index number }
@@ -165,7 +165,7 @@ fn block(columns: &[Vec<u8>], index: usize, number: usize) -> [u8; 64]
     block
 }
 
-/// The entry of the switch at an index for a LID.
+/// Returns the entry of the switch at `index` for `lid`, or 255 if there is none.
 fn entry(columns: &[Vec<u8>], index: usize, lid: usize) -> u8
     ensures { result ≡ entry_in (map (λ column. column.items) columns.now) index lid }
 {
@@ -175,7 +175,7 @@ fn entry(columns: &[Vec<u8>], index: usize, lid: usize) -> u8
     }
 }
 
-/// The entry at an index, and 255 where there is none.
+/// Returns the entry at `index`, or 255 if there is none.
 fn entry_at(column: &[u8], index: usize) -> u8
     ensures { result ≡ slice_index_or column.now index 255 }
 {

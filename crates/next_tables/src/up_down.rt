@@ -1,22 +1,22 @@
-//! Which channels lead up and which down, by the positions of switches in an order.
+//! Which channels lead up and which lead down, by the positions of switches in an order.
 ghost use Rattle.std.specs.Prelude.{◌≡◌};
 ghost use Rattle.next_tables.specs.ByOrder.{is_down, is_up, position_at};
 
-/// Whether a channel from the switch at one index to that at another leads up: to a position that is no later.
+/// Returns whether a channel from the switch at `from` to the one at `to` leads up: to a position that is no later.
 pub fn is_up(positions: &[usize], from: usize, to: usize) -> bool
     ensures { result ≡ is_up (position_at positions.now) from to }
 {
     position(positions, to) <= position(positions, from)
 }
 
-/// Whether a channel from the switch at one index to that at another leads down: to a position that is no earlier.
+/// Returns whether a channel from the switch at `from` to the one at `to` leads down: to a position that is no earlier.
 pub fn is_down(positions: &[usize], from: usize, to: usize) -> bool
     ensures { result ≡ is_down (position_at positions.now) from to }
 {
     position(positions, from) <= position(positions, to)
 }
 
-/// Returns the position of the switch at an index, and 0 if there is none.
+/// Returns the position of the switch at `index`, or 0 if there is none.
 fn position(positions: &[usize], index: usize) -> usize
     ensures { result ≡ position_at positions.now index }
 {

@@ -1,4 +1,4 @@
--- The agent of a node: what it is made as, and what it holds.
+-- The agent of a node: how it begins, and what it holds.
 use Rattle.std.specs.Prelude.{◌≡◌, ◌≢◌, ℕ, ◌+◌, ◌*◌, ◌/◌, ◌^◌, ◌<◌, ◌≤◌, ◌⊎◌, Bool, true, false, List, All, length, replicate, slice_index_or, slice_set, ◌∷◌, ◌==◌, if◌then◌else◌}
 use Rattle.smp_bytes.specs.declared.node_type.NodeType.{NodeType}
 use Rattle.smp_bytes.specs.NodeType as types
@@ -17,16 +17,16 @@ pub record Agent : Type 0 where
   pub table : List ℕ
   pub top : ℕ
 
--- what is read of it ------------------------------------------------------------------
+-- what is read of an agent -----------------------------------------------------------------
 
 abbrev pub is_switch : Agent → Bool
 is_switch a = types.is_switch a.node.kind
 
--- a port that nothing was written to, in a state
+-- a port in a state, to which nothing was written
 abbrev pub port_in : PortState → Port
 port_in state = record { base_lid = 0; lmc = 0; master_sm_lid = 0; state = state; is_sm = false }
 
--- a port; one that the node lacks is down and holds nothing
+-- a port; one that the node does not have is down, and nothing was written to it
 abbrev pub port_at : Agent → ℕ → Port
 port_at a port = slice_index_or a.ports port (port_in Down)
 
@@ -51,19 +51,19 @@ owns a port lid = is_lid_of (base_lid_at a port) (lmc_at a port) lid
 abbrev pub has_seat : Agent → ℕ → Bool
 has_seat a port = (port_at a port).is_sm
 
--- the number in a table that is none of a port
+-- the table entry that stands for no port
 abbrev pub no_port : ℕ
 no_port = 255
 
--- the port by which the switch forwards to a LID; none where the table has no such entry
+-- the port by which the switch forwards packets for a LID; no port if the table has no such entry
 abbrev pub entry_at : Agent → ℕ → ℕ
 entry_at a lid = slice_index_or a.table lid no_port
 
--- the GUID of a port: a switch has one GUID, an adapter's ports have those after its own
+-- the GUID of a port: the node's own for a switch; for an adapter the node's GUID plus the port's number
 abbrev pub port_guid : AgentNode → ℕ → ℕ
 port_guid node port = if types.is_switch node.kind then node.guid else node.guid + port
 
--- the node that forwarding sees
+-- the node as forwarding sees it
 abbrev pub node_of : Agent → Node
 node_of a = record {
   guid = a.node.guid;
@@ -74,28 +74,28 @@ node_of a = record {
       port_guid a.node;
 }
 
--- what changes it from outside ----------------------------------------------------------
+-- what changes an agent from outside --------------------------------------------------
 
--- with another port where one is
+-- the agent with the state `to` at a port that it has
 abbrev pub with_port : Agent → ℕ → Port → Agent
 with_port a port to = record a { ports = slice_set a.ports port to }
 
--- a cable goes into a port, or comes out
+-- a cable is plugged into a port, or taken out
 abbrev pub after_set_wired : Agent → ℕ → Bool → Agent
 after_set_wired a port is_wired =
     with_port a port (record (port_at a port) { state = if is_wired then Initialize else Down })
 
--- a subnet manager comes to sit at a port
+-- a subnet manager is seated at a port
 abbrev pub after_set_seat : Agent → ℕ → Agent
 after_set_seat a port = with_port a port (record (port_at a port) { is_sm = true })
 
--- how it is made ----------------------------------------------------------------------
+-- how an agent begins ----------------------------------------------------------------------
 
--- how many blocks of 64 entries a table with room for so many entries has
+-- the number of blocks of 64 entries in a table with room for `cap` entries
 abbrev pub block_count : ℕ → ℕ
 block_count cap = (cap + 63) / 64
 
--- no port wired, nobody seated, nothing written; a switch's port 0 is always active
+-- an agent with no port wired, nobody seated and nothing written; a switch's port 0 is always active
 unfoldable pub fresh_agent : AgentNode → Agent
 fresh_agent node =
     record {
@@ -105,7 +105,7 @@ fresh_agent node =
       top = 0;
     }
 
--- nodes that can be built: a GUID of 64 bits, 1 to 254 ports, a table of unicast LIDs at a switch alone, and a GUID for
+-- nodes that can be built: a GUID of 64 bits, 1 to 254 ports, a table of unicast LIDs only at a switch, and a GUID for
 -- each port
 pub record IsAgentNode (node : AgentNode) : Type 0 where
   pub guid : node.guid < 2 ^ 64
@@ -114,13 +114,13 @@ pub record IsAgentNode (node : AgentNode) : Type 0 where
   pub no_table : types.is_switch node.kind ≡ false → node.cap ≡ 0
   pub port_guids : types.is_switch node.kind ≡ false → node.guid + node.ports < 2 ^ 64
 
--- what holds of each port that an agent has: a state, a LID that a port may have, and no subnet manager at a switch
+-- what is so of each port that an agent has: a state, a LID that a port may have, and no subnet manager at a switch
 pub record IsPort (kind : NodeType) (port : Port) : Type 0 where
   pub state : port.state ≢ NoChange
   pub base_lid : port.base_lid < lid_end
   pub is_sm : types.is_switch kind ≡ true → port.is_sm ≡ false
 
--- what holds of each agent
+-- what is so of each agent
 pub record IsAgent (a : Agent) : Type 0 where
   pub node : IsAgentNode a.node
   pub description : length a.node.description ≡ 64

@@ -1,4 +1,4 @@
--- What an answer is, what it leaves of the agent, and what a Set that is taken does.
+-- What an answer is, what it leaves of the agent, and what an accepted Set does.
 use Rattle.std.specs.Prelude.{◌≡◌, ◌≢◌, ◌↔◌, ◌⊎◌, ℕ, ◌+◌, ◌*◌, ◌<◌, ◌≤◌, Bool, true, false, List, length, slice_index, None, Some}
 use Rattle.smp_bytes.specs.Header.{get, set, done, node_info, switch_info, port_info, linear_forwarding_table}
 use Rattle.smp_bytes.specs.Field.{number_in, bytes_in, bits_in}
@@ -39,7 +39,7 @@ pub record IsPacket (packet : List ℕ) : Type 0 where
   pub count : length packet ≡ 256
   pub parses : fault_of packet ≡ None
 
--- an answer is a packet with the status and the attribute that are told; all else but the method stands as in the
+-- an answer is a packet with the status and the attribute that the agent gives; all else but the method is as in the
 -- request
 abbrev pub AnswersHold : Type 0
 AnswersHold =
@@ -52,7 +52,7 @@ abbrev pub GetsChangeNothing : Type 0
 GetsChangeNothing = (a : Agent) (packet : List ℕ) (arrival : ℕ) → number_in method packet ≡ get
     → (after_answer a packet arrival).agent ≡ a
 
--- so does a request whose answer has another status than 0
+-- a request whose answer has a status other than 0 leaves the agent as it was
 abbrev pub RefusalsChangeNothing : Type 0
 RefusalsChangeNothing =
     (a : Agent) (packet : List ℕ) (arrival : ℕ) → IsAgent a → IsPacket packet
@@ -61,7 +61,7 @@ RefusalsChangeNothing =
 
 -- what is said ------------------------------------------------------------------------------
 
--- of a port: which one it is, and its state, which is Down exactly where the port is
+-- what PortInfo says: which port it is about, and its state, which is Down exactly if the port is
 pub record SaysPort (a : Agent) (modifier arrival number : ℕ) : Type 0 where
   pub port : ℕ
   pub meant : port_meant a modifier arrival ≡ Some port
@@ -70,12 +70,12 @@ pub record SaysPort (a : Agent) (modifier arrival number : ℕ) : Type 0 where
   pub known : state ≢ NoChange
   pub down : (state ≡ Down) ↔ (state_at a port ≡ Down)
 
--- of a switch: how many entries its forwarding table has room for
+-- what SwitchInfo says: how many entries the switch's forwarding table has room for
 pub record SaysSwitch (a : Agent) (cap : ℕ) : Type 0 where
   pub kind : is_switch a ≡ true
   pub cap_is : cap ≡ a.node.cap
 
--- by its attribute, of the agent that gave it to a request that came to one of its ports
+-- what an answer says of its agent, by attribute; `arrival` is the port that the request came to
 pub record Says (a : Agent) (arrival : ℕ) (answer : List ℕ) : Type 0 where
   pub node : number_in attribute_id answer ≡ node_info → node_info_in (bytes_in attribute_data answer)
       ≡ node_info_of a.node arrival
@@ -84,7 +84,7 @@ pub record Says (a : Agent) (arrival : ℕ) (answer : List ℕ) : Type 0 where
   pub switch : number_in attribute_id answer ≡ switch_info
       → SaysSwitch a (number_in linear_fdb_cap (bytes_in attribute_data answer))
 
--- an answer with status 0, to a Get or a Set, says what is so of the node, but for LIDs and tables
+-- an answer with status 0, to a Get or a Set, says what is so of the node, except for LIDs and tables
 abbrev pub AnswersSay : Type 0
 AnswersSay =
     (a : Agent) (packet : List ℕ) (arrival : ℕ) → IsAgent a → IsPacket packet → arrival ≤ a.node.ports
@@ -92,7 +92,7 @@ AnswersSay =
 
 -- Sets ------------------------------------------------------------------------------------
 
--- a packet sets an attribute, and the agent takes it
+-- a packet sets an attribute, and the agent accepts it
 pub record IsTaken (a : Agent) (packet : List ℕ) (arrival number : ℕ) : Type 0 where
   pub agent : IsAgent a
   pub whole : IsPacket packet
@@ -105,7 +105,7 @@ pub record IsAboutTheSame (p q : List ℕ) : Type 0 where
   pub attribute : number_in attribute_id p ≡ number_in attribute_id q
   pub modifier : number_in attribute_modifier p ≡ number_in attribute_modifier q
 
--- a Get by the same port tells what the answer to the Set before it told
+-- a Get by the same port returns what the answer to the Set before it returned
 abbrev pub GetsTellAsSets : Type 0
 GetsTellAsSets =
     (a : Agent) (p q : List ℕ) (arrival number : ℕ) → IsTaken a p arrival number → IsPacket q → number_in method q ≡ get
@@ -113,7 +113,7 @@ GetsTellAsSets =
     → bytes_in attribute_data (after_answer (after_answer a p arrival).agent q arrival).packet
     ≡ bytes_in attribute_data (after_answer a p arrival).packet
 
--- a block that is set is told, stands in the table at its offset, and nothing else is changed
+-- a block that is set is returned, stands in the table at its offset, and nothing else is changed
 pub record SetsBlock (a after : Agent) (block : ℕ) (payload told : List ℕ) : Type 0 where
   pub is_told : told ≡ payload
   pub inside : (i : ℕ) → i < 64 → entry_at after (64 * block + i) ≡ slice_index payload i
@@ -128,20 +128,20 @@ BlocksAreSet =
     (bytes_in attribute_data packet)
     (bytes_in attribute_data (after_answer a packet arrival).packet)
 
--- the top that is set is told, and nothing else is changed
+-- the top that is set is returned, and nothing else is changed
 pub record SetsTop (a after : Agent) (payload told : List ℕ) : Type 0 where
   pub is_told : number_in linear_fdb_top told ≡ number_in linear_fdb_top payload
   pub all_else : after ≡ record a { top = number_in linear_fdb_top payload }
 
--- what a Set of switch information does
+-- what a Set of SwitchInfo does
 abbrev pub TopsAreSet : Type 0
 TopsAreSet =
     (a : Agent) (packet : List ℕ) (arrival : ℕ) → IsTaken a packet arrival switch_info
     → SetsTop a (after_answer a packet arrival).agent (bytes_in attribute_data packet)
     (bytes_in attribute_data (after_answer a packet arrival).packet)
 
--- the LID and the LMC that are set at a port with a LID are told, and so is the state; no other port and nothing else
--- is changed
+-- the LID and the LMC that are set at a port with a LID are returned, and so is the state; no other port and nothing
+-- else is changed
 pub record SetsPort (a after : Agent) (port : ℕ) (payload told : List ℕ) : Type 0 where
   pub lids : has_lid a port ≡ true → range_at after port ≡ range_in payload
   pub lids_told : has_lid a port ≡ true → range_in told ≡ range_in payload
@@ -149,7 +149,7 @@ pub record SetsPort (a after : Agent) (port : ℕ) (payload told : List ℕ) : T
   pub others : (index : ℕ) → index ≢ port → port_at after index ≡ port_at a index
   pub all_else : after ≡ record a { ports = after.ports }
 
--- what a Set of port information does
+-- what a Set of PortInfo does
 abbrev pub PortsAreSet : Type 0
 PortsAreSet =
     (a : Agent) (packet : List ℕ) (arrival port : ℕ) → arrival ≤ a.node.ports → IsTaken a packet arrival port_info
@@ -159,7 +159,8 @@ PortsAreSet =
 
 -- from outside ------------------------------------------------------------------------------
 
--- an agent that is made, wired at a port from 1 on, or given a subnet manager at a port of an adapter is one
+-- a fresh agent is an agent, and so is one that is wired at a port from 1 on, or given a subnet manager at an adapter's
+-- port
 pub record AgentsAreMade : Type 0 where
   pub fresh : (node : AgentNode) → IsAgentNode node → length node.description ≡ 64 → IsAgent (fresh_agent node)
   pub wired : (a : Agent) (port : ℕ) (is_wired : Bool) → IsAgent a → 1 ≤ port

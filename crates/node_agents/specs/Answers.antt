@@ -16,7 +16,7 @@ use Rattle.node_agents.specs.SwitchInfo.{get_switch_info, set_switch_info}
 use Rattle.node_agents.specs.PortInfo.{get_port_info, set_port_info}
 use Rattle.node_agents.specs.LftBlock.{get_block, set_block}
 
--- what a Get of an attribute tells
+-- the attribute that a Get returns, or why it is refused
 abbrev pub get_attribute : Agent → ℕ → ℕ → ℕ → Result (List ℕ) Refusal
 get_attribute a attribute modifier arrival =
     if attribute == node_description then Ok (get_node_description a)
@@ -26,7 +26,7 @@ get_attribute a attribute modifier arrival =
     else if is_switch a && attribute == linear_forwarding_table then ok_or (get_block a modifier) InvalidField
     else Err MethodAndAttribute
 
--- what a Set of an attribute makes of the agent
+-- the agent after a Set of an attribute, or why it is refused
 abbrev pub set_attribute : Agent → ℕ → ℕ → ℕ → List ℕ → Result Agent Refusal
 set_attribute a attribute modifier arrival payload =
     if attribute == port_info then ok_or (set_port_info a modifier arrival payload) InvalidField
@@ -34,27 +34,27 @@ set_attribute a attribute modifier arrival payload =
     else if is_switch a && attribute == linear_forwarding_table then ok_or (set_block a modifier payload) InvalidField
     else Err MethodAndAttribute
 
--- a call that takes a Set makes the agent what it is to be; one that refuses it leaves the agent as it was
+-- a call that accepts a Set makes the agent what it is to be; one that refuses it leaves the agent as it was
 abbrev pub Takes : {T : Type 0} → Result T Refusal → Agent → Agent → Result Agent Refusal → Type 0
 Takes (Ok _) old new after = after ≡ Ok new
 Takes (Err refusal) old new after = (after ≡ Err refusal) × (new ≡ old)
 
--- what is told to a request, or why it is refused, and the agent afterwards
+-- the attribute that answers a request, or why it is refused, and the agent afterwards
 pub record Met : Type 0 where
   pub told : Result (List ℕ) Refusal
   pub agent : Agent
 
--- what a packet asks to be told
+-- the attribute that a packet asks for
 unfoldable pub get_of : Agent → List ℕ → ℕ → Result (List ℕ) Refusal
 get_of a packet arrival = get_attribute a (number_in attribute_id packet) (number_in attribute_modifier packet) arrival
 
--- what a packet that sets makes of the agent
+-- the agent after a packet that sets an attribute
 unfoldable pub set_of : Agent → List ℕ → ℕ → Result Agent Refusal
 set_of a packet arrival =
     set_attribute a (number_in attribute_id packet) (number_in attribute_modifier packet) arrival
     (bytes_in attribute_data packet)
 
--- the answer to a Set that is taken tells what a Get would now
+-- the answer to a Set that is accepted has what a Get would return afterwards
 abbrev pub met_set : Agent → Result Agent Refusal → List ℕ → ℕ → Met
 met_set a (Ok after) packet arrival = record { told = get_of after packet arrival; agent = after }
 met_set a (Err refusal) packet arrival = record { told = Err refusal; agent = a }
@@ -70,7 +70,7 @@ abbrev pub status_told : Result (List ℕ) Refusal → ℕ
 status_told (Ok payload) = done
 status_told (Err refusal) = status_of refusal
 
--- its attribute: a refusal sends the request's own back
+-- the attribute in an answer; a refusal sends back the request's
 abbrev pub payload_told : Result (List ℕ) Refusal → List ℕ → List ℕ
 payload_told (Ok payload) packet = payload
 payload_told (Err refusal) packet = bytes_in attribute_data packet
@@ -78,12 +78,12 @@ payload_told (Err refusal) packet = bytes_in attribute_data packet
 abbrev pub answer_with : List ℕ → Result (List ℕ) Refusal → List ℕ
 answer_with packet told = answer_packet packet (status_told told) (payload_told told packet)
 
--- the answer to a request, and what the agent holds then
+-- the answer to a request, and the agent afterwards
 pub record Answered : Type 0 where
   pub packet : List ℕ
   pub agent : Agent
 
--- what an agent answers to a packet that came to a port of it
+-- the agent's answer to a packet that came to its port `arrival`
 unfoldable pub after_answer : Agent → List ℕ → ℕ → Answered
 after_answer a packet arrival = record {
   packet = answer_with packet (after_request a packet arrival).told;

@@ -1,18 +1,18 @@
--- A block of the linear forwarding table: what a Get tells and a Set takes.
+-- A block of the linear forwarding table: what a Get returns and a Set writes.
 -- InfiniBand Architecture Specification, Volume 1: subnet management, LinearForwardingTable.
 use Rattle.std.specs.Prelude.{ℕ, ◌*◌, Bool, ◌&&◌, List, take, drop, nat_le, nat_lt, if◌then◌else◌, Option, Some, None}
 use Rattle.smp_bytes.specs.Field.{with_bytes}
 use Rattle.node_agents.specs.Agent.{Agent}
 
--- a block of unicast LIDs that begins within the table
+-- the block is one of unicast LIDs, and begins within the table
 abbrev pub has_block : Agent → ℕ → Bool
 has_block a block = nat_le block 767 && nat_lt (64 * block) a.node.cap
 
--- the block's 64 entries
+-- the 64 entries of the block
 abbrev pub get_block : Agent → ℕ → Option (List ℕ)
 get_block a block = if has_block a block then Some (take 64 (drop (64 * block) a.table)) else None
 
--- all 64 of them
+-- the agent with all 64 entries of the block set to `payload`
 abbrev pub set_block : Agent → ℕ → List ℕ → Option Agent
 set_block a block payload =
     if has_block a block then Some (record a { table = with_bytes (64 * block) payload a.table }) else None

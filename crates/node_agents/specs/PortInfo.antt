@@ -1,4 +1,4 @@
--- Port information: which port a request means, what a Get tells and a Set takes.
+-- Port information: which port a request means, what a Get returns and a Set writes.
 -- InfiniBand Architecture Specification, Volume 1: subnet management, PortInfo.
 use Rattle.std.specs.Prelude.{ℕ, ◌+◌, Bool, not, ◌&&◌, ◌||◌, ◌==◌, List, [], ◌∷◌, nat_le, if◌then◌else◌, Option, Some, None, option_map, option_and_then}
 use Rattle.smp_bytes.specs.Field.{number_in, bits_in, with_bits}
@@ -10,7 +10,7 @@ use Rattle.attr_codec.specs.declared.port_state.PortState.{PortState}
 use Rattle.node_agents.specs.declared.port.Port.{Port}
 use Rattle.node_agents.specs.Agent.{Agent, is_switch, port_at, with_port}
 
--- any port of a switch, 0 among them; of an adapter the one that the request came to, by its number or by 0
+-- any port of a switch, with port 0; for an adapter the port that the request came to, by its number or by 0
 abbrev pub port_meant : Agent → ℕ → ℕ → Option ℕ
 port_meant a modifier arrival =
     if is_switch a then (if nat_le modifier a.node.ports then Some modifier else None)
@@ -19,7 +19,7 @@ port_meant a modifier arrival =
 
 -- Get ---------------------------------------------------------------------------------
 
--- what is told of a port to a request that came by this or another one; all else is 0
+-- the PortInfo of `port`, for a request that came by the port `arrival`; all else is 0
 abbrev pub port_info_of : Port → ℕ → List ℕ
 port_info_of port arrival =
     with_bits port_state (number_of_state port.state) (with_bits lmc port.lmc (with_bits is_sm_bit (flag port.is_sm)
@@ -33,11 +33,11 @@ get_port_info a modifier arrival =
 
 -- Set ---------------------------------------------------------------------------------
 
--- each port of an adapter has a LID, and of a switch port 0 alone
+-- each port of an adapter has a LID, and only port 0 of a switch
 abbrev pub has_lid : Agent → ℕ → Bool
 has_lid a port = not (is_switch a) || port == 0
 
--- the greatest LMC of a port: port 0 of a switch has one LID
+-- the greatest LMC that can be set at a port; port 0 of a switch has one LID
 abbrev pub max_lmc : Agent → ℕ → ℕ
 max_lmc a port = if is_switch a && port == 0 then 0 else 7
 
@@ -45,14 +45,14 @@ max_lmc a port = if is_switch a && port == 0 then 0 else 7
 abbrev pub is_next_state : PortState → PortState → Bool
 is_next_state state wish = nat_le 2 (number_of_state state) && number_of_state wish == number_of_state state + 1
 
--- the state after a wish, where it is granted: for no change, for the present state, or for the next
+-- the state after the request `wish`, if it is granted: no change, the present state, or the next one
 abbrev pub state_after : PortState → PortState → Option PortState
 state_after state wish =
     if number_of_state wish == 0 || number_of_state wish == number_of_state state then Some state
     else if is_next_state state wish then Some wish
     else None
 
--- a port in another state, with the LIDs and the LMC of the payload where it has LIDs
+-- the port in another state, with the LIDs and the LMC of the payload if it has LIDs
 abbrev pub port_with : Port → Bool → List ℕ → PortState → Port
 port_with port has_lid payload state =
     record port {
@@ -62,12 +62,12 @@ port_with port has_lid payload state =
       state = state;
     }
 
--- the LIDs of a payload are some that a port may have, with no greater LMC
+-- the LIDs of a payload are ones that a port may have, with an LMC of at most `max_lmc`
 abbrev pub are_lids_taken : ℕ → List ℕ → Bool
 are_lids_taken max_lmc payload =
     nat_le (bits_in lmc payload) max_lmc && may_have (number_in base_lid payload) (bits_in lmc payload)
 
--- what a payload makes of a port, if its LIDs are some that this port may have and the state wished for is granted
+-- the port after a payload, if its LIDs are ones that this port may have, and the state that it asks for is granted
 abbrev pub port_after : Port → Bool → ℕ → List ℕ → Option Port
 port_after port has_lid max_lmc payload =
     if are_lids_taken max_lmc payload
@@ -75,7 +75,7 @@ port_after port has_lid max_lmc payload =
     (option_and_then (state_after port.state) (state_of_number (bits_in port_state payload)))
     else None
 
--- the port that a Set means, and what the payload makes of it
+-- the port that a Set means, and that port afterwards
 unfoldable pub changed_port : Agent → ℕ → ℕ → List ℕ → Option (ℕ × Port)
 changed_port a modifier arrival payload =
     option_and_then (λ port. option_map (λ after. (port, after))

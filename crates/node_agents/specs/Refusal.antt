@@ -1,4 +1,4 @@
--- The statuses that tell why a request is refused.
+-- The statuses that say why a request is refused.
 -- InfiniBand Architecture Specification, Volume 1: management datagrams, status field.
 use Rattle.std.specs.Prelude.{ℕ}
 use Rattle.smp_bytes.specs.Header.{method_not_supported, method_and_attribute_not_supported, invalid_field}

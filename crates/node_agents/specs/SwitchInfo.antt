@@ -1,4 +1,4 @@
--- Switch information: what a Get tells and a Set takes.
+-- Switch information: what a Get returns and a Set writes.
 -- InfiniBand Architecture Specification, Volume 1: subnet management, SwitchInfo.
 use Rattle.std.specs.Prelude.{ℕ, List, [], ◌∷◌, nat_lt, if◌then◌else◌, Option, Some, None}
 use Rattle.smp_bytes.specs.Field.{number_in}
@@ -12,7 +12,8 @@ get_switch_info a =
     image (record { field = linear_fdb_cap; number = a.node.cap } ∷ record { field = linear_fdb_top; number = a.top }
     ∷ [])
 
--- the greatest LID that is forwarded, if the table has room for it; all else in it is ignored
+-- the agent with the greatest LID that the payload sets, if the table has room for it; all else in the payload is
+-- ignored
 abbrev pub set_switch_info : Agent → List ℕ → Option Agent
 set_switch_info a payload = let top =
     number_in linear_fdb_top payload in if nat_lt top a.node.cap then Some (record a { top = top }) else None

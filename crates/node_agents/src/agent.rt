@@ -12,7 +12,7 @@ use smp_bytes::{Guid, Lid, NodeType, PortNum, Smp, Status};
 use std::alloc::{AllocError, Global};
 use std::marker::Model;
 
-/// The number in a table that is none of a port.
+/// The table entry that stands for no port.
 const NO_PORT: u8 = 255;
 
 /// The subnet management agent of a node. Contracts see the node, its ports, its forwarding table and the table's top.
@@ -39,7 +39,8 @@ impl Model for Agent {
 }
 
 impl Agent {
-    /// The agent of a node, with no port wired, no manager seated and nothing written. Takes all its memory here.
+    /// Creates the agent of a node, with no port wired, no manager seated and nothing written. Takes all its memory
+    /// here.
     #[tactic(auto, unfolding(crate::specs::Agent::fresh_agent))]
     pub fn new(alloc: Global, node: AgentNode) -> Result<Agent, AllocError>
         requires { IsAgentNode node }
@@ -61,28 +62,28 @@ impl Agent {
         })
     }
 
-    /// The GUID of the node.
+    /// Returns the GUID of the node.
     pub fn guid(&self) -> Guid
         ensures { result ≡ self.now.node.guid }
     {
         self.node.guid
     }
 
-    /// The type of the node.
+    /// Returns the type of the node.
     pub fn kind(&self) -> NodeType
         ensures { result ≡ self.now.node.kind }
     {
         self.node.kind
     }
 
-    /// Whether the node is a switch.
+    /// Returns whether the node is a switch.
     pub fn is_switch(&self) -> bool
         ensures { result ≡ is_switch self.now }
     {
         self.node.is_switch()
     }
 
-    /// How many ports the node has from 1 on, 1 to 254.
+    /// Returns the number of the node's ports from 1 on, 1 to 254.
     pub fn ports(&self) -> u8
         ensures count { result ≡ self.now.node.ports }
         ensures least { 1 ≤ result }
@@ -91,21 +92,22 @@ impl Agent {
         self.node.ports
     }
 
-    /// LinearFDBCap: how many entries the forwarding table has room for, 0 where there is none.
+    /// Returns LinearFDBCap: how many entries the forwarding table has room for, 0 if there is no table.
     pub fn cap(&self) -> u16
         ensures { result ≡ self.now.node.cap }
     {
         self.node.cap
     }
 
-    /// LinearFDBTop: the greatest LID that a switch forwards.
+    /// Returns LinearFDBTop: the greatest LID that a switch forwards.
     pub fn top(&self) -> Lid
         ensures { result ≡ self.now.top }
     {
         self.top
     }
 
-    /// The port by which a switch forwards to a LID; 255, which is none, where the table has no such entry.
+    /// Returns the port by which a switch forwards packets for `lid`, or 255, which is no port, if the table has no
+    /// such entry.
     pub fn entry(&self, lid: Lid) -> PortNum
         ensures { result ≡ entry_at self.now lid }
     {
@@ -115,7 +117,7 @@ impl Agent {
         }
     }
 
-    /// What is held of a port; nothing, and Down, where the node has no such port.
+    /// Returns what is held of a port; for a port that the node does not have, a Down one to which nothing was written.
     pub(crate) fn port(&self, port: PortNum) -> Port
         ensures { result ≡ port_at self.now port }
     {
@@ -125,28 +127,29 @@ impl Agent {
         }
     }
 
-    /// The state of a port; Down where the node has no such port. A switch's port 0 is always Active.
+    /// Returns the link state of a port, Down if the node does not have the port. A switch's port 0 is always Active.
     pub fn port_state(&self, port: PortNum) -> PortState
         ensures { result ≡ state_at self.now port }
     {
         self.port(port).state
     }
 
-    /// The LID of a port, 0 for none.
+    /// Returns the LID of a port, 0 for none.
     pub fn base_lid(&self, port: PortNum) -> Lid
         ensures { result ≡ base_lid_at self.now port }
     {
         self.port(port).base_lid
     }
 
-    /// The LMC of a port: it has 2^LMC LIDs, from its own on; 0 at a switch, and where nothing was set.
+    /// Returns the LMC of a port, which has 2^LMC LIDs from its own on; 0 for a switch, and if nothing was set.
     pub fn lmc(&self, port: PortNum) -> Lmc
         ensures { result ≡ lmc_at self.now port }
     {
         self.port(port).lmc
     }
 
-    /// Whether a LID is one of a port's own: a packet for it has arrived there. A port with LID 0 has that alone.
+    /// Returns whether `lid` is one of the port's own, so that a packet for it has arrived there. A port with LID 0
+    /// owns only LID 0.
     pub fn owns(&self, port: PortNum, lid: Lid) -> bool
         ensures { result ≡ owns self.now port lid }
     {
@@ -160,14 +163,14 @@ impl Agent {
         }
     }
 
-    /// Whether a subnet manager sits at a port.
+    /// Returns whether a subnet manager sits at a port.
     pub fn has_seat(&self, port: PortNum) -> bool
         ensures { result ≡ has_seat self.now port }
     {
         self.port(port).is_sm
     }
 
-    /// A cable goes into a port, which becomes Initialize, or comes out, and it becomes Down.
+    /// Plugs a cable into a port, which becomes Initialize, or takes it out, and the port becomes Down.
     pub fn set_wired(&mut self, port: PortNum, is_wired: bool)
         requires least { 1 ≤ port }
         requires most { port ≤ self.old.node.ports }
@@ -180,7 +183,7 @@ impl Agent {
         };
     }
 
-    /// A subnet manager comes to sit at a port of an adapter.
+    /// Seats a subnet manager at a port of an adapter.
     pub fn set_seat(&mut self, port: PortNum)
         requires adapter { is_switch self.old ≡ false }
         requires least { 1 ≤ port }
@@ -190,8 +193,8 @@ impl Agent {
         self.ports[usize::from(port.number())].is_sm = true;
     }
 
-    /// The answer to a request that came to a port, and what a Set makes of the agent. A request that is refused
-    /// changes nothing. Takes time in proportion to the 64 bytes of an attribute.
+    /// Answers a request that came to a port, and applies a Set. A request that is refused changes nothing. Takes time
+    /// in proportion to the 64 bytes of an attribute.
     #[tactic(auto, unfolding(crate::specs::Answers::after_answer))]
     pub fn answer(&mut self, smp: &Smp, arrival: PortNum) -> Smp
         requires least { 1 ≤ arrival }

@@ -3,7 +3,7 @@ ghost use Rattle.node_agents.specs.AnswerLaws.{AgentsAreMade, AnsweredIsAgent, A
 ghost use Rattle.node_agents.specs.AnswerLaws.{AnswersSay, GetsChangeNothing, RefusalsChangeNothing};
 ghost use Rattle.node_agents.specs.AnswerLaws.{GetsTellAsSets, BlocksAreSet, TopsAreSet, PortsAreSet};
 
-/// What is made, wired and given a subnet manager is an agent.
+/// A fresh agent is an agent, and it stays one when a port is wired or a subnet manager is seated.
 #[tactic(auto, using(crate::proofs::Made::agents_are_made))]
 pub fn agents_are_made()
     ensures { AgentsAreMade }
@@ -21,7 +21,7 @@ pub fn answered_keeps_shape()
     ensures { AnsweredKeepsShape }
 {}
 
-/// An answer is a packet with the status and the attribute that are told, and for the rest as the request was.
+/// An answer is a packet with the status and the attribute that the agent gives, and otherwise as the request was.
 pub fn answers_hold()
     ensures { AnswersHold }
 {}
@@ -39,30 +39,30 @@ pub fn gets_change_nothing()
     ensures { GetsChangeNothing }
 {}
 
-/// A request whose answer has another status than 0 leaves the agent as it was.
+/// A request whose answer has a status other than 0 leaves the agent as it was.
 #[tactic(auto, using(crate::proofs::Told::refusals_change_nothing))]
 pub fn refusals_change_nothing()
     ensures { RefusalsChangeNothing }
 {}
 
-/// After a Set that is taken, a Get by the same port tells what the answer to the Set told.
+/// A Get by the same port after a Set that is taken returns what the answer to the Set returned.
 pub fn gets_tell_as_sets()
     ensures { GetsTellAsSets }
 {}
 
-/// A block that is set is told and stands in the table at its offset, and nothing else is changed.
+/// A block that is set is returned and stands in the table at its offset, and nothing else is changed.
 #[tactic(auto, using(crate::proofs::Sets::blocks_are_set))]
 pub fn blocks_are_set()
     ensures { BlocksAreSet }
 {}
 
-/// The greatest LID to forward that is set is told, and nothing else is changed.
+/// The greatest LID to forward that is set is returned, and nothing else is changed.
 #[tactic(auto, using(crate::proofs::Sets::tops_are_set))]
 pub fn tops_are_set()
     ensures { TopsAreSet }
 {}
 
-/// The LID and the state that are set at a port are told; no other port and nothing else is changed.
+/// The LID and the state that are set at a port are returned; no other port and nothing else is changed.
 pub fn ports_are_set()
     ensures { PortsAreSet }
 {}

@@ -1,4 +1,4 @@
-//! LinearForwardingTable: the block that a Get tells, and the one that a Set takes.
+//! LinearForwardingTable: the block that a Get returns, and the one that a Set writes.
 ghost use Rattle.std.specs.Prelude.{◌≡◌, is_some};
 ghost use Rattle.std.specs.Option.{unwrap_or};
 ghost use Rattle.node_agents.specs.LftBlock.{has_block, get_block, set_block};
@@ -6,13 +6,13 @@ ghost use Rattle.node_agents.specs.LftBlock.{has_block, get_block, set_block};
 use crate::agent::Agent;
 use smp_bytes::wire::put_bytes;
 
-/// How many entries a block has.
+/// The number of entries in a block.
 pub(crate) const BLOCK: usize = 64;
 
 /// The last block of unicast LIDs.
 const LAST_BLOCK: u32 = 767;
 
-/// What a Get tells.
+/// Returns the block that a Get asks for, or `None` if the table does not have it.
 pub(crate) fn get(agent: &Agent, block: u32) -> Option<[u8; BLOCK]>
     ensures { result ≡ get_block agent.now block }
 {
@@ -25,7 +25,7 @@ pub(crate) fn get(agent: &Agent, block: u32) -> Option<[u8; BLOCK]>
     Some(entries)
 }
 
-/// Takes the whole block, where the table has it; whether that is so.
+/// Writes the whole block, if the table has it. Returns whether it does.
 pub(crate) fn set(agent: &mut Agent, block: u32, payload: &[u8; BLOCK]) -> bool
     ensures taken { result ≡ is_some (set_block agent.old block payload.now) }
     ensures agent { agent.new ≡ unwrap_or (set_block agent.old block payload.now) agent.old }
@@ -37,7 +37,7 @@ pub(crate) fn set(agent: &mut Agent, block: u32, payload: &[u8; BLOCK]) -> bool
     has_block
 }
 
-/// Whether the block is one of unicast LIDs and begins within the table.
+/// Returns whether the block is one of unicast LIDs and begins within the table.
 fn has_block(agent: &Agent, block: u32) -> bool
     ensures { result ≡ has_block agent.now block }
 {

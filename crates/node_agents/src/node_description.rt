@@ -1,11 +1,11 @@
-//! NodeDescription, which can't be set.
+//! NodeDescription, which cannot be set.
 ghost use Rattle.std.specs.Prelude.{◌≡◌};
 ghost use Rattle.node_agents.specs.NodeDescription.{get_node_description};
 
 use crate::agent::Agent;
 use attr_codec::Attribute;
 
-/// What a Get tells.
+/// Returns the attribute for a Get.
 pub(crate) fn get(agent: &Agent) -> [u8; 64]
     ensures { result ≡ get_node_description agent.now }
 {

@@ -1,4 +1,4 @@
-//! NodeInfo, which can't be set.
+//! NodeInfo, which cannot be set.
 ghost use Rattle.std.specs.Prelude.{◌≡◌, ◌≤◌};
 ghost use Rattle.node_agents.specs.Agent.{port_guid};
 ghost use Rattle.node_agents.specs.NodeInfo.{get_node_info};
@@ -7,7 +7,7 @@ use crate::agent::Agent;
 use attr_codec::{Attribute, NodeInfo, NodeTypeNumber};
 use smp_bytes::{Guid, PortNum};
 
-/// What a Get by a port tells.
+/// Returns the attribute for a Get that came by the port `arrival`.
 pub(crate) fn get(agent: &Agent, arrival: PortNum) -> [u8; 64]
     requires { arrival ≤ agent.now.node.ports }
     ensures { result ≡ get_node_info agent.now arrival }
@@ -29,7 +29,7 @@ pub(crate) fn get(agent: &Agent, arrival: PortNum) -> [u8; 64]
     info.encode()
 }
 
-/// The GUID of a port: a switch's own, and an adapter's port's after its own.
+/// Returns the GUID of a port: the node's own for a switch; for an adapter the node's GUID plus the port's number.
 fn port_guid(agent: &Agent, port: PortNum) -> Guid
     requires { port ≤ agent.now.node.ports }
     ensures { result ≡ port_guid agent.now.node port }

@@ -8,19 +8,19 @@ use smp_bytes::Lid;
 pub struct Port {
     /// The port's own LID, 0 for none.
     pub(crate) base_lid: Lid,
-    /// The port has 2^LMC LIDs, from its own on.
+    /// The LMC: the port has 2^LMC LIDs, from its own on.
     pub(crate) lmc: Lmc,
     /// The LID of the subnet manager.
     pub(crate) master_sm_lid: Lid,
     pub(crate) state: PortState,
-    /// IsSM: a subnet manager sits at the port.
+    /// IsSM: whether a subnet manager sits at the port.
     pub(crate) is_sm: bool,
 }
 
 impl Port {
     ghost use Rattle.node_agents.specs.Agent.{port_in};
 
-    /// A port in a state, to which nothing was written.
+    /// Creates a port in a state, to which nothing was written.
     pub(crate) fn in_state(state: PortState) -> Self
         ensures { result ≡ port_in state }
     {

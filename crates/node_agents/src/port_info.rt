@@ -1,4 +1,4 @@
-//! PortInfo: which port a request means, what a Get tells, and what a Set takes.
+//! PortInfo: which port a request means, what a Get returns, and what a Set writes.
 ghost use Rattle.std.specs.Prelude.{◌≡◌, ◌≤◌, is_some, IfSome};
 ghost use Rattle.smp_bytes.specs.LidRange.{may_have};
 ghost use Rattle.std.specs.Option.{unwrap_or};
@@ -11,7 +11,7 @@ use crate::port::Port;
 use attr_codec::{Attribute, Lmc, PortInfo, PortState};
 use smp_bytes::{Lid, PortNum};
 
-/// What a Get tells.
+/// Returns the attribute for a Get, or `None` if the modifier names no port that it may ask for.
 pub(crate) fn get(agent: &Agent, modifier: u32, arrival: PortNum) -> Option<[u8; 64]>
     ensures { result ≡ get_port_info agent.now modifier arrival }
 {
@@ -19,7 +19,7 @@ pub(crate) fn get(agent: &Agent, modifier: u32, arrival: PortNum) -> Option<[u8;
     Some(info_of(agent.port(port), arrival))
 }
 
-/// Takes the LIDs and the LMC, at an end port, and the state, where it takes all; whether that is so.
+/// Writes the LIDs and the LMC of an end port, and the state, if all of them can be set. Returns whether they can.
 pub(crate) fn set(agent: &mut Agent, modifier: u32, arrival: PortNum, payload: &[u8; 64]) -> bool
     requires { arrival ≤ agent.old.node.ports }
     ensures taken { result ≡ is_some (set_port_info agent.old modifier arrival payload.now) }
@@ -35,7 +35,7 @@ pub(crate) fn set(agent: &mut Agent, modifier: u32, arrival: PortNum, payload: &
     }
 }
 
-/// The port that a Set means, and what it makes of it.
+/// Returns the port that a Set means, and its state afterwards. Returns `None` if the Set is refused.
 #[tactic(auto, unfolding(crate::specs::PortInfo::changed_port))]
 fn changed_port(
     agent: &Agent,
@@ -57,7 +57,7 @@ fn changed_port(
     Some((port, after))
 }
 
-/// The port that a request means: any of a switch, and of an adapter the one to which it came.
+/// Returns the port that a request means: any port of a switch; for an adapter the one that the request came to.
 fn port_meant(agent: &Agent, modifier: u32, arrival: PortNum) -> Option<PortNum>
     ensures port { result ≡ port_meant agent.now modifier arrival }
 {
@@ -71,7 +71,7 @@ fn port_meant(agent: &Agent, modifier: u32, arrival: PortNum) -> Option<PortNum>
     }
 }
 
-/// What is told of a port to a request that came by this or another one.
+/// Returns the PortInfo of `port`, for a request that came by the port `arrival`.
 fn info_of(port: Port, arrival: PortNum) -> [u8; 64]
     ensures { result ≡ port_info_of port arrival }
 {
@@ -85,14 +85,14 @@ fn info_of(port: Port, arrival: PortNum) -> [u8; 64]
     info.encode()
 }
 
-/// Whether the port has a LID of its own: each of an adapter has, and port 0 of a switch.
+/// Returns whether the port has a LID of its own: each port of an adapter does, and port 0 of a switch.
 fn has_lid(agent: &Agent, port: PortNum) -> bool
     ensures { result ≡ has_lid agent.now port }
 {
     !agent.node.is_switch() || port.number() == 0
 }
 
-/// The greatest LMC that a port takes: port 0 of a switch has one LID.
+/// Returns the greatest LMC that can be set at a port: 0 for port 0 of a switch, which has one LID.
 fn max_lmc(agent: &Agent, port: PortNum) -> u8
     ensures { result ≡ max_lmc agent.now port }
 {
@@ -103,7 +103,7 @@ fn max_lmc(agent: &Agent, port: PortNum) -> u8
     }
 }
 
-/// Whether a port may have the LIDs of a Set, with an LMC of at most so much.
+/// Returns whether a port may have the LIDs in `info`, with an LMC of at most `max_lmc`.
 fn are_lids_taken(max_lmc: u8, info: &PortInfo) -> bool
     ensures { result ≡ are_lids_taken max_lmc info.now }
 {
@@ -111,8 +111,8 @@ fn are_lids_taken(max_lmc: u8, info: &PortInfo) -> bool
     lmc.number() <= max_lmc && may_have(info.base_lid(), lmc)
 }
 
-/// Whether a port may have a LID with an LMC: none, or one that is a multiple of its count of LIDs, all of which are
-/// unicast.
+/// Returns whether a port may have the LID `base` with `lmc`: none, or one that is a multiple of the number of LIDs,
+/// all of which are unicast.
 fn may_have(base: Lid, lmc: Lmc) -> bool
     ensures { result ≡ may_have base lmc }
 {
@@ -121,7 +121,7 @@ fn may_have(base: Lid, lmc: Lmc) -> bool
     first == 0 || (first % count == 0 && first + count <= u32::from(Lid::UNICAST_END))
 }
 
-/// What a Set makes of a port, or None where it refuses the LIDs or the state.
+/// Returns the port's state after a Set, or `None` if the LIDs or the link state are refused.
 fn port_after(port: Port, has_lid: bool, max_lmc: u8, payload: &[u8; 64]) -> Option<Port>
     ensures { result ≡ port_after port has_lid max_lmc payload.now }
 {
@@ -142,7 +142,8 @@ fn port_after(port: Port, has_lid: bool, max_lmc: u8, payload: &[u8; 64]) -> Opt
     })
 }
 
-/// The state after a wish: no change, the present state, or the next one on the way to Active.
+/// Returns the link state after the request `wish`: no change, the present state, or the next one on the way to Active.
+/// Returns `None` if the request is none of these.
 fn state_after(state: PortState, wish: PortState) -> Option<PortState>
     ensures { result ≡ state_after state wish }
 {

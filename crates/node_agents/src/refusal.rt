@@ -3,19 +3,19 @@ ghost use Rattle.node_agents.specs.Refusal.{status_of};
 
 use smp_bytes::Status;
 
-/// Why an agent refuses a request, in the order in which it is judged.
+/// Why an agent refuses a request, in the order of checks.
 #[derive(Clone, Copy)]
 pub(crate) enum Refusal {
     /// The method is neither Get nor Set.
     Method,
-    /// The node has no such attribute, or it can't be set.
+    /// The node does not have the attribute, or it cannot be set.
     MethodAndAttribute,
-    /// The attribute modifier or a field of the attribute has a value that the node can't take.
+    /// The attribute modifier or a field of the attribute has a value that the node cannot take.
     InvalidField,
 }
 
 impl Refusal {
-    /// The status that tells of it.
+    /// Returns the status of the answer.
     pub(crate) fn status(self) -> Status
         ensures number { result.0 ≡ status_of self }
         ensures fits { result.0 < 2 ^ 15 }

@@ -1,4 +1,4 @@
-//! Which requests an agent meets, and how.
+//! The requests that an agent handles.
 ghost use Rattle.std.specs.Prelude.{◌≡◌, ◌≤◌, None, Some, if◌then◌else◌};
 ghost use Rattle.smp_bytes.specs.Judges.{Judges};
 ghost use Rattle.node_agents.specs.declared.refusal.Refusal.TheVariants.{InvalidField};
@@ -9,7 +9,7 @@ use crate::refusal::Refusal;
 use crate::{lft_block, node_description, node_info, port_info, switch_info};
 use smp_bytes::{AttributeId, Method, PortNum, Smp};
 
-/// What is told to a request, or why it is refused, and what it makes of the agent.
+/// Returns the attribute that answers a request, or why it is refused, and applies a Set.
 pub(crate) fn handle(agent: &mut Agent, smp: &Smp, arrival: PortNum) -> Result<[u8; 64], Refusal>
     requires { arrival ≤ agent.old.node.ports }
     ensures told { result ≡ (after_request agent.old smp.now arrival).told }
@@ -25,7 +25,7 @@ pub(crate) fn handle(agent: &mut Agent, smp: &Smp, arrival: PortNum) -> Result<[
     }
 }
 
-/// What a Get of the packet's attribute tells.
+/// Returns the attribute that the packet asks for.
 #[tactic(auto, unfolding(crate::specs::Answers::get_of))]
 fn get(agent: &Agent, smp: &Smp, arrival: PortNum) -> Result<[u8; 64], Refusal>
     requires { arrival ≤ agent.now.node.ports }
@@ -48,7 +48,7 @@ fn get(agent: &Agent, smp: &Smp, arrival: PortNum) -> Result<[u8; 64], Refusal>
     }
 }
 
-/// Takes a Set of the packet's attribute, or says why it doesn't.
+/// Applies a Set of the packet's attribute, or returns why it is refused.
 #[tactic(auto, unfolding(crate::specs::Answers::set_of))]
 fn set(agent: &mut Agent, smp: &Smp, arrival: PortNum) -> Result<(), Refusal>
     requires { arrival ≤ agent.old.node.ports }
@@ -68,7 +68,7 @@ fn set(agent: &mut Agent, smp: &Smp, arrival: PortNum) -> Result<(), Refusal>
     }
 }
 
-/// Ok where the fields were taken.
+/// Returns `Ok` if the fields were taken, and else `InvalidField`.
 fn valid_if(is_taken: bool) -> Result<(), Refusal>
     ensures { Judges result (if is_taken then None else Some InvalidField) }
 {

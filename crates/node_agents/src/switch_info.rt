@@ -1,4 +1,4 @@
-//! SwitchInfo: what a Get tells, and what a Set takes.
+//! SwitchInfo: what a Get returns, and what a Set writes.
 ghost use Rattle.std.specs.Prelude.{◌≡◌, is_some};
 ghost use Rattle.std.specs.Option.{unwrap_or};
 ghost use Rattle.node_agents.specs.SwitchInfo.{get_switch_info, set_switch_info};
@@ -6,7 +6,7 @@ ghost use Rattle.node_agents.specs.SwitchInfo.{get_switch_info, set_switch_info}
 use crate::agent::Agent;
 use attr_codec::{Attribute, SwitchInfo};
 
-/// What a Get tells.
+/// Returns the attribute for a Get.
 pub(crate) fn get(agent: &Agent) -> [u8; 64]
     ensures { result ≡ get_switch_info agent.now }
 {
@@ -16,7 +16,7 @@ pub(crate) fn get(agent: &Agent) -> [u8; 64]
     info.encode()
 }
 
-/// Takes LinearFDBTop, where it is below LinearFDBCap; whether that is so.
+/// Writes LinearFDBTop, if it is below LinearFDBCap. Returns whether it is.
 pub(crate) fn set(agent: &mut Agent, payload: &[u8; 64]) -> bool
     ensures taken { result ≡ is_some (set_switch_info agent.old payload.now) }
     ensures agent { agent.new ≡ unwrap_or (set_switch_info agent.old payload.now) agent.old }

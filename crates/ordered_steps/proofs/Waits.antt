@@ -1,76 +1,34 @@
 -- Numbers of channels by an order rise over all that waits in a step.
 use Rattle.std.proofs.Common.{◌≡◌, ℕ, ◌<◌, ◌≤◌, ◌+◌, ◌*◌, true, false, cond, List, length, None, Some, sym, ap, ◌∙◌, subst, arith, inl, inr, ◌⊎◌}
-use Rattle.std.specs.Prelude.{◌/◌, ◌%◌, slice_get, slice_index_or, nat_lt, not, ◌==◌, ◌&&◌}
-use Rattle.std.specs.Option.{option_map_or}
-use Rattle.std.proofs.lemmas.Bool.{cases_lt}
-use Rattle.std.proofs.lemmas.List.{get_or_past}
-use Rattle.std.proofs.lemmas.List.FromFn.{get_or-map-range_with_len, length-map-range_with_len}
-use Rattle.std.proofs.lemmas.Option.{same_Some}
+use Rattle.std.specs.Prelude.{◌/◌, slice_index_or, nat_lt, not, ◌==◌, ◌&&◌}
+use Rattle.std.proofs.lemmas.List.FromFn.{get_or-map-range_with_len}
 use Rattle.port_graph.specs.declared.edge.Edge.{Edge}
 use Rattle.subnet_view.specs.Reading.{Cells, switches}
 use Rattle.plan_file.specs.Held.{HeldPlan}
-use Rattle.held_tables.specs.declared.far_end.Far.{Far}
-use Rattle.held_tables.specs.declared.far_end.Far.TheVariants.{Nothing, Switch, Port}
-use Rattle.held_tables.specs.Switches.{row_of, far_of, far_by}
-use Rattle.held_tables.specs.Tables.{entry_for}
-use Rattle.audit.specs.Edges.{edge_by, edge_to, edges_of}
+use Rattle.held_tables.specs.Switches.{far_by}
+use Rattle.audit.specs.Edges.{edges_of}
 use Rattle.audit_channels.specs.Columns.{number_of}
 use Rattle.next_tables.specs.Mixtures.{TakesBy, WaitsInStep}
 use Rattle.next_tables.proofs.Waits.{no_cycle_in_step}
-use Rattle.next_tables.specs.ByOrder.{is_bad, Leads, switch_at, channel_number, number_over, numbers_by}
+use Rattle.next_tables.specs.ByOrder.{is_bad, Leads, channel_number, number_over, numbers_by}
 use Rattle.ordered_steps.specs.StepLaws.{IsStep, NumbersRiseByOrder, NoCycleByOrder}
-use Rattle.next_tables.proofs.Hops.{edge_here, edge_is, leads_within, placed}
+use Rattle.next_tables.proofs.Hops.{channel_leads, edge_is, leads_within}
 use Rattle.ordered_steps.proofs.Turns.{not_true, goes_well, next_goes, Goes}
 
 -- they rise over a turn that is not bad
 pub numbers_rise : (n a b c : ℕ) → b < n → (not (nat_lt b a) && not (nat_lt b c)) ≡ false → channel_number n a b < channel_number n b c
 numbers_rise n a b c less h = grind arith
 
--- a port has a number below 255
-edge_port : (row : List Far) (entry : ℕ) (edge : Edge) → edge_by row entry ≡ Some edge
-    → (edge.port ≡ entry) × (slice_index_or row entry Nothing ≡ Switch edge.to)
-edge_port row entry edge =
-    elim (entry == 0) as (λ t. cond t None (edge_to entry (slice_index_or row entry Nothing)) ≡ Some edge
-    → (edge.port ≡ entry) × (slice_index_or row entry Nothing ≡ Switch edge.to)) [
-      | true ↦ λ h. absurd (cc)
-      | false ↦ λ h. far_is entry (slice_index_or row entry Nothing) edge h
-    ]
-  where
-    far_is : (entry : ℕ) (far : Far) (edge : Edge) → edge_to entry far ≡ Some edge → (edge.port ≡ entry) × (far ≡ Switch edge.to)
-    far_is entry Nothing edge h = absurd (cc)
-    far_is entry (Switch index) edge h =
-        let e = same_Some (record { port = entry; to = index }) edge h in
-        (sym (ap (λ (x : Edge). x.port) e), ap (λ (x : Edge). Switch x.to) e)
-    far_is entry (Port e) edge h = absurd (cc)
-
 -- the number of the channel of an edge
 number_at : (cells : Cells) (q : ℕ → ℕ) (tables : HeldPlan) (lid i : ℕ) (edge : Edge) → slice_index_or (edges_of cells tables lid) i None ≡ Some edge
     → slice_index_or (numbers_by cells q) (number_of i edge) 0 ≡ channel_number (length (switches cells)) (q i) (q edge.to)
 number_at cells q tables lid i edge h =
     let count = length (switches cells) in
-    let here = edge_here cells tables lid i edge h in
-    let g = switch_at cells i in
-    let row = row_of cells g in
-    let is = edge_port row (entry_for tables lid g) edge here.1 in
-    let far : slice_index_or row edge.port Nothing ≡ Switch edge.to = ap (λ p. slice_index_or row p Nothing) is.0 ∙ is.1 in
-    let small : edge.port < 255 =
-    (elim (cases_lt edge.port 255) [
-      | inl less ↦ less
-      | inr more ↦ let past : slice_index_or row edge.port Nothing ≡ Nothing =
-          get_or_past row edge.port Nothing (omega (arith, length-map-range_with_len (far_of cells g) 0 255)) in absurd (cc)
-    ]) in
-    let c : ℕ = 256 * i + edge.port in
-    let over : c / 256 ≡ i = omega arith in
-    let rest : c % 256 ≡ edge.port = omega arith in
-    let less : i < count = here.0 in
-    let within : c < 256 * count = omega arith in
+    let leads = channel_leads cells tables lid i edge h in
+    let c : ℕ = number_of i edge in
     let value : ℕ → ℕ = λ x. number_over count q (x / 256) (far_by cells x) in
-    let at : slice_get (switches cells) (c / 256) ≡ Some g = ap (slice_get (switches cells)) over ∙ placed (switches cells) i less in
-    let by : far_by cells c ≡ Switch edge.to =
-    ap (λ o. option_map_or (λ x. slice_index_or (row_of cells x) (c % 256) Nothing) o Nothing) at
-    ∙ ap (λ p. slice_index_or row p Nothing) rest ∙ far in
-    get_or-map-range_with_len value 0 (256 * count) c c 0 within (omega arith)
-    ∙ (λ j. number_over count q (over j) (by j))
+    get_or-map-range_with_len value 0 (256 * count) c c 0 leads.2 (omega arith)
+    ∙ (λ j. number_over count q (leads.0 j) (leads.1 j))
 
 module _ (cells : Cells) (q : ℕ → ℕ) (held goal next : HeldPlan) (is : IsStep cells q held goal next) where
   abbrev Either : ℕ → ℕ → ℕ → Type 0

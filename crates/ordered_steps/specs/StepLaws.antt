@@ -22,7 +22,7 @@ use Rattle.next_tables.specs.Next.{step_at}
 use Rattle.next_tables.specs.NextTables.{IsKept, by_order, next_tables, ordered_for}
 use Rattle.next_tables.specs.ByOrder.{IsOrder, AreApart, IsWired, Leads, is_up, switch_at, TurnsWell, AreRight, IsChoice, IsNextByOrder, IsTriedByOrder, numbers_by, position_at}
 
--- whatever mixture holds when a packet comes to a switch, and whatever when it leaves, no turn is bad
+-- no turn is bad, whatever mixture holds when a packet comes to a switch, and whatever holds when it leaves
 abbrev pub NoBadTurn : Type 0
 NoBadTurn =
     (cells : Cells) (q : ℕ → ℕ) (held goal next : HeldPlan) (lid : ℕ) → AreRight cells q held lid
@@ -30,45 +30,45 @@ NoBadTurn =
     → (before now : HeldPlan) → IsMixed cells held next lid before → IsMixed cells held next lid now
     → TurnsWell cells q before now lid
 
--- the next tables are right again, so steps go on
+-- the next tables are right by the order if the held tables and the goal are
 abbrev pub NextAreRight : Type 0
 NextAreRight =
     (cells : Cells) (q : ℕ → ℕ) (held goal next : HeldPlan) (lid : ℕ) → AreRight cells q held lid
     → AreRight cells q goal lid → IsChoice cells q held goal lid next → AreRight cells q next lid
 
--- for every LID held tables and a goal are right, and next tables are a choice
+-- the held tables and the goal are right for every LID, and the next tables are a choice
 pub record IsStep (cells : Cells) (q : ℕ → ℕ) (held goal next : HeldPlan) : Type 0 where
   pub order : IsOrder cells q
   pub held_right : (lid : ℕ) → 1 ≤ lid → AreRight cells q held lid
   pub goal_right : (lid : ℕ) → 1 ≤ lid → AreRight cells q goal lid
   pub choice : (lid : ℕ) → 1 ≤ lid → IsChoice cells q held goal lid next
 
--- then the numbers of channels rise over all that waits in the step, whatever mixtures there are
+-- in a step the numbers of channels by the order rise over all that waits, whatever the mixtures
 abbrev pub NumbersRiseByOrder : Type 0
 NumbersRiseByOrder =
     (cells : Cells) (q : ℕ → ℕ) (held goal next : HeldPlan) → IsStep cells q held goal next
     → RiseInStep cells held next (numbers_by cells q)
 
--- so channels never wait in a cycle
+-- in a step channels never wait in a cycle, whatever the mixtures
 abbrev pub NoCycleByOrder : Type 0
 NoCycleByOrder =
     (cells : Cells) (q : ℕ → ℕ) (held goal next : HeldPlan) → IsStep cells q held goal next
     → (channel : ℕ) (later : List ℕ) → ¬ (WaitOnMixed cells held next channel later channel)
 
--- the rule is such a choice
+-- the next entries by the order are a choice
 abbrev pub RuleIsChoice : Type 0
 RuleIsChoice =
     (cells : Cells) (q : ℕ → ℕ) (held goal next : HeldPlan) (line : HeldLid) → IsNextByOrder cells q held goal line next
     → IsChoice cells q held goal line.lid next
 
--- and it is what is tried, or none where that does not deliver
+-- the next entries by the order are the tried ones, or 255 if those do not deliver
 abbrev pub RuleIsTried : Type 0
 RuleIsTried =
     (cells : Cells) (q : ℕ → ℕ) (held goal next : HeldPlan) (line : HeldLid) → IsNextByOrder cells q held goal line next
     → IsTriedByOrder cells q held goal line next
 
--- a line's LID, for which held tables and a goal are right by an order and have the same owners, and next tables follow
--- the rule
+-- for the LID of `line`, the held tables and the goal are right by the order and have the same owners, and the next
+-- tables follow the rule
 pub record IsLineStep (cells : Cells) (q : ℕ → ℕ) (held goal : HeldPlan) (line : HeldLid) (next : HeldPlan) : Type 0
   where
     pub order : IsOrder cells q
@@ -77,8 +77,8 @@ pub record IsLineStep (cells : Cells) (q : ℕ → ℕ) (held goal : HeldPlan) (
     pub goal_right : AreRight cells q goal line.lid
     pub is_next : IsTriedByOrder cells q held goal line next
 
--- a packet that the held tables deliver at the end port is delivered there by whatever mixtures of these and the next
--- ones, also where they change while it travels
+-- a packet that the held tables deliver at the end port is delivered there by whatever loose mixtures of the held and
+-- the next tables, even if they change while it travels
 abbrev pub NoneIsLostByOrder : Type 0
 NoneIsLostByOrder =
     (cells : Cells) (q : ℕ → ℕ) (held goal next : HeldPlan) (line : HeldLid) → IsLineStep cells q held goal line next
@@ -86,12 +86,12 @@ NoneIsLostByOrder =
     → (source : EndPort) → IsBrought cells held line.lid source (Some (Taken line.port))
     → IsBroughtBy cells mixed line.lid source (Taken line.port)
 
--- tables deliver a packet for the line's LID at its port from the switch at an index
+-- tables deliver a packet for the line's LID at its port from the switch at index i
 abbrev pub DeliverFrom : Cells → HeldPlan → HeldLid → ℕ → Type 0
 DeliverFrom cells tables line i = IsEndOf (next_hops_of cells tables line.lid) (To i) (Some (Taken line.port))
 
--- step after step towards a goal, by an order in which no two switches that are wired have a position in common; a switch that sends
--- packets by the first tables to one from which the goal delivers is one from which it does
+-- steps towards a goal, by an order in which no two switches that a wire joins have the same position; a switch that
+-- forwards packets by the first tables to one from which the goal delivers is one from which the goal delivers
 pub record AreStepsByOrder (cells : Cells) (q : ℕ → ℕ) (goal : HeldPlan) (line : HeldLid) (tables : ℕ → HeldPlan)
     : Type 0 where
   pub order : IsOrder cells q
@@ -103,16 +103,16 @@ pub record AreStepsByOrder (cells : Cells) (q : ℕ → ℕ) (goal : HeldPlan) (
       → DeliverFrom cells goal line i
   pub steps : (n : ℕ) → IsTriedByOrder cells q (tables n) goal line (tables (suc n))
 
--- how many steps a switch takes: where the goal sends packets on from it, more than the switch to which it does; and
--- where that is up, more than each earlier switch that is wired to it
+-- how many steps a switch takes: more than the switch to which the goal forwards packets from it; and if that leads up,
+-- more than each earlier switch that is wired to it
 pub record IsDepth (cells : Cells) (q : ℕ → ℕ) (goal : HeldPlan) (line : HeldLid) (depth : ℕ → ℕ) : Type 0 where
   pub first : (i : ℕ) → 1 ≤ depth i
   pub next : (i j : ℕ) → Leads cells goal line.lid i j → DeliverFrom cells goal line j → depth j < depth i
   pub earlier : (i j x : ℕ) → Leads cells goal line.lid i j → is_up q i j ≡ true → x < length (switches cells)
       → DeliverFrom cells goal line x → q x < q i → IsWired cells x i → depth x < depth i
 
--- after so many steps a switch from which the goal delivers has its entry, and the tables deliver from it, and so it is
--- from then on
+-- after as many steps as its depth, a switch from which the goal delivers has the goal's entry, and the tables deliver
+-- from it, from then on
 abbrev pub EndInTheGoal : Type 0
 EndInTheGoal =
     (cells : Cells) (q : ℕ → ℕ) (goal : HeldPlan) (line : HeldLid) (tables : ℕ → HeldPlan)
@@ -121,7 +121,7 @@ EndInTheGoal =
     → (i g m : ℕ) → slice_get (switches cells) i ≡ Some g → DeliverFrom cells goal line i → depth i ≤ m
     → (entry_for (tables m) line.lid g ≡ entry_for goal line.lid g) × DeliverFrom cells (tables m) line i
 
--- that is after twice as many steps as there are switches at most
+-- a switch from which the goal delivers takes at most twice as many steps as there are switches
 abbrev pub EndInTwiceAsMany : Type 0
 EndInTwiceAsMany =
     (cells : Cells) (q : ℕ → ℕ) (goal : HeldPlan) (line : HeldLid) (tables : ℕ → HeldPlan)
@@ -130,7 +130,7 @@ EndInTwiceAsMany =
     → 2 * length (switches cells) ≤ m
     → (entry_for (tables m) line.lid g ≡ entry_for goal line.lid g) × DeliverFrom cells (tables m) line i
 
--- so each packet that arrives by the goal, from whatever end port, does so after as many steps
+-- each packet that arrives by the goal arrives after twice as many steps as there are switches
 abbrev pub HealByOrder : Type 0
 HealByOrder =
     (cells : Cells) (q : ℕ → ℕ) (goal : HeldPlan) (line : HeldLid) (tables : ℕ → HeldPlan)
@@ -139,8 +139,8 @@ HealByOrder =
     → (m : ℕ) → 2 * length (switches cells) ≤ m
     → IsBrought cells (tables m) line.lid source (Some (Taken line.port))
 
--- and where the first tables deliver only from switches from which the goal does, no other has an entry after a step: so
--- tables end in what is right by each order by which the goal is, and steps may go on by that
+-- if the first tables deliver only from switches from which the goal delivers, no other switch has an entry in the end:
+-- the tables are then right by each order by which the goal is right, and steps may go on by that order
 abbrev pub EndRightByAny : Type 0
 EndRightByAny =
     (cells : Cells) (q : ℕ → ℕ) (goal : HeldPlan) (line : HeldLid) (tables : ℕ → HeldPlan)
@@ -151,7 +151,7 @@ EndRightByAny =
     → (other : ℕ → ℕ) → AreRight cells other goal line.lid
     → (m : ℕ) → 1 ≤ m → 2 * length (switches cells) ≤ m → AreRight cells other (tables m) line.lid
 
--- a packet for a LID, from wherever it is sent, ends by whatever mixtures of tables held and next: none goes round
+-- a packet for `lid`, from wherever it is sent, ends by whatever mixtures of the held and the next tables: none loops
 abbrev pub AllEndByOrder : Type 0
 AllEndByOrder =
     (cells : Cells) (q : ℕ → ℕ) (held goal next : HeldPlan) (lid : ℕ) → IsOrder cells q → AreRight cells q held lid
@@ -159,7 +159,7 @@ AllEndByOrder =
     → (mixed : ℕ → HeldPlan) → ((k : ℕ) → IsMixed cells held next lid (mixed k))
     → (source : EndPort) → (last : End) × IsBroughtBy cells mixed lid source last
 
--- by the next tables each switch delivers the packet, or has no entry
+-- each switch delivers the packet by the next tables or has no entry
 abbrev pub NextDeliverOrDropByOrder : Type 0
 NextDeliverOrDropByOrder =
     (cells : Cells) (q : ℕ → ℕ) (held goal next : HeldPlan) (line : HeldLid)
@@ -167,13 +167,13 @@ NextDeliverOrDropByOrder =
     → (i g : ℕ) → slice_get (switches cells) i ≡ Some g
     → (entry_for next line.lid g ≡ 255) ⊎ DeliverFrom cells next line i
 
--- next tables of all LIDs: those of the goal's owners, and the next entry by the order
+-- the next tables of all LIDs: the goal's owners, and the next entries by the order
 pub record AreNextByOrder (cells : Cells) (q : ℕ → ℕ) (held goal next : HeldPlan) : Type 0 where
   pub owners : (lid : ℕ) → owners_of next lid ≡ owners_of goal lid
   pub entries : (i g lid : ℕ) → slice_get (switches cells) i ≡ Some g
       → entry_for next lid g ≡ ordered_for cells q held goal lid (owners_of goal lid) i g
 
--- they are a step, after which they are right for every LID again
+-- the next tables are a step, and are right for every LID, if the held tables and the goal are
 abbrev pub AllAreStep : Type 0
 AllAreStep =
     (cells : Cells) (q : ℕ → ℕ) (held goal next : HeldPlan) → IsOrder cells q
@@ -181,14 +181,14 @@ AllAreStep =
     → AreNextByOrder cells q held goal next
     → IsStep cells q held goal next × ((lid : ℕ) → 1 ≤ lid → AreRight cells q next lid)
 
--- and the rule is followed for a LID that one end port alone holds in both
+-- the next tables follow the rule for a LID that one end port alone holds in both tables
 abbrev pub AllFollowTheRule : Type 0
 AllFollowTheRule =
     (cells : Cells) (q : ℕ → ℕ) (held goal next : HeldPlan) (line : HeldLid) → AreNextByOrder cells q held goal next
     → IsKept held goal line → IsNextByOrder cells q held goal line next
 
--- in a fabric whose switches go over to the next tables by the rule, each at its own time, a packet that the tables held
--- deliver at the end port of a line is delivered there meanwhile, over no more wires than by the other rule
+-- a packet that the held tables deliver at the end port of a line is delivered there while the fabric's switches go
+-- over to the next tables, each at its own time, over no more wires than by settled entries
 abbrev pub PacketsArriveByOrder : Type 0
 PacketsArriveByOrder =
     (facts : Facts) (q : ℕ → ℕ) (held goal next : HeldPlan) (line : HeldLid) (before : Fabric) (origin : NodePort)
@@ -205,7 +205,7 @@ PacketsArriveByOrder =
     }) (Some (Taken line.port))
     → ArrivesMeanwhile fabrics line.lid source line.port (2 * length (switches (cells_of facts)) + 1)
 
--- so are those that are computed
+-- what `next_tables` returns by an order are next tables by that order
 abbrev pub OrderedTablesAreNext : Type 0
 OrderedTablesAreNext =
     (facts : Facts) (positions : List ℕ) (held goal : HeldPlan)

@@ -6,13 +6,13 @@ ghost use Rattle.ordered_steps.specs.Rightness.{RightnessIsTold};
 ghost use Rattle.ordered_steps.specs.StepLaws.{NumbersRiseByOrder, OrderedTablesAreNext, PacketsArriveByOrder};
 ghost use Rattle.ordered_steps.specs.StepLaws.{RuleIsChoice, RuleIsTried};
 
-/// No packet makes a bad turn, by whatever mixtures of the held tables and the next ones, if the held tables and the
-/// goal are right by the order.
+/// No packet makes a bad turn, by whatever mixtures of the held and the next tables, if the held tables and the goal
+/// are right by the order.
 pub fn no_bad_turn()
     ensures law { NoBadTurn }
 {}
 
-/// The next tables are right by the order again.
+/// The next tables are right by the order if the held tables and the goal are.
 pub fn next_are_right()
     ensures law { NextAreRight }
 {}
@@ -22,23 +22,23 @@ pub fn numbers_rise_by_order()
     ensures law { NumbersRiseByOrder }
 {}
 
-/// Channels never wait in a loop, whatever the mixtures of the held tables and the next ones.
+/// Channels never wait in a loop, whatever the mixtures of the held and the next tables.
 pub fn no_cycle_by_order()
     ensures law { NoCycleByOrder }
 {}
 
-/// Each next entry is the held one, or none, or the goal's if that turns well.
+/// Each next entry is the held one, or 255, or the goal's if that turns well.
 pub fn rule_is_choice()
     ensures law { RuleIsChoice }
 {}
 
-/// Each next entry is what is tried, or none if that does not deliver.
+/// Each next entry is the tried one, or 255 if that does not deliver.
 pub fn rule_is_tried()
     ensures law { RuleIsTried }
 {}
 
-/// A packet that the held tables deliver is delivered by whatever loose mixtures of these and the next ones, also if
-/// they change while it travels.
+/// A packet that the held tables deliver is delivered by whatever loose mixtures of the held and the next tables, even
+/// if they change while it travels.
 pub fn none_is_lost_by_order()
     ensures law { NoneIsLostByOrder }
 {}
@@ -59,36 +59,35 @@ pub fn heal_by_order()
     ensures law { HealByOrder }
 {}
 
-/// After twice as many steps as there are switches, and one at least, the tables are right by each order by which the
-/// goal is, if the first tables deliver a packet at its end port only from switches from which the goal does.
+/// After `2n` steps among `n` switches, or one step if `n` is 0, the tables are right by every order by which the goal
+/// is right, if the first tables deliver a packet only from switches from which the goal does.
 pub fn end_right_by_any()
     ensures law { EndRightByAny }
 {}
 
-/// A packet ends, from wherever it is sent and by whatever mixtures of the held tables and the next ones: none goes
-/// round.
+/// A packet, from wherever it is sent, ends by whatever mixtures of the held and the next tables: none loops for ever.
 pub fn all_end_by_order()
     ensures law { AllEndByOrder }
 {}
 
-/// By the next tables each switch delivers the packet, or has no entry.
+/// Each switch delivers the packet by the next tables or has no entry.
 pub fn next_deliver_or_drop_by_order()
     ensures law { NextDeliverOrDropByOrder }
 {}
 
-/// The next tables of all LIDs, of new ones and of those that are gone too, are a step, and are right by the order
-/// again.
+/// The next tables of all LIDs, including new ones and ones that are gone, are a step and are right by the order, if
+/// the held tables and the goal are.
 pub fn all_are_step()
     ensures law { AllAreStep }
 {}
 
-/// What `next_tables` answers by an order has the goal's owners, and at each usable switch the next entry by the order
+/// What `next_tables` returns by an order has the goal's owners, and at each usable switch the next entry by the order
 /// for each LID.
 pub fn ordered_tables_are_next()
     ensures law { OrderedTablesAreNext }
 {}
 
-/// `are_right` tells of tables, by an order, whether they are right for every LID.
+/// `are_right` computes exactly whether tables are right by an order for every LID.
 pub fn rightness_is_told()
     ensures law { RightnessIsTold }
 {}
@@ -98,9 +97,9 @@ pub fn all_follow_the_rule()
     ensures law { AllFollowTheRule }
 {}
 
-/// In a fabric whose switches go over to the next tables, each at its own time, a packet that the held tables deliver at
-/// the end port of a line is delivered there meanwhile, over at most twice as many wires as there are usable switches,
-/// and one more, if the facts describe what is joined to an end port, and that held the tables when the change began.
+/// A packet that the held tables deliver at the end port of a line is delivered there while the fabric's switches go
+/// over to the next tables, each at its own time, over at most twice as many wires as there are usable switches, and
+/// one more, if the facts describe what is joined to an end port, and that held the tables when the change began.
 pub fn packets_arrive_by_order()
     ensures law { PacketsArriveByOrder }
 {}

@@ -11,8 +11,9 @@ use port_graph::Edge;
 use smp_bytes::Lid;
 use std::alloc::{AllocError, Global};
 
-/// Returns whether packets for no LID go down and then up again, by the tables of a network and by an order that gives
-/// each usable switch its position, by rising GUID. Takes a step for each switch and each LID up to the greatest top.
+/// Returns whether no packet, for whatever LID, goes down and then up again, by the tables of `held` and by an order.
+/// `positions` has the position of each usable switch, by rising GUID. Takes a step for each switch and each LID up to
+/// the greatest top.
 pub fn are_right(alloc: Global, held: &Network, positions: &[usize]) -> Result<bool, AllocError>
     ensures { IfOk result (λ right.
         right ≡ are_right (cells_of held.now.facts) (position_at positions.now) held.now.held) }
@@ -29,14 +30,15 @@ pub fn are_right(alloc: Global, held: &Network, positions: &[usize]) -> Result<b
     Ok(true)
 }
 
-/// Whether packets for a LID go down and then up again at no switch, by the edge by which they leave each.
+/// Returns whether packets for a LID go down and then up again at no switch. `edges` has the edge by which they leave
+/// each.
 fn is_right_column(positions: &[usize], edges: &[Option<Edge>]) -> bool
     ensures { result ≡ is_right_column (position_at positions.now) edges.now }
 {
     (0..edges.len()).all(|index| goes_well(positions, edges, index))
 }
 
-/// Whether packets do not leave the switch at an index by a channel that leads down, and the next by one that leads up.
+/// Returns whether packets do not leave the switch at `index` by a channel down and the next switch by a channel up.
 fn goes_well(positions: &[usize], edges: &[Option<Edge>], index: usize) -> bool
     ensures { result ≡ goes_well (position_at positions.now) edges.now index }
 {
@@ -46,7 +48,7 @@ fn goes_well(positions: &[usize], edges: &[Option<Edge>], index: usize) -> bool
     }
 }
 
-/// Whether packets leave the switch at an index by a channel that leads up.
+/// Returns whether packets leave the switch at `index` by a channel up.
 fn leaves_up(positions: &[usize], edges: &[Option<Edge>], index: usize) -> bool
     ensures { result ≡ leaves_up (position_at positions.now) edges.now index }
 {

@@ -1,4 +1,4 @@
--- How a list lies in pages, each with the index of its first item, and empty pages to spare.
+-- How a list lies in pages, each with the index of its first item, and spare empty pages.
 use Rattle.std.specs.Prelude.{◌≡◌, ℕ, ◌+◌, ◌<◌, ◌≤◌, ◌^◌, List, [], ◌∷◌, length, take, slice_index, slice_index_or, All}
 use Rattle.std.specs.List.{flat_map}
 use Rattle.std.specs.Prelude.{Vec}
@@ -10,12 +10,12 @@ use Rattle.page_list.specs.Listing.{Listing}
 abbrev pub items_of : {T : Type 0} → List (Vec T Global) → List T
 items_of pages = flat_map (λ p. p.items) pages
 
--- the index of each page's first item, where the first page begins at this index
+-- the index of each page's first item, if the first page begins at index `at`
 abbrev pub starts_from : {T : Type 0} → ℕ → List (Vec T Global) → List ℕ
 starts_from at [] = []
 starts_from at (p ∷ pages) = at ∷ starts_from (at + length p.items) pages
 
--- a page has room for 256 items, and at most as many
+-- a page has room for 256 items, and has at most 256
 pub record IsPage {T : Type 0} (page : Vec T Global) : Type 0 where
   pub bounded : length page.items ≤ 256
   pub roomy : 256 ≤ vec_capacity page
@@ -25,7 +25,7 @@ pub record IsEmptyPage {T : Type 0} (page : Vec T Global) : Type 0 where
   pub empty : page.items ≡ []
   pub roomy : 256 ≤ vec_capacity page
 
--- the indices are right, and each empty page can be put among the others with no further memory
+-- the indices are right, and each spare page can be put among the others without new memory
 pub record ArePages {T : Type 0} (pages : Vec (Vec T Global) Global) (starts : Listing ℕ)
     (spare : Vec (Vec T Global) Global) (len room : ℕ) : Type 0 where
   pub starts_are : starts.items ≡ starts_from 0 pages.items
@@ -37,7 +37,7 @@ pub record ArePages {T : Type 0} (pages : Vec (Vec T Global) Global) (starts : L
   pub pages_roomy : length pages.items + length spare.items ≤ vec_capacity pages
   pub starts_roomy : length spare.items ≤ starts.room
 
--- the item at index i is the one at this offset in this page, or would stand there
+-- the item at index i is at `offset` in page `page`, or would be there if the list ends at i
 pub record IsSlot {T : Type 0} (pages : List (Vec T Global)) (i page offset : ℕ) : Type 0 where
   pub there : page < length pages
   pub counted : length (items_of (take page pages)) + offset ≡ i

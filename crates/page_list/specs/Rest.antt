@@ -1,4 +1,4 @@
--- What an iterator has yet to give.
+-- What an iterator still has to give.
 use Rattle.std.specs.Prelude.{List, ◌++◌}
 use Rattle.page_list.specs.declared.iter.Iter.{Iter}
 use Rattle.page_list.specs.Pages.{items_of}

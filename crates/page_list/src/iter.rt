@@ -2,12 +2,12 @@ ghost use Rattle.std.specs.Iterator.{YieldsFirst, item_count};
 ghost use Rattle.page_list.specs.Pages.{items_of};
 ghost use Rattle.page_list.specs.Rest.{rest_of};
 
-/// The items of a list from an index on, in order.
+/// An iterator over the items of a list, in order.
 #[derive(Drop)]
 pub struct Iter<'a, T> {
-    /// What is left of a page.
+    /// The remaining items of the current page.
     pub(crate) page: &'a [T],
-    /// The pages after it.
+    /// The pages after the current one.
     pub(crate) later: &'a [Vec<T>],
 }
 

@@ -1,4 +1,4 @@
-//! A list in pages: an item goes in anywhere, and no more than a page and the directory is moved.
+//! A list in pages: an insertion moves no more than one page and the directory of pages.
 #![tactic(auto)]
 
 mod iter;

@@ -4,10 +4,10 @@ ghost use Rattle.page_list.specs.Pages.{IsEmptyPage};
 
 use std::alloc::{AllocError, Global};
 
-/// How many items a page has room for.
+/// The number of items that a page has room for.
 pub(crate) const PAGE: usize = 256;
 
-/// Puts an item into a list that has room for it.
+/// Inserts an item into a list that has room for it.
 pub(crate) fn insert_within<T>(page: &mut Vec<T>, index: usize, item: T)
     requires index { index ≤ vec_len page.old }
     requires room { vec_len page.old < vec_capacity page.old }
@@ -20,7 +20,8 @@ pub(crate) fn insert_within<T>(page: &mut Vec<T>, index: usize, item: T)
     }
 }
 
-/// Puts an item into a full page, half of which goes to an empty one; the number of items that stay.
+/// Inserts an item into a full page and moves half of the page to the empty page `tail`. Returns the number of items
+/// that stay in `page`.
 pub(crate) fn insert_halved<T: Copy>(
     page: &mut Vec<T>,
     tail: &mut Vec<T>,
@@ -52,7 +53,7 @@ pub(crate) fn insert_halved<T: Copy>(
     page.len()
 }
 
-/// Gets empty pages until there are so many.
+/// Allocates empty pages until there are at least `n`.
 pub(crate) fn fill<T: Copy>(
     spare: &mut Vec<Vec<T>>,
     alloc: Global,

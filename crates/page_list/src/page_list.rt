@@ -10,7 +10,7 @@ use crate::starts::Starts;
 use std::alloc::{AllocError, Global};
 use std::marker::Model;
 
-/// A list in pages, each of which has a bound on its items.
+/// A list in pages, each of which has at most `PAGE` items.
 #[derive(Drop)]
 pub struct PageList<T> {
     /// The items, in pages of at most `PAGE`.
@@ -21,7 +21,7 @@ pub struct PageList<T> {
     spare: Vec<Vec<T>>,
     /// The number of items.
     len: usize,
-    /// How many more go in with no further memory.
+    /// The number of further items that fit without new memory.
     room: usize,
 }
 
@@ -38,7 +38,7 @@ impl<T> Model for PageList<T> {
 }
 
 impl<T: Copy> PageList<T> {
-    /// An empty list, which takes its memory from `alloc` later.
+    /// Creates an empty list, which takes its memory from `alloc` later.
     pub fn new(alloc: Global) -> Self
         ensures { result ≡ record { items = []; room = 0 } }
     {
@@ -51,27 +51,28 @@ impl<T: Copy> PageList<T> {
         }
     }
 
-    /// The allocator that it was made with.
+    /// Returns the allocator that the list was created with.
     pub fn allocator(&self) -> Global {
         *self.pages.allocator()
     }
 
-    /// The number of items.
+    /// Returns the number of items.
     pub fn len(&self) -> usize
         ensures { result ≡ length self.now.items }
     {
         self.len
     }
 
-    /// The item at an index. Takes as many steps as the number of pages has binary digits, and one where the last page
-    /// has it.
+    /// Returns the item at index `i`. Takes one step if the first or the last page contains it, otherwise a binary
+    /// search among the pages.
     pub fn get(&self, i: usize) -> Option<T>
         ensures { result ≡ slice_get self.now.items i }
     {
         self.get_near(i, Slot::first()).copied()
     }
 
-    /// The same, in one step where the page of the slot has the item.
+    /// Returns the item at index `i`. Takes one step if the page of `near` contains it, otherwise a binary search among
+    /// the pages.
     pub fn get_near(&self, i: usize, near: Slot) -> Option<&T>
         ensures { option_copied result ≡ slice_get self.now.items i }
     {
@@ -82,7 +83,7 @@ impl<T: Copy> PageList<T> {
         Some(&self.pages[at.page][at.offset])
     }
 
-    /// The index of what lies at a slot, if that is one of this list. Takes one step.
+    /// Returns the index that `slot` stands for, or `None` if the list has no such page or index. Takes one step.
     pub fn index_at(&self, slot: Slot) -> Option<usize>
         ensures { IfSome result (λ i. i < length self.now.items) }
     {
@@ -93,7 +94,7 @@ impl<T: Copy> PageList<T> {
         if index < self.len { Some(index) } else { None }
     }
 
-    /// The items in order.
+    /// Iterates over the items in order.
     pub fn iter(&self) -> Iter<'_, T>
         ensures items { rest_of result ≡ self.now.items }
         ensures countable { length self.now.items < 2 ^ 64 }
@@ -104,7 +105,8 @@ impl<T: Copy> PageList<T> {
         }
     }
 
-    /// Puts another item where one is, and says where that lies. Takes one step where the page of the slot has it.
+    /// Replaces the item at index `i` and returns its slot. Takes one step if the page of `near` contains it, otherwise
+    /// a binary search among the pages.
     pub fn set_near(&mut self, i: usize, item: T, near: Slot) -> Slot
         requires { i < length self.old.items }
         ensures items { self.new.items ≡ slice_set self.old.items i item }
@@ -115,7 +117,7 @@ impl<T: Copy> PageList<T> {
         at
     }
 
-    /// Puts an item at an index, before the one that is there.
+    /// Inserts an item at index `i`, before the item that is there.
     pub fn insert(&mut self, i: usize, item: T)
         requires index { i ≤ length self.old.items }
         requires room { 0 < self.old.room }
@@ -125,9 +127,10 @@ impl<T: Copy> PageList<T> {
         self.insert_near(i, item, Slot::first());
     }
 
-    /// The same, and says where it lies. Finds its page in one step where that is the slot's. Moves what is behind it
-    /// in its page, and counts up the indices of at most 64 pages, and one number for each 64 more. A full page, one in
-    /// a hundred items or so, is halved: that moves the list of pages, and walks their indices.
+    /// Inserts an item at index `i`, before the item that is there, and returns its slot. Finds the page in one step if
+    /// it is that of `near`. Moves the items behind it in its page, increments the start indices of at most 64 pages,
+    /// and one number for each 64 further pages. About once in a hundred items a full page is halved, which moves the
+    /// list of pages and walks their start indices.
     pub fn insert_near(&mut self, i: usize, item: T, near: Slot) -> Slot
         requires index { i ≤ length self.old.items }
         requires room { 0 < self.old.room }
@@ -153,7 +156,8 @@ impl<T: Copy> PageList<T> {
         slot_in_halves(at)
     }
 
-    /// Room for so many more, or what room there was. Each may need a page of its own.
+    /// Reserves memory for `n` further items. Each may need a page of its own. Keeps the room that there was if memory
+    /// runs out.
     pub fn reserve(&mut self, n: usize) -> Result<(), AllocError>
         ensures ok { OnOk result (n ≤ self.new.room) }
         ensures room { self.old.room ≤ self.new.room }
@@ -173,8 +177,7 @@ impl<T: Copy> PageList<T> {
         Ok(())
     }
 
-    /// Keeps the items before an index, if that is not past the end. Pages after the one that has the index are given
-    /// back.
+    /// Keeps the first `n` items, if there are more. Frees the pages behind the one with index `n`.
     pub fn truncate(&mut self, n: usize)
         ensures items { self.new.items ≡ take n self.old.items }
         ensures room { self.new.room ≡ self.old.room }
@@ -189,7 +192,7 @@ impl<T: Copy> PageList<T> {
         self.len = n;
     }
 
-    /// Puts an item at the end. Pages that only this fills are three quarters full.
+    /// Appends an item. Pages that only this function fills are three quarters full.
     pub fn push(&mut self, item: T) -> Result<(), AllocError>
         ensures ok { OnOk result (self.new.items ≡ self.old.items ++ item ∷ []) }
         ensures err { OnErr result (self.new.items ≡ self.old.items) }
@@ -208,7 +211,7 @@ impl<T: Copy> PageList<T> {
         Ok(())
     }
 
-    /// Opens a page at the end for an item.
+    /// Appends a new page with one item.
     fn open(&mut self, item: T)
         requires room { 0 < self.old.room }
         ensures items { self.new.items ≡ self.old.items ++ item ∷ [] }
@@ -223,7 +226,7 @@ impl<T: Copy> PageList<T> {
     }
 }
 
-/// Where an item of a full page lies when it was put in there, and the page halved for it.
+/// Returns the slot of an item that was inserted at `at` into a full page, once that page is halved.
 fn slot_in_halves(at: Slot) -> Slot {
     if at.offset <= PAGE / 2 {
         return at;

@@ -2,8 +2,8 @@ ghost use Rattle.std.specs.Prelude.{◌≡◌, ◌+◌, ◌<◌, ◌≤◌, Some
 
 use crate::starts::Starts;
 
-/// The last page that begins at this index or before it, by the indices where the pages begin. Takes one step where
-/// that is the last of all, else as many as their number has binary digits.
+/// Returns the last page that begins at index `at` or before it; `starts` has the index of each page's first item.
+/// Takes one step if that is the last page of all, otherwise a binary search.
 pub(crate) fn page_of(starts: &Starts, at: usize) -> usize
     requires { slice_get starts.now.items 0 ≡ Some 0 }
     ensures within { result < length starts.now.items }
@@ -28,8 +28,8 @@ pub(crate) fn page_of(starts: &Starts, at: usize) -> usize
 
 ghost use Rattle.page_list.specs.Pages.{items_of, starts_from, IsSlot};
 
-/// Where an item lies in its list, which looks there first when it is handed back. Items that are put in move others,
-/// so nothing rests on it.
+/// Where an item lies in its list: its page, and the index in it. It is a hint: the list looks there first. Insertions
+/// move items, so nothing depends on it.
 #[derive(Clone, Copy)]
 pub struct Slot {
     pub(crate) page: usize,
@@ -37,13 +37,13 @@ pub struct Slot {
 }
 
 impl Slot {
-    /// Where the first item lies.
+    /// Returns the slot of the first item.
     pub fn first() -> Self {
         Slot { page: 0, offset: 0 }
     }
 }
 
-/// Where the item at index `i` lies, or would.
+/// Returns the slot of index `i`, also if `i` is the end of the list.
 pub(crate) fn slot_of<T>(pages: &[Vec<T>], starts: &Starts, i: usize) -> Slot
     requires some { 0 < length pages.now }
     requires starts { starts.now.items ≡ starts_from 0 pages.now }
@@ -57,7 +57,7 @@ pub(crate) fn slot_of<T>(pages: &[Vec<T>], starts: &Starts, i: usize) -> Slot
     }
 }
 
-/// The same where this page is likely to have the index, and is looked at first.
+/// Returns the slot of index `i`, also if `i` is the end of the list. Looks at `page` first.
 pub(crate) fn slot_near<T>(pages: &[Vec<T>], starts: &Starts, page: usize, i: usize) -> Slot
     requires some { 0 < length pages.now }
     requires starts { starts.now.items ≡ starts_from 0 pages.now }

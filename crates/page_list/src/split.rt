@@ -4,17 +4,17 @@ ghost use Rattle.page_list.specs.Split.{IsSplit};
 use crate::page_list::PageList;
 use crate::slot::{Slot, slot_near};
 
-/// The pages in which a part of a list lies, where a search looks first. A split is fair whatever they
-/// say.
+/// The pages that contain a part of a list, where a search looks first. It is a hint: a split is fair whatever they
+/// are.
 #[derive(Clone, Copy)]
 pub struct Pages {
     first: usize,
-    /// The one after the last.
+    /// The page after the last one.
     end: usize,
 }
 
 impl Pages {
-    /// The page in the middle.
+    /// Returns the page in the middle.
     fn middle(self) -> usize {
         self.first + self.end.saturating_sub(self.first) / 2
     }
@@ -25,14 +25,14 @@ impl Pages {
 pub struct Split<T> {
     pub index: usize,
     pub item: T,
-    /// Where the item lies.
+    /// The slot of the item.
     pub slot: Slot,
     pub before: Pages,
     pub after: Pages,
 }
 
 impl<T: Copy> PageList<T> {
-    /// The pages of the whole list.
+    /// Returns the pages of the whole list.
     pub fn pages(&self) -> Pages {
         Pages {
             first: 0,
@@ -40,10 +40,10 @@ impl<T: Copy> PageList<T> {
         }
     }
 
-    /// An item from index `low` on and before `high` with no more than `most` on either side: the first
-    /// of the page in the middle of `pages`, where that is such a one, so that searches read the same
-    /// few items, and else the one in the middle. Takes one step where the part lies in one page, and
-    /// mostly otherwise; else as many as the number of pages has binary digits.
+    /// Returns an item at an index from `low` up to, but not including, `high`, with at most `most` items of the part
+    /// on either side. Prefers the first item of the page in the middle of `pages`, so that searches read the same few
+    /// items; otherwise takes the item in the middle. Takes one step if the part lies in one page, and mostly
+    /// otherwise; at worst a binary search among the pages.
     pub fn split(&self, low: usize, high: usize, most: usize, pages: Pages) -> Split<T>
         requires part { low < high }
         requires within { high ≤ length self.now.items }
@@ -72,7 +72,8 @@ impl<T: Copy> PageList<T> {
     }
 }
 
-/// This index, where no more than `most` are on either side, and else the one in the middle.
+/// Returns `wished` if it is in the part and at most `most` items are on either side of it, and otherwise the index in
+/// the middle.
 fn fair_index(low: usize, high: usize, most: usize, wished: usize) -> usize
     requires part { low < high }
     requires halves { high ≤ low + 2 * most + 1 }

@@ -7,16 +7,16 @@ use crate::page::insert_within;
 use std::alloc::{AllocError, Global};
 use std::marker::Model;
 
-/// How many indices are a group.
+/// The number of indices in a group.
 const GROUP: usize = 64;
 
-/// The indices where pages begin, in order, in groups of 64. To count up all from one on is to count up those of its
-/// own group, and what is added to each later one.
+/// The indices of the pages' first items, in order, in groups of 64. To increment all from some page on, only the
+/// indices of its own group and one number for each later group are changed.
 #[derive(Drop)]
 pub(crate) struct Starts {
-    /// Each index, less what is added to its group.
+    /// Each index, without what is added to its group.
     starts: Vec<usize>,
-    /// What is added to each index of a group.
+    /// The number that is added to each index of a group.
     added: Vec<usize>,
 }
 
@@ -37,7 +37,7 @@ impl Model for Starts {
 }
 
 impl Starts {
-    /// None, and no room.
+    /// Creates an empty list without room.
     pub(crate) fn new(alloc: Global) -> Self
         ensures { result ≡ record { items = []; room = 0 } }
     {
@@ -47,14 +47,14 @@ impl Starts {
         }
     }
 
-    /// How many there are.
+    /// Returns the number of pages.
     pub(crate) fn len(&self) -> usize
         ensures { result ≡ length self.now.items }
     {
         self.starts.len()
     }
 
-    /// Where a page begins.
+    /// Returns the index of the page's first item.
     pub(crate) fn at(&self, page: usize) -> usize
         requires { page < length self.now.items }
         ensures { result ≡ slice_index self.now.items page }
@@ -62,7 +62,8 @@ impl Starts {
         self.starts[page] + self.added[page / GROUP]
     }
 
-    /// Each from `from` on is one more. Takes at most as many steps as a group has, and one for each later group.
+    /// Adds one to each index from page `from` on. Takes at most one step for each index of a group, and one for each
+    /// later group.
     pub(crate) fn shift(&mut self, from: usize)
         requires fits { All (λ start. start + 1 < 2 ^ 64) self.old.items }
         ensures items { self.new.items
@@ -84,7 +85,8 @@ impl Starts {
         count_up(&mut self.added, group + 1, groups);
     }
 
-    /// Puts one in, where there is room. Walks all of them, unless nothing is added to any.
+    /// Inserts an index at `page`. The caller has reserved room. Walks all indices, unless nothing is added to any
+    /// group.
     pub(crate) fn insert(&mut self, page: usize, start: usize)
         requires page { page ≤ length self.old.items }
         requires room { 0 < self.old.room }
@@ -95,7 +97,7 @@ impl Starts {
         insert_within(&mut self.starts, page, start);
     }
 
-    /// Puts one at the end, where there is room. Walks all only where something was added to its group.
+    /// Appends an index. The caller has reserved room. Walks all indices only if something was added to its group.
     pub(crate) fn push(&mut self, start: usize)
         requires room { 0 < self.old.room }
         ensures items { self.new.items ≡ self.old.items ++ start ∷ [] }
@@ -109,7 +111,7 @@ impl Starts {
         }
     }
 
-    /// Room for so many more, or what room there was.
+    /// Reserves room for `n` further indices. Keeps the room that there was if memory runs out.
     pub(crate) fn reserve(&mut self, n: usize) -> Result<(), AllocError>
         ensures ok { OnOk result (n ≤ self.new.room) }
         ensures room { self.old.room ≤ self.new.room }
@@ -120,7 +122,7 @@ impl Starts {
         open_groups(&mut self.added, groups)
     }
 
-    /// Keeps the first `n`, if there are more.
+    /// Keeps the first `n` indices, if there are more.
     pub(crate) fn truncate(&mut self, n: usize)
         ensures items { self.new.items ≡ take n self.old.items }
         ensures room { self.old.room ≤ self.new.room }
@@ -129,7 +131,7 @@ impl Starts {
     }
 }
 
-/// At least so many groups, with nothing added to new ones.
+/// Extends `added` to at least `groups` groups, with 0 for new ones.
 fn open_groups(added: &mut Vec<usize>, groups: usize) -> Result<(), AllocError>
     ensures ok { OnOk result (groups ≤ vec_len added.new) }
     ensures groups { vec_len added.old ≤ vec_len added.new }
@@ -141,7 +143,7 @@ fn open_groups(added: &mut Vec<usize>, groups: usize) -> Result<(), AllocError>
     added.resize(groups, 0)
 }
 
-/// Each number from `from` on and before `until` is one more.
+/// Adds one to each number at an index from `from` up to, but not including, `until`.
 fn count_up(numbers: &mut [usize], from: usize, until: usize)
     requires from { from ≤ until }
     requires until { until ≤ length numbers.old }
@@ -155,7 +157,7 @@ fn count_up(numbers: &mut [usize], from: usize, until: usize)
     }
 }
 
-/// Adds to each number what is added to its group, to which nothing is added then.
+/// Adds to each number what is added to its group, and sets that to 0.
 fn settle(numbers: &mut Vec<usize>, added: &mut Vec<usize>)
     requires grouped { length numbers.old.items ≤ 64 * length added.old.items }
     requires fits { All (λ n. n < 2 ^ 64) (raised added.old.items 0 numbers.old.items) }
@@ -171,7 +173,7 @@ fn settle(numbers: &mut Vec<usize>, added: &mut Vec<usize>)
     }
 }
 
-/// Whether a number is not 0.
+/// Returns whether any number is not 0.
 fn has_any(numbers: &[usize]) -> bool
     ensures { result ≡ false → (i : ℕ) → slice_index numbers.now i ≡ 0 }
 {

@@ -14,12 +14,12 @@ pub record HeldPlan : Type 0 where
 abbrev pub nothing_held : HeldPlan
 nothing_held = record { lids = []; switches = []; blocks = [] }
 
--- the LIDs of an end port: 2^LMC, from its first one on
+-- the LIDs of an end port: 2^LMC of them, from its first one on
 pub record LidRange : Type 0 where
   pub first : HeldLid
   pub lmc : ℕ
 
--- the LID that is some numbers further
+-- the LID that is `step` numbers after the first one
 abbrev pub lid_at : HeldLid → ℕ → HeldLid
 lid_at first step = record { lid = first.lid + step; port = first.port }
 

@@ -1,4 +1,4 @@
--- What is said of a fault of a plan's text.
+-- The faults of a plan's text.
 use Rattle.std.specs.Prelude.{ℕ, List, codes}
 use Rattle.text_words.specs.declared.fault.LineFault.{LineFault}
 use Rattle.text_words.specs.declared.fault.LinesFault.{LinesFault}
@@ -11,7 +11,7 @@ PlanLineFault = LineFault PlanTextError
 abbrev pub PlanTextFault : Type 0
 PlanTextFault = LinesFault PlanTextError
 
--- the word for it
+-- the word for a fault
 abbrev pub wrong_word : PlanTextError → List ℕ
 wrong_word Syntax = codes "syntax"
 wrong_word Lid = codes "lid"

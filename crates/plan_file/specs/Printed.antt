@@ -17,7 +17,7 @@ use Rattle.plan_file.specs.declared.held.HeldBlock.{HeldBlock}
 use Rattle.plan_file.specs.Held.{HeldPlan, LidRange, lids_of, nothing_held}
 use Rattle.plan_file.specs.Reading.{first_fault, held_of}
 
--- the LIDs of the end port that has this one as its first, with its LMC
+-- the LIDs of the end port whose first LID is `lid`, with its LMC
 abbrev pub range_from : Given → ℕ → EndPort → LidRange
 range_from given lid port = record { first = record { lid = lid; port = port }; lmc = lmc_of given port }
 
@@ -28,21 +28,22 @@ owned_range given lid = option_map (range_from given lid) (owner_of given lid)
 abbrev pub owned_lids : Given → List HeldLid
 owned_lids given = flat_map lids_of (filter_map (owned_range given) (rising_lids given))
 
--- the blocks of the switch at an index, that count from a number on
+-- the blocks of the switch at `index`, with numbers that count from `number` on
 abbrev pub blocks_from : ℕ → ℕ → List (List ℕ) → List HeldBlock
 blocks_from index number blocks =
     map (λ x. record { switch = index; number = x.0; entries = x.1 }) (enumerate_from number blocks)
 
--- the blocks of switches, that count from an index on
+-- the blocks of the switches, whose indices count from `index` on
 abbrev pub blocks_of : ℕ → List SwitchTable → List HeldBlock
 blocks_of index [] = []
 blocks_of index (table ∷ tables) = blocks_from index 0 table.blocks ++ blocks_of (suc index) tables
 
--- a switch with the greatest LID
+-- the switch of a table, with the greatest LID as its top
 abbrev pub with_top : ℕ → SwitchTable → HeldSwitch
 with_top top table = record { guid = table.guid; top = top }
 
--- the LIDs with their owners, and where there are any the switches with the greatest as their top and with their blocks
+-- the LIDs with their owners and, if there are any, the switches with their blocks and with the greatest LID as their
+-- top
 abbrev pub held_plan : PlanValue → HeldPlan
 held_plan plan =
     option_map_or (λ top. record {
@@ -51,7 +52,7 @@ held_plan plan =
       blocks = blocks_of 0 plan.tables;
     }) (top_of plan.given) nothing_held
 
--- a LID that is an end port's first one, with that end port
+-- a LID that is the first one of an end port, with that end port
 pub record IsLidInRange (given : Given) (lid : ℕ) : Type 0 where
   pub some : 1 ≤ lid
   pub most : lid ≤ 0xBFFF
@@ -77,15 +78,15 @@ pub record IsPlanInRange (plan : PlanValue) : Type 0 where
   pub rising : IsStrictlyIncreasing (map (λ table. table.guid) plan.tables)
   pub tables : AllByRecursion IsTableInRange plan.tables
 
--- its text has no fault, and says what it holds
+-- the text of a plan has no fault, and says what the plan holds
 abbrev pub IsRead : PlanValue → Type 0
 IsRead plan = (first_fault (plan_text plan) ≡ None) × (held_of (plan_text plan) ≡ held_plan plan)
 
 abbrev pub PrintedPlansAreRead : Type 0
 PrintedPlansAreRead = (plan : PlanValue) → IsPlanInRange plan → IsRead plan
 
--- so is that of the plan, by each rule and under each LMC, of a view whose facts are in range, where there is room for
--- its LIDs
+-- the text of a view's plan is read, by each rule and under each LMC, if the view's facts are in range and there is
+-- room for its LIDs
 abbrev pub PlansAreRead : Type 0
 PlansAreRead =
     (rule : RuleValue) (lmc : ℕ) (facts : Facts) → lmc ≤ 7 → AreInRange facts → ¬ (IsNoRoom lmc (cells_of facts))

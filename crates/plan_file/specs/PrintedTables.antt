@@ -1,4 +1,4 @@
--- What the text of tables says whose switches have tops of their own.
+-- What the text of tables says if the switches have tops of their own.
 use Rattle.std.specs.Prelude.{◌≡◌, ◌≤◌, ℕ, List, map, None}
 use Rattle.std.specs.List.{AllByRecursion}
 use Rattle.lft_blocks.specs.Plan.{PlanValue, SwitchTable}
@@ -8,11 +8,11 @@ use Rattle.plan_file.specs.Printed.{IsBlock, IsPlanInRange, blocks_of, owned_lid
 use Rattle.plan_file.specs.Reading.{first_fault, held_of}
 use Rattle.plan_file.specs.TablesText.{next_text}
 
--- a text has no fault, and says exactly this
+-- the text has no fault, and says exactly `held`
 abbrev pub Says : List ℕ → HeldPlan → Type 0
 Says text held = (first_fault text ≡ None) × (held_of text ≡ held)
 
--- the top of each switch, by its GUID
+-- a switch with its own top, by its GUID
 abbrev pub with_own_top : (ℕ → ℕ) → SwitchTable → HeldSwitch
 with_own_top top table = with_top (top table.guid) table
 
@@ -37,6 +37,6 @@ pub record IsHeldInRange (held : HeldPlan) : Type 0 where
   pub tops : AllByRecursion (λ switch. switch.top ≤ 0xBFFF) held.switches
   pub blocks : AllByRecursion (λ block. IsBlock block.entries) held.blocks
 
--- whatever a text says is so
+-- the tops and blocks that a text says are in range, whatever the text is
 abbrev pub TextsAreInRange : Type 0
 TextsAreInRange = (text : List ℕ) → IsHeldInRange (held_of text)

@@ -1,4 +1,4 @@
--- What a text says: what its lines say in turn, or its first fault.
+-- What a text says: what its lines say in turn, up to its first fault.
 use Rattle.std.specs.Prelude.{ℕ, ◌+◌, ◌-◌, ◌^◌, ◌==◌, ◌||◌, ◌&&◌, Bool, List, [], ◌∷◌, ◌++◌, Option, None, Some, Result, Ok, Err, length, nat_lt, if◌then◌else◌}
 use Rattle.text_words.specs.Text.{lines}
 use Rattle.plan_file.specs.declared.fault.PlanTextError.{PlanTextError}
@@ -14,28 +14,28 @@ use Rattle.plan_file.specs.declared.held.HeldSwitch.{HeldSwitch}
 use Rattle.plan_file.specs.Held.{HeldPlan, LidRange, lids_of, nothing_held}
 use Rattle.plan_file.specs.TextLine.{line_of}
 
--- above all lines
+-- the state before all lines
 abbrev pub start : LastLines
 start = record { lid = None; switch = None; block = 0 }
 
--- what a line leaves for the order of those to come
+-- what a line leaves for the order of the lines to come
 abbrev pub last_lines_after : LastLines → Item → LastLines
 last_lines_after last_lines Nothing = last_lines
 last_lines_after last_lines (Lid range) = record last_lines { lid = Some range.first }
 last_lines_after last_lines (Switch switch) = record last_lines { switch = Some switch.guid; block = 0 }
 last_lines_after last_lines (Block number entries) = record last_lines { block = number + 1 }
 
--- the fault of a line
+-- the fault of the line `number`
 abbrev pub fault_at : {T : Type 0} → ℕ → PlanTextError → Result T PlanLineFault
 fault_at number what = Err (record { line = number; wrong = what })
 
--- of a LID that is not less, it or its end port is greater
+-- the LID or the end port of `held` is greater, given that the LID is not less
 abbrev pub is_behind : HeldLid → HeldLid → Bool
 is_behind last held =
     nat_lt last.lid held.lid || nat_lt last.port.node held.port.node
     || (last.port.node == held.port.node && nat_lt last.port.port held.port.port)
 
--- the LIDs of an end port behind the last one's
+-- the LIDs of an end port, after those of the one before
 abbrev pub lid_behind : ℕ → HeldLid → LidRange → Result Item PlanLineFault
 lid_behind number last range =
     if nat_lt range.first.lid last.lid then fault_at number wrong.Lid
@@ -46,7 +46,7 @@ abbrev pub lid_after : ℕ → Option HeldLid → LidRange → Result Item PlanL
 lid_after number None range = Ok (Lid range)
 lid_after number (Some last) range = lid_behind number last range
 
--- where the last of them is one of an end port
+-- the LIDs of an end port, if the last of them is a LID of an end port
 abbrev pub lid_in_room : ℕ → Option HeldLid → LidRange → Result Item PlanLineFault
 lid_in_room number last range =
     if nat_lt 0xC000 (range.first.lid + 2 ^ range.lmc) then fault_at number wrong.Lid else lid_after number last range
@@ -62,7 +62,7 @@ lid_with number last (Some lid) node (Some port) (Some lmc) =
           lmc;
     })
 
--- a switch behind the last one
+-- a switch, after the one before
 abbrev pub switch_after : ℕ → Option ℕ → HeldSwitch → Result Item PlanLineFault
 switch_after number None switch = Ok (Switch switch)
 switch_after number (Some last) switch =
@@ -72,7 +72,7 @@ abbrev pub switch_with : ℕ → Option ℕ → ℕ → Option ℕ → Result It
 switch_with number last guid None = fault_at number wrong.Lid
 switch_with number last guid (Some top) = switch_after number last (record { guid = guid; top = top })
 
--- a block below a switch, behind the last one
+-- a block of the switch above it, after the one before
 abbrev pub block_after : ℕ → ℕ → Option ℕ → List ℕ → Result Item PlanLineFault
 block_after number next None entries = fault_at number wrong.Block
 block_after number next (Some block) entries =
@@ -85,7 +85,7 @@ block_below number (Some switch) next block entries = block_after number next bl
 abbrev pub block_with : ℕ → LastLines → Option ℕ → List ℕ → Result Item PlanLineFault
 block_with number last_lines block entries = block_below number last_lines.switch last_lines.block block entries
 
--- what the line of a number says, by those before it
+-- what the line `number` says, after the lines before it
 abbrev pub item_of : ℕ → LastLines → Option TextLine → Result Item PlanLineFault
 item_of number last_lines None = fault_at number wrong.Syntax
 item_of number last_lines (Some line.Empty) = Ok Nothing
@@ -93,12 +93,12 @@ item_of number last_lines (Some (line.Lid l)) = lid_with number last_lines.lid l
 item_of number last_lines (Some (line.Switch l)) = switch_with number last_lines.switch l.guid l.top
 item_of number last_lines (Some (line.Block l)) = block_with number last_lines l.number l.entries
 
--- what follows what a line says, or its fault
+-- `next` of what a line says, or `last` of its fault
 abbrev pub then_or : {T : Type 0} → Result Item PlanLineFault → (Item → T) → (PlanLineFault → T) → T
 then_or (Ok item) next last = next item
 then_or (Err fault) next last = last fault
 
--- the first fault of lines that count from this number
+-- the first fault of lines whose numbers count from `number` on
 abbrev pub first_fault_from : ℕ → LastLines → List (List ℕ) → Option PlanLineFault
 first_fault_from number last_lines [] = None
 first_fault_from number last_lines (l ∷ later) =
@@ -112,7 +112,7 @@ items_from number last_lines (l ∷ later) =
     then_or (item_of number last_lines (line_of l)) (λ item. item
     ∷ items_from (number + 1) (last_lines_after last_lines item) later) (λ fault. [])
 
--- what is held, with what a line more says: a block is of the last switch
+-- what is held, with what another line says; a block belongs to the last switch
 abbrev pub held_with : HeldPlan → Item → HeldPlan
 held_with held Nothing = held
 held_with held (Lid range) = record held { lids = held.lids ++ lids_of range }

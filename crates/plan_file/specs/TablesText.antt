@@ -1,4 +1,4 @@
--- Tables as text, each switch with its own top.
+-- The text of tables in which each switch has its own top.
 use Rattle.std.specs.Prelude.{ℕ, suc, ◌==◌, Bool, List, [], ◌∷◌, ◌++◌, drop}
 use Rattle.std.specs.List.{flat_map, prefix_len, take_while}
 use Rattle.lid_assign.specs.Lids.{Given}
@@ -7,11 +7,11 @@ use Rattle.plan_file.specs.declared.held.HeldBlock.{HeldBlock}
 use Rattle.plan_file.specs.declared.held.HeldSwitch.{HeldSwitch}
 use Rattle.plan_file.specs.Held.{HeldPlan}
 
--- the block is of the switch at an index
+-- the block belongs to the switch at `index`
 abbrev pub is_of : ℕ → HeldBlock → Bool
 is_of index block = block.switch == index
 
--- the blocks at the head that are of the switch at an index, and those behind them
+-- the blocks at the head that belong to the switch at `index`, and the blocks after them
 abbrev pub first_blocks : ℕ → List HeldBlock → List HeldBlock
 first_blocks index blocks = take_while (is_of index) blocks
 
@@ -22,8 +22,8 @@ later_blocks index blocks = drop (prefix_len (is_of index) blocks) blocks
 abbrev pub block_text : HeldBlock → List ℕ
 block_text block = block_line (block.number, block.entries)
 
--- switches that count from an index on: of each its line, with its top, and a line for each of its blocks, which are at
--- the head
+-- switches whose indices count from `index` on: for each its line, with its top, and a line for each of its blocks,
+-- which are at the head
 abbrev pub switches_text : ℕ → List HeldSwitch → List HeldBlock → List ℕ
 switches_text index [] blocks = []
 switches_text index (switch ∷ switches) blocks =

@@ -10,16 +10,16 @@ use Rattle.plan_file.specs.declared.line.SwitchLine.{SwitchLine}
 use Rattle.plan_file.specs.declared.line.BlockLine.{BlockLine}
 use Rattle.plan_file.specs.Words.{small_of, bare_guid_of, port_of, entries_of}
 
--- the two words, where there are two
+-- the two words of a list, if it has two
 abbrev pub both : List (List ℕ) → Option (List ℕ × List ℕ)
 both (one ∷ other ∷ []) = Some (one, other)
 both _ = None
 
--- 'lmc' and a number, and whether that is not over 7
+-- reads `lmc N`: a number, if it is at most 7
 abbrev pub lmc_in : List ℕ × List ℕ → Option (Option ℕ)
 lmc_in x = if bytes_eq x.0 (codes "lmc") then small_of 7 x.1 else None
 
--- the LMC, 0 where nothing is told
+-- the LMC, 0 if the line has none
 abbrev pub lmc_line : List (List ℕ) → Option (Option ℕ)
 lmc_line [] = Some (Some 0)
 lmc_line (word ∷ rest) = option_and_then lmc_in (both (word ∷ rest))
@@ -45,13 +45,13 @@ abbrev pub switch_line : List (List ℕ) → Option SwitchLine
 switch_line [] = None
 switch_line (guid ∷ rest) = option_and_then (top_line guid) (both rest)
 
--- the number of a block, and its entries
+-- the number of a block and its entries
 abbrev pub block_line : List (List ℕ) → Option BlockLine
 block_line words =
     option_and_then (λ x. option_and_then (λ n. option_map (λ e. record { number = n; entries = e }) (entries_of x.1))
     (small_of 767 x.0)) (both words)
 
--- the line that the words are
+-- the line that these words are
 abbrev pub line_in : List (List ℕ) → Option TextLine
 line_in [] = Some Empty
 line_in (word ∷ rest) =

@@ -5,19 +5,19 @@ use Rattle.hex.specs.Hex.{decode_sized}
 use Rattle.text_words.specs.Number.{number_of, guid_of}
 use Rattle.text_words.specs.Quoted.{until}
 
--- the number, where it is not over the most
+-- n, if it is at most `most`
 abbrev pub at_most : ℕ → ℕ → Option ℕ
 at_most most n = if nat_le n most then Some n else None
 
--- a number in decimal, and whether it is not over the most
+-- a decimal number, if it is at most `most`
 abbrev pub small_of : ℕ → List ℕ → Option (Option ℕ)
 small_of most word = option_map (at_most most) (number_of 10 word)
 
--- a GUID: up to sixteen hex digits, without the '0x' that may stand in front elsewhere
+-- a GUID: up to sixteen hex digits, without the '0x' that may precede them elsewhere
 abbrev pub bare_guid_of : List ℕ → Option ℕ
 bare_guid_of word = guid_of (codes "0x" ++ word)
 
--- a node's GUID, a slash, and a port of it, and whether that is not over 254
+-- a node's GUID, a slash, and a port of it, if that is at most 254
 abbrev pub port_of : List ℕ → Option (ℕ × Option ℕ)
 port_of word =
     option_and_then (λ x. option_and_then (λ node. option_map (λ port. (node, port)) (small_of 254 x.1))

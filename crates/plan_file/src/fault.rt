@@ -1,20 +1,20 @@
 use text_words::{LineError, LineFault, LinesFault};
 
-/// What is wrong with a line.
+/// What is wrong with a line of a plan's text.
 #[derive(Clone, Copy, Debug, PartialEq, Eq)]
 pub enum PlanTextError {
-    /// It is none of the grammar's, or a block above all switches.
+    /// A line that the grammar does not have, or a block above all switches.
     Syntax,
-    /// A LID outside 1 to 49,151, a range of LIDs that ends over that, a top over that, or a LID below that of the line
-    /// before.
+    /// A LID outside 1 to 49,151, a range of LIDs that ends above that, a top above that, or a LID less than the one on
+    /// the line before.
     Lid,
-    /// A port over 254, or one that does not come after that of the line before with the same LID.
+    /// A port above 254, or one that does not come after the port on the line before with the same LID.
     Port,
-    /// An LMC over 7.
+    /// An LMC above 7.
     Lmc,
     /// A switch that does not come after the one before.
     Switch,
-    /// A block over 767, or one that does not come after the one before of its switch.
+    /// A block above 767, or one that does not come after the one before of its switch.
     Block,
 }
 
@@ -38,5 +38,5 @@ impl LineError for PlanTextError {
 /// The first faulty line of a text, from 1, and what is wrong with it.
 pub type PlanLineFault = LineFault<PlanTextError>;
 
-/// Why a text is not read.
+/// Why a text could not be read.
 pub type PlanTextFault = LinesFault<PlanTextError>;

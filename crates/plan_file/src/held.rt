@@ -17,7 +17,7 @@ use subnet_view::EndPort;
 pub struct HeldLid {
     /// From 1 to 49,151.
     pub lid: Lid,
-    /// Its port's number is up to 254.
+    /// Its port number is at most 254.
     pub port: EndPort,
 }
 
@@ -32,11 +32,11 @@ pub struct HeldSwitch {
 /// A block of a switch's forwarding table.
 #[derive(Clone, Copy, Debug, PartialEq, Eq)]
 pub struct HeldBlock {
-    /// The index of its switch, from 0, among those that are held.
+    /// The index of its switch, from 0, among the held switches.
     pub switch: usize,
     /// Up to 767: the block has the entries from LID 64 times this number on.
     pub number: u16,
-    /// The port by which packets for each LID leave.
+    /// For each LID, the port by which packets leave.
     pub entries: [u8; 64],
 }
 
@@ -61,7 +61,7 @@ impl Model for Held {
 }
 
 impl Held {
-    /// Nothing is held.
+    /// Returns an empty plan.
     pub(crate) fn new(alloc: Global) -> Self
         ensures { result ≡ nothing_held }
     {
@@ -72,8 +72,8 @@ impl Held {
         }
     }
 
-    /// The tables of a plan, as reading its text gives them: the LIDs of its end ports, and its switches, each with the
-    /// greatest LID as its top. Takes a step for each LID and each block.
+    /// Returns the tables of a plan, as reading its text gives them: the LIDs of its end ports, and its switches, each
+    /// with the greatest LID as its top. Takes a step for each LID and each block.
     pub fn of_plan(alloc: Global, plan: &Plan) -> Result<Self, AllocError>
         ensures { IfOk result (λ held. held ≡ held_plan plan.now) }
     {
@@ -83,7 +83,7 @@ impl Held {
         }
     }
 
-    /// The same, where this is the greatest LID.
+    /// Returns the tables of a plan whose greatest LID is `top`.
     fn under_top(alloc: Global, plan: &Plan, top: Lid) -> Result<Self, AllocError>
         ensures { IfOk result (λ held. held ≡ record {
           lids = owned_lids plan.now.given;
@@ -97,7 +97,7 @@ impl Held {
         Ok(Held::of(lids, switches, blocks))
     }
 
-    /// These LIDs with their end ports, switches and blocks.
+    /// Builds a plan's tables from LIDs with their end ports, switches and blocks.
     pub fn of(lids: Vec<HeldLid>, switches: Vec<HeldSwitch>, blocks: Vec<HeldBlock>) -> Self
         ensures { result ≡ record { lids = lids.items; switches = switches.items; blocks = blocks.items } }
     {
@@ -108,28 +108,28 @@ impl Held {
         }
     }
 
-    /// The LIDs, each with an end port that holds it: by the first LID of that one, and then by end port.
+    /// Returns the LIDs, each with an end port that holds it, by the first LID of the end port and then by end port.
     pub fn lids(&self) -> &[HeldLid]
         ensures { result.now ≡ self.now.lids }
     {
         &self.lids
     }
 
-    /// The switches, by rising GUID.
+    /// Returns the switches, by rising GUID.
     pub fn switches(&self) -> &[HeldSwitch]
         ensures { result.now ≡ self.now.switches }
     {
         &self.switches
     }
 
-    /// The blocks, by the indices of their switches and then by their numbers.
+    /// Returns the blocks, by the indices of their switches and then by their numbers.
     pub fn blocks(&self) -> &[HeldBlock]
         ensures { result.now ≡ self.now.blocks }
     {
         &self.blocks
     }
 
-    /// This with what a line more says.
+    /// Returns the tables with what another line says.
     pub(crate) fn with(self, item: Item) -> Result<Self, AllocError>
         ensures { IfOk result (λ held. held ≡ held_with self item) }
     {
@@ -159,7 +159,7 @@ impl Held {
     }
 }
 
-/// The LIDs of an end port more.
+/// Appends the LIDs of an end port.
 fn push_range(lids: &mut Vec<HeldLid>, range: HeldRange) -> Result<(), AllocError>
     ensures { OnOk result (lids.new.items ≡ lids.old.items ++ lids_of range) }
 {
@@ -167,7 +167,7 @@ fn push_range(lids: &mut Vec<HeldLid>, range: HeldRange) -> Result<(), AllocErro
     push_lids(lids, &first, lmc)
 }
 
-/// As many LIDs more as an LMC says, from this one on.
+/// Appends the 2^LMC LIDs of an end port, from `first` on.
 pub(crate) fn push_lids(
     lids: &mut Vec<HeldLid>,
     first: &HeldLid,

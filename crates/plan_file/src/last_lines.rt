@@ -13,19 +13,19 @@ use subnet_view::EndPort;
 /// The first number that is no LID of an end port.
 const LID_END: u32 = Lid::UNICAST_END as u32;
 
-/// What the lines before leave for the order of those to come.
+/// What the lines so far leave for the order of the lines to come.
 #[derive(Clone, Copy)]
 pub(crate) struct LastLines {
     /// The first LID of the last line of an end port.
     pub(crate) lid: Option<HeldLid>,
     /// The last switch.
     pub(crate) switch: Option<Guid>,
-    /// The least number that its next block may have.
+    /// The least number that the switch's next block may have.
     pub(crate) block: u32,
 }
 
 impl LastLines {
-    /// Above all lines.
+    /// Returns the state before all lines.
     pub(crate) fn start() -> Self
         ensures { result ≡ start }
     {
@@ -36,7 +36,7 @@ impl LastLines {
         }
     }
 
-    /// What the line of a number says, or what is wrong with it.
+    /// Returns what the line numbered `number` says, or what is wrong with it.
     pub(crate) fn item(&self, number: usize, line: &[u8]) -> Result<Item, PlanLineFault>
         ensures { result ≡ item_of number self.now (line_of line.now) }
     {
@@ -49,7 +49,7 @@ impl LastLines {
         }
     }
 
-    /// What the line of a block says.
+    /// Returns what the line of a block says.
     fn block(&self, number: usize, line: BlockLine) -> Result<Item, PlanLineFault>
         ensures { result ≡ block_with number self.now line.number line.entries }
     {
@@ -62,7 +62,7 @@ impl LastLines {
         }
     }
 
-    /// What this line leaves.
+    /// Returns the state after a line that says `item`.
     pub(crate) fn after(&self, item: &Item) -> Self
         ensures { result ≡ last_lines_after self.now item.now }
     {
@@ -85,14 +85,14 @@ impl LastLines {
     }
 }
 
-/// The fault of a line.
+/// Returns the fault `wrong` of the line numbered `line`.
 fn wrong(line: usize, wrong: PlanTextError) -> Result<Item, PlanLineFault>
     ensures { result ≡ Err (record { line = line; wrong = wrong }) }
 {
     Err(PlanLineFault { line, wrong })
 }
 
-/// What the line of a LID says behind the last one.
+/// Returns what the line of a LID says, after the line of the LID `last`, if there is one.
 fn lid(number: usize, last: Option<HeldLid>, line: LidLine) -> Result<Item, PlanLineFault>
     ensures { result ≡ lid_with number last line.lid line.node line.port line.lmc }
 {
@@ -116,7 +116,8 @@ fn lid(number: usize, last: Option<HeldLid>, line: LidLine) -> Result<Item, Plan
     lid_after(number, last, HeldRange { first, lmc })
 }
 
-/// What a line of a LID says behind the last one, if there is one.
+/// Returns what the line of a LID says, after the line of the LID `last`, if there is one, given that its numbers are
+/// in range.
 fn lid_after(number: usize, last: Option<HeldLid>, range: HeldRange) -> Result<Item, PlanLineFault>
     ensures { result ≡ lid_after number last range }
 {
@@ -126,7 +127,7 @@ fn lid_after(number: usize, last: Option<HeldLid>, range: HeldRange) -> Result<I
     }
 }
 
-/// What a line of a LID says behind another.
+/// Returns what the line of a LID says after the line of the LID `last`.
 fn lid_behind(number: usize, last: HeldLid, range: HeldRange) -> Result<Item, PlanLineFault>
     ensures { result ≡ lid_behind number last range }
 {
@@ -140,7 +141,7 @@ fn lid_behind(number: usize, last: HeldLid, range: HeldRange) -> Result<Item, Pl
     }
 }
 
-/// Whether a LID that is not less, or else the end port, is greater.
+/// Returns whether `held` comes after `last`: its LID or its end port is greater, given that its LID is not less.
 fn is_behind(last: HeldLid, held: HeldLid) -> bool
     ensures { result ≡ is_behind last held }
 {
@@ -150,7 +151,7 @@ fn is_behind(last: HeldLid, held: HeldLid) -> bool
         || (is_same_node && last.port.port < held.port.port)
 }
 
-/// What the line of a switch says behind the last one.
+/// Returns what the line of a switch says, after the switch `last`, if there is one.
 fn switch(number: usize, last: Option<Guid>, line: SwitchLine) -> Result<Item, PlanLineFault>
     ensures { result ≡ switch_with number last line.guid line.top }
 {

@@ -2,14 +2,14 @@
 ghost use Rattle.plan_file.specs.Printed.{PlansAreRead, PrintedPlansAreRead};
 ghost use Rattle.plan_file.specs.PrintedTables.{PrintedTablesAreRead, TextsAreInRange};
 
-/// The text of a plan whose numbers are in their ranges has no fault, and is read as the LIDs of that plan, each number
+/// The text of a plan whose numbers are in their ranges has no fault, and is read as that plan: its LIDs, each number
 /// of a range with the end port that has it, and its tables, each with the greatest LID as its top.
 pub fn printed_plans_are_read()
     ensures law { PrintedPlansAreRead }
 {}
 
-/// So is the text of the plan of each view with room, as a store holds it, by each rule and under each LMC: what
-/// `lft_blocks::write_plan` writes is read as the plan.
+/// The text of the plan of a view with room, as a store holds it, has no fault and is read as the plan, by each rule
+/// and under each LMC. That text is what `lft_blocks::write_plan` writes.
 pub fn plans_are_read()
     ensures law { PlansAreRead }
 {}
@@ -20,7 +20,7 @@ pub fn printed_tables_are_read()
     ensures law { PrintedTablesAreRead }
 {}
 
-/// Whatever a text says, its tops are LIDs, and its blocks have 64 entries, each a byte.
+/// The tops that a text says are at most 49,151, and its blocks have 64 entries, each a byte, whatever the text is.
 pub fn texts_are_in_range()
     ensures law { TextsAreInRange }
 {}

@@ -22,7 +22,7 @@ pub(crate) enum TextLine {
     Block(BlockLine),
 }
 
-/// A LID and who holds it, as its line tells it. A number is `None` where it is out of its range.
+/// A LID and the end port that holds it, as its line says. A number is `None` if it is out of its range.
 #[derive(Clone, Copy)]
 pub(crate) struct LidLine {
     /// From 1 to 49,151.
@@ -30,28 +30,28 @@ pub(crate) struct LidLine {
     pub(crate) node: Guid,
     /// Up to 254.
     pub(crate) port: Option<PortNum>,
-    /// Up to 7; 0 where the line tells none.
+    /// Up to 7; 0 if the line has none.
     pub(crate) lmc: Option<Lmc>,
 }
 
-/// A switch and its top, as its line tells it.
+/// A switch and its top, as its line says.
 #[derive(Clone, Copy)]
 pub(crate) struct SwitchLine {
     pub(crate) guid: Guid,
-    /// Up to 49,151, and `None` where it is greater.
+    /// Up to 49,151; `None` if it is greater.
     pub(crate) top: Option<u16>,
 }
 
-/// A block of a switch, as its line tells it.
+/// A block of a switch, as its line says.
 #[derive(Clone, Copy)]
 pub(crate) struct BlockLine {
-    /// Up to 767, and `None` where it is greater.
+    /// Up to 767; `None` if it is greater.
     pub(crate) number: Option<u16>,
     pub(crate) entries: [u8; 64],
 }
 
 #[tactic(auto, unfolding(crate::specs::TextLine::line_of))]
-/// What a line says; `None` is a line that is none of the grammar's.
+/// Returns what a line says, or `None` if the grammar does not have it.
 pub(crate) fn read_line(line: &[u8]) -> Option<TextLine>
     ensures { result ≡ line_of line.now }
 {
@@ -69,7 +69,7 @@ pub(crate) fn read_line(line: &[u8]) -> Option<TextLine>
     }
 }
 
-/// The two words of which a line has no more.
+/// Returns the two words of a line, or `None` if it has more or fewer.
 fn two_words(line: &[u8]) -> Option<(&[u8], &[u8])>
     ensures { option_map (λ x. (x.0.now, x.1.now)) result ≡ both (words line.now) }
 {
@@ -81,7 +81,7 @@ fn two_words(line: &[u8]) -> Option<(&[u8], &[u8])>
     Some((one, other))
 }
 
-/// The rest of the line of a LID.
+/// Parses the part of a `lid` line that follows the word.
 fn lid_line(line: &[u8]) -> Option<LidLine>
     ensures { result ≡ lid_line (words line.now) }
 {
@@ -98,8 +98,8 @@ fn lid_line(line: &[u8]) -> Option<LidLine>
     })
 }
 
-/// What the line of a LID tells behind the end port: `lmc` and a number, or nothing. Inside it is `None` where the
-/// number is over 7.
+/// Parses what follows the end port on a `lid` line: `lmc` and a number, or nothing. The inner value is `None` if the
+/// number is above 7.
 fn lmc_line(line: &[u8]) -> Option<Option<Lmc>>
     ensures { result ≡ lmc_line (words line.now) }
 {
@@ -114,7 +114,7 @@ fn lmc_line(line: &[u8]) -> Option<Option<Lmc>>
     Some(lmc_of(number))
 }
 
-/// The rest of the line of a switch.
+/// Parses the part of a `switch` line that follows the word.
 fn switch_line(line: &[u8]) -> Option<SwitchLine>
     ensures { result ≡ switch_line (words line.now) }
 {
@@ -128,7 +128,7 @@ fn switch_line(line: &[u8]) -> Option<SwitchLine>
     Some(SwitchLine { guid, top })
 }
 
-/// The rest of the line of a block.
+/// Parses the part of a `block` line that follows the word.
 fn block_line(line: &[u8]) -> Option<BlockLine>
     ensures { result ≡ block_line (words line.now) }
 {

@@ -10,7 +10,7 @@ use lid_assign::LidMap;
 use smp_bytes::Lid;
 use std::alloc::{AllocError, Global};
 
-/// The LIDs of all end ports, by the first one of each.
+/// Returns the LIDs of all end ports, by the first LID of each.
 pub(crate) fn owned_lids(alloc: Global, map: &LidMap) -> Result<Vec<HeldLid>, AllocError>
     ensures { IfOk result (λ lids. lids.items ≡ owned_lids map.now) }
 {
@@ -21,7 +21,7 @@ pub(crate) fn owned_lids(alloc: Global, map: &LidMap) -> Result<Vec<HeldLid>, Al
     Ok(lids)
 }
 
-/// The LIDs of the end port that has this one as its first.
+/// Appends the LIDs of the end port whose first LID is `lid`.
 fn push_owned(lids: &mut Vec<HeldLid>, map: &LidMap, lid: Lid) -> Result<(), AllocError>
     ensures { OnOk result (lids.new.items
         ≡ lids.old.items ++ option_map_or lids_of (owned_range map.now lid) []) }
@@ -32,7 +32,7 @@ fn push_owned(lids: &mut Vec<HeldLid>, map: &LidMap, lid: Lid) -> Result<(), All
     }
 }
 
-/// The switches, each with this top.
+/// Returns the switches of `tables`, each with the top `top`.
 pub(crate) fn with_top(
     alloc: Global,
     top: Lid,
@@ -48,7 +48,7 @@ pub(crate) fn with_top(
     Ok(switches)
 }
 
-/// The blocks of switches, which count from 0 on.
+/// Returns the blocks of the switches, whose indices count from 0.
 pub(crate) fn blocks_of(alloc: Global, tables: &[Table]) -> Result<Vec<HeldBlock>, AllocError>
     ensures { IfOk result (λ blocks. blocks.items ≡ blocks_of 0 tables.now) }
 {
@@ -59,7 +59,7 @@ pub(crate) fn blocks_of(alloc: Global, tables: &[Table]) -> Result<Vec<HeldBlock
     Ok(blocks)
 }
 
-/// The blocks of the switch at an index, which count from 0 on.
+/// Appends the blocks of the switch at index `switch`, whose numbers count from 0.
 fn push_blocks(
     blocks: &mut Vec<HeldBlock>,
     switch: usize,

@@ -12,7 +12,7 @@ use byte_io::{Sink, WriteFault};
 use lft_blocks::{write_block, write_lids, write_switch};
 use lid_assign::LidMap;
 
-/// Writes a line for each LID of these, rising, and then tables; and flushes. It takes no memory.
+/// Writes a line for each LID of `lids`, rising, and then the tables, and flushes. Takes no memory.
 pub fn write_next<W: Sink>(sink: &mut W, lids: &LidMap, next: &Held) -> Result<(), WriteFault>
     ensures writes { Writes W.written W.has_failed result sink.old sink.new (next_text lids.now next.now) }
     ensures flushed { OnOk result (IsTrue (W.is_flushed sink.new)) }
@@ -22,8 +22,8 @@ pub fn write_next<W: Sink>(sink: &mut W, lids: &LidMap, next: &Held) -> Result<(
     sink.flush()
 }
 
-/// Writes tables: for each switch in turn a line with its top, and one for each of its blocks, which stand by the
-/// indices of their switches.
+/// Writes the tables: for each switch in turn, a line with its top and a line for each of its blocks. The blocks stand
+/// in the order of the switches.
 pub fn write_tables<W: Sink>(sink: &mut W, held: &Held) -> Result<(), WriteFault>
     ensures { WritesPart W.written W.has_failed result sink.old sink.new (tables_text_of held.now) }
 {
@@ -48,7 +48,7 @@ fn write_switches<W: Sink>(
     Ok(())
 }
 
-/// The blocks at the head that are of the switch at an index, and those behind them.
+/// Returns the blocks at the head that belong to the switch at `index`, and the blocks after them.
 fn split_blocks(blocks: &[HeldBlock], index: usize) -> (&[HeldBlock], &[HeldBlock])
     ensures first { result.0.now ≡ first_blocks index blocks.now }
     ensures later { result.1.now ≡ later_blocks index blocks.now }
@@ -56,7 +56,7 @@ fn split_blocks(blocks: &[HeldBlock], index: usize) -> (&[HeldBlock], &[HeldBloc
     blocks.split_at(count_of(blocks, index))
 }
 
-/// How many blocks at the head are of the switch at an index.
+/// Returns how many blocks at the head belong to the switch at `index`.
 fn count_of(blocks: &[HeldBlock], index: usize) -> usize
     ensures count { result ≡ prefix_len (is_of index) blocks.now }
     ensures within { result ≤ length blocks.now }

@@ -10,9 +10,9 @@ use crate::last_lines::LastLines;
 use std::alloc::Global;
 use text_words::{LinesFault, split_line};
 
-/// Reads a plan's text: a line for each end port, by its first LID and with its LMC where that is told, and of each
-/// switch, by rising GUID, its line and those of its blocks, by rising number. Lines end with LF or CR LF, empty ones
-/// are skipped, and `#` begins a comment:
+/// Reads a plan's text. It has a line for each end port, by its first LID and with its LMC if that is told; and for
+/// each switch, by rising GUID, its line and the lines of its blocks, by rising number. Lines end with LF or CR LF,
+/// empty ones are skipped, and `#` begins a comment:
 ///
 /// ```text
 /// lid 1 0000000000000010/0
@@ -21,11 +21,11 @@ use text_words::{LinesFault, split_line};
 /// block 0 ff000303ff..
 /// ```
 ///
-/// Takes a step for each byte and each LID, and twice as many where memory is refused.
+/// Takes a step for each byte and each LID, and twice as many if memory is refused.
 ///
 /// # Errors
 ///
-/// The first fault of its lines, and `Memory` where they have none.
+/// The first fault of its lines; `Memory` only if they have none.
 pub fn parse(alloc: Global, text: &[u8]) -> Result<Held, PlanTextFault>
     ensures judged { JudgesButFor is_memory result (option_map LinesFault.Line (first_fault text.now)) }
     ensures held { IfOk result (λ held. held ≡ held_of text.now) }
@@ -41,7 +41,7 @@ pub fn parse(alloc: Global, text: &[u8]) -> Result<Held, PlanTextFault>
 }
 
 #[tactic(auto, using(crate::proofs::Folds::reading))]
-/// What the lines of a text say.
+/// Reads the lines of a text.
 fn read_lines(alloc: Global, text: &[u8]) -> Result<Held, PlanTextFault>
     ensures { IsReadAs text.now result }
 {
@@ -60,7 +60,7 @@ fn read_lines(alloc: Global, text: &[u8]) -> Result<Held, PlanTextFault>
 }
 
 #[tactic(auto, using(crate::proofs::Folds::judging))]
-/// The first fault of a text. Takes no memory.
+/// Returns the first fault of a text. Takes no memory.
 fn first_fault(text: &[u8]) -> Option<PlanLineFault>
     ensures { result ≡ first_fault text.now }
 {

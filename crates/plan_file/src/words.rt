@@ -7,8 +7,7 @@ use attr_codec::Lmc;
 use smp_bytes::{Guid, PortNum};
 use text_words::number;
 
-/// The number from 0 to `most` that a word of decimal digits writes; inside it is `None` where it is
-/// greater.
+/// Parses a word of decimal digits as a number from 0 to `most`. The inner value is `None` if the number is greater.
 pub(crate) fn small(word: &[u8], most: u16) -> Option<Option<u16>>
     ensures { result ≡ small_of most word.now }
 {
@@ -21,7 +20,7 @@ pub(crate) fn small(word: &[u8], most: u16) -> Option<Option<u16>>
 }
 
 #[tactic(auto, using(crate::proofs::BareGuids::bare_guid_is, crate::proofs::BareGuids::long_is_none))]
-/// The GUID that a word writes: 1 to 16 hex digits.
+/// Parses a GUID of 1 to 16 hex digits.
 pub(crate) fn bare_guid(word: &[u8]) -> Option<Guid>
     ensures { result ≡ bare_guid_of word.now }
 {
@@ -31,7 +30,7 @@ pub(crate) fn bare_guid(word: &[u8]) -> Option<Guid>
     Some(Guid::new(number(word, 16)?))
 }
 
-/// A node's GUID and a port of it, as in `0000000000000100/1`. The port is `None` where it is over 254.
+/// Parses a node's GUID and a port of it, as in `0000000000000100/1`. The port is `None` if it is above 254.
 pub(crate) fn node_port(word: &[u8]) -> Option<(Guid, Option<PortNum>)>
     ensures { result ≡ port_of word.now }
 {
@@ -41,7 +40,7 @@ pub(crate) fn node_port(word: &[u8]) -> Option<(Guid, Option<PortNum>)>
     Some((node, port_num(port)))
 }
 
-/// The port of a number.
+/// Returns the port with this number.
 fn port_num(number: Option<u16>) -> Option<PortNum>
     requires { IfSome number (λ n. n ≤ 254) }
     ensures { result ≡ number }
@@ -52,7 +51,7 @@ fn port_num(number: Option<u16>) -> Option<PortNum>
     }
 }
 
-/// The LMC of a number.
+/// Returns the LMC with this number.
 pub(crate) fn lmc_of(number: Option<u16>) -> Option<Lmc>
     requires { IfSome number (λ n. n ≤ 7) }
     ensures { result ≡ number }
@@ -64,7 +63,7 @@ pub(crate) fn lmc_of(number: Option<u16>) -> Option<Lmc>
 }
 
 #[tactic(auto, using(text_words::proofs::Splits::until_at, text_words::proofs::Splits::until_none))]
-/// What stands before the first slash, and what stands behind it.
+/// Returns what comes before the first slash, and what comes after it.
 fn before_slash(word: &[u8]) -> Option<(&[u8], &[u8])>
     ensures { option_map (λ x. (x.0.now, x.1.now)) result ≡ until 47 word.now }
 {
@@ -72,14 +71,14 @@ fn before_slash(word: &[u8]) -> Option<(&[u8], &[u8])>
     Some((&word[..len], &word[len + 1..]))
 }
 
-/// The index of the first slash.
+/// Returns the index of the first slash.
 fn slash(word: &[u8]) -> Option<usize>
     ensures { result ≡ position (λ b. b == 47) word.now }
 {
     word.iter().position(|b| *b == b'/')
 }
 
-/// The entries of a block, each as two hex digits of either case: 128 digits.
+/// Parses the entries of a block, each as two hex digits of either case: 128 digits.
 pub(crate) fn entries(word: &[u8]) -> Option<[u8; 64]>
     ensures { result ≡ entries_of word.now }
 {

@@ -15,9 +15,9 @@ use std::alloc::{AllocError, Global};
 use subnet_view::{SwitchGraph, Wires};
 use updown_routes::Graph;
 
-/// Returns the position of each usable switch of a store, by rising GUID, in the order by which a rule plans: by rank and
-/// then by GUID for the one that goes up and down, and for the one that spreads the order that it goes by. Takes a step
-/// for each two switches, and what finding the ranks or that order takes.
+/// Returns the position of each usable switch of a store, by rising GUID, in the order by which a rule plans: by rank
+/// and then by GUID if the rule goes up and down; the order that it goes by if it spreads. Takes one step for each two
+/// switches, and what finding the ranks or that order takes.
 pub fn plan_positions(alloc: Global, store: &Store, rule: &Rule) -> Result<Vec<usize>, Refused>
     ensures { IfOk result (λ positions.
         positions.items ≡ positions_by (value_of rule.now) (cells_of store.now)) }
@@ -38,7 +38,7 @@ fn by_rank(alloc: Global, wires: &Wires) -> Result<Vec<usize>, Refused>
     Ok(rank_positions(alloc, &graph)?)
 }
 
-/// Returns the position of each usable switch in the order that the rule that spreads goes by.
+/// Returns the position of each usable switch in the order by which the rule that spreads goes.
 fn by_spread(alloc: Global, wires: &Wires, order: &SwitchOrder) -> Result<Vec<usize>, Refused>
     ensures { IfOk result (λ positions.
         positions.items ≡ positions_by (spread_in (order_value_of order.now)) (cells_of wires.now)) }
@@ -49,7 +49,7 @@ fn by_spread(alloc: Global, wires: &Wires, order: &SwitchOrder) -> Result<Vec<us
     Ok(positions_in(alloc, &ordered, graph.switches())?)
 }
 
-/// Returns the position of each switch in a list, and the length of the list for one that it lacks.
+/// Returns the position of each switch in the list `ordered`, or the length of the list if it lacks the switch.
 fn positions_in(
     alloc: Global,
     ordered: &[Guid],
@@ -63,7 +63,7 @@ fn positions_in(
         .collect(alloc)
 }
 
-/// Returns the position of a switch in a list, and the length of the list if it lacks the switch.
+/// Returns the position of a switch in the list `ordered`, or the length of the list if it lacks the switch.
 fn position_of(ordered: &[Guid], switch: Guid) -> usize
     ensures { result ≡ position_of ordered.now switch }
 {

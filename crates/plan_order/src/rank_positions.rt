@@ -7,8 +7,8 @@ use smp_bytes::Guid;
 use std::alloc::{AllocError, Global};
 use updown_routes::Graph;
 
-/// Returns for each switch, by rising GUID, how many switches come before it: by rank, and then by GUID. Takes a search
-/// for each switch, and a step for each two.
+/// Returns for each switch, by rising GUID, how many switches come before it, by rank and then by GUID. Takes a search
+/// for each switch, and one step for each two.
 pub(crate) fn rank_positions(alloc: Global, graph: &Graph) -> Result<Vec<usize>, AllocError>
     ensures { IfOk result (λ positions.
         positions.items ≡ map (rank_position graph.now) (guids_of graph.now)) }
@@ -17,7 +17,7 @@ pub(crate) fn rank_positions(alloc: Global, graph: &Graph) -> Result<Vec<usize>,
     counts_before(alloc, &ranked)
 }
 
-/// Counts for each of some switches those that come before it.
+/// Counts for each switch those that come before it.
 fn counts_before(alloc: Global, ranked: &[(usize, Guid)]) -> Result<Vec<usize>, AllocError>
     ensures { IfOk result (λ counts. counts.items
         ≡ map (λ own. count_by (λ other. comes_before other own) ranked.now) ranked.now) }
@@ -39,7 +39,7 @@ fn ranked(alloc: Global, graph: &Graph) -> Result<Vec<(usize, Guid)>, AllocError
         .collect(alloc)
 }
 
-/// Counts the switches that come before one.
+/// Counts the switches that come before `own`.
 fn count_before(ranked: &[(usize, Guid)], own: &(usize, Guid)) -> usize
     ensures { result ≡ count_by (λ other. comes_before other own.now) ranked.now }
 {
@@ -49,7 +49,7 @@ fn count_before(ranked: &[(usize, Guid)], own: &(usize, Guid)) -> usize
         .count()
 }
 
-/// Whether a switch comes before another: its rank is lesser, or equal and its GUID is lesser.
+/// Returns whether a switch comes before another: its rank is less, or equal and its GUID is less.
 fn comes_before(other: &(usize, Guid), own: &(usize, Guid)) -> bool
     ensures { result ≡ comes_before other.now own.now }
 {

@@ -15,7 +15,7 @@ use Rattle.next_tables.specs.ByOrder.{AreApart, AreRight, IsNextByOrder, IsOrder
 use Rattle.next_tables.specs.Mixtures.{RiseInStep}
 use Rattle.ordered_steps.specs.StepLaws.{AreNextByOrder, DeliverFrom}
 
--- a plan sends packets for no LID over two channels in turn but so that the rule's numbers rise
+-- a plan sends packets for a LID over two channels in turn only if the rule's numbers rise
 abbrev pub PlanTurnsRise : Type 0
 PlanTurnsRise =
     (rule : RuleValue) (lmc : ℕ) (facts : Facts) → AreInRange facts → ¬ (IsNoRoom lmc (cells_of facts))
@@ -24,11 +24,11 @@ PlanTurnsRise =
     → (routing_by rule (cells_of facts)).channel (switch_at (cells_of facts) i) (switch_at (cells_of facts) j)
     < (routing_by rule (cells_of facts)).channel (switch_at (cells_of facts) j) (switch_at (cells_of facts) k)
 
--- the position of the switch at an index in the order of a rule
+-- the position of the switch at index i in the order of a rule
 abbrev pub plan_position : RuleValue → Cells → ℕ → ℕ
 plan_position rule cells = position_at (positions_by rule cells)
 
--- by these positions the plan of a view with room is right for every LID
+-- the plan of a view with room is right for every LID by the positions of its rule
 abbrev pub PlansAreRight : Type 0
 PlansAreRight =
     (rule : RuleValue) (lmc : ℕ) (facts : Facts) → AreInRange facts → ¬ (IsNoRoom lmc (cells_of facts))
@@ -36,14 +36,14 @@ PlansAreRight =
     → AreRight (cells_of facts) (plan_position rule (cells_of facts))
     (held_plan (plan_of rule lmc (cells_of facts))) lid
 
--- they are an order, in which no two switches that are wired have a position in common
+-- the positions of a rule are an order, in which two different switches that a wire joins have different positions
 abbrev pub PlanOrdersAreOrders : Type 0
 PlanOrdersAreOrders =
     (rule : RuleValue) (facts : Facts)
     → IsOrder (cells_of facts) (plan_position rule (cells_of facts))
     × AreApart (cells_of facts) (plan_position rule (cells_of facts))
 
--- of two usable switches with a wire between them a plan delivers from both or from none
+-- a plan delivers from both of two usable switches with a wire between them, or from neither
 abbrev pub PlansCover : Type 0
 PlansCover =
     (rule : RuleValue) (lmc : ℕ) (facts : Facts) → AreInRange facts → ¬ (IsNoRoom lmc (cells_of facts))
@@ -53,8 +53,8 @@ PlansCover =
     → DeliverFrom (cells_of facts) (held_plan (plan_of rule lmc (cells_of facts))) line j
     → DeliverFrom (cells_of facts) (held_plan (plan_of rule lmc (cells_of facts))) line i
 
--- from tables that are right by the positions of a plan a step towards it, for all LIDs, has no credit loop in any
--- mixture, since numbers rise, and ends in tables that are right by them again
+-- a step towards a plan, for all LIDs, from tables that are right by the plan's positions, has no credit loop in any
+-- mixture, since numbers rise, and ends in tables that are right by them
 abbrev pub StepsTowardsPlans : Type 0
 StepsTowardsPlans =
     (rule : RuleValue) (lmc : ℕ) (facts : Facts) → AreInRange facts → ¬ (IsNoRoom lmc (cells_of facts))
@@ -65,8 +65,8 @@ StepsTowardsPlans =
     → RiseInStep (cells_of facts) held next (numbers_by (cells_of facts) (plan_position rule (cells_of facts)))
     × ((lid : ℕ) → 1 ≤ lid → AreRight (cells_of facts) (plan_position rule (cells_of facts)) next lid)
 
--- and after twice as many steps as there are switches each from which the plan delivers to an end port has its entry,
--- and delivers
+-- after twice as many steps as there are switches, each switch from which the plan delivers to an end port has the
+-- plan's entry, and delivers
 abbrev pub StepsEndInPlans : Type 0
 StepsEndInPlans =
     (rule : RuleValue) (lmc : ℕ) (facts : Facts) → AreInRange facts → ¬ (IsNoRoom lmc (cells_of facts))

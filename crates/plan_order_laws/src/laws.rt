@@ -2,7 +2,8 @@
 ghost use Rattle.plan_order_laws.specs.PlanLaws.{PlanOrdersAreOrders, PlanTurnsRise, PlansAreRight, PlansCover};
 ghost use Rattle.plan_order_laws.specs.PlanLaws.{StepsEndInPlans, StepsTowardsPlans};
 
-/// A plan sends packets over two channels in turn only if the numbers of its rule rise.
+/// The plan of a view with room sends packets over two channels in turn only if the rule's numbers rise from the first
+/// to the second.
 pub fn plan_turns_rise()
     ensures law { PlanTurnsRise }
 {}
@@ -22,14 +23,15 @@ pub fn plans_cover()
     ensures law { PlansCover }
 {}
 
-/// From tables that are right by a plan's positions, a step towards the plan can make no credit loop in any mixture, and
-/// ends in tables that are right by these positions again.
+/// A step towards a plan can make no credit loop in any mixture, and ends in tables that are right by the plan's
+/// positions, if it begins with tables that are right by them.
 pub fn steps_towards_plans()
     ensures law { StepsTowardsPlans }
 {}
 
-/// From tables that are right by a plan's positions, for a LID that the same end ports hold in them and in the plan:
-/// after twice as many steps as there are switches, each switch from which the plan delivers has the plan's entry.
+/// After twice as many steps as there are switches, each switch from which the plan delivers has the plan's entry, if
+/// the first tables are right by the plan's positions for the LID, and the same end ports hold it in them and in the
+/// plan.
 pub fn steps_end_in_plans()
     ensures law { StepsEndInPlans }
 {}

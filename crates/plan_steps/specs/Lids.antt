@@ -17,12 +17,12 @@ use Rattle.sweep.specs.Sweep.{Sweep}
 use Rattle.plan_steps.specs.declared.step.Step.{Step}
 use Rattle.plan_steps.specs.Step.{step_at}
 
--- an end port of this number whose GUID is known to be this one
+-- the end port `e` has the number `port`, and is known to have the GUID `port_guid`
 abbrev pub is_own_port : Cells → ℕ → ℕ → EndPort → Bool
 is_own_port cells port_guid port e =
     e.port == port && option_map_or (λ guid. guid == port_guid) (port_guid_of cells e.node e.port) false
 
--- the LID of the manager at the port of this GUID and number: that of the first such end port, and 0 where there is
+-- the LID of the manager at the port with this GUID and number: that of the first end port with both, 0 if there is
 -- none
 abbrev pub own_lid : Cells → List (EndPort × ℕ) → ℕ → ℕ → ℕ
 own_lid cells given port_guid port = option_map_or (λ x. x.1) (find (λ x. is_own_port cells port_guid port x.0) given) 0
@@ -42,34 +42,34 @@ abbrev pub owner_step : Sweep → ℕ → Given → ℕ → Option Step
 owner_step sweep master given lid =
     option_and_then (λ e. lid_step sweep master (lid, lmc_of given e) e) (owner_of given lid)
 
--- each end port that was reached gets its LID and its LMC, by rising LIDs
+-- the steps that set the LID and the LMC of each end port that was reached, by rising LIDs
 abbrev pub lid_steps : Sweep → ℕ → Given → List Step
 lid_steps sweep master given = filter_map (owner_step sweep master given) (rising_lids given)
 
 -- the law of the manager's LID, in words: ----------------------------------------------------
 
--- an end port of the manager's: of this number, and known to have this GUID
+-- the end port `e` is the manager's: it has the number `port`, and is known to have the GUID `port_guid`
 abbrev pub IsOwnPort : Cells → ℕ → ℕ → EndPort → Type 0
 IsOwnPort cells port_guid port e = (e.port ≡ port) × (port_guid_of cells e.node e.port ≡ Some port_guid)
 
--- the LID of such an end port, at the node of the least GUID
+-- `lid` is that of the manager's end port, at the node of the least GUID
 pub record IsOwnLid (cells : Cells) (given : List (EndPort × ℕ)) (port_guid port lid : ℕ) : Type 0 where
   pub end : EndPort
   pub held : Contains given (end, lid)
   pub own : IsOwnPort cells port_guid port end
   pub first : (e : EndPort) (n : ℕ) → Contains given (e, n) → IsOwnPort cells port_guid port e → end.node ≤ e.node
 
--- there is no such end port
+-- there is no end port that is the manager's
 abbrev pub HasNoOwnPort : Cells → List (EndPort × ℕ) → ℕ → ℕ → Type 0
 HasNoOwnPort cells given port_guid port =
     (e : EndPort) (n : ℕ) → Contains given (e, n) → IsOwnPort cells port_guid port e → ⊥
 
--- it is the one, or there is none and it is 0
+-- `lid` is that of the manager's end port, or 0 if there is none
 abbrev pub IsOwnLidOr0 : Cells → List (EndPort × ℕ) → ℕ → ℕ → ℕ → Type 0
 IsOwnLidOr0 cells given port_guid port lid =
     IsOwnLid cells given port_guid port lid ⊎ (HasNoOwnPort cells given port_guid port × (lid ≡ 0))
 
--- where there is room, the LID of the manager is so
+-- if there is room for the LIDs, the manager's LID is that of its end port, or 0
 abbrev pub OwnLidLaw : Type 0
 OwnLidLaw =
     (lmc : ℕ) (facts : Facts) → ¬ (IsNoRoom lmc (cells_of facts)) → (port_guid port : ℕ)

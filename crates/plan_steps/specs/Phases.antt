@@ -10,7 +10,7 @@ use Rattle.plan_steps.specs.Lids.{own_lid, lid_steps}
 use Rattle.plan_steps.specs.Tables.{block_steps, top_steps}
 use Rattle.plan_steps.specs.States.{state_steps}
 
--- whether the plan counts as written only where the steps were done, and the steps
+-- whether the plan counts as written only if the steps were done, and the steps
 pub record Phase : Type 0 where
   pub counts : Bool
   pub steps : List Step
@@ -25,6 +25,6 @@ phases_by plan cells sweep master =
     ∷ record { counts = false; steps = state_steps cells sweep plan.given master Active }
     ∷ []
 
--- the phases of a plan that a manager at the port of this GUID and number writes, over the paths of its last sweep
+-- the phases of a plan that a manager writes, at the port with this GUID and number, over the paths of its last sweep
 abbrev pub phases_of : PlanValue → Cells → Sweep → ℕ → ℕ → List Phase
 phases_of plan cells sweep port_guid port = phases_by plan cells sweep (own_lid cells plan.given.ports port_guid port)

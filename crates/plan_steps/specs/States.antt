@@ -20,7 +20,7 @@ use Rattle.plan_steps.specs.declared.step.Step.{Step}
 use Rattle.plan_steps.specs.Step.{step_at}
 use Rattle.plan_steps.specs.Lids.{port_data}
 
--- the port of a cell, where the cell is its link and it is on a wire
+-- the port of a cell, if the cell is its link and the port is on a wire
 abbrev pub wired_port : Cells → Key × Cell Value → Option (ℕ × ℕ)
 wired_port cells ((Link g p), c) = if is_some (across cells g p) then Some (g, p) else None
 wired_port cells (_, c) = None
@@ -29,31 +29,31 @@ wired_port cells (_, c) = None
 abbrev pub wired_ports : Cells → List (ℕ × ℕ)
 wired_ports cells = filter_map (wired_port cells) cells
 
--- a link's state rises from Initialize over Armed to Active: the states from which a port is still to come to this one
+-- a port is still to come to a state: it rises from Initialize over Armed to Active
 abbrev pub is_due : PortState → PortState → Bool
 is_due Armed Initialize = true
 is_due Active Initialize = true
 is_due Active Armed = true
 is_due state seen = false
 
--- the vertex of a port on a wire: its switch by port 0, or the adapter's port itself
+-- the port number of the vertex of a port on a wire: 0 for a switch, or the adapter's port itself
 abbrev pub vertex_port : Cells → ℕ × ℕ → ℕ
 vertex_port cells at = if is_usable cells at.0 then 0 else at.1
 
--- an end port's LIDs go with its state; a switch's other ports have none
+-- PortInfo with a state: an end port's LIDs go with it; a switch's other ports have none
 abbrev pub state_data : Given → ℕ → PortState → ℕ × ℕ → List ℕ
 state_data given master state at =
     option_map_or (λ range. port_data range master state) (range_of given (record { node = at.0; port = at.1 }))
     (port_data (0, 0) 0 state)
 
--- the state of a port that the sweep saw in one from which it is still to come to it
+-- the step that sets `state` at a port, if the sweep saw it in an earlier state
 abbrev pub state_step : Cells → Sweep → Given → ℕ → PortState → ℕ × ℕ → Option Step
 state_step cells sweep given master state at =
     if option_map_or (is_due state) (seen_state sweep at.0 at.1) false
     then step_at sweep at.0 (vertex_port cells at) port_info at.1 (state_data given master state at)
     else None
 
--- the state for each such port on a wire that was reached, by node GUID and port
+-- the steps that set `state` at each port on a wire that was reached and is to come to it, by node GUID and port
 abbrev pub state_steps : Cells → Sweep → Given → ℕ → PortState → List Step
 state_steps cells sweep given master state = filter_map (state_step cells sweep given master state) (wired_ports cells)
 

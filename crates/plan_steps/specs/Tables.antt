@@ -33,6 +33,6 @@ top_data top = with_number linear_fdb_top top (replicate 64 0)
 abbrev pub top_step : Sweep → ℕ → ℕ → Option Step
 top_step sweep top guid = step_at sweep guid 0 switch_info 0 (top_data top)
 
--- the greatest LID, where there is one, for each usable switch that was reached, by rising GUID
+-- the steps that set the greatest LID, if any, for each usable switch that was reached, by rising GUID
 abbrev pub top_steps : Sweep → PlanValue → List Step
 top_steps sweep plan = option_map_or (λ top. filter_map (top_step sweep top) (switches_of plan)) (top_of plan.given) []

@@ -11,7 +11,7 @@ use smp_bytes::{AttributeId, Guid, Lid, PortNum};
 use std::alloc::{AllocError, Global};
 use sweep::Sweep;
 
-/// Each block of each switch that was reached, by rising GUID. Takes two searches for each.
+/// Builds the step of each block of each switch that was reached, by rising GUID. Takes two searches for each step.
 pub(crate) fn block_steps(
     alloc: Global,
     sweep: &Sweep,
@@ -26,7 +26,7 @@ pub(crate) fn block_steps(
     Ok(steps)
 }
 
-/// Adds the blocks of a switch.
+/// Appends the steps of the blocks of the switch `guid`.
 #[tactic(auto, using(crate::proofs::Ranges::given_some, crate::proofs::Ranges::given_none))]
 fn add_switch_steps(
     steps: &mut Vec<Step>,
@@ -45,7 +45,7 @@ fn add_switch_steps(
     Ok(())
 }
 
-/// The step of a block.
+/// Builds the step of block `b`.
 fn block_step(sweep: &Sweep, plan: &Plan, guid: Guid, b: usize) -> Option<Step>
     requires { b < 1024 }
     ensures { result ≡ block_step sweep.now plan.now guid b }
@@ -61,8 +61,8 @@ fn block_step(sweep: &Sweep, plan: &Plan, guid: Guid, b: usize) -> Option<Step>
     )
 }
 
-/// The greatest LID, where there is one, for each switch that was reached, by rising GUID. Takes a
-/// search for each.
+/// Builds the step of the greatest LID, if any, for each switch that was reached, by rising GUID. Takes a search for
+/// each switch.
 pub(crate) fn top_steps(alloc: Global, sweep: &Sweep, plan: &Plan) -> Result<Vec<Step>, AllocError>
     ensures { IfOk result (λ steps. steps.items ≡ top_steps sweep.now plan.now) }
 {
@@ -72,7 +72,7 @@ pub(crate) fn top_steps(alloc: Global, sweep: &Sweep, plan: &Plan) -> Result<Vec
     }
 }
 
-/// The same, for this greatest LID.
+/// Builds the step of the greatest LID `top` for each switch that was reached, by rising GUID.
 fn steps_with_top(
     alloc: Global,
     sweep: &Sweep,
@@ -91,7 +91,7 @@ fn steps_with_top(
     Ok(steps)
 }
 
-/// The step of the greatest LID at a switch.
+/// Builds the step that sets the greatest LID at a switch.
 fn top_step(sweep: &Sweep, top: Lid, guid: Guid) -> Option<Step>
     ensures { result ≡ top_step sweep.now top guid }
 {
@@ -105,7 +105,7 @@ fn top_step(sweep: &Sweep, top: Lid, guid: Guid) -> Option<Step>
     )
 }
 
-/// SwitchInfo with the greatest LID that is forwarded, and 0 elsewhere.
+/// Returns the SwitchInfo with `top` as the greatest LID that is forwarded, and 0 elsewhere.
 fn top_data(top: Lid) -> [u8; 64]
     ensures { result ≡ top_data top }
 {

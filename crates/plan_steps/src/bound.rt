@@ -6,14 +6,14 @@ use fact_store::Store;
 use smp_bytes::Lid;
 use subnet_view::usable_guid;
 
-/// One for each number below the first that is no unicast LID.
+/// The number of LIDs from 0 up to the last unicast one.
 const NUMBERS: usize = Lid::UNICAST_END as usize;
 
-/// One for each block of these.
+/// The number of blocks that hold `NUMBERS` entries.
 const BLOCKS: usize = NUMBERS / 64;
 
-/// How many steps a phase of the plan of a store has at most, as far as 64 bits count. Takes no memory, and walks the
-/// cells.
+/// Returns the most steps that a phase of the plan of `store` can have, as far as 64 bits count. Takes no memory, and
+/// walks the cells.
 pub fn most_steps(store: &Store) -> usize
     ensures { result ≡ min (most_steps (cells_of store.now)) (2 ^ 64 - 1) }
 {

@@ -1,21 +1,22 @@
-//! What the phases' lists are, in words.
+//! What the lists of steps are, in words.
 ghost use Rattle.plan_steps.specs.Bound.{PhaseBoundLaw};
 ghost use Rattle.plan_steps.specs.Lids.{OwnLidLaw};
 ghost use Rattle.plan_steps.specs.States.{WiredPortsLaw};
 
-/// Where there is room for the LIDs, that of the manager is the LID of the first end port of its
-/// GUID and number, by node GUID, and 0 where there is none.
+/// The manager's LID is that of the first end port, by node GUID, with its port GUID and number, or 0 without such a
+/// port, if there is room for the LIDs.
 #[tactic(auto, using(crate::proofs::OwnLid::own_lid_law))]
 pub fn own_lid_is_of_the_first()
     ensures { OwnLidLaw }
 {}
 
-/// The ports on wires are listed each once, by node GUID and port, and nothing else is.
+/// The list of ports on wires has each of them once, by node GUID and port, and nothing else.
 pub fn wired_ports_are_listed_in_order()
     ensures { WiredPortsLaw }
 {}
 
-/// Where there is room for the LIDs, no phase of a plan has more steps than are told before there is a plan.
+/// No phase of a plan has more steps than the bound that is known before there is a plan, if there is room for the
+/// LIDs.
 pub fn phases_are_bounded()
     ensures { PhaseBoundLaw }
 {}

@@ -12,8 +12,8 @@ use std::alloc::{AllocError, Global};
 use subnet_view::EndPort;
 use sweep::Sweep;
 
-/// The LID of the manager at the port of a GUID and a number: that of the first such end port, by
-/// node GUID, and 0 where there is none. Takes a search for each end port of the number.
+/// Returns the LID of the manager at the port `port` with the GUID `own_guid`: that of the first end port, by node
+/// GUID, with this port GUID and number, and 0 if there is none. Takes a search for each end port with the number.
 pub(crate) fn own_lid(store: &Store, lids: &LidMap, own_guid: Guid, port: PortNum) -> Lid
     ensures { result ≡ own_lid (cells_of store.now) lids.now.ports own_guid port }
 {
@@ -25,14 +25,15 @@ pub(crate) fn own_lid(store: &Store, lids: &LidMap, own_guid: Guid, port: PortNu
     Lid::NONE
 }
 
-/// Whether an end port has this number, and is known to have this GUID.
+/// Returns whether the end port has this number, and is known to have this GUID.
 fn is_own_port(store: &Store, end: EndPort, own_guid: Guid, port: PortNum) -> bool
     ensures { result ≡ is_own_port (cells_of store.now) own_guid port end }
 {
     end.port == port && store.port_guid(end.node, end.port) == Some(own_guid)
 }
 
-/// The LID and the LMC of each end port that was reached, by rising LIDs. Takes a search for each.
+/// Builds the step that sets the LID and the LMC of each end port that was reached, by rising LIDs. Takes a search for
+/// each.
 pub(crate) fn lid_steps(
     alloc: Global,
     sweep: &Sweep,
@@ -50,7 +51,7 @@ pub(crate) fn lid_steps(
     Ok(steps)
 }
 
-/// The step of the end port that has a LID.
+/// Builds the step of the end port that owns `lid`.
 fn owner_step(sweep: &Sweep, master: Lid, lids: &LidMap, lid: Lid) -> Option<Step>
     ensures { result ≡ owner_step sweep.now master lids.now lid }
 {
@@ -59,7 +60,7 @@ fn owner_step(sweep: &Sweep, master: Lid, lids: &LidMap, lid: Lid) -> Option<Ste
     lid_step(sweep, master, lid, lmc, end)
 }
 
-/// The step that gives an end port its LID and its LMC, and the manager's LID.
+/// Builds the step that sets an end port's LID and LMC, and the manager's LID.
 fn lid_step(sweep: &Sweep, master: Lid, lid: Lid, lmc: Lmc, end: EndPort) -> Option<Step>
     ensures { result ≡ lid_step sweep.now master (lid, lmc) end }
 {
@@ -73,7 +74,7 @@ fn lid_step(sweep: &Sweep, master: Lid, lid: Lid, lmc: Lmc, end: EndPort) -> Opt
     )
 }
 
-/// PortInfo with a LID and an LMC, the manager's LID and the state that is asked for, and 0 elsewhere.
+/// Returns the PortInfo with a LID and an LMC, the manager's LID and the state that is asked for, and 0 elsewhere.
 pub(crate) fn port_data(lid: Lid, lmc: Lmc, master: Lid, state: PortState) -> [u8; 64]
     ensures { result ≡ port_data (lid, lmc) master state }
 {

@@ -18,7 +18,7 @@ use sweep::Sweep;
 /// Steps that are sent together. Contracts see the list of them, and whether they count.
 #[derive(Drop)]
 pub struct Phase {
-    /// Whether the plan counts as written only where they were done.
+    /// Whether the plan counts as written only if the steps were done.
     pub counts: bool,
     pub steps: Vec<Step>,
 }
@@ -31,15 +31,14 @@ impl Model for Phase {
     ghost view = { λ a. record { counts = a.counts; steps = a.steps.items } };
 }
 
-/// The phases in which a manager at the port of a GUID and a number writes a plan, over the paths
-/// of its last sweep: LIDs, blocks, the greatest LID, and then the states of ports on wires, Armed
-/// and Active (subnet management, initialization). Agents that the sweep did not reach are left
-/// out. Walks the cells once, and takes a few searches for each step and some ten for each port on
-/// a wire.
+/// Builds the phases in which a manager, at the port `port` with the GUID `port_guid`, writes a plan over the paths of
+/// its last sweep: LIDs, blocks, the greatest LID, and then the states of ports on wires, Armed and Active (subnet
+/// management, initialization). Leaves out agents that the sweep did not reach. Walks the cells once, and takes a few
+/// searches for each step and some ten for each port on a wire.
 ///
 /// # Errors
 ///
-/// Out of memory alone.
+/// Only lack of memory.
 pub fn phases(
     alloc: Global,
     plan: &Plan,
@@ -55,7 +54,7 @@ pub fn phases(
     phases_by(alloc, plan, store, sweep, master)
 }
 
-/// The same, with the manager's LID.
+/// Builds the phases in which a manager with the LID `master` writes a plan.
 fn phases_by(
     alloc: Global,
     plan: &Plan,

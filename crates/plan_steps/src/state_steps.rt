@@ -16,7 +16,7 @@ use std::alloc::{AllocError, Global};
 use subnet_view::{EndPort, is_usable, wire};
 use sweep::Sweep;
 
-/// The ports on wires, both ends of each, by node GUID and port. Walks the cells.
+/// Returns the ports on wires, both ends of each, by node GUID and port. Walks the cells.
 pub(crate) fn wired_ports(alloc: Global, store: &Store) -> Result<Vec<(Guid, PortNum)>, AllocError>
     ensures { IfOk result (λ ports. ports.items ≡ wired_ports (cells_of store.now)) }
 {
@@ -29,7 +29,7 @@ pub(crate) fn wired_ports(alloc: Global, store: &Store) -> Result<Vec<(Guid, Por
     Ok(ports)
 }
 
-/// The port of a cell, where the cell is its link and it is on a wire.
+/// Returns the port of a cell, if the cell is its link and the port is on a wire.
 fn wired_port(store: &Store, sighting: &Sighting) -> Option<(Guid, PortNum)>
     ensures { result ≡ wired_port (cells_of store.now) sighting.now }
 {
@@ -45,8 +45,8 @@ fn wired_port(store: &Store, sighting: &Sighting) -> Option<(Guid, PortNum)>
     }
 }
 
-/// The state for each of these ports that was reached and is still to come to it, in their order.
-/// Takes some five searches for each.
+/// Builds the step that sets `state` for each of `ports` that was reached and is still to come to that state, in their
+/// order. Takes some five searches for each.
 #[tactic(auto, using(crate::proofs::Walked::walked_some, crate::proofs::Walked::walked_none))]
 pub(crate) fn state_steps(
     alloc: Global,
@@ -69,7 +69,7 @@ pub(crate) fn state_steps(
     Ok(steps)
 }
 
-/// The step of a port on a wire.
+/// Builds the step that sets `state` at a port on a wire.
 fn state_step(
     store: &Store,
     sweep: &Sweep,
@@ -94,7 +94,7 @@ fn state_step(
     )
 }
 
-/// Whether the sweep saw a port in a state from which it is still to come to this one.
+/// Returns whether the sweep saw the port in a state from which it is still to come to `state`.
 fn is_still_due(sweep: &Sweep, state: PortState, guid: Guid, port: PortNum) -> bool
     ensures { result ≡ option_map_or (is_due state) (seen_state sweep.now guid port) false }
 {
@@ -104,7 +104,7 @@ fn is_still_due(sweep: &Sweep, state: PortState, guid: Guid, port: PortNum) -> b
     }
 }
 
-/// Whether a port in the state `seen` is still to come to this one.
+/// Returns whether a port in the state `seen` is still to come to `state`.
 fn is_due(state: PortState, seen: PortState) -> bool
     ensures { result ≡ is_due state seen }
 {
@@ -115,7 +115,7 @@ fn is_due(state: PortState, seen: PortState) -> bool
     }
 }
 
-/// The vertex of a port on a wire: its switch by port 0, or the adapter's port itself.
+/// Returns the port number of the vertex of a port on a wire: 0 for a switch, or the adapter's port itself.
 fn vertex_port(store: &Store, guid: Guid, port: PortNum) -> PortNum
     ensures { result ≡ vertex_port (cells_of store.now) (guid, port) }
 {
@@ -126,7 +126,7 @@ fn vertex_port(store: &Store, guid: Guid, port: PortNum) -> PortNum
     }
 }
 
-/// An end port's LIDs go with its state; a switch's other ports have none.
+/// Returns the PortInfo that sets `state`, with an end port's LIDs; a switch's other ports have none.
 fn state_data(lids: &LidMap, master: Lid, state: PortState, guid: Guid, port: PortNum) -> [u8; 64]
     ensures { result ≡ state_data lids.now master state (guid, port) }
 {

@@ -4,21 +4,21 @@ ghost use Rattle.plan_steps.specs.Step.{set_packet, step_at};
 use smp_bytes::{AttributeId, Guid, Method, Path, PortNum, Smp};
 use sweep::Sweep;
 
-/// One thing that is set on an agent over a directed route (subnet management, SubnSet).
+/// An attribute that is set at an agent over a directed route (subnet management, SubnSet).
 #[derive(Debug, Drop)]
 pub struct Step {
     /// The ports that lead to the agent.
     pub path: Path<63>,
     /// The number of the attribute.
     pub attribute: u16,
-    /// The port for PortInfo, and the number of a block.
+    /// The port for PortInfo, the number of the block for a block, else 0.
     pub modifier: u32,
     /// The 64 bytes of the attribute.
     pub payload: [u8; 64],
 }
 
 impl Step {
-    /// The Set that it goes out as.
+    /// Returns the Set of the step.
     pub fn packet(&self, transaction: u64) -> Smp
         ensures { result ≡ set_packet transaction self.now }
     {
@@ -33,8 +33,8 @@ impl Step {
     }
 }
 
-/// A step at a vertex, a switch by port 0 or an adapter by its port; none where the sweep did not
-/// reach it. Takes a search.
+/// Builds the step for a vertex: a switch (port 0) or an adapter's port. Returns `None` if the sweep did not reach it.
+/// Takes a search.
 pub(crate) fn step_at(
     sweep: &Sweep,
     guid: Guid,

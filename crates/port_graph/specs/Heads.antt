@@ -3,11 +3,11 @@ use Rattle.std.specs.Prelude.{◌≡◌, ◌<◌, ℕ, List, [], map, length, Co
 use Rattle.port_graph.specs.declared.edge.Edge.{Edge}
 use Rattle.port_graph.specs.Walks.{shortest, IsShortest, HasNoWalk}
 
--- the edges of a vertex
+-- the edges of vertex a
 abbrev pub edges_at : List (List Edge) → ℕ → List Edge
 edges_at edges a = slice_index_or edges a []
 
--- the vertices to which they lead
+-- the vertices that a's edges lead to
 abbrev pub heads : List (List Edge) → ℕ → List ℕ
 heads edges a = map (λ e. e.to) (edges_at edges a)
 
@@ -15,13 +15,13 @@ heads edges a = map (λ e. e.to) (edges_at edges a)
 abbrev pub LeadToVertices : List (List Edge) → Type 0
 LeadToVertices edges = (a : ℕ) (e : Edge) → Contains (edges_at edges a) e → e.to < length edges
 
--- at each vertex the length of a shortest walk that leads there
+-- for each vertex the length of a shortest walk to it from `from`
 pub record AreDistances (edges : List (List Edge)) (from : ℕ) (distances : List (Option ℕ)) : Type 0 where
   pub all : length distances ≡ length edges
   pub shortest : (a : ℕ) → a < length edges → slice_index_or distances a None
       ≡ shortest (heads edges) (length edges) from a
 
--- where there is a distance a shortest walk is as long, and where there is none no walk leads there
+-- if a vertex has a distance, a shortest walk is as long; if it has none, no walk leads there
 abbrev pub DistancesLaw : Type 0
 DistancesLaw = (edges : List (List Edge)) (from : ℕ) (distances : List (Option ℕ)) → LeadToVertices edges → from
     < length edges → AreDistances edges from distances

@@ -6,14 +6,14 @@ use Rattle.port_graph.specs.Heads.{edges_at, heads}
 use Rattle.port_graph.specs.Slopes.{Slope, lesser, least_of, same_number, cost, next_port}
 use Rattle.port_graph.specs.Routes.{Way}
 
--- from the first number on, one for each vertex
+-- a slope for each vertex; the vertices are numbered from `first` on
 abbrev pub indexed_from : ℕ → List (List Edge) → List (List Edge) → List Slope
 indexed_from first [] downs = []
 indexed_from first (u ∷ ups) [] = []
 indexed_from first (u ∷ ups) (d ∷ downs) =
     record { guid = first; ups = u; downs = d } ∷ indexed_from (suc first) ups downs
 
--- the slopes of vertices that have these edges up and down
+-- the slopes of vertices with these edges up and down, numbered from 0 on
 abbrev pub indexed : List (List Edge) → List (List Edge) → List Slope
 indexed ups downs = indexed_from 0 ups downs
 
@@ -21,29 +21,29 @@ indexed ups downs = indexed_from 0 ups downs
 abbrev pub LeadToLesser : List (List Edge) → Type 0
 LeadToLesser edges = (a : ℕ) (e : Edge) → Contains (edges_at edges a) e → e.to < a
 
--- up is to a lesser vertex, and what is up from one vertex has that vertex down from it
+-- edges up lead to lesser vertices, and each edge up has one down that leads back, and the other way round
 pub record AreSlopes (ups downs : List (List Edge)) : Type 0 where
   pub all : length downs ≡ length ups
   pub rise : LeadToLesser ups
   pub back_up : (a b : ℕ) → Contains (heads downs a) b → Contains (heads ups b) a
   pub back_down : (a b : ℕ) → Contains (heads ups a) b → Contains (heads downs b) a
 
--- the lesser of two costs, where there are two
+-- the lesser of two costs, or the only one
 abbrev pub lesser_of : Option ℕ → Option ℕ → Option ℕ
 lesser_of None other = other
 lesser_of (Some n) other = Some (lesser n other)
 
--- each number that is known is less than the bound
+-- each known number is less than the bound
 abbrev pub AreLess : ℕ → List (Option ℕ) → Type 0
 AreLess bound numbers = (a n : ℕ) → slice_index_or numbers a None ≡ Some n → n < bound
 
--- the distance where there is one, else one more than the least cost over the edges
+-- the distance if there is one, else one more than the least cost over the edges
 abbrev pub cost_of : Option ℕ → List Edge → List (Option ℕ) → Option ℕ
 cost_of distance edges costs =
     if is_some distance then distance else option_map suc
     (least_of (filter_map (λ e. slice_index_or costs e.to None) edges))
 
--- at each of the first vertices such a cost
+-- for each of the first n vertices its cost, by the distances and the costs of the vertices up from it
 pub record AreCosts (ups : List (List Edge)) (distances : List (Option ℕ)) (n : ℕ) (costs : List (Option ℕ)) : Type 0
   where
     pub all : length costs ≡ n
@@ -55,19 +55,19 @@ abbrev pub port_nearer : List Edge → List (Option ℕ) → Option ℕ → Opti
 port_nearer edges numbers number =
     option_map (λ e. e.port) (find (λ e. same_number (option_map suc (slice_index_or numbers e.to None)) number) edges)
 
--- the port down where a distance is known, else the port up
+-- a's port down if its distance is known, else its port up
 abbrev pub port_by : List (List Edge) → List (List Edge) → List (Option ℕ) → List (Option ℕ) → ℕ → Option ℕ
 port_by ups downs distances costs a =
     let distance = slice_index_or distances a None in
     if is_some distance then port_nearer (edges_at downs a) distances distance else port_nearer (edges_at ups a) costs
     (slice_index_or costs a None)
 
--- at each vertex the next port to the target
+-- for each vertex the next port to the target
 pub record AreNextPorts (ups downs : List (List Edge)) (target : ℕ) (ports : List (Option ℕ)) : Type 0 where
   pub all : length ports ≡ length ups
   pub next : (a : ℕ) → a < length ups → slice_index_or ports a None ≡ next_port (indexed ups downs) a target
 
--- the next ports between these vertices: for each as a target those of each
+-- the next ports between `vertices`: for each as a target, the next port of each
 abbrev pub ports_between : List (List Edge) → List (List Edge) → List ℕ → List (List (Option ℕ))
 ports_between ups downs vertices = map (λ t. map (λ s. next_port (indexed ups downs) s t) vertices) vertices
 

@@ -1,10 +1,10 @@
--- Down distances, costs and next ports in words.
+-- Down distances, costs and next ports as statements.
 use Rattle.std.specs.Prelude.{◌≡◌, ◌≢◌, ◌≤◌, ℕ, zero, suc, ◌+◌, ◌⊎◌, ◌==◌, false, List, [], ◌∷◌, ◌++◌, length, Contains, Some}
 use Rattle.port_graph.specs.declared.edge.Edge.{Edge}
 use Rattle.port_graph.specs.Walks.{IsShortest, HasNoWalk}
 use Rattle.port_graph.specs.Slopes.{Slope, ups_at, downs_at, below, cost, next_port}
 
--- the length of a shortest walk down, where one leads there
+-- n is the length of a shortest walk down from s to t
 abbrev pub IsDownDistance : List Slope → ℕ → ℕ → ℕ → Type 0
 IsDownDistance slopes s t n = IsShortest (below slopes) s t n
 
@@ -14,16 +14,16 @@ Climb slopes t s u zero = s ≡ u
 Climb slopes t s u (suc k) =
     HasNoWalk (below slopes) s t × ((e : Edge) × Contains (ups_at slopes s) e × Climb slopes t e.to u k)
 
--- a climb as far as needed and a shortest walk down, n wires in all
+-- a climb followed by a shortest walk down, n wires in all
 abbrev pub IsRoute : List Slope → ℕ → ℕ → ℕ → Type 0
 IsRoute slopes s t n = (u k d : ℕ) × Climb slopes t s u k × IsDownDistance slopes u t d × (n ≡ k + d)
 
--- the cost is that of such a route, and none costs less
+-- n is the cost: some route has n wires, and none has fewer
 pub record IsCost (slopes : List Slope) (s t n : ℕ) : Type 0 where
   pub route : IsRoute slopes s t n
   pub least : (m : ℕ) → IsRoute slopes s t m → n ≤ m
 
--- the port of a wire down to a switch one nearer, and the least such
+-- p is the least port of a wire down to a switch one nearer to t
 pub record IsPortDown (slopes : List Slope) (s t p : ℕ) : Type 0 where
   pub distance : ℕ
   pub is_distance : IsDownDistance slopes s t (suc distance)
@@ -32,7 +32,7 @@ pub record IsPortDown (slopes : List Slope) (s t p : ℕ) : Type 0 where
   pub nearer : IsDownDistance slopes to t distance
   pub least : (e : Edge) → Contains (downs_at slopes s) e → IsDownDistance slopes e.to t distance → p ≤ e.port
 
--- where no walk leads down, the port of a wire up to a switch of least cost, and the least such
+-- no walk leads down to t, and p is the least port of a wire up to a switch of least cost
 pub record IsPortUp (slopes : List Slope) (s t p : ℕ) : Type 0 where
   pub no_walk_down : HasNoWalk (below slopes) s t
   pub to : ℕ
@@ -45,7 +45,7 @@ pub record IsPortUp (slopes : List Slope) (s t p : ℕ) : Type 0 where
 abbrev pub IsNextPort : List Slope → ℕ → ℕ → ℕ → Type 0
 IsNextPort slopes s t p = (s ≢ t) × (IsPortDown slopes s t p ⊎ IsPortUp slopes s t p)
 
--- wires up from s to u, and wires down
+-- wires up from s to u; `Descends` the wires down
 abbrev pub Climbs : List Slope → ℕ → List Edge → ℕ → Type 0
 Climbs slopes s [] u = s ≡ u
 Climbs slopes s (e ∷ es) u = Contains (ups_at slopes s) e × Climbs slopes e.to es u
@@ -54,18 +54,18 @@ abbrev pub Descends : List Slope → ℕ → List Edge → ℕ → Type 0
 Descends slopes s [] u = s ≡ u
 Descends slopes s (e ∷ es) u = Contains (downs_at slopes s) e × Descends slopes e.to es u
 
--- wires by the next port of each switch, as far as the target
+-- wires by the next port of each switch, up to the target t
 abbrev pub GoesBy : List Slope → ℕ → ℕ → List Edge → Type 0
 GoesBy slopes t s [] = s ≡ t
 GoesBy slopes t s (e ∷ es) = ((s == t) ≡ false) × (next_port slopes s t ≡ Some e.port) × GoesBy slopes t e.to es
 
--- from cost n on, the costs of the switches that the wires lead to fall by one
+-- from cost n on, the costs of the switches that the wires lead to fall by one each
 abbrev pub CostsFall : List Slope → ℕ → ℕ → List Edge → Type 0
 CostsFall slopes t n [] = Unit {0}
 CostsFall slopes t zero (e ∷ es) = ⊥
 CostsFall slopes t (suc n) (e ∷ es) = (cost slopes e.to t ≡ Some n) × CostsFall slopes t n es
 
--- a way by next ports: up, and then down, over as many wires as the cost
+-- a way by next ports: up, and then down, over as many wires as the cost n
 pub record Way (slopes : List Slope) (s t n : ℕ) : Type 0 where
   pub ups : List Edge
   pub downs : List Edge

@@ -21,7 +21,7 @@ downs_at (s ∷ slopes) a = if s.guid == a then s.downs else downs_at slopes a
 abbrev pub below : List Slope → ℕ → List ℕ
 below slopes a = map (λ e. e.to) (downs_at slopes a)
 
--- the fewest wires that lead down all the way
+-- the length of a shortest walk down from s to t
 abbrev pub down_distance : List Slope → ℕ → ℕ → Option ℕ
 down_distance slopes s t = shortest (below slopes) (length slopes) s t
 
@@ -33,14 +33,15 @@ abbrev pub least_of : List ℕ → Option ℕ
 least_of [] = None
 least_of (n ∷ ns) = Some (lesser n (least_of ns))
 
--- with at most so many climbs: down where that leads to the target, else one wire up and the least cost from there
+-- the cost with at most `climbs` wires up: the down distance if there is one, else one more than the least cost over
+-- the wires up
 abbrev pub cost_within : List Slope → ℕ → ℕ → ℕ → Option ℕ
 cost_within slopes zero s t = down_distance slopes s t
 cost_within slopes (suc climbs) s t = let down = down_distance slopes s t in
     if is_some down then down else option_map suc
     (least_of (filter_map (λ e. cost_within slopes climbs e.to t) (ups_at slopes s)))
 
--- no climb passes a switch twice
+-- the cost: no climb passes a switch twice, so as many climbs as switches suffice
 abbrev pub cost : List Slope → ℕ → ℕ → Option ℕ
 cost slopes s t = cost_within slopes (length slopes) s t
 
@@ -48,7 +49,7 @@ abbrev pub same_number : Option ℕ → Option ℕ → Bool
 same_number (Some a) (Some b) = a == b
 same_number _ _ = false
 
--- the least port down to a switch that is one nearer to the target
+-- the least port down to a switch that is one nearer to t
 abbrev pub port_down : List Slope → ℕ → ℕ → Option ℕ
 port_down slopes s t =
     option_map (λ e. e.port)
@@ -61,7 +62,7 @@ port_up slopes s t =
     option_map (λ e. e.port) (find (λ e. same_number (option_map suc (cost slopes e.to t)) (cost slopes s t))
     (ups_at slopes s))
 
--- down if that leads to the target, else up
+-- the port down if a walk down leads to t, else the port up
 abbrev pub next_port : List Slope → ℕ → ℕ → Option ℕ
 next_port slopes s t =
     if s == t then None else (if is_some (down_distance slopes s t) then port_down slopes s t else port_up slopes s t)

@@ -7,12 +7,12 @@ use std::marker::Model;
 /// The edges of each vertex, all in one list. The vertices are the numbers from 0 on.
 #[derive(Drop)]
 pub struct Adjacency {
-    /// Where each vertex has its edges.
+    /// The part of `edges` that belongs to each vertex.
     spans: Vec<Span>,
     edges: Vec<Edge>,
 }
 
-/// Where the edges of a vertex begin and end.
+/// The part of a list that belongs to a vertex: from `start` up to, but not including, `end`.
 #[derive(Clone, Copy)]
 struct Span {
     start: usize,
@@ -32,7 +32,7 @@ impl Model for Adjacency {
 }
 
 impl Adjacency {
-    /// No vertex.
+    /// Creates an adjacency without vertices.
     pub fn new(alloc: Global) -> Self
         ensures { result ≡ [] }
     {
@@ -42,14 +42,14 @@ impl Adjacency {
         }
     }
 
-    /// How many vertices there are.
+    /// Returns the number of vertices.
     pub fn len(&self) -> usize
         ensures { result ≡ length self.now }
     {
         self.spans.len()
     }
 
-    /// Adds a vertex with these edges, in their order. On an error nothing has changed.
+    /// Adds a vertex with these edges, in their order. If memory runs out, nothing changes.
     pub fn push_vertex(&mut self, edges: &[Edge]) -> Result<(), AllocError>
         ensures added { OnOk result (self.new ≡ self.old ++ edges.now ∷ []) }
         ensures unchanged { OnErr result (self.new ≡ self.old) }
@@ -61,7 +61,7 @@ impl Adjacency {
         Ok(())
     }
 
-    /// The edges of a vertex in their order. None past the last vertex. Takes one step.
+    /// Returns the edges of a vertex in their order; no edges past the last vertex. Takes one step.
     pub fn at(&self, vertex: usize) -> &[Edge]
         ensures { result.now ≡ slice_index_or self.now vertex [] }
     {

@@ -7,8 +7,8 @@ use crate::adjacency::Adjacency;
 use crate::edge::Edge;
 use std::alloc::{AllocError, Global};
 
-/// The cost of each vertex: its distance where it has one, else one more than the least cost of those that
-/// are up from it. Takes a step for each vertex and each edge.
+/// Computes the cost of each vertex: its distance if it has one, otherwise one more than the least cost of the vertices
+/// up from it. Takes one step for each vertex and each edge.
 pub(crate) fn costs(
     alloc: Global,
     ups: &Adjacency,
@@ -27,7 +27,7 @@ pub(crate) fn costs(
     Ok(costs)
 }
 
-/// The cost of a vertex by the costs of those that are up from it.
+/// Returns the cost of a vertex, given its distance and the costs of the vertices up from it.
 fn cost(distance: Option<usize>, ups: &[Edge], costs: &[Option<usize>]) -> Option<usize>
     requires known { All (λ edge. edge.to < length costs.now) ups.now }
     requires room { AreLess usize.MAX costs.now }
@@ -40,7 +40,7 @@ fn cost(distance: Option<usize>, ups: &[Edge], costs: &[Option<usize>]) -> Optio
     Some(least + 1)
 }
 
-/// The least cost of the vertices to which the edges lead.
+/// Returns the least cost of the vertices that the edges lead to, if any has a cost.
 fn least_cost(edges: &[Edge], costs: &[Option<usize>]) -> Option<usize>
     requires { All (λ edge. edge.to < length costs.now) edges.now }
     ensures { result ≡ least_of (filter_map (λ edge. slice_index_or costs.now edge.to None) edges.now) }
@@ -52,7 +52,7 @@ fn least_cost(edges: &[Edge], costs: &[Option<usize>]) -> Option<usize>
     least
 }
 
-/// The lesser of two costs, where there are two.
+/// Returns the lesser of two costs, or the only one.
 fn lesser(one: Option<usize>, other: Option<usize>) -> Option<usize>
     ensures { result ≡ lesser_of one other }
 {

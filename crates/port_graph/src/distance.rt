@@ -7,8 +7,8 @@ use crate::edge::Edge;
 use std::alloc::{AllocError, Global};
 use std::collections::VecDeque;
 
-/// The length of a shortest walk from a vertex to each vertex, where one leads there: a search in breadth.
-/// Takes a step for each vertex and each edge.
+/// Computes the length of a shortest walk from `from` to each vertex, or `None` if no walk leads there, by a
+/// breadth-first search. Takes one step for each vertex and each edge.
 pub fn distances(
     alloc: Global,
     edges: &Adjacency,
@@ -28,8 +28,8 @@ pub fn distances(
     Ok(distances)
 }
 
-/// Notes the distance of each vertex to which the edges lead and whose distance is not known yet, and lets
-/// it wait.
+/// Sets the distance of each vertex that the edges lead to and whose distance is not known yet, and adds it to the
+/// queue.
 fn reach_all(
     edges: &[Edge],
     distance: usize,

@@ -4,21 +4,21 @@ ghost use Rattle.port_graph.specs.Lanes.{EachLane, IsOneMore, at, nearer, neares
 use crate::edge::Edge;
 use smp_bytes::PortNum;
 
-/// As many targets are routed to side by side.
+/// The number of targets that are routed to side by side.
 pub(crate) const LANES: usize = 16;
 
-/// Stands for no number in a lane.
+/// The number that stands for none in a lane.
 const NONE: u8 = 255;
 
-/// In each lane a number, and the port that leads to a vertex with a lesser one.
+/// For each lane a number, and the port that leads to a vertex with a lesser one.
 #[derive(Clone, Copy)]
 pub(crate) struct Hops {
     pub(crate) numbers: [u8; LANES],
     pub(crate) ports: [u8; LANES],
 }
 
-/// In each lane the least number of the vertices to which the edges lead, and the port of the first edge to
-/// one that has it.
+/// Finds for each lane the least number of the vertices that the edges lead to, and the port of the first edge to a
+/// vertex with that number.
 pub(crate) fn nearest(edges: &[Edge], numbers: &[[u8; LANES]]) -> Hops
     requires { All (λ edge. edge.to < length numbers.now) edges.now }
     ensures { EachLane (λ k. (slice_index result.numbers k, slice_index result.ports k)
@@ -34,7 +34,7 @@ pub(crate) fn nearest(edges: &[Edge], numbers: &[[u8; LANES]]) -> Hops
     nearest
 }
 
-/// Takes the numbers that are less than those found, with the port that leads to them.
+/// Replaces in each lane the number found by that of `numbers` if this is less, and the port by `port`.
 fn take_nearer(found: &mut Hops, numbers: &[u8; LANES], port: u8)
     ensures { EachLane (λ k. (slice_index found.new.numbers k, slice_index found.new.ports k)
         ≡ nearer (slice_index found.old.numbers k, slice_index found.old.ports k) (slice_index numbers.now k) port) }
@@ -51,7 +51,7 @@ fn take_nearer(found: &mut Hops, numbers: &[u8; LANES], port: u8)
     }
 }
 
-/// One more than each number. None where one gets too great for a lane.
+/// Adds one to the number in each lane that has one. Returns `None` if a number gets too great for a lane.
 pub(crate) fn one_more(numbers: &[u8; LANES]) -> Option<[u8; LANES]>
     ensures { IfSome result (λ more. EachLane (λ k. IsOneMore (slice_index numbers.now k) (slice_index more k))) }
 {
@@ -65,7 +65,7 @@ pub(crate) fn one_more(numbers: &[u8; LANES]) -> Option<[u8; LANES]>
     if is_too_great { None } else { Some(more) }
 }
 
-/// 0 in the lanes whose target this vertex is.
+/// Sets the number to 0 in each lane whose target is `vertex`.
 pub(crate) fn set_at_target(numbers: &mut [u8; LANES], targets: &[usize; LANES], vertex: usize)
     ensures { EachLane (λ k. slice_index numbers.new k
         ≡ cond (slice_index targets.now k == vertex) 0 (slice_index numbers.old k)) }
@@ -79,7 +79,7 @@ pub(crate) fn set_at_target(numbers: &mut [u8; LANES], targets: &[usize; LANES],
     }
 }
 
-/// Takes what others have where there is no number.
+/// Takes number and port of `others` in each lane without a number.
 pub(crate) fn fill_in(hops: &mut Hops, others: &Hops)
     ensures numbers { EachLane (λ k. slice_index hops.new.numbers k
         ≡ cond (nat_lt (slice_index hops.old.numbers k) 255) (slice_index hops.old.numbers k)
@@ -103,7 +103,7 @@ pub(crate) fn fill_in(hops: &mut Hops, others: &Hops)
     }
 }
 
-/// The port that a lane says.
+/// Returns the port of a lane; `None` if its number is 0 or stands for none.
 pub(crate) fn port_in(number: u8, port: u8) -> Option<PortNum>
     ensures { result ≡ port_in number port }
 {

@@ -1,5 +1,5 @@
-//! Graphs whose vertices are numbers and whose edges leave by ports: shortest walks, and routes that go
-//! up and then down.
+//! Graphs whose vertices are numbers and whose edges leave by ports: shortest walks, and routes that go up and then
+//! down.
 #![tactic(auto)]
 
 mod adjacency;

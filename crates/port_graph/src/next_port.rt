@@ -8,9 +8,9 @@ use crate::edge::Edge;
 use smp_bytes::PortNum;
 use std::alloc::{AllocError, Global};
 
-/// The next port of each vertex to the target: where a walk down leads there, the first port down to a
-/// vertex one nearer; else the first port up to a vertex of least cost. None at the target, and where no
-/// route leads to it. Takes a step for each vertex and each edge.
+/// Computes the next port of each vertex to `target`: if a walk down leads there, the first port down to a vertex one
+/// nearer; otherwise the first port up to a vertex of least cost. `None` at the target, and if no route leads to it.
+/// Takes one step for each vertex and each edge.
 pub(crate) fn next_ports(
     alloc: Global,
     ups: &Adjacency,
@@ -30,7 +30,7 @@ pub(crate) fn next_ports(
     Ok(ports)
 }
 
-/// The next port of a vertex by the down distances and the costs of all.
+/// Returns the next port of a vertex, given the down distances and costs of all vertices.
 fn next_port(
     ups: &Adjacency,
     downs: &Adjacency,
@@ -52,7 +52,7 @@ fn next_port(
     }
 }
 
-/// The port of the first edge to a vertex whose number is one less.
+/// Returns the port of the first edge to a vertex whose number is one less than `number`.
 fn port_nearer(edges: &[Edge], numbers: &[Option<usize>], number: Option<usize>) -> Option<PortNum>
     requires { All (λ edge. edge.to < length numbers.now) edges.now }
     ensures { result ≡ port_nearer edges.now numbers.now number }

@@ -12,8 +12,8 @@ use crate::next_port::next_ports;
 use smp_bytes::PortNum;
 use std::alloc::{AllocError, Global};
 
-/// The next ports between these vertices: for each of them as a target those of each. Takes a step for each
-/// vertex and each edge for 16 targets at a time; where a cost is greater than 254, for each target.
+/// Computes the next ports between `vertices`: for each as a target, the next port of each. Takes one step for each
+/// vertex and each edge for 16 targets at a time, or for each target if a cost is greater than 254.
 pub fn next_ports_between(
     alloc: Global,
     ups: &Adjacency,
@@ -38,7 +38,7 @@ pub fn next_ports_between(
     Ok(rows)
 }
 
-/// The vertices from an index on, as far as there are lanes; where they end, the last.
+/// Returns the targets of the lanes: the vertices from index `first` on, and the last one in the lanes left over.
 fn targets_from(vertices: &[usize], first: usize) -> [usize; LANES]
     requires { first < length vertices.now }
     ensures { EachLane (λ k. slice_index result k ≡ target_in vertices.now first k) }
@@ -55,14 +55,14 @@ fn targets_from(vertices: &[usize], first: usize) -> [usize; LANES]
 #[derive(Drop)]
 struct Block {
     targets: [usize; LANES],
-    /// Whether the costs have room in the lanes.
+    /// Whether the costs fit in the lanes.
     is_routed: bool,
     numbers: Vec<[u8; LANES]>,
     ports: Vec<[u8; LANES]>,
 }
 
 impl Block {
-    /// For so many vertices.
+    /// Creates a block for `count` vertices, without routes.
     fn new(alloc: Global, count: usize) -> Result<Self, AllocError>
         ensures numbers { IfOk result (λ block. length block.numbers.items ≡ count) }
         ensures ports { IfOk result (λ block. length block.ports.items ≡ count) }
@@ -75,7 +75,7 @@ impl Block {
         })
     }
 
-    /// Routes to these targets.
+    /// Computes the routes to `targets`.
     fn route(&mut self, ups: &Adjacency, downs: &Adjacency, targets: [usize; LANES])
         requires slopes { AreSlopes ups.now downs.now }
         requires numbers { length self.old.numbers.items ≡ length ups.now }
@@ -89,7 +89,7 @@ impl Block {
         self.is_routed = route_in_lanes(ups, downs, &targets, &mut self.numbers, &mut self.ports);
     }
 
-    /// The next ports of these vertices to the target of a lane.
+    /// Returns the next ports of `vertices` to the target of a lane.
     fn row(
         &self,
         alloc: Global,
@@ -120,8 +120,8 @@ impl Block {
     }
 }
 
-/// The costs of all vertices and their next ports, in each lane to its target: down distances from the last
-/// vertex to the first, and then costs from the first to the last. False where one is too great for a lane.
+/// Computes for each lane the costs of all vertices and their next ports to its target: down distances from the last
+/// vertex to the first, and then costs from the first to the last. Returns `false` if a cost is too great for a lane.
 fn route_in_lanes(
     ups: &Adjacency,
     downs: &Adjacency,
@@ -169,7 +169,8 @@ fn route_in_lanes(
     true
 }
 
-/// The down distances of a vertex by those of the vertices that are down from it, and its ports down.
+/// Computes the down distances of a vertex and its ports down, given the numbers of the vertices down from it. Returns
+/// `None` if a distance is too great for a lane.
 fn down_from(
     downs: &[Edge],
     numbers: &[[u8; LANES]],
@@ -189,8 +190,8 @@ fn down_from(
     })
 }
 
-/// The costs of a vertex by those of the vertices that are up from it, and its ports up, where it has no down
-/// distance.
+/// Computes the costs of a vertex and its ports up for the lanes without a down distance, given the costs of the
+/// vertices up from it. Returns `None` if a cost is too great for a lane.
 fn up_from(ups: &[Edge], numbers: &[[u8; LANES]], down: Hops) -> Option<Hops>
     requires { All (λ edge. edge.to < length numbers.now) ups.now }
     ensures { IfSome result (λ hops. EachLane (λ k. IsStepUp (slice_index down.numbers k) (slice_index down.ports k)
@@ -206,7 +207,7 @@ fn up_from(ups: &[Edge], numbers: &[[u8; LANES]], down: Hops) -> Option<Hops>
     Some(hops)
 }
 
-/// The ports of these vertices in a lane.
+/// Returns the ports of `vertices` in a lane.
 fn ports_in_lane(
     alloc: Global,
     numbers: &[[u8; LANES]],
@@ -227,7 +228,7 @@ fn ports_in_lane(
     Ok(found)
 }
 
-/// The ports of these vertices.
+/// Returns the ports of `vertices`.
 fn ports_at(
     alloc: Global,
     ports: &[Option<PortNum>],

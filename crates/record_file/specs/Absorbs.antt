@@ -11,14 +11,14 @@ use Rattle.record_file.specs.declared.format.Format.{Format}
 use Rattle.record_file.specs.Head.{IsFormat, floored_magic, format_in, head_bytes}
 use Rattle.record_file.specs.RecordFile.{AreGoodRecords, Judgement, facts_in, fault_in, outcome}
 
--- what a record is judged to tell is in the store, unless there was no memory for it; or it is bad, and that is the
--- answer
+-- after a good record the store has what it says, or memory ran out and the store stays; after a bad one the answer is
+-- its fault, and the store stays
 abbrev pub AbsorbsJudged : {K : Type 0} → Judgement → ℕ → Result K FileFault → Facts → Facts → Type 0
 AbsorbsJudged (Ok sightings) index (Ok key) old new = new ≡ merge old (view sightings)
 AbsorbsJudged (Ok sightings) index (Err f) old new = (f ≡ Memory) × (new ≡ old)
 AbsorbsJudged (Err fault) index result old new = (result ≡ Err (fault index)) × (new ≡ old)
 
--- behind good records there is one more, which ends within the last 4096 bytes
+-- the bytes are a head, good records and a last one, with fewer than 4096 bytes behind it
 pub record EndsBehindRecord (taken : List ℕ) : Type 0 where
   pub format : Format
   pub records : List (List ℕ)
@@ -29,14 +29,15 @@ pub record EndsBehindRecord (taken : List ℕ) : Type 0 where
   pub good : AreGoodRecords format None (records ++ last ∷ [])
   pub near : length behind < 4096
 
--- what the taken bytes say was merged into the store; when out of memory, what those before the record say that wanted
+-- what the taken bytes say was merged into the store; if memory ran out, only what comes before the record that needed
 -- it
 abbrev pub HoldsKept : Result (Unit {0}) FileFault → Facts → Facts → List ℕ → Type 0
 HoldsKept (Err Memory) old new taken =
     (wanted : EndsBehindRecord taken) × (new ≡ merge old (facts_in (head_bytes wanted.format ++ concat wanted.records)))
 HoldsKept _ old new taken = new ≡ merge old (facts_in taken)
 
--- the answer is what reading these bytes answers, unless a read or a growth failed, or too many calls were interrupted
+-- the answer is what reading these bytes answers, unless a read or an allocation failed, or too many calls were
+-- interrupted
 abbrev pub AnswersOutcome : Result (Unit {0}) FileFault → List ℕ → Type 0 → Type 0
 AnswersOutcome (Ok u) bytes interrupted = outcome bytes ≡ Ok u
 AnswersOutcome (Err Read) bytes interrupted = Unit {0}
@@ -48,17 +49,16 @@ AnswersOutcome (Err f) bytes interrupted = outcome bytes ≡ Err f
 abbrev pub HasNoHeadYet : List ℕ → Type 0
 HasNoHeadYet taken = (length taken < 8) ⊎ ((starts_with nat_eq taken floored_magic ≡ true) × (length taken < 16))
 
--- a head is still to come, or there is one with nothing but good records behind it so far
+-- a head is still to come, or there is one with only good records behind it so far
 abbrev pub HasNoFaultYet : List ℕ → Type 0
 HasNoFaultYet taken =
     HasNoHeadYet taken ⊎ ((format : Format) × (format_in taken ≡ Ok format) × (fault_in format taken ≡ None))
 
--- no fault is in the bytes, or they end a piece behind a good record, with good ones alone before it
+-- the bytes have no fault, or they end a piece behind a good record that has only good ones before it
 abbrev pub HasNoFaultBefore : List ℕ → Type 0
 HasNoFaultBefore taken = HasNoFaultYet taken ⊎ EndsBehindRecord taken
 
--- where the answer depends on what else the source has, it has nothing else; where reading stopped early, no fault came
--- first
+-- if the answer depends on what else the source has, it has nothing else; if reading stopped early, no fault came first
 abbrev pub IsDecided : Result (Unit {0}) FileFault → List ℕ → Type 0 → Type 0
 IsDecided (Ok u) taken at_end = at_end
 IsDecided (Err Magic) taken at_end = length taken < 8 → at_end
@@ -72,13 +72,13 @@ abbrev pub WasInterruptedTooOften : List ℕ → List ℕ → ℕ → ℕ → Ty
 WasInterruptedTooOften bytes rest interruptions interruptions' =
     (2 ^ 40 + interruptions) + length rest ≤ length bytes + interruptions'
 
--- fewer than 2^40 bytes were taken and fewer calls interrupted; where that is too long, at most as many
+-- fewer than 2^40 bytes were taken, and fewer calls interrupted; at most as many if the answer is TooLong
 abbrev pub IsBounded : Result (Unit {0}) FileFault → ℕ → ℕ → ℕ → Type 0
 IsBounded (Err TooLong) bytes interruptions interruptions' =
     (bytes ≤ 2 ^ 40) × (interruptions' ≤ 2 ^ 40 + interruptions)
 IsBounded _ bytes interruptions interruptions' = (bytes < 2 ^ 40) × (interruptions' < 2 ^ 40 + interruptions)
 
--- bytes were taken, the store holds what they say, and the answer is theirs
+-- the bytes `taken` were taken, the store holds what they say, and the answer is theirs
 pub record AbsorbsFrom (left left' : Option (List ℕ)) (interruptions interruptions' : ℕ)
     (answer : Result (Unit {0}) FileFault) (old new : Facts) : Type 0 where
   pub taken : List ℕ
@@ -88,14 +88,14 @@ pub record AbsorbsFrom (left left' : Option (List ℕ)) (interruptions interrupt
   pub decided : IsDecided answer taken (IsAtEnd left')
   pub bounded : IsBounded answer (length taken) interruptions interruptions'
 
--- what absorbing this source with this answer does to it and to the store
+-- what absorbing the source with this answer does to it and to the store
 abbrev pub Absorbs : {S : Type 0} → (S → SourceState) → Result (Unit {0}) FileFault → S → S → Facts → Facts
     → Type 0
 Absorbs state answer source source' old new =
     AbsorbsFrom (state source).left (state source').left (state source).interruptions (state source').interruptions
     answer old new
 
--- where the bytes of a source are known, the answer is what reading all of them answers
+-- if the bytes of a source are known, the answer is what reading all of them answers
 abbrev pub AnswersKnown : {S : Type 0} → (S → SourceState) → Result (Unit {0}) FileFault → S → S → Type 0
 AnswersKnown state answer source source' =
     IfSome (state source).left (λ bytes. IfSome (state source').left

@@ -30,12 +30,12 @@ abbrev pub cell_value_bytes : Cell Value → List ℕ
 cell_value_bytes (Known generation value) = value_bytes value
 cell_value_bytes (Disputed generation) = []
 
--- 1 for a known value, 2 for a dispute
+-- 1 for a known cell, 2 for a disputed one
 abbrev pub state_byte : Cell Value → ℕ
 state_byte (Known generation value) = 1
 state_byte (Disputed generation) = 2
 
--- with zeros up to so many bytes
+-- the bytes, with zeros up to n bytes
 abbrev pub filled_up : ℕ → List ℕ → List ℕ
 filled_up n bytes = bytes ++ replicate (n - length bytes) 0
 
@@ -45,11 +45,11 @@ record_bytes e =
     key_kind e.0 ∷ state_byte e.1 ∷ key_port e.0 ∷ 0 ∷
     (to_be_bytes w32 (generation_of e.1) ++ to_be_bytes w64 (key_guid e.0) ++ filled_up 16 (cell_value_bytes e.1))
 
--- the keys of this GUID and port; a node and a table's room have no port
+-- the keys with this GUID and port; a node and a table's room have no port
 abbrev pub keys_of : ℕ → ℕ → List Key
 keys_of guid port = Node guid ∷ PortGuid guid port ∷ Link guid port ∷ Port guid port ∷ Claim guid port ∷ Cap guid ∷ []
 
--- the one of them with this kind byte
+-- the key with this kind byte, GUID and port
 abbrev pub key_of : ℕ → ℕ → ℕ → Option Key
 key_of kind guid port = find (λ key. kind == key_kind key) (keys_of guid port)
 
@@ -67,7 +67,7 @@ abbrev pub state_of : Key → ℕ → ℕ → List ℕ → Option (Cell Value)
 state_of key state generation bytes =
     if state == 1 then option_map (Known generation) (value_of key bytes) else Some (Disputed generation)
 
--- the cell that these bytes may be the spelling of
+-- the cell that these bytes spell if they are a record
 abbrev pub candidate : List ℕ → Option (Key × Cell Value)
 candidate bytes =
     option_and_then (λ key. option_map (λ cell. (key, cell))
@@ -80,6 +80,6 @@ if_sighting e = if is_sighting e then Some e else None
 abbrev pub if_spelled : List ℕ → Key × Cell Value → Option (Key × Cell Value)
 if_spelled bytes e = if bytes_eq (record_bytes e) bytes then Some e else None
 
--- the sighting of which these bytes are the spelling, if there is one
+-- the sighting whose record these bytes are, if there is one
 unfoldable pub cell_of : List ℕ → Option (Key × Cell Value)
 cell_of bytes = option_and_then (if_spelled bytes) (option_and_then if_sighting (candidate bytes))

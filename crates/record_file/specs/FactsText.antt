@@ -33,12 +33,12 @@ value_text (Up up) = if up then codes "up" else codes "down"
 value_text (Lid lid) = decimal lid
 value_text (Count count) = decimal count
 
--- the value, or that it is disputed, and the generation
+-- the value, or `disputed`, and the generation
 abbrev pub cell_text : Cell Value → List ℕ
 cell_text (Known generation value) = value_text value ++ codes " @" ++ decimal generation
 cell_text (Disputed generation) = codes "disputed @" ++ decimal generation
 
--- a key and what is said of it
+-- a key and its cell
 abbrev pub fact_text : Key × Cell Value → List ℕ
 fact_text cell = key_text cell.0 ++ codes " " ++ cell_text cell.1
 
@@ -46,7 +46,7 @@ fact_text cell = key_text cell.0 ++ codes " " ++ cell_text cell.1
 abbrev pub line_text : Key × Cell Value → List ℕ
 line_text cell = fact_text cell ++ codes "\n"
 
--- the line of a floor; the least one has none
+-- the line of a floor; floor 1 has none
 abbrev pub floor_line : ℕ → List ℕ
 floor_line floor = if nat_le floor 1 then [] else codes "floor " ++ decimal floor ++ codes "\n"
 

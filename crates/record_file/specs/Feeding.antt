@@ -1,4 +1,5 @@
--- A file that comes in pieces: what an absorber waits for after the bytes that it was fed, and what a piece more does.
+-- A file that comes in pieces: what an absorber waits for after the bytes that it was fed, and what one more piece
+-- does.
 use Rattle.std.specs.Prelude.{◌≡◌, ◌⊎◌, ℕ, ◌+◌, ◌*◌, ◌<◌, ◌≤◌, ◌^◌, List, [], ◌∷◌, ◌++◌, Option, None, Some, Result, Ok, Err, IfOk, length, take}
 use Rattle.std.specs.Prelude.{nat_lt, ◌==◌, if◌then◌else◌}
 use Rattle.std.specs.List.{concat}
@@ -17,33 +18,33 @@ use Rattle.record_file.specs.Absorbs.{AbsorbsJudged}
 use Rattle.record_file.specs.Head.{IsFormat, floor_told, floored_magic, format_in, head_bytes, head_size}
 use Rattle.record_file.specs.RecordFile.{AreGoodRecords, floor_in, judged, kept, key_in, last_key, outcome, record_size}
 
--- what an absorber waits for, or the fault that it stopped with; and the bytes of the awaited that came
+-- what an absorber waits for, or the fault that it stopped with; and the bytes of the awaited part that came
 pub record Absorbing : Type 0 where
   pub awaited : Result Awaited FileFault
   pub part : List ℕ
 
--- the bytes of what is awaited
+-- the number of bytes of the awaited part
 abbrev pub awaited_size : Awaited → ℕ
 awaited_size awaited.Magic = 8
 awaited_size awaited.Header = 8
 awaited_size (awaited.Record format index last) = record_size format
 
--- the bytes before it
+-- the number of bytes before the awaited part
 abbrev pub offset_of : Awaited → ℕ
 offset_of awaited.Magic = 0
 offset_of awaited.Header = 8
 offset_of (awaited.Record format index last) = head_size format + record_size format * index
 
--- not all of its bytes came
+-- not all bytes of the awaited part came
 abbrev pub IsShortOf : Awaited → List ℕ → Type 0
 IsShortOf awaited part = length part < awaited_size awaited
 
--- and fewer than 2^40 came altogether
+-- not all bytes of the awaited part came, and fewer than 2^40 bytes in all
 abbrev pub IsInReach : Result Awaited FileFault → List ℕ → Type 0
 IsInReach (Ok awaited) part = IsShortOf awaited part × (offset_of awaited + length part < 2 ^ 40)
 IsInReach (Err fault) part = Unit {0}
 
--- these bytes are the head, good records, and a part of the next one, which is this one
+-- the bytes `fed` are the head, `index` good records, and the bytes `part` of the next one
 pub record IsBehindRecords (format : Format) (index : ℕ) (last : Option Key) (part fed : List ℕ) : Type 0 where
   pub records : List (List ℕ)
   pub sound : IsFormat format
@@ -53,24 +54,24 @@ pub record IsBehindRecords (format : Format) (index : ℕ) (last : Option Key) (
   pub key : last ≡ last_key format None records
   pub short : length part < record_size format
 
--- after these bytes that is awaited, and that part of it came
+-- after the bytes `fed` this is awaited, and `part` of it came
 abbrev pub Awaits : Awaited → List ℕ → List ℕ → Type 0
 Awaits awaited.Magic part fed = (fed ≡ part) × (length part < 8)
 Awaits awaited.Header part fed = (fed ≡ floored_magic ++ part) × (length part < 8)
 Awaits (awaited.Record format index last) part fed = IsBehindRecords format index last part fed
 
--- the absorber was fed these bytes, and none of them had a fault
+-- the absorber was fed these bytes, and they have no fault so far
 pub record WasFed (a : Absorbing) (fed : List ℕ) : Type 0 where
   pub awaited : Awaited
   pub goes_on : a.awaited ≡ Ok awaited
   pub awaits : Awaits awaited a.part fed
   pub short : length fed < 2 ^ 40
 
--- it stopped with this fault
+-- the absorber stopped with this fault
 abbrev pub HasStopped : Absorbing → FileFault → Type 0
 HasStopped a fault = a.awaited ≡ Err fault
 
--- of what so many bytes answer the fault that stays, whatever follows them
+-- the fault in the outcome of n bytes, if it stays whatever follows them
 abbrev pub staying : ℕ → Result (Unit {0}) FileFault → Option FileFault
 staying n (Ok u) = None
 staying n (Err Magic) = if nat_lt n 8 then None else Some Magic
@@ -81,18 +82,18 @@ staying n (Err fault) = Some fault
 abbrev pub fault_so_far : List ℕ → Option FileFault
 fault_so_far bytes = staying (length bytes) (outcome bytes)
 
--- the floor that a piece tells behind these bytes: that of all of them, unless it was told before
+-- the floor that a piece raises behind the bytes `fed`: that of all bytes together, unless `fed` has one
 abbrev pub floor_behind : List ℕ → List ℕ → ℕ
 floor_behind fed piece = if floor_in fed == 1 then floor_in (fed ++ piece) else 1
 
--- what the head and the records tell that this piece completes was merged into the store
+-- what the head and the records say that this piece completes was merged into the store
 pub record AddsSightings (fed piece : List ℕ) (old new : Facts) : Type 0 where
   pub sightings : List (Key × Cell Value)
   pub more : kept (fed ++ piece) ≡ kept fed ++ sightings
   pub held : new ≡ merge old (view_at (floor_behind fed piece) sightings)
 
--- a good record that this piece completes wanted memory; what the head and the records before it tell was merged into
--- the store
+-- memory ran out for a good record that this piece completes; what the head and the records before it say was merged
+-- into the store
 pub record WantsMemory (fed piece : List ℕ) (old new : Facts) : Type 0 where
   pub format : Format
   pub records : List (List ℕ)
@@ -107,13 +108,13 @@ pub record WantsMemory (fed piece : List ℕ) (old new : Facts) : Type 0 where
   pub more : kept (head_bytes format ++ concat records) ≡ kept fed ++ sightings
   pub held : new ≡ merge old (view_at (floor_behind fed piece) sightings)
 
--- a record of the piece wanted memory, or the bytes have this fault now, and the store what came before it
+-- memory ran out for a record of the piece, or the bytes have this fault; and the store holds what came before it
 abbrev pub StopsWith : FileFault → List ℕ → List ℕ → Facts → Facts → Type 0
 StopsWith fault fed piece old new =
     ((fault ≡ Memory) × WantsMemory fed piece old new)
     ⊎ ((fault_so_far (fed ++ piece) ≡ Some fault) × AddsSightings fed piece old new)
 
--- what a piece behind these bytes leaves
+-- what feeding a piece behind the bytes `fed` answers and does
 abbrev pub FeedsBehind : List ℕ → List ℕ → Result (Unit {0}) FileFault → Absorbing → Facts → Facts → Type 0
 FeedsBehind fed piece (Ok u) a old new =
     WasFed a (fed ++ piece) × (fault_so_far (fed ++ piece) ≡ None) × AddsSightings fed piece old new
@@ -132,7 +133,7 @@ pub record Finishes (a : Absorbing) (answer : Result (Unit {0}) FileFault) : Typ
 
 -- the steps of a piece -----------------------------------------------------------------
 
--- what is awaited behind eight bytes: where their head isn't whole, its header
+-- what is awaited behind eight bytes: the first record or, if their head is not whole, its header
 abbrev pub behind_magic : Result Format FileFault → Result Awaited FileFault
 behind_magic (Ok format) = Ok (awaited.Record format 0 None)
 behind_magic (Err (Truncated offset)) = Ok awaited.Header
@@ -143,19 +144,19 @@ abbrev pub behind_header : Option ℕ → Result Awaited FileFault
 behind_header None = Err BadFloor
 behind_header (Some floor) = Ok (awaited.Record (Cells (Some floor)) 0 None)
 
--- the floor that is told is raised
+-- the facts, raised to the floor if there is one
 abbrev pub raised_to : Option ℕ → Facts → Facts
 raised_to None facts = facts
 raised_to (Some floor) facts = raised facts floor
 
--- how a file ends where so many bytes of the awaited came
+-- how a file ends if n bytes of the awaited part came
 abbrev pub ending_at : Awaited → ℕ → Result (Unit {0}) FileFault
 ending_at awaited.Magic n = Err Magic
 ending_at awaited.Header n = Err (Truncated (offset_of awaited.Header))
 ending_at (awaited.Record format index last) n =
     if n == 0 then Ok tt else Err (Truncated (offset_of (awaited.Record format index last)))
 
--- what taking the awaited whole answers, and does to the store
+-- what taking the whole awaited part answers, and does to the store
 abbrev pub TakesAwaited : Awaited → List ℕ → Result Awaited FileFault → Facts → Facts → Type 0
 TakesAwaited awaited.Magic bytes answer old new = (answer ≡ behind_magic (format_in bytes)) × (new ≡ old)
 TakesAwaited awaited.Header bytes answer old new =
@@ -164,17 +165,17 @@ TakesAwaited (awaited.Record format index last) bytes answer old new =
     AbsorbsJudged (judged format last bytes) index answer old new
     × IfOk answer (λ next. next ≡ awaited.Record format (index + 1) (key_in format bytes))
 
--- where bytes lead from others
+-- where `piece` leads after `fed`: to an awaited part and the bytes of it, or to a fault
 abbrev pub TakesTo : List ℕ → List ℕ → Result Awaited FileFault → List ℕ → Facts → Facts → Type 0
 TakesTo fed piece (Ok next) part old new = Awaits next part (fed ++ piece) × AddsSightings fed piece old new
 TakesTo fed piece (Err fault) part old new = StopsWith fault fed piece old new
 
--- where they lead from wherever that is awaited
+-- `piece` leads there behind any bytes after which `part` of the awaited part came
 abbrev pub TakesPiece : Awaited → List ℕ → List ℕ → Result Awaited FileFault → List ℕ → Facts → Facts → Type 0
 TakesPiece awaited part piece answer part' old new =
     (fed : List ℕ) → Awaits awaited part fed → TakesTo fed piece answer part' old new
 
--- so many bytes were taken from the front
+-- the first n bytes were taken, and lead to `next`
 pub record TakesSome (awaited : Awaited) (part bytes : List ℕ) (next : Awaited) (n : ℕ) (part' : List ℕ)
     (old new : Facts) : Type 0 where
   pub some : 0 < n

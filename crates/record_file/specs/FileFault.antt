@@ -1,4 +1,4 @@
--- What is said of a file that wasn't taken in whole: words, a number behind them, and the fault of a report.
+-- What is printed about a file that was not read whole: words, a number behind them, and the fault of a report.
 use Rattle.std.specs.Prelude.{ℕ, Bool, true, false, List, Option, None, Some, codes}
 use Rattle.reply_facts.specs.declared.report_fault.ReportFault.{ReportFault}
 use Rattle.record_file.specs.declared.file_fault.FileFault.{FileFault}
@@ -27,7 +27,7 @@ abbrev pub fault_of_report : FileFault → Option ReportFault
 fault_of_report (BadReport index fault) = Some fault
 fault_of_report _ = None
 
--- being out of memory is not the file's
+-- the fault is the file's; lack of memory is not
 abbrev pub is_of_file : FileFault → Bool
 is_of_file Memory = false
 is_of_file _ = true

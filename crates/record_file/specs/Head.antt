@@ -1,4 +1,4 @@
--- The head of a file: its magic, and behind the magic of newer store files a header, which tells their floor.
+-- The head of a file: its magic and, behind the magic of newer store files, a header with their floor.
 use Rattle.std.specs.Prelude.{ℕ, Bool, true, ◌&&◌, List, [], ◌∷◌, ◌++◌, Option, None, Some, Result, Ok, Err, IsTrue, length}
 use Rattle.std.specs.Prelude.{take, drop, codes, nat_eq, nat_lt, unwrap_or, if◌then◌else◌}
 use Rattle.std.specs.Int.{to_be_bytes, from_be_bytes, w32}
@@ -10,15 +10,15 @@ use Rattle.record_file.specs.declared.file_fault.FileFault.TheVariants.{Magic, T
 use Rattle.record_file.specs.declared.format.Format.{Format}
 use Rattle.record_file.specs.declared.format.Format.TheVariants.{Reports, Cells}
 
--- the magic that has a header behind it
+-- the magic with a header behind it
 abbrev pub floored_magic : List ℕ
 floored_magic = codes "IBSMSTO2"
 
--- the header of this floor: four bytes of it, and four zero bytes
+-- the header of a floor: the floor in four bytes, and four zero bytes
 abbrev pub header : ℕ → List ℕ
 header floor = to_be_bytes w32 floor ++ (0 ∷ 0 ∷ 0 ∷ 0 ∷ [])
 
--- what stands before the records
+-- the bytes before the records
 abbrev pub head_bytes : Format → List ℕ
 head_bytes Reports = codes "IBSMREP1"
 head_bytes (Cells None) = codes "IBSMSTO1"
@@ -29,7 +29,7 @@ head_size Reports = 8
 head_size (Cells None) = 8
 head_size (Cells (Some floor)) = 16
 
--- whether a floor that is told is a generation
+-- the floor in the head, if there is one, is a generation
 abbrev pub is_format : Format → Bool
 is_format Reports = true
 is_format (Cells None) = true
@@ -38,7 +38,7 @@ is_format (Cells (Some floor)) = is_generation floor
 abbrev pub IsFormat : Format → Type 0
 IsFormat format = IsTrue (is_format format)
 
--- the floor under the records; a file that tells none has floor 1
+-- the floor of the head, or 1 if it has none
 abbrev pub floor_of : Format → ℕ
 floor_of Reports = 1
 floor_of (Cells head_floor) = unwrap_or head_floor 1
@@ -46,21 +46,21 @@ floor_of (Cells head_floor) = unwrap_or head_floor 1
 abbrev pub if_header : List ℕ → ℕ → Option ℕ
 if_header bytes floor = if is_generation floor && bytes_eq (header floor) bytes then Some floor else None
 
--- the floor of which these bytes are the header
+-- the floor of a header; None if the bytes are no header
 abbrev pub floor_told : List ℕ → Option ℕ
 floor_told bytes = if_header bytes (from_be_bytes w32 (take 4 bytes))
 
--- the format with the floor that the header tells
+-- the format with the floor of the header
 abbrev pub floored : Option ℕ → Result Format FileFault
 floored None = Err BadFloor
 floored (Some floor) = Ok (Cells (Some floor))
 
--- what the header says of bytes that begin with its magic
+-- the format of bytes that begin with `floored_magic`, by the header behind it
 abbrev pub behind_floored : List ℕ → Result Format FileFault
 behind_floored bytes =
     if nat_lt (length bytes) 16 then Err (Truncated 8) else floored (floor_told (take 8 (drop 8 bytes)))
 
--- the format whose head the bytes begin with, or what is wrong with their head
+-- the format of the head that the bytes begin with, or the fault of their head
 abbrev pub format_in : List ℕ → Result Format FileFault
 format_in bytes =
     if starts_with nat_eq bytes (head_bytes Reports) then Ok Reports

@@ -18,7 +18,7 @@ IsBadPart (BadCell index) = Unit {0}
 IsBadPart (CellOrder index) = Unit {0}
 IsBadPart _ = ⊥
 
--- on what follows it depend neither the fault of a bad part nor what is kept nor the floor
+-- neither the fault of a bad part, nor what is kept, nor the floor depends on what follows it
 pub record StaysBad (bytes rest : List ℕ) (f : FileFault) : Type 0 where
   pub outcome_stays : outcome (bytes ++ rest) ≡ Err f
   pub kept_stays : kept (bytes ++ rest) ≡ kept bytes
@@ -31,23 +31,23 @@ BadPartStays = (bytes rest : List ℕ) (f : FileFault) → IsBadPart f → outco
 abbrev pub IsGoodReport : List ℕ → Type 0
 IsGoodReport r = (length r ≡ 272) × IsOk (report_judged r)
 
--- numbers of a byte each
+-- each number fits a byte
 abbrev pub AreBytes : List ℕ → Type 0
 AreBytes bytes = (i : ℕ) → slice_index bytes i < 256
 
--- a report whose parts fit the bytes that they are written in
+-- a report whose parts fit their bytes in a record
 pub record IsWritable (r : Report) : Type 0 where
   pub generation : r.generation < 2 ^ 32
   pub guid : context_guid r.context < 2 ^ 64
   pub reply : length r.bytes ≡ 256
 
--- 272 bytes spell exactly the report whose record they are
+-- 272 bytes spell a report exactly if they are its record
 abbrev pub ReportsHaveOneSpelling : Type 0
 ReportsHaveOneSpelling =
     (bytes : List ℕ) (r : Report) → length bytes ≡ 272 → AreBytes bytes → IsWritable r → (report_of bytes ≡ Some r)
     ↔ (bytes ≡ report_bytes r)
 
--- good records and a part of one end within the record that begins behind them
+-- a file of good records and a part of one more ends within the record behind them
 abbrev pub TruncationIsTold : Type 0
 TruncationIsTold =
     (format : Format) (rs : List (List ℕ)) (part : List ℕ) → IsFormat format → AreGoodRecords format None rs → 0
@@ -56,7 +56,7 @@ TruncationIsTold =
     → outcome (head_bytes format ++ (concat rs ++ part))
     ≡ Err (Truncated (head_size format + record_size format * length rs))
 
--- of good records and a bad one the bad one's fault is told, with its index, whatever follows it
+-- a file of good records and a bad one has the bad one's fault, with its index, whatever follows it
 abbrev pub FirstBadRecordIsTold : Type 0
 FirstBadRecordIsTold =
     (format : Format) (rs : List (List ℕ)) (r rest : List ℕ) (f : ℕ → FileFault) → IsFormat format
@@ -65,22 +65,22 @@ FirstBadRecordIsTold =
     → length (head_bytes format ++ (concat rs ++ r)) ≤ 2 ^ 40
     → outcome (head_bytes format ++ (concat rs ++ (r ++ rest))) ≡ Err (f (length rs))
 
--- the file of these records
+-- the file with these records
 abbrev pub report_file : List (List ℕ) → List ℕ
 report_file rs = head_bytes Reports ++ concat rs
 
--- the file of these good reports, in fewer than 2^40 bytes
+-- the bytes are the file of these good reports, and fewer than 2^40
 pub record IsReportFile (bytes : List ℕ) (rs : List (List ℕ)) : Type 0 where
   pub whole : bytes ≡ report_file rs
   pub each : AllByRecursion IsGoodReport rs
   pub short : length bytes < 2 ^ 40
 
--- a file of reports is accepted exactly where it is that
+-- a file of reports is accepted exactly if it is the file of some good reports
 abbrev pub ReportFilesAreAccepted : Type 0
 ReportFilesAreAccepted = (bytes : List ℕ) → ((format_in bytes ≡ Ok Reports) × (outcome bytes ≡ Ok tt))
     ↔ ((rs : List (List ℕ)) × IsReportFile bytes rs)
 
--- both of these are accepted, have the whole file's floor, and keep together what it keeps
+-- both parts are accepted, have the whole file's floor, and keep together what it keeps
 pub record AreParts (whole front back : List ℕ) : Type 0 where
   pub front_accepted : outcome front ≡ Ok tt
   pub back_accepted : outcome back ≡ Ok tt

@@ -1,4 +1,4 @@
--- What a fault of reading a piece is for the file.
+-- The fault of a file, from the fault of reading a piece.
 use Rattle.byte_io.specs.declared.reading.PieceFault.{PieceFault}
 use Rattle.byte_io.specs.declared.reading.PieceFault.TheVariants as piece
 use Rattle.record_file.specs.declared.file_fault.FileFault.{FileFault}

@@ -8,14 +8,14 @@ use Rattle.record_file.specs.declared.file_fault.FileFault.TheVariants.{Memory}
 use Rattle.record_file.specs.Feeding.{Absorbing, FeedsPiece, Finishes, WasFed, fault_so_far}
 use Rattle.record_file.specs.RecordFile.{facts_in, floor_in, kept, outcome}
 
--- these pieces are fed one after the other, and none wants memory
+-- these pieces are fed one after the other, and none runs out of memory
 abbrev pub FeedsEach : List (List ℕ) → Absorbing → Absorbing → Facts → Facts → Type 0
 FeedsEach [] a a' old new = (a' ≡ a) × (new ≡ old)
 FeedsEach (piece ∷ pieces) a a' old new =
     (answer : Result (Unit {0}) FileFault) × (next : Absorbing) × (mid : Facts)
     × FeedsPiece a piece answer next old mid × (answer ≡ Err Memory → ⊥) × FeedsEach pieces next a' mid new
 
--- an absorber that was fed nothing is fed these pieces and finished, with this answer
+-- a new absorber is fed these pieces and finished, with this answer
 pub record ReadsPieces (pieces : List (List ℕ)) (answer : Result (Unit {0}) FileFault) (old new : Facts) : Type 0 where
   pub a : Absorbing
   pub a' : Absorbing
@@ -23,21 +23,21 @@ pub record ReadsPieces (pieces : List (List ℕ)) (answer : Result (Unit {0}) Fi
   pub feeds : FeedsEach pieces a a' old new
   pub finishes : Finishes a' answer
 
--- pieces give what reading their bytes gives
+-- pieces give the answer and the facts of their bytes
 abbrev pub PiecesAreRead : Type 0
 PiecesAreRead =
     (pieces : List (List ℕ)) (answer : Result (Unit {0}) FileFault) (old new : Facts)
     → ReadsPieces pieces answer old new
     → (answer ≡ outcome (concat pieces)) × (new ≡ merge old (facts_in (concat pieces)))
 
--- they give what all of their bytes give at once
+-- pieces give what all their bytes give at once
 abbrev pub CutsChangeNothing : Type 0
 CutsChangeNothing =
     (pieces : List (List ℕ)) (answer whole_answer : Result (Unit {0}) FileFault) (old new whole_new : Facts)
     → ReadsPieces pieces answer old new
     → ReadsPieces (concat pieces ∷ []) whole_answer old whole_new → (answer ≡ whole_answer) × (new ≡ whole_new)
 
--- the fault that bytes have stays, whatever follows them, and nothing more is kept, nor a greater floor told
+-- a fault so far stays, whatever follows, and neither more is kept nor the floor changed
 abbrev pub FaultsStay : Type 0
 FaultsStay =
     (bytes rest : List ℕ) (fault : FileFault) → fault_so_far bytes ≡ Some fault

@@ -20,42 +20,42 @@ abbrev pub record_size : Format → ℕ
 record_size Reports = 272
 record_size (Cells head_floor) = 32
 
--- why a record is bad, but for its index; or what it tells
+-- what a record says, or its fault, given its index
 abbrev pub Judgement : Type 0
 Judgement = Result (List (Key × Cell Value)) (ℕ → FileFault)
 
--- a report tells what its sightings are
+-- a report says its sightings
 abbrev pub of_report : Result (List (Key × Cell Value)) ReportFault → Judgement
 of_report (Ok sightings) = Ok sightings
 of_report (Err f) = Err (λ index. BadReport index f)
 
--- whether a cell is at the floor that is told, or above it
+-- whether a cell is at the head's floor or above it, if the head has one
 abbrev pub is_at_told : Option ℕ → Cell Value → Bool
 is_at_told None cell = true
 is_at_told (Some floor) cell = is_kept floor cell
 
--- a cell tells itself, if it is not below the file's floor and its key comes after the last one's
+-- a cell says itself, if it is not below the head's floor and its key comes after `last`
 abbrev pub of_cell : Option ℕ → Option Key → Option (Key × Cell Value) → Judgement
 of_cell head_floor last None = Err BadCell
 of_cell head_floor last (Some e) =
     if is_at_told head_floor e.1 then (if is_above last e.0 then Ok (e ∷ []) else Err CellOrder) else Err BadCell
 
--- what a record tells where that key was the last one's, or why it is bad
+-- what a record says, or why it is bad; `last` is the key of the cell before it
 abbrev pub judged : Format → Option Key → List ℕ → Judgement
 judged Reports last bytes = of_report (report_judged bytes)
 judged (Cells head_floor) last bytes = of_cell head_floor last (cell_of bytes)
 
--- the key of a record, where records stand in the order of their keys
+-- the key of a record's cell; a report has none
 abbrev pub key_in : Format → List ℕ → Option Key
 key_in Reports bytes = None
 key_in (Cells head_floor) bytes = option_map (λ e. e.0) (cell_of bytes)
 
--- the key of the last of the records, or the one before them
+-- the key of the last record, or `last` if there is no record
 abbrev pub last_key : Format → Option Key → List (List ℕ) → Option Key
 last_key format last [] = last
 last_key format last (r ∷ rs) = last_key format (key_in format r) rs
 
--- so many records of this size from the front of the bytes
+-- the first n records of this size in the bytes
 abbrev pub first_records : ℕ → ℕ → List ℕ → List (List ℕ)
 first_records size zero bytes = []
 first_records size (suc n) bytes = take size bytes ∷ first_records size n (drop size bytes)
@@ -64,23 +64,23 @@ first_records size (suc n) bytes = take size bytes ∷ first_records size n (dro
 unfoldable pub records : ℕ → List ℕ → List (List ℕ)
 records size bytes = first_records size (length bytes / size) bytes
 
--- a bad record's fault, or what comes later
+-- a bad record's fault, or else the later one
 abbrev pub fault_or : ℕ → Judgement → Option FileFault → Option FileFault
 fault_or index (Ok sightings) later = later
 fault_or index (Err f) later = Some (f index)
 
--- the fault of the first bad record, where that key was the last one's and records count from this index
+-- the fault of the first bad record; the records count from `index`, and `last` is the key before them
 abbrev pub first_fault : Format → Option Key → ℕ → List (List ℕ) → Option FileFault
 first_fault format last index [] = None
 first_fault format last index (r ∷ rs) =
     fault_or index (judged format last r) (first_fault format (key_in format r) (index + 1) rs)
 
--- what a good record tells, and what comes later
+-- what a good record says, and what comes later; nothing behind a bad one
 abbrev pub sightings_then : Judgement → List (Key × Cell Value) → List (Key × Cell Value)
 sightings_then (Ok sightings) later = sightings ++ later
 sightings_then (Err f) later = []
 
--- what the good records before the first bad one tell
+-- what the good records before the first bad one say
 abbrev pub sightings_by : Format → Option Key → List (List ℕ) → List (Key × Cell Value)
 sightings_by format last [] = []
 sightings_by format last (r ∷ rs) = sightings_then (judged format last r) (sightings_by format (key_in format r) rs)
@@ -91,7 +91,7 @@ AreGoodRecords format last [] = Unit {0}
 AreGoodRecords format last (r ∷ rs) =
     (length r ≡ record_size format) × IsOk (judged format last r) × AreGoodRecords format (key_in format r) rs
 
--- how a file of this format ends that has so many bytes and no bad record
+-- how a file of this format ends if it has this many bytes and no bad record
 unfoldable pub ending : Format → ℕ → Result (Unit {0}) FileFault
 ending format bytes =
     let behind = bytes - head_size format in
@@ -123,7 +123,7 @@ abbrev pub kept_as : Result Format FileFault → List ℕ → List (Key × Cell 
 kept_as (Err fault) bytes = []
 kept_as (Ok format) bytes = sightings_by format None (records_in_reach format bytes)
 
--- what reading the bytes keeps: what the good records before the first fault tell
+-- what reading the bytes keeps: what the good records before the first fault say
 unfoldable pub kept : List ℕ → List (Key × Cell Value)
 kept bytes = kept_as (format_in bytes) bytes
 

@@ -24,13 +24,13 @@ context_byte Start = 0
 context_byte (Via guid port) = 1
 context_byte (About guid) = 2
 
--- the port of a context, or 0 where it has none
+-- the port of a context, or 0 if it has none
 abbrev pub context_port : Context → ℕ
 context_port Start = 0
 context_port (Via guid port) = port
 context_port (About guid) = 0
 
--- the GUID of a context, or 0 where it has none
+-- the GUID of a context, or 0 if it has none
 abbrev pub context_guid : Context → ℕ
 context_guid Start = 0
 context_guid (Via guid port) = guid
@@ -55,16 +55,16 @@ report_of bytes =
     (context_of (slice_index bytes 4) (slice_index bytes 5) (from_be_bytes w64 (take 8 (drop 8 bytes))))
     else None
 
--- what is told, unless there is a fault
+-- the sightings, unless there is a fault
 abbrev pub unless_fault : Option ReportFault → List (Key × Cell Value) → Result (List (Key × Cell Value)) ReportFault
 unless_fault None sightings = Ok sightings
 unless_fault (Some f) sightings = Err f
 
--- what a report tells, or why it tells nothing; bytes that spell no report have no context
+-- what a report says, or its fault; bytes that spell no report have fault `Context`
 abbrev pub report_sightings : Option Report → Result (List (Key × Cell Value)) ReportFault
 report_sightings None = Err fault.Context
 report_sightings (Some r) = unless_fault (report_fault r) (sightings_of r)
 
--- what a record tells, or why it is bad
+-- what a record says, or why it is bad
 unfoldable pub report_judged : List ℕ → Result (List (Key × Cell Value)) ReportFault
 report_judged bytes = report_sightings (report_of bytes)

@@ -14,13 +14,12 @@ use Rattle.record_file.specs.Head.{IsFormat, floor_of, floored_magic, format_in}
 use Rattle.record_file.specs.RecordFile.{facts_in, kept, outcome}
 use Rattle.record_file.specs.StoreFile.{cells_file}
 
--- bytes spell exactly the sighting that is written as they are
+-- bytes spell a sighting exactly if they are its record
 abbrev pub RecordsAreSpellings : Type 0
 RecordsAreSpellings =
     (bytes : List ℕ) (e : Key × Cell Value) → (cell_of bytes ≡ Some e) ↔ (IsSighting e × (bytes ≡ record_bytes e))
 
--- the store file of facts in range, which tells their floor or, where that is 1, may tell none, in fewer than 2^40
--- bytes
+-- the store file of facts in range, in fewer than 2^40 bytes; its head has their floor, or may have none if that is 1
 pub record IsStoreFile (head_floor : Option ℕ) (bytes : List ℕ) (facts : Facts) : Type 0 where
   pub whole : bytes ≡ cells_file head_floor (cells_of facts)
   pub sound : IsFormat (Cells head_floor)
@@ -28,34 +27,34 @@ pub record IsStoreFile (head_floor : Option ℕ) (bytes : List ℕ) (facts : Fac
   pub in_range : AreInRange facts
   pub short : length bytes < 2 ^ 40
 
--- bytes with the head of a store file are accepted exactly where they are the store file of some facts
+-- bytes with the head of a store file are accepted exactly if they are the store file of some facts
 abbrev pub StoreFilesAreAccepted : Type 0
 StoreFilesAreAccepted =
     (head_floor : Option ℕ) (bytes : List ℕ) → ((format_in bytes ≡ Ok (Cells head_floor)) × (outcome bytes ≡ Ok tt))
     ↔ ((facts : Facts) × IsStoreFile head_floor bytes facts)
 
--- what is kept of a file is the cells of its facts, and what it says is these facts
+-- the file is accepted, keeps the cells of the facts, and says these facts
 pub record IsReadBack (bytes : List ℕ) (facts : Facts) : Type 0 where
   pub accepted : outcome bytes ≡ Ok tt
   pub cells : kept bytes ≡ cells_of facts
   pub says : facts_in bytes ≡ facts
 
--- each store file is
+-- each store file is read back
 abbrev pub FactsAreReadBack : Type 0
 FactsAreReadBack = (head_floor : Option ℕ) (bytes : List ℕ) (facts : Facts) → IsStoreFile head_floor bytes facts
     → IsReadBack bytes facts
 
--- a file that is accepted, and tells its floor
+-- a file that is accepted, with a floor in its head
 pub record IsFlooredFile (bytes : List ℕ) : Type 0 where
   pub accepted : outcome bytes ≡ Ok tt
   pub begins : starts_with nat_eq bytes floored_magic ≡ true
 
--- two of them that say the same are equal: facts have one spelling
+-- two such files that say equal facts are equal: facts have one spelling
 abbrev pub FactsHaveOneSpelling : Type 0
 FactsHaveOneSpelling = (bytes others : List ℕ) → IsFlooredFile bytes → IsFlooredFile others → facts_in bytes
     ≡ facts_in others → bytes ≡ others
 
--- and whoever absorbs the whole file of some facts into an empty store holds these facts
+-- a source that gives the whole store file of some facts leaves these facts in an empty store
 abbrev pub AbsorbingReadsBack : {S : Type 0} → (S → SourceState) → Type 0
 AbsorbingReadsBack {S} state =
     (source source' : S) (head_floor : Option ℕ) (bytes rest : List ℕ) (facts new : Facts)

@@ -1,11 +1,11 @@
--- What reading a source whole takes of it, and how it ends where it can't be read whole.
+-- What reading a source whole takes of it, and how it ends if that fails.
 use Rattle.std.specs.Prelude.{◌≡◌, ◌⊎◌, ℕ, ◌+◌, ◌<◌, ◌≤◌, ◌^◌, Bool, false, List, IsTrue, length}
 use Rattle.std.specs.Io.KnownBytes.{Consumes, IsAtEnd}
 use Rattle.byte_io.specs.Source.{SourceState}
 use Rattle.record_file.specs.declared.file_fault.FileFault.{FileFault}
 use Rattle.record_file.specs.declared.file_fault.FileFault.TheVariants.{Read, Memory, TooLong}
 
--- the source was read to its end, and these are its bytes
+-- the source was read to its end, and gave these bytes
 pub record IsReadWhole {S : Type 0} (state : S → SourceState) (old new : S) (bytes : List ℕ) : Type 0 where
   pub consumed : Consumes (state old).left (state new).left bytes
   pub at_end : IsAtEnd (state new).left
@@ -17,8 +17,7 @@ abbrev pub IsTooLong : List ℕ → ℕ → ℕ → Type 0
 IsTooLong taken interruptions interruptions' =
     (2 ^ 40 ≤ length taken) ⊎ (2 ^ 40 + interruptions ≤ length taken + interruptions')
 
--- why a source isn't read whole of which these bytes were taken: a call failed, it is too long, or before that memory
--- is wanting
+-- why a source is not read whole after the bytes `taken`: a call failed, it is too long, or memory ran out before that
 abbrev pub IsReadFault : FileFault → List ℕ → Bool → ℕ → ℕ → Type 0
 IsReadFault Read taken has_failed interruptions interruptions' = IsTrue has_failed
 IsReadFault TooLong taken has_failed interruptions interruptions' =
@@ -27,7 +26,7 @@ IsReadFault Memory taken has_failed interruptions interruptions' =
     (has_failed ≡ false) × (length taken < 2 ^ 40) × (interruptions' < 2 ^ 40 + interruptions)
 IsReadFault fault taken has_failed interruptions interruptions' = ⊥
 
--- the source can't be read whole, for this fault
+-- the source is not read whole, for this fault
 pub record FailsToRead {S : Type 0} (state : S → SourceState)
     (old new : S) (fault : FileFault) : Type 0 where
   pub taken : List ℕ

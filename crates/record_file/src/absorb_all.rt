@@ -7,13 +7,13 @@ use crate::file_fault::FileFault;
 use byte_io::{Reading, Source};
 use fact_store::Store;
 
-/// How many bytes `absorb` reads at a time.
+/// The number of bytes that `absorb` reads at a time.
 const READ_LEN: usize = 4096;
 
-/// Takes one file, of reports or of a store's cells, into the store, record after record, in constant memory of its
-/// own. The header of a store file raises the store's floor before the first record. After a fault the store holds what
-/// it held before, and the floor and the whole records that stand before the fault. Who wants all or nothing absorbs
-/// into a fresh store and merges.
+/// Reads one file, of reports or of a store's cells, into the store, record by record, in constant memory of its own.
+/// The header of a store file raises the store's floor before the first record. After a fault the store holds what it
+/// held before, with the floor and the whole records before the fault. To add all or nothing, absorb into a new store
+/// and merge that one.
 pub fn absorb<S: Source>(source: &mut S, store: &mut Store) -> Result<(), FileFault>
     ensures read { (result ≡ Err FileFault.Read) ↔ IsTrue (S.state source.new).has_failed }
     ensures absorbs { Absorbs S.state result
@@ -23,7 +23,7 @@ pub fn absorb<S: Source>(source: &mut S, store: &mut Store) -> Result<(), FileFa
     absorb_by::<READ_LEN, S>(source, store)
 }
 
-/// The same, reading at most `N` bytes at a time.
+/// Reads one file into the store as `absorb` does, at most `N` bytes at a time.
 pub fn absorb_by<const N: usize, S: Source>(
     source: &mut S,
     store: &mut Store,

@@ -11,11 +11,11 @@ use byte_io::READ_LIMIT;
 use fact_store::Store;
 use std::marker::Model;
 
-/// The bytes of what is awaited that came with earlier pieces: no record is longer.
+/// The bytes of the awaited part that came with earlier pieces. No part is longer than a record.
 type Part = ArrayVec<u8, RECORD_LEN>;
 
-/// Takes a file in, piece after piece. Each record is judged once its last byte is there: where it
-/// lies, or, if it was cut, put together here. Takes no memory of its own.
+/// Reads a file piece by piece. Judges each record once its last byte is there: in the piece itself or, if it was cut,
+/// put together here. Takes no memory of its own.
 #[derive(Drop)]
 pub struct Absorber {
     awaited: Result<Awaited, FileFault>,
@@ -31,7 +31,7 @@ impl Model for Absorber {
 }
 
 impl Absorber {
-    /// Waits for a file's magic.
+    /// Creates an absorber that waits for a file's magic.
     pub fn new() -> Self
         ensures { WasFed result [] }
     {
@@ -41,14 +41,14 @@ impl Absorber {
         }
     }
 
-    /// Puts what the header and the records tell that this piece completes into the store.
+    /// Adds what the header and the records that this piece completes say to the store.
     ///
     /// # Errors
     ///
-    /// `Magic` as soon as 8 bytes are there, `BadFloor` behind the header, `BadReport`, `BadCell`, `CellOrder` and
-    /// `Memory`, of the first record that has one, and behind the records `TooLong` with the 2^40th byte. The
-    /// store then holds the floor and the records before it. From then on each call answers the same and changes
-    /// nothing.
+    /// Returns `Magic` once 8 bytes are there that are no magic, `BadFloor` for the header, `BadReport`, `BadCell`,
+    /// `CellOrder` or `Memory` for the first record with such a fault, and behind the records `TooLong` with the 2^40th
+    /// byte. The store then holds the floor and the records before the fault. Every later call returns that error and
+    /// changes nothing.
     pub fn feed(&mut self, piece: &[u8], store: &mut Store) -> Result<(), FileFault>
         ensures feeds { FeedsPiece self.old piece.now result self.new store.old store.new }
     {
@@ -63,12 +63,12 @@ impl Absorber {
         }
     }
 
-    /// The end of the file.
+    /// Ends the file.
     ///
     /// # Errors
     ///
-    /// The fault that `feed` answered, `Magic` for fewer than 8 bytes, and `Truncated` within a
-    /// header or a record.
+    /// Returns the fault that `feed` returned, `Magic` for fewer than 8 bytes, and `Truncated` within a header or a
+    /// record.
     pub fn finish(self) -> Result<(), FileFault>
         ensures finishes { Finishes self result }
     {
@@ -80,7 +80,7 @@ impl Absorber {
     }
 }
 
-/// Takes the bytes up to the 2^40th, and says what comes behind them.
+/// Takes the bytes of a piece up to the file's 2^40th, and returns what is awaited behind them.
 fn take_piece(
     awaited: Awaited,
     part: &mut Part,
@@ -107,7 +107,7 @@ fn take_piece(
     Ok(next)
 }
 
-/// Takes those of the bytes that belong to what is awaited, and says how many.
+/// Takes the bytes that belong to the awaited part. Returns what is awaited behind them, and how many they are.
 fn take_front(
     awaited: Awaited,
     part: &mut Part,

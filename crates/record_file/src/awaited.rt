@@ -9,13 +9,13 @@ use crate::head::{HEADER_LEN, MAGIC_LEN, floor_told};
 use crate::record::absorb_record;
 use fact_store::{Key, Store};
 
-/// What comes next in a file.
+/// The next part of a file.
 #[derive(Clone, Copy)]
 pub(crate) enum Awaited {
     Magic,
-    /// The header behind the magic of a store file that tells its floor.
+    /// The header behind the magic of a store file that has a floor.
     Header,
-    /// The record of this index; the key is that of the cell before it.
+    /// The record at this index. `last` is the key of the cell before it.
     Record {
         format: Format,
         index: u64,
@@ -27,7 +27,7 @@ impl Awaited {
     ghost use Rattle.std.specs.Prelude.{◌≡◌, ◌<◌, ◌^◌, length};
     ghost use Rattle.record_file.specs.Feeding.{TakesAwaited, awaited_size, ending_at, offset_of};
 
-    /// How many bytes it has.
+    /// Returns the length of the part in bytes.
     pub(crate) fn len(&self) -> usize
         ensures { result ≡ awaited_size self.now }
     {
@@ -38,7 +38,7 @@ impl Awaited {
         }
     }
 
-    /// How many bytes of the file stand before it.
+    /// Returns how many bytes of the file are before the part.
     pub(crate) fn offset(&self) -> u64
         requires { offset_of self.now < 2 ^ 40 }
         ensures { result ≡ offset_of self.now }
@@ -51,7 +51,7 @@ impl Awaited {
         }
     }
 
-    /// The end of the file where so many of its bytes came.
+    /// Returns how the file ends if `count` bytes of the part came.
     pub(crate) fn end(&self, count: usize) -> Result<(), FileFault>
         requires { offset_of self.now < 2 ^ 40 }
         ensures { result ≡ ending_at self.now count }
@@ -65,7 +65,7 @@ impl Awaited {
         }
     }
 
-    /// Judges it, puts what it tells into the store, and says what comes behind it.
+    /// Judges the part, adds what it says to the store, and returns what is awaited behind it.
     pub(crate) fn absorb(self, bytes: &[u8], store: &mut Store) -> Result<Awaited, FileFault>
         requires whole { length bytes.now ≡ awaited_size self }
         requires in_reach { offset_of self < 2 ^ 40 }
@@ -91,7 +91,7 @@ impl Awaited {
     }
 }
 
-/// What comes behind these eight bytes.
+/// Returns what is awaited behind the magic `front`.
 fn behind_magic(front: &[u8]) -> Result<Awaited, FileFault>
     requires { length front.now ≡ 8 }
     ensures { result ≡ behind_magic_of (format_in front.now) }
@@ -107,7 +107,7 @@ fn behind_magic(front: &[u8]) -> Result<Awaited, FileFault>
     }
 }
 
-/// Raises the floor that a header tells, and says what comes behind it.
+/// Raises the store's floor to that of a header, and returns what is awaited behind it.
 fn absorb_header(bytes: &[u8], store: &mut Store) -> Result<Awaited, FileFault>
     requires { length bytes.now ≡ 8 }
     ensures takes { TakesAwaited Awaited.Header bytes.now result store.old store.new }
@@ -119,7 +119,7 @@ fn absorb_header(bytes: &[u8], store: &mut Store) -> Result<Awaited, FileFault>
     Ok(first_record(Format::Cells { floor: Some(floor) }))
 }
 
-/// The first record of a file.
+/// Returns the first record of a file.
 fn first_record(format: Format) -> Awaited
     ensures { result ≡ Awaited.Record format 0 None }
 {

@@ -64,7 +64,7 @@ fn write_state<W: Sink>(sink: &mut W, cell: &Cell<Value>) -> Result<(), WriteFau
     write_number(sink, u64::from(cell.generation().number()))
 }
 
-/// Writes a key and what is said of it.
+/// Writes a key and its cell.
 fn write_fact<W: Sink>(sink: &mut W, cell: &Sighting) -> Result<(), WriteFault>
     ensures writes { Writes W.written W.has_failed result sink.old sink.new (fact_text cell.now) }
 {
@@ -73,7 +73,7 @@ fn write_fact<W: Sink>(sink: &mut W, cell: &Sighting) -> Result<(), WriteFault>
     write_state(sink, &cell.cell())
 }
 
-/// Writes a key, what is said of it, and the end of a line.
+/// Writes a key, its cell, and the end of a line.
 fn write_line<W: Sink>(sink: &mut W, cell: &Sighting) -> Result<(), WriteFault>
     ensures writes { Writes W.written W.has_failed result sink.old sink.new (line_text cell.now) }
 {
@@ -81,8 +81,8 @@ fn write_line<W: Sink>(sink: &mut W, cell: &Sighting) -> Result<(), WriteFault>
     sink.write(b"\n")
 }
 
-/// Writes the line of a cell: its key, its value or `disputed`, and `@` with its generation. It goes out in one piece
-/// where it has 64 bytes at most.
+/// Writes the line of a cell: its key, its value or `disputed`, and `@` with its generation. A line of at most 64 bytes
+/// is written in one call.
 pub fn write_cell<W: Sink>(sink: &mut W, cell: &Sighting) -> Result<(), WriteFault>
     ensures writes { Writes W.written W.has_failed result sink.old sink.new (line_text cell.now) }
 {
@@ -93,12 +93,12 @@ pub fn write_cell<W: Sink>(sink: &mut W, cell: &Sighting) -> Result<(), WriteFau
     }
 }
 
-/// Writes the line of a floor over 1: `floor`, and its generation.
+/// Writes the line of a floor over 1: `floor`, and its generation. Writes nothing for floor 1.
 fn write_floor<W: Sink>(sink: &mut W, floor: Generation) -> Result<(), WriteFault>
     ensures writes { Writes W.written W.has_failed result sink.old sink.new (floor_line floor) }
 {
     if floor.number() <= 1 {
-        // A sink that has failed says so even here.
+        // The empty write fails if the sink has failed.
         return sink.write(b"");
     }
     sink.write(b"floor ")?;
@@ -106,8 +106,8 @@ fn write_floor<W: Sink>(sink: &mut W, floor: Generation) -> Result<(), WriteFaul
     sink.write(b"\n")
 }
 
-/// Writes the line of the floor, if it is over 1, and that of each cell in the order of the keys, and flushes. It takes
-/// no memory.
+/// Writes the line of the floor, if it is over 1, and that of each cell in the order of keys, and flushes. Takes no
+/// memory.
 pub fn write_facts<W: Sink>(sink: &mut W, store: &Store) -> Result<(), WriteFault>
     ensures writes { Writes W.written W.has_failed result sink.old sink.new (facts_text store.now) }
     ensures flushed { OnOk result (IsTrue (W.is_flushed sink.new)) }

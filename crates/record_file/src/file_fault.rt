@@ -4,10 +4,10 @@ use byte_io::PieceFault;
 use fact_store::ReportFault;
 use thiserror::Error;
 
-/// Why a file wasn't taken in whole. Offsets count bytes, and indexes records, from 0.
+/// Why a file was not read whole. Offsets count bytes, and indices count records, from 0.
 #[derive(Clone, Copy, Debug, PartialEq, Eq, Error)]
 pub enum FileFault {
-    /// Fewer than 8 bytes, or another magic.
+    /// There are fewer than 8 bytes, or the first 8 are no magic.
     #[error("bad magic")]
     Magic,
     /// The input ends within the header or the record that begins at this offset.
@@ -27,7 +27,7 @@ pub enum FileFault {
     /// 2^40 bytes were read without an end, or 2^40 calls made that gave bytes or were interrupted.
     #[error("too long")]
     TooLong,
-    /// The header of a store file tells floor 0, or has another byte than 0 behind its floor.
+    /// The header of a store file has floor 0, or a byte other than 0 behind its floor.
     #[error("bad floor")]
     BadFloor,
 }
@@ -48,7 +48,7 @@ impl From<PieceFault> for FileFault {
 impl FileFault {
     ghost use Rattle.record_file.specs.FileFault.{fault_words, fault_number, fault_of_report, is_of_file};
 
-    /// What is said of the file, up to the number.
+    /// Returns the fault's text, without its number.
     pub fn words(&self) -> &'static str
         ensures { result.now ≡ fault_words self.now }
     {
@@ -65,7 +65,7 @@ impl FileFault {
         }
     }
 
-    /// The offset, or the index of the record, that the words end with.
+    /// Returns the offset or the index of the record that the text ends with, if it has a number.
     pub fn number(&self) -> Option<u64>
         ensures { result ≡ fault_number self.now }
     {
@@ -78,7 +78,7 @@ impl FileFault {
         }
     }
 
-    /// What is wrong with the report of a record.
+    /// Returns the fault of the report, if a record's report is bad.
     pub fn report_fault(&self) -> Option<ReportFault>
         ensures { result ≡ fault_of_report self.now }
     {
@@ -88,7 +88,7 @@ impl FileFault {
         }
     }
 
-    /// Whether the file has the fault; being out of memory is not the file's.
+    /// Returns whether the fault is the file's; only `Memory` is not.
     pub fn is_of_file(&self) -> bool
         ensures { result ≡ is_of_file self.now }
     {

@@ -1,14 +1,14 @@
-//! What files hold, told apart by their heads.
+//! The formats of files, which their heads distinguish.
 use crate::head::{HEADER_LEN, MAGIC_LEN};
 use crate::{report_record, store_file};
 use smp_bytes::Generation;
 
-/// What the records of a file are.
+/// The format of a file: what its records are.
 #[derive(Clone, Copy)]
 pub(crate) enum Format {
     /// Reports, in the order in which they came.
     Reports,
-    /// The cells of a store, in the order of their keys, none of them below the floor that a header tells.
+    /// The cells of a store, in the order of keys. None is below the floor of the header, if there is one.
     Cells { floor: Option<Generation> },
 }
 
@@ -17,7 +17,7 @@ impl Format {
     ghost use Rattle.record_file.specs.Head.{head_size};
     ghost use Rattle.record_file.specs.RecordFile.{record_size};
 
-    /// The bytes before the records.
+    /// Returns the number of bytes before the records.
     pub(crate) fn head_len(self) -> usize
         ensures { result ≡ head_size self }
     {
@@ -27,7 +27,7 @@ impl Format {
         }
     }
 
-    /// The bytes of a record.
+    /// Returns the number of bytes of a record.
     pub(crate) fn record_len(self) -> usize
         ensures { result ≡ record_size self }
     {

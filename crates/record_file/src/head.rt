@@ -1,4 +1,4 @@
-//! The head of a file: its magic, and behind the magic of newer store files a header, which tells their floor.
+//! The head of a file: its magic and, behind the magic of newer store files, a header with their floor.
 ghost use Rattle.std.specs.Prelude.{◌≡◌, length, Some};
 ghost use Rattle.record_file.specs.Head.{floor_told as floor_in_header, head_bytes, header};
 ghost use Rattle.record_file.specs.declared.format.Format.TheVariants.{Cells};
@@ -6,13 +6,13 @@ ghost use Rattle.record_file.specs.declared.format.Format.TheVariants.{Cells};
 use crate::numbers::u32_of;
 use smp_bytes::Generation;
 
-/// The bytes of a magic.
+/// The number of bytes of a magic.
 pub(crate) const MAGIC_LEN: usize = 8;
 
-/// The bytes of a header.
+/// The number of bytes of a header.
 pub(crate) const HEADER_LEN: usize = 8;
 
-/// The head of a store file that tells this floor.
+/// Returns the head of a store file with this floor.
 pub(crate) fn head_of(floor: Generation) -> [u8; MAGIC_LEN + HEADER_LEN]
     ensures { result ≡ head_bytes (Cells (Some floor)) }
 {
@@ -22,7 +22,7 @@ pub(crate) fn head_of(floor: Generation) -> [u8; MAGIC_LEN + HEADER_LEN]
     bytes
 }
 
-/// The floor of which these bytes are the header, if they are one.
+/// Returns the floor of a header, or `None` if the bytes are no header.
 pub(crate) fn floor_told(bytes: &[u8]) -> Option<Generation>
     requires { length bytes.now ≡ 8 }
     ensures { result ≡ floor_in_header bytes.now }
@@ -35,7 +35,7 @@ pub(crate) fn floor_told(bytes: &[u8]) -> Option<Generation>
     }
 }
 
-/// The header of a floor: four bytes of it, and four zero bytes.
+/// Returns the header of a floor: the floor in four bytes, and four zero bytes.
 fn header_of(floor: Generation) -> [u8; HEADER_LEN]
     ensures { result ≡ header floor }
 {

@@ -1,4 +1,4 @@
-//! Laws of reading files. There is nothing to call: the contracts are what counts.
+//! Laws of reading files. None of these functions is called: their contracts are what counts.
 
 ghost use Rattle.record_file.specs.StoreLaws.{AbsorbingReadsBack, FactsAreReadBack, FactsHaveOneSpelling};
 ghost use Rattle.record_file.specs.StoreLaws.{RecordsAreSpellings, StoreFilesAreAccepted};
@@ -8,7 +8,7 @@ ghost use Rattle.record_file.specs.PieceLaws.{CutsChangeNothing, FaultsStay, Pie
 
 use byte_io::Source;
 
-/// Neither the fault of a bad header or record nor the floor nor what is kept depends on what follows it.
+/// Neither the fault of a bad header or record, nor the floor, nor what is kept depends on what follows it.
 pub fn bad_part_stays()
     ensures { BadPartStays }
 {}
@@ -23,48 +23,48 @@ pub fn first_bad_record_is_told()
     ensures { FirstBadRecordIsTold }
 {}
 
-/// A record of a report file spells exactly the report that is written so.
+/// A record of a report file spells a report exactly if it is what is written for that report.
 pub fn reports_have_one_spelling()
     ensures { ReportsHaveOneSpelling }
 {}
 
-/// A file of reports is accepted exactly where it is the magic with good reports behind it.
+/// A file of reports is accepted exactly if it is the magic with good reports behind it.
 pub fn report_files_are_accepted()
     ensures { ReportFilesAreAccepted }
 {}
 
-/// A record of a store file spells exactly the sighting that is written so.
+/// A record of a store file spells a sighting exactly if it is what is written for that sighting.
 pub fn records_are_spellings()
     ensures { RecordsAreSpellings }
 {}
 
-/// A store file, of either head, is accepted exactly where it has a record for each cell of some facts in their ranges.
+/// A store file, with either head, is accepted exactly if it has a record for each cell of some facts that are in
+/// range.
 pub fn store_files_are_accepted()
     ensures { StoreFilesAreAccepted }
 {}
 
-/// What is written of facts is read back as these facts, with their floor; a file that tells no floor, as facts at
-/// floor 1.
+/// A store file of facts is read back as these facts, with their floor; if it has no floor, as facts at floor 1.
 pub fn facts_are_read_back()
     ensures { FactsAreReadBack }
 {}
 
-/// Files that are accepted, tell their floor and say the same are equal.
+/// Two store files are equal if they are accepted, have a floor in their heads, and say equal facts.
 pub fn facts_have_one_spelling()
     ensures { FactsHaveOneSpelling }
 {}
 
-/// A store that was empty holds these facts once their file was absorbed.
+/// An empty store that absorbs the store file of some facts holds these facts.
 pub fn absorbing_reads_back<S: Source>()
     ensures { AbsorbingReadsBack S.state }
 {}
 
-/// A file that comes in pieces is taken in as it is in whole, where no piece wants memory.
+/// A file that comes in pieces is read as it is whole, if no piece runs out of memory.
 pub fn pieces_are_read()
     ensures { PiecesAreRead }
 {}
 
-/// Where a file is cut into pieces changes nothing, where no piece wants memory.
+/// It does not matter where a file is cut into pieces, if no piece runs out of memory.
 pub fn cuts_change_nothing()
     ensures { CutsChangeNothing }
 {}

@@ -1,4 +1,4 @@
-//! Files of reports and of a store's cells, and what bytes are read from and written to.
+//! Files of reports and of a store's cells: how they are read and written.
 #![tactic(auto)]
 
 mod absorb_all;

@@ -4,7 +4,8 @@ ghost use Rattle.std.specs.Prelude.{◌≡◌, [], false};
 use arrayvec::ArrayVec;
 use byte_io::{Sink, WriteFault};
 
-/// A sink over the bytes of a line. A write that does not fit puts nothing in and fails, and so does each later call.
+/// A sink over the bytes of a line, at most 64. A write that does not fit writes nothing and fails, and so does each
+/// later call.
 #[derive(Drop)]
 pub(crate) struct Line {
     bytes: ArrayVec<u8, 64>,
@@ -13,7 +14,7 @@ pub(crate) struct Line {
 }
 
 impl Line {
-    /// None yet.
+    /// Creates an empty line.
     pub(crate) fn new() -> Self
         ensures bytes { result.bytes.items ≡ [] }
         ensures works { result.has_failed ≡ false }
@@ -25,7 +26,7 @@ impl Line {
         }
     }
 
-    /// The bytes that it holds.
+    /// Returns the bytes of the line.
     pub(crate) fn bytes(&self) -> &[u8]
         ensures { result.now ≡ self.now.bytes.items }
     {

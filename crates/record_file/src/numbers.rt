@@ -1,4 +1,4 @@
-//! Numbers of several bytes, the high one first.
+//! Numbers of several bytes, the most significant byte first.
 ghost use Rattle.std.specs.Prelude.{◌≡◌, length};
 ghost use Rattle.std.specs.Int.{from_be_bytes, w16, w32, w64};
 

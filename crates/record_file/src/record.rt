@@ -1,4 +1,4 @@
-//! What a record of a file does to a store.
+//! The effect of a file's record on a store.
 ghost use Rattle.std.specs.Prelude.{◌≡◌, length, IfOk};
 ghost use Rattle.reply_facts.specs.Key.{is_above};
 ghost use Rattle.record_file.specs.Absorbs.{AbsorbsJudged};
@@ -12,7 +12,8 @@ use crate::store_file::cell_of;
 use fact_store::{Cell, IngestFault, Key, ReportFault, Store, Value};
 use smp_bytes::Generation;
 
-/// Adds what the record of this index tells. The key is that of a cell.
+/// Adds what a record says to the store. Returns the key of its cell, or `None` for a report. `last` is the key of the
+/// cell before it.
 pub(crate) fn absorb_record(
     format: Format,
     last: Option<Key>,
@@ -53,7 +54,8 @@ fn absorb_report(bytes: &[u8], index: u64, store: &mut Store) -> Result<(), File
     }
 }
 
-/// Adds the cell of a record, if it is not below the floor that is told and its key comes after the last one's.
+/// Adds the cell of a record, and returns its key. The cell must not be below the floor of the header, and its key must
+/// come after `last`.
 fn absorb_cell(
     floor: Option<Generation>,
     last: Option<Key>,
@@ -91,7 +93,7 @@ fn is_after(key: &Key, last: &Option<Key>) -> bool
     }
 }
 
-/// Whether a cell is at the floor that is told, or above it.
+/// Returns whether a cell is at the floor of the header or above it; any cell is if the header has none.
 fn is_at_told(floor: Option<Generation>, cell: &Cell<Value>) -> bool
     ensures { result ≡ is_at_floor_told floor cell.now }
 {

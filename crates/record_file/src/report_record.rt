@@ -5,10 +5,10 @@ use crate::numbers::{u32_of, u64_of};
 use fact_store::{Context, Report};
 use smp_bytes::{Guid, PortNum};
 
-/// The bytes of a record: generation, context, port, two zero bytes, GUID and the 256 of the reply.
+/// The number of bytes of a record: generation, context, port, two zero bytes, GUID and the 256 bytes of the reply.
 pub(crate) const RECORD_LEN: usize = 272;
 
-/// The report that a record spells, if it spells one.
+/// Returns the report that a record spells, or `None` if it spells none.
 #[tactic(auto, unfolding(crate::specs::ReportRecord::report_of))]
 pub(crate) fn report_of(bytes: &[u8]) -> Option<Report>
     requires { length bytes.now ≡ 272 }

@@ -1,4 +1,4 @@
-//! Store files: a record of 32 bytes for each cell in the order of the keys, behind their head.
+//! Store files: the head, and a record of 32 bytes for each cell in the order of keys.
 ghost use Rattle.std.specs.Prelude.{◌≡◌, ◌<◌, ◌^◌, length, IsTrue, OnOk, option_and_then};
 ghost use Rattle.fact_store.specs.View.{cells_of, AreInRange};
 ghost use Rattle.record_file.specs.CellRecord.{candidate, cell_of as cell_in, cell_value_bytes, filled_up};
@@ -14,14 +14,14 @@ use byte_io::{Sink, WriteFault};
 use fact_store::{Cell, Key, Sighting, Store, Value};
 use smp_bytes::{Generation, Guid, Lid, PortNum};
 
-/// The bytes of a record: kind, state, port, zero, generation, GUID and 16 value bytes.
+/// The number of bytes of a record: kind, state, port, a zero byte, generation, GUID and 16 value bytes.
 pub(crate) const RECORD_LEN: usize = 32;
 
-/// The bytes of a record that hold the value; behind a value, and of a disputed cell all, are 0.
+/// The number of value bytes of a record. They are 0 behind the value, and all 0 for a disputed cell.
 const VALUE_LEN: usize = 16;
 
-/// Writes a store file of all that the store holds, its floor and then a record for each cell in the order of the
-/// keys, and flushes. It takes no memory of its own. How much went out before a failure isn't said.
+/// Writes a store file of all that the store holds, its floor and then a record for each cell in the order of keys, and
+/// flushes. Takes no memory of its own. If a write fails, how much was written is unspecified.
 pub fn write_store<W: Sink>(sink: &mut W, store: &Store) -> Result<(), WriteFault>
     ensures writes { Writes W.written W.has_failed result sink.old sink.new
         (store_bytes store.now.floor (cells_of store.now)) }
@@ -36,7 +36,7 @@ pub fn write_store<W: Sink>(sink: &mut W, store: &Store) -> Result<(), WriteFaul
     sink.flush()
 }
 
-/// The record that spells a cell.
+/// Returns the record that spells a cell.
 pub(crate) fn record_of(sighting: &Sighting) -> [u8; RECORD_LEN]
     ensures { result ≡ record_bytes sighting.now }
 {
@@ -52,7 +52,7 @@ pub(crate) fn record_of(sighting: &Sighting) -> [u8; RECORD_LEN]
     bytes
 }
 
-/// 1 for a known value, 2 for a dispute.
+/// Returns 1 for a known cell, and 2 for a disputed one.
 fn state_byte(cell: &Cell<Value>) -> u8
     ensures { result ≡ state_byte cell.now }
 {
@@ -92,7 +92,7 @@ fn value_bytes(value: Value) -> [u8; VALUE_LEN]
     bytes
 }
 
-/// The cell that a record spells, if it spells one.
+/// Returns the cell that a record spells, or `None` if it spells none.
 #[tactic(auto, unfolding(crate::specs::CellRecord::cell_of))]
 pub(crate) fn cell_of(bytes: &[u8]) -> Option<Sighting>
     requires { length bytes.now ≡ 32 }
@@ -106,7 +106,7 @@ pub(crate) fn cell_of(bytes: &[u8]) -> Option<Sighting>
     }
 }
 
-/// The cell that a record spells if it has no byte that is to be zero.
+/// Returns the cell that a record spells if all bytes that have to be 0 are 0.
 fn sighting_in(bytes: &[u8]) -> Option<Sighting>
     requires { length bytes.now ≡ 32 }
     ensures { result ≡ option_and_then if_sighting (candidate bytes.now) }
@@ -121,7 +121,7 @@ fn sighting_in(bytes: &[u8]) -> Option<Sighting>
     Sighting::new(key, cell)
 }
 
-/// The key of this GUID and port that has this kind byte.
+/// Returns the key with this kind byte, GUID and port.
 fn key_of(kind: u8, guid: u64, port: u8) -> Option<Key>
     ensures { result ≡ key_with kind guid port }
 {
@@ -138,7 +138,7 @@ fn key_of(kind: u8, guid: u64, port: u8) -> Option<Key>
     }
 }
 
-/// The value of the key's kind.
+/// Returns the value of the key's kind in these bytes.
 fn value_of(key: &Key, bytes: &[u8]) -> Option<Value>
     requires { length bytes.now ≡ 16 }
     ensures { result ≡ value_in key.now bytes.now }

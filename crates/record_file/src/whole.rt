@@ -6,15 +6,15 @@ use crate::file_fault::FileFault;
 use byte_io::{Reading, Source};
 use std::alloc::Global;
 
-/// How many bytes are read at a time.
+/// The number of bytes that are read at a time.
 const READ_LEN: usize = 4096;
 
-/// All bytes of a source that ends.
+/// Reads a source to its end and returns its bytes.
 ///
 /// # Errors
 ///
-/// `Read`, `TooLong` at 2^40 bytes or at 2^40 calls that took bytes or were interrupted, and before
-/// that `Memory`, whichever comes first.
+/// Returns `Read`, `TooLong` at 2^40 bytes or at 2^40 calls that took bytes or were interrupted, or `Memory` before
+/// that, whichever comes first.
 pub fn read_whole<S: Source>(alloc: Global, source: &mut S) -> Result<Vec<u8>, FileFault>
     ensures whole { IfOk result (λ bytes.
         IsReadWhole S.state source.old source.new bytes.items) }

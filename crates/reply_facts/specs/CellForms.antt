@@ -1,4 +1,4 @@
--- A cell with its key as a form, two GUIDs, a generation, a number and a port.
+-- A cell and its key, spelled as a form, two GUIDs, a generation, a number and a port.
 use Rattle.std.specs.Prelude.{◌≡◌, ℕ, true, false, refl}
 use Rattle.smp_bytes.specs.declared.node_type.NodeType.TheVariants.{Switch, ChannelAdapter, Router}
 use Rattle.fact_join.specs.declared.cell.Cell.{Cell}
@@ -12,7 +12,7 @@ use Rattle.reply_facts.specs.declared.value.Value.TheVariants.{Kind, Guid, Peer,
 use Rattle.fact_join.specs.Cell.{generation_of}
 use Rattle.reply_facts.specs.Key.{key_guid, key_kind, key_port}
 
--- the key
+-- the key that is spelled
 abbrev pub key_in : CellForm → ℕ → ℕ → Key
 key_in SwitchNode guid port = Node guid
 key_in AdapterNode guid port = Node guid
@@ -30,7 +30,7 @@ key_in DisputedPort guid port = Port guid port
 key_in DisputedClaim guid port = Claim guid port
 key_in DisputedRoom guid port = Cap guid
 
--- the cell
+-- the cell that is spelled
 abbrev pub cell_in : CellForm → ℕ → ℕ → ℕ → Cell Value
 cell_in SwitchNode generation other number = Known generation (Kind Switch number)
 cell_in AdapterNode generation other number = Known generation (Kind ChannelAdapter number)
@@ -48,11 +48,11 @@ cell_in DisputedPort generation other number = Disputed generation
 cell_in DisputedClaim generation other number = Disputed generation
 cell_in DisputedRoom generation other number = Disputed generation
 
--- the kind of the key
+-- the number of the key's kind
 abbrev pub form_kind : CellForm → ℕ
 form_kind form = key_kind (key_in form 0 0)
 
--- the form of what is known
+-- the form of a known value
 abbrev pub known_form : Value → CellForm
 known_form (Kind Switch ports) = SwitchNode
 known_form (Kind ChannelAdapter ports) = AdapterNode
@@ -64,7 +64,7 @@ known_form (Up false) = DownPort
 known_form (Lid lid) = ClaimedLid
 known_form (Count count) = RoomOfTable
 
--- the form of a dispute
+-- the form of a disputed cell
 abbrev pub disputed_form : Key → CellForm
 disputed_form (Node guid) = DisputedNode
 disputed_form (PortGuid guid port) = DisputedGuid
@@ -86,7 +86,7 @@ value_guid (Up up) = 0
 value_guid (Lid lid) = 0
 value_guid (Count count) = 0
 
--- the number that a value has beside a GUID, or 0
+-- the number that a value has, besides a GUID, or 0
 abbrev pub value_number : Value → ℕ
 value_number (Kind kind ports) = ports
 value_number (Guid guid) = 0
@@ -103,13 +103,13 @@ abbrev pub number_of : Cell Value → ℕ
 number_of (Known generation value) = value_number value
 number_of (Disputed generation) = 0
 
--- a cell is spelled in one way
+-- parts that the cell and the key do not have are 0, so a cell is spelled in only one way
 pub record IsSpelled (form : CellForm) (guid other generation number port : ℕ) : Type 0 where
   pub other_is : other_of (cell_in form generation other number) ≡ other
   pub number_is : number_of (cell_in form generation other number) ≡ number
   pub port_is : key_port (key_in form guid port) ≡ port
 
--- the other parts are, whatever they are
+-- the GUID, the generation and the form are read again from what is spelled, whatever they are
 pub same_guid : (form : CellForm) (guid port : ℕ) → key_guid (key_in form guid port) ≡ guid
 same_guid SwitchNode guid port = refl
 same_guid AdapterNode guid port = refl

@@ -6,7 +6,7 @@ use Rattle.std.specs.Cmp.Lexicographic.{slice_cmp}
 use Rattle.reply_facts.specs.declared.key.Key.{Key}
 use Rattle.reply_facts.specs.declared.key.Key.TheVariants.{Node, PortGuid, Link, Port, Claim, Cap}
 
--- the number of its kind
+-- the number of the key's kind
 abbrev pub key_kind : Key → ℕ
 key_kind (Node guid) = 1
 key_kind (PortGuid guid port) = 2
@@ -15,7 +15,7 @@ key_kind (Port guid port) = 4
 key_kind (Claim guid port) = 5
 key_kind (Cap guid) = 6
 
--- the word for its kind
+-- the word for the key's kind
 abbrev pub kind_word : Key → List ℕ
 kind_word (Node guid) = codes "node"
 kind_word (PortGuid guid port) = codes "portguid"
@@ -32,7 +32,7 @@ key_guid (Port guid port) = guid
 key_guid (Claim guid port) = guid
 key_guid (Cap guid) = guid
 
--- the port, and 0 where there is none
+-- the port, or 0 if the key has none
 abbrev pub key_port : Key → ℕ
 key_port (Node guid) = 0
 key_port (PortGuid guid port) = port
@@ -44,16 +44,16 @@ key_port (Cap guid) = 0
 abbrev pub key_numbers : Key → List ℕ
 key_numbers key = key_kind key ∷ key_guid key ∷ key_port key ∷ []
 
--- the first number in which two keys differ decides
+-- the order of keys: the first number in which they differ decides
 abbrev pub key_cmp : Key → Key → Ordering
 key_cmp a b = slice_cmp nat_cmp (key_numbers a) (key_numbers b)
 
--- whether a key comes after the given one, if one is given
+-- whether `key` comes after `low`, if that is given
 abbrev pub is_above : Option Key → Key → Bool
 is_above None key = true
 is_above (Some low) key = is_lt (key_cmp low key)
 
--- whether a key comes before the given one, if one is given
+-- whether `key` comes before `high`, if that is given
 abbrev pub is_below : Option Key → Key → Bool
 is_below None key = true
 is_below (Some high) key = is_lt (key_cmp key high)

@@ -1,4 +1,4 @@
--- What the cells of facts say of a node or a port, where they say one value.
+-- What the cells of facts say of a node or a port, if they say one value.
 use Rattle.std.specs.Prelude.{ℕ, Bool, List, Option, None, Some}
 use Rattle.std.specs.FinMap.{find}
 use Rattle.smp_bytes.specs.declared.node_type.NodeType.{NodeType}
@@ -10,13 +10,13 @@ use Rattle.reply_facts.specs.declared.value.Value.{Value}
 use Rattle.reply_facts.specs.declared.value.Value.TheVariants.{Kind, Guid, Peer, Up, Lid, Count}
 use Rattle.reply_facts.specs.Key.{key_cmp}
 
--- the value of a cell that is there and has one
+-- the value of a cell, if there is a cell and it is known
 abbrev pub value_in : Option (Cell Value) → Option Value
 value_in None = None
 value_in (Some (Known generation value)) = Some value
 value_in (Some (Disputed generation)) = None
 
--- the value that the key is known to have
+-- the known value of the key
 abbrev pub known_in : List (Key × Cell Value) → Key → Option Value
 known_in cells key = value_in (find key_cmp key cells)
 
@@ -60,7 +60,7 @@ port_guid_of cells g p = guid_in (known_in cells (PortGuid g p))
 abbrev pub link_of : List (Key × Cell Value) → ℕ → ℕ → Option (ℕ × ℕ)
 link_of cells g p = peer_in (known_in cells (Link g p))
 
--- whether a port is up, as far as is known
+-- whether a port is up, if that is known
 abbrev pub up_of : List (Key × Cell Value) → ℕ → ℕ → Option Bool
 up_of cells g p = up_in (known_in cells (Port g p))
 

@@ -1,6 +1,5 @@
--- What a report of a reply says: the first fault that it has, or the facts that it tells of the node that answered.
--- InfiniBand Architecture Specification, Volume 1: subnet management, NodeInfo, PortInfo and SwitchInfo; directed route
--- SMPs.
+-- What a report says: its first fault, or the facts that it tells of the node that answered. InfiniBand Architecture
+-- Specification, Volume 1: subnet management, NodeInfo, PortInfo and SwitchInfo; directed route SMPs.
 use Rattle.std.specs.Prelude.{ℕ, Bool, false, ◌&&◌, ◌||◌, not, List, [], ◌∷◌, nat_lt, nat_le, ◌==◌, if◌then◌else◌, Option, Some, None, is_some, option_map}
 use Rattle.smp_bytes.specs.declared.node_type.NodeType.{NodeType}
 use Rattle.smp_bytes.specs.NodeType.{is_switch}
@@ -32,7 +31,7 @@ abbrev pub or_else : Option ReportFault → Option ReportFault → Option Report
 or_else None next = next
 or_else (Some first) next = Some first
 
--- the fault of a packet that is no answer, over a directed route, of an agent that did what was asked
+-- the first reason why the packet is not a successful answer on a directed route
 abbrev pub answer_fault : List ℕ → Option ReportFault
 answer_fault packet =
     if not (is_directed packet) then Some fault.Class
@@ -41,13 +40,13 @@ answer_fault packet =
     else if not (status packet == done) then Some fault.Status
     else None
 
--- the context of an answer of NodeInfo: the sender's own node over no hop, and another node by the port before it
+-- the context fits an answer of NodeInfo: `Start` for the sender's own node, over no hop, and `Via` for another node
 abbrev pub fits_node_info : Context → ℕ → Bool
 fits_node_info Start hops = hops == 0
 fits_node_info (Via guid port) hops = nat_lt 0 hops
 fits_node_info (About guid) hops = false
 
--- only a switch that a manager sits at is asked by its management port, 0
+-- only a switch that a manager sits at is asked through its management port, 0
 abbrev pub may_be_asked_by : Context → NodeType → ℕ → Bool
 may_be_asked_by Start kind port = is_switch kind || nat_lt 0 port
 may_be_asked_by (Via guid via) kind port = nat_lt 0 port && is_cabled_port via
@@ -58,7 +57,7 @@ are_ports_in_range context kind info =
     is_cabled_port info.num_ports && nat_le info.local_port_num info.num_ports
     && may_be_asked_by context kind info.local_port_num
 
--- the fault of what a node says of itself
+-- the fault of an answer of NodeInfo: a reserved type, or a port out of range
 abbrev pub kind_fault : Context → NodeInfo → Option NodeType → Option ReportFault
 kind_fault context info None = Some fault.NodeType
 kind_fault context info (Some kind) = if are_ports_in_range context kind info then None else Some fault.Port
@@ -71,29 +70,29 @@ node_info_fault context packet =
     if not (fits_node_info context (number_in hop_count packet)) then Some fault.Context
     else kind_fault context (node_info_of packet) (type_of_number (node_info_of packet).node_type)
 
--- the node and its port that the request's path leads out of last
+-- the node and the last port that the request's path leads out of
 abbrev pub via_of : Context → Option (ℕ × ℕ)
 via_of Start = None
 via_of (Via guid port) = Some (guid, port)
 via_of (About guid) = None
 
--- the node that the reply speaks of
+-- the node that the reply is about
 abbrev pub about_of : Context → Option ℕ
 about_of Start = None
 about_of (Via guid port) = None
 about_of (About guid) = Some guid
 
--- PortInfo and SwitchInfo speak of a node that is known already
+-- PortInfo and SwitchInfo are about a node that is known already
 abbrev pub about_fault : Context → Option ReportFault
 about_fault context = if is_some (about_of context) then None else Some fault.Context
 
--- the modifier of PortInfo is the port
+-- the fault of an answer of PortInfo, whose modifier is the port
 abbrev pub port_info_fault : Context → List ℕ → Option ReportFault
 port_info_fault context packet =
     or_else (about_fault context) (if nat_lt 254 (number_in attribute_modifier packet) then Some fault.Modifier else
     None)
 
--- by the attribute that the packet carries
+-- the fault of an answer, by the attribute that it carries
 abbrev pub attribute_fault : Context → List ℕ → Option ReportFault
 attribute_fault context packet =
     if number_in attribute_id packet == node_info then node_info_fault context packet
@@ -120,7 +119,7 @@ report_fault report =
 abbrev pub Sightings : Type 0
 Sightings = List (Key × Cell Value)
 
--- the port that the GUID of the answer is of: a switch has one, for its management port
+-- the port of the GUID in an answer: port 0 for a switch, else the port that was asked
 abbrev pub guid_port : NodeType → ℕ → ℕ
 guid_port kind local_port = if is_switch kind then 0 else local_port
 
@@ -139,12 +138,12 @@ sightings_of_kind generation context info (Some kind) =
     ∷ (PortGuid info.node_guid (guid_port kind info.local_port_num), Known generation (Guid info.port_guid))
     ∷ sightings_of_link generation context info
 
--- a node's kind and ports, a port's GUID, and the link that led there
+-- a node's type and port count, a port's GUID, and the link over which the request came
 abbrev pub sightings_by_node_info : ℕ → Context → List ℕ → Sightings
 sightings_by_node_info generation context packet =
     sightings_of_kind generation context (node_info_of packet) (type_of_number (node_info_of packet).node_type)
 
--- Initialize, Armed and Active are up; Down, and numbers that no state has, are not
+-- Initialize, Armed and Active are up; Down, NoChange and reserved numbers are not
 abbrev pub is_up_state : ℕ → Bool
 is_up_state state = nat_le 2 state && nat_le state 4
 

@@ -1,4 +1,4 @@
--- What a sighting may hold: the key's ranges, and a value of the key's kind within its own.
+-- What a sighting may contain: a key with its parts in range, and a value of the key's kind with its parts in range.
 use Rattle.std.specs.Prelude.{◌≡◌, ℕ, ◌^◌, Bool, true, false, ◌&&◌, nat_le, nat_lt, IsTrue, Some}
 use Rattle.fact_join.specs.declared.cell.Cell.{Cell}
 use Rattle.fact_join.specs.declared.cell.Cell.TheVariants.{Known, Disputed}
@@ -20,7 +20,7 @@ is_any_port port = nat_le port 254
 abbrev pub is_guid : ℕ → Bool
 is_guid guid = nat_lt guid (2 ^ 64)
 
--- a GUID, and a port that the key can have: a link has a port from 1 on, another key a port from 0 on
+-- a key in range: its GUID has 64 bits, and its port is from 1 on for a link, from 0 on for other keys
 abbrev pub is_key : Key → Bool
 is_key (Node g) = is_guid g
 is_key (PortGuid g p) = is_guid g && is_any_port p
@@ -29,7 +29,7 @@ is_key (Port g p) = is_guid g && is_any_port p
 is_key (Claim g p) = is_guid g && is_any_port p
 is_key (Cap g) = is_guid g
 
--- a value that the key can have, with its parts in their ranges; a LID and a table's room have 16 bits
+-- the value is of the key's kind, and its parts are in range; a LID and a table's room have 16 bits
 abbrev pub is_value_of : Key → Value → Bool
 is_value_of (Node g) (Kind kind ports) = is_cabled_port ports
 is_value_of (PortGuid g p) (Guid guid) = is_guid guid
@@ -39,7 +39,7 @@ is_value_of (Claim g p) (Lid lid) = nat_lt lid (2 ^ 16)
 is_value_of (Cap g) (Count count) = nat_lt count (2 ^ 16)
 is_value_of _ _ = false
 
--- a cell that the key can have: a value of its kind, or none
+-- the cell fits the key: its value is of the key's kind, or it is disputed
 abbrev pub is_cell_of : Key → Cell Value → Bool
 is_cell_of key (Known generation value) = is_value_of key value
 is_cell_of key (Disputed generation) = true
@@ -48,7 +48,7 @@ is_cell_of key (Disputed generation) = true
 abbrev pub is_generation : ℕ → Bool
 is_generation generation = nat_le 1 generation && nat_lt generation (2 ^ 32)
 
--- a key in its ranges, and a cell of its kind in its own
+-- the key and the generation are in range, and the cell fits the key
 abbrev pub is_sighting : Key × Cell Value → Bool
 is_sighting s = is_key s.0 && is_generation (generation_of s.1) && is_cell_of s.0 s.1
 

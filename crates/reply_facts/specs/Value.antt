@@ -1,4 +1,4 @@
--- When two values are the same.
+-- When two values are equal.
 use Rattle.std.specs.Prelude.{Bool, true, false, not, ◌==◌, ◌&&◌}
 use Rattle.smp_bytes.specs.declared.node_type.NodeType.{NodeType}
 use Rattle.smp_bytes.specs.declared.node_type.NodeType.TheVariants.{ChannelAdapter, Switch, Router}
@@ -19,7 +19,7 @@ abbrev pub is_same_flag : Bool → Bool → Bool
 is_same_flag true b = b
 is_same_flag false b = not b
 
--- values of one kind, with the same parts
+-- values of one kind with equal parts
 abbrev pub is_same_value : Value → Value → Bool
 is_same_value (Kind a m) (Kind b n) = is_same_type a b && m == n
 is_same_value (Guid a) (Guid b) = a == b
@@ -29,7 +29,7 @@ is_same_value (Lid a) (Lid b) = a == b
 is_same_value (Count a) (Count b) = a == b
 is_same_value _ _ = false
 
--- known at one generation with one value, or disputed at one generation
+-- known at one generation with equal values, or disputed at one generation
 abbrev pub is_same_cell : Cell Value → Cell Value → Bool
 is_same_cell (Known g a) (Known h b) = g == h && is_same_value a b
 is_same_cell (Known g a) (Disputed h) = false

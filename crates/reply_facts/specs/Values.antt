@@ -10,20 +10,20 @@ use Rattle.reply_facts.specs.declared.value.Value.{Value}
 use Rattle.reply_facts.specs.declared.value.Value.TheVariants.{Kind, Guid, Peer, Up, Lid, Count}
 use Rattle.reply_facts.specs.Value.{is_same_type, is_same_flag, is_same_value, is_same_cell}
 
--- types that the test does not tell apart are one
+-- types that the test calls equal are one
 same_type_exact : (a b : NodeType) → is_same_type a b ≡ true → a ≡ b
 same_type_exact ChannelAdapter ChannelAdapter e = refl
 same_type_exact Switch Switch e = refl
 same_type_exact Router Router e = refl
 same_type_exact _ _ e = absurd (cc)
 
--- flags that the test does not tell apart are one
+-- flags that the test calls equal are one
 same_flag_exact : (a b : Bool) → is_same_flag a b ≡ true → a ≡ b
 same_flag_exact true true e = refl
 same_flag_exact false false e = refl
 same_flag_exact _ _ e = absurd (cc)
 
--- values that the test does not tell apart are one
+-- values that the test calls equal are one
 pub same_value_exact : (a b : Value) → is_same_value a b ≡ true → a ≡ b
 same_value_exact (Kind a m) (Kind b n) e = let p =
     and_parts (is_same_type a b) (m == n) e in cc (same_type_exact a b p.0, eqb-true m n p.1)
@@ -39,13 +39,13 @@ same_value_exact _ _ e = absurd (cc)
 same_number : (g : ℕ) → (g == g) ≡ true
 same_number g = eq-eqb g g refl
 
--- a type is the same as itself
+-- a type equals itself
 same_type_itself : (a : NodeType) → is_same_type a a ≡ true
 same_type_itself ChannelAdapter = refl
 same_type_itself Switch = refl
 same_type_itself Router = refl
 
--- a value is the same as itself
+-- a value equals itself
 pub same_value_itself : (a : Value) → is_same_value a a ≡ true
 same_value_itself (Kind a m) = cc (same_type_itself a, same_number m)
 same_value_itself (Guid a) = same_number a
@@ -55,7 +55,7 @@ same_value_itself (Up false) = refl
 same_value_itself (Lid a) = same_number a
 same_value_itself (Count a) = same_number a
 
--- a test that is true exactly at one value is an equivalence
+-- a test that holds exactly for equal values is an equivalence
 exact_equiv : {V : Type 0} (same : V → V → Bool) → ((x y : V) → same x y ≡ true → x ≡ y) → ((x : V) → same x x ≡ true)
     → IsEquivalence same
 exact_equiv same exact itself =
@@ -71,14 +71,14 @@ exact_equiv same exact itself =
 pub same_value_equiv : IsEquivalence is_same_value
 same_value_equiv = exact_equiv is_same_value same_value_exact same_value_itself
 
--- cells that the test does not tell apart are one
+-- cells that the test calls equal are one
 pub same_cell_exact : (a b : Cell Value) → is_same_cell a b ≡ true → a ≡ b
 same_cell_exact (Known g x) (Known h y) e = let p =
     and_parts (g == h) (is_same_value x y) e in cc (eqb-true g h p.0, same_value_exact x y p.1)
 same_cell_exact (Disputed g) (Disputed h) e = ap Disputed (eqb-true g h e)
 same_cell_exact _ _ e = absurd (cc)
 
--- a cell is the same as itself
+-- a cell equals itself
 pub same_cell_itself : (a : Cell Value) → is_same_cell a a ≡ true
 same_cell_itself (Known g x) = cc (same_number g, same_value_itself x)
 same_cell_itself (Disputed g) = same_number g

@@ -1,4 +1,4 @@
-//! Of which kind a key is, and what its cell says, as far as that is one of a few things.
+//! The form of a cell: the kind of its key, and its value if that is one of a few.
 ghost use Rattle.std.specs.Prelude.{◌≡◌};
 ghost use Rattle.reply_facts.specs.CellForms.{disputed_form, form_kind, form_of, known_form};
 
@@ -7,7 +7,7 @@ use crate::value::Value;
 use fact_join::Cell;
 use smp_bytes::NodeType;
 
-/// What is known, or of which key that is disputed.
+/// The kind of a key, with its value if that is one of a few, or that it is disputed.
 #[derive(Clone, Copy, Debug)]
 pub(crate) enum CellForm {
     SwitchNode,
@@ -28,7 +28,7 @@ pub(crate) enum CellForm {
 }
 
 impl CellForm {
-    /// The number of the key's kind.
+    /// Returns the number of the key's kind.
     pub(crate) fn kind(self) -> u8
         ensures { result ≡ form_kind self }
     {
@@ -46,7 +46,7 @@ impl CellForm {
     }
 }
 
-/// The form of a cell.
+/// Returns the form of a cell.
 pub(crate) fn form_of(key: &Key, cell: &Cell<Value>) -> CellForm
     ensures { result ≡ form_of key.now cell.now }
 {
@@ -56,7 +56,7 @@ pub(crate) fn form_of(key: &Key, cell: &Cell<Value>) -> CellForm
     }
 }
 
-/// The form of what is known.
+/// Returns the form of a known value.
 fn known_form(value: &Value) -> CellForm
     ensures { result ≡ known_form value.now }
 {
@@ -73,7 +73,7 @@ fn known_form(value: &Value) -> CellForm
     }
 }
 
-/// The form of a dispute.
+/// Returns the form of a disputed cell.
 fn disputed_form(key: &Key) -> CellForm
     ensures { result ≡ disputed_form key.now }
 {

@@ -23,7 +23,7 @@ pub enum Key {
 impl Key {
     ghost use Rattle.reply_facts.specs.Key.{key_guid, key_kind, key_numbers, key_port, kind_word};
 
-    /// The number of its kind, the GUID and the port.
+    /// Returns the number of the key's kind, the GUID and the port.
     pub(crate) fn sort_key(&self) -> [u64; 3]
         ensures { result ≡ key_numbers self.now }
     {
@@ -34,7 +34,7 @@ impl Key {
         ]
     }
 
-    /// The number of its kind, from 1 on, in the order of the kinds.
+    /// Returns the number of the key's kind, from 1 on, in the order of the kinds.
     pub fn kind(&self) -> u8
         ensures { result ≡ key_kind self.now }
     {
@@ -48,7 +48,7 @@ impl Key {
         }
     }
 
-    /// The word for its kind: `node`, `portguid`, `link`, `port`, `claim` or `cap`.
+    /// Returns the word for the key's kind: `node`, `portguid`, `link`, `port`, `claim` or `cap`.
     pub fn word(&self) -> &'static str
         ensures { result.now ≡ kind_word self.now }
     {
@@ -62,7 +62,7 @@ impl Key {
         }
     }
 
-    /// The GUID of the node.
+    /// Returns the GUID of the node.
     pub fn guid(&self) -> Guid
         ensures { result ≡ key_guid self.now }
     {
@@ -76,7 +76,7 @@ impl Key {
         }
     }
 
-    /// The port, and 0 where there is none.
+    /// Returns the port, or 0 if the key has none.
     pub fn port(&self) -> PortNum
         ensures { result ≡ key_port self.now }
     {

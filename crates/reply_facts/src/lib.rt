@@ -1,4 +1,4 @@
-//! Facts of a subnet, each with its key, and what a reply tells of them.
+//! Facts of a subnet, each with its key, and the facts that a reply tells.
 #![tactic(auto)]
 
 mod cell_form;

@@ -1,4 +1,4 @@
-//! What a report tells: the first fault that it has, or the facts of the node that answered.
+//! What a report tells: its first fault, or the facts of the node that answered.
 ghost use Rattle.std.specs.Prelude.{◌≡◌, true, Some, IfOk, IsTrue};
 ghost use Rattle.smp_bytes.specs.Judges.{Judges};
 ghost use Rattle.smp_bytes.specs.Field.{bits_in};
@@ -20,7 +20,11 @@ use arrayvec::ArrayVec;
 use attr_codec::{Attribute, NodeInfo, PortInfo, PortState, SwitchInfo};
 use smp_bytes::{AttributeId, Generation, Method, NodeType, PortNum, Smp, SmpClass, Status};
 
-/// The facts that a report tells, or the first fault that it has.
+/// Returns the facts that a report tells.
+///
+/// # Errors
+///
+/// Returns the report's first fault, in the order of `ReportFault`.
 pub fn sightings(report: &Report) -> Result<ArrayVec<Sighting, 4>, ReportFault>
     ensures judged { Judges result (report_fault report.now) }
     ensures sightings { IfOk result (λ sightings. sightings.items ≡ sightings_of report.now) }
@@ -34,7 +38,11 @@ pub fn sightings(report: &Report) -> Result<ArrayVec<Sighting, 4>, ReportFault>
     }
 }
 
-/// The facts that the packet of a reply tells, or the first fault that it has.
+/// Returns the facts that the packet of a reply tells.
+///
+/// # Errors
+///
+/// Returns the first fault, in the order of `ReportFault`.
 pub fn sightings_in(
     generation: Generation,
     context: &Context,
@@ -51,7 +59,7 @@ pub fn sightings_in(
     }
 }
 
-/// The fault of a packet that is no answer, over a directed route, of an agent that did what was asked.
+/// Returns the first reason why the packet is not a successful answer on a directed route, or `None` if it is one.
 pub fn answer_fault(smp: &Smp) -> Option<ReportFault>
     ensures { result ≡ answer_fault smp.now }
 {
@@ -68,7 +76,7 @@ pub fn answer_fault(smp: &Smp) -> Option<ReportFault>
     }
 }
 
-/// The facts of an answer, by the attribute that it carries.
+/// Returns the facts of an answer, by the attribute that it carries, or its fault.
 fn sightings_by_packet(
     generation: Generation,
     context: &Context,
@@ -87,7 +95,7 @@ fn sightings_by_packet(
     }
 }
 
-/// The facts of an answer of NodeInfo.
+/// Returns the facts of an answer of NodeInfo, or its fault.
 fn sightings_by_node_info(
     generation: Generation,
     context: &Context,
@@ -111,7 +119,7 @@ fn sightings_by_node_info(
     }
 }
 
-/// What a node of that kind says of itself, and the link that led there.
+/// Returns what a node of type `kind` says of itself, and the link over which the request came.
 fn sightings_of_kind(
     generation: Generation,
     context: &Context,
@@ -142,7 +150,7 @@ fn sightings_of_kind(
     sightings
 }
 
-/// Whether an answer of NodeInfo over so many hops can have the context.
+/// Returns whether an answer of NodeInfo over `hops` hops can have this context.
 fn fits_node_info(context: &Context, hops: u8) -> bool
     ensures { result ≡ fits_node_info context.now hops }
 {
@@ -165,7 +173,7 @@ fn are_ports_in_range(context: &Context, kind: NodeType, info: &NodeInfo) -> boo
     is_cabled_port(info.num_ports) && asked_by <= info.num_ports && may_be_asked
 }
 
-/// The facts of an answer of PortInfo: whether the port is up, and the LID that it claims.
+/// Returns the facts of an answer of PortInfo, or its fault: whether the port is up, and the LID that it claims.
 fn sightings_by_port_info(
     generation: Generation,
     context: &Context,
@@ -193,7 +201,7 @@ fn sightings_by_port_info(
     Ok(sightings)
 }
 
-/// Whether the port is up: Initialize, Armed and Active are, all else is not.
+/// Returns whether the port is up: in Initialize, Armed or Active, and in nothing else.
 pub fn is_up(info: &PortInfo) -> bool
     ensures { result ≡ is_up_state (bits_in port_state info.now) }
 {
@@ -203,7 +211,8 @@ pub fn is_up(info: &PortInfo) -> bool
     }
 }
 
-/// The facts of an answer of SwitchInfo: how many LIDs the switch's forwarding table has room for.
+/// Returns the facts of an answer of SwitchInfo, or its fault: how many LIDs the switch's forwarding table has room
+/// for.
 fn sightings_by_switch_info(
     generation: Generation,
     context: &Context,

@@ -3,19 +3,19 @@ ghost use Rattle.std.specs.Prelude.{◌≡◌};
 use smp_bytes::SmpFault;
 use thiserror::Error;
 
-/// Why a report is not taken, in the order in which it is judged.
+/// Why a report is refused. The first fault in this order is reported.
 #[derive(Clone, Copy, Debug, PartialEq, Eq, Error)]
 pub enum ReportFault {
     /// The generation is 0.
     #[error("Generation")]
     Generation,
-    /// The bytes are no packet.
+    /// The bytes are not a packet.
     #[error("{0}")]
     Smp(SmpFault),
     /// The packet is not of the directed route class.
     #[error("Class")]
     Class,
-    /// The packet is no answer to a Get or a Set.
+    /// The packet is not an answer to a Get or a Set.
     #[error("Method")]
     Method,
     /// The packet is not at the end of its way back: its D bit is 0, or its HopPointer is not.
@@ -24,10 +24,10 @@ pub enum ReportFault {
     /// The agent refused the request: its status is not 0.
     #[error("Status")]
     Status,
-    /// The attribute is none that facts are read from.
+    /// No facts are read from this attribute.
     #[error("Attribute")]
     Attribute,
-    /// The context does not fit the attribute, or not the number of hops.
+    /// The context does not fit the attribute or the number of hops.
     #[error("Context")]
     Context,
     /// The attribute modifier names no port.
@@ -44,7 +44,7 @@ pub enum ReportFault {
 impl ReportFault {
     ghost use Rattle.reply_facts.specs.ReportFault.{report_fault_name};
 
-    /// The name that `{}` writes; that of the packet's fault where there is one.
+    /// Returns the name that `{}` writes; for `Smp` the name of the packet's fault.
     pub fn name(self) -> &'static str
         ensures { result.now ≡ report_fault_name self }
     {

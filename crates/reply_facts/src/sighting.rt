@@ -12,18 +12,17 @@ use smp_bytes::{Generation, Guid, Lid, NodeType, PortNum};
 use std::cmp::Ordering;
 use std::marker::Model;
 
-/// A fact as it was told once, or that it was told in different ways. Takes 24 bytes, which a list of many holds and
-/// moves.
+/// A fact as it was told once, or that it is disputed. Takes 24 bytes, as long lists hold and move sightings.
 #[derive(Clone, Copy, Debug)]
 pub struct Sighting {
-    /// That of the key.
+    /// The GUID of the key.
     guid: Guid,
-    /// That of the value, or 0.
+    /// The GUID of the value, or 0.
     other: Guid,
     generation: Generation,
-    /// How many ports, the port, the LID or the count that the value has, or 0.
+    /// The value's count of ports, port, LID or table room, or 0.
     number: u16,
-    /// That of the key, or 0.
+    /// The port of the key, or 0.
     port: PortNum,
     form: CellForm,
 }
@@ -67,8 +66,8 @@ impl Model for Sighting {
 impl Sighting {
     ghost use Rattle.reply_facts.specs.Sighting.{IsSighting};
 
-    /// None where the port is not one that the key can have, or the value is of another kind than
-    /// the key or has a port out of range.
+    /// Creates a sighting of a cell under a key. Returns `None` if the key cannot have its port, or if the value is of
+    /// another kind than the key or has a number out of range.
     pub fn new(key: Key, cell: Cell<Value>) -> Option<Self>
         ensures exact { IsSome result ↔ IsSighting (key, cell) }
         ensures value { IfSome result (λ s. s ≡ (key, cell)) }
@@ -80,7 +79,7 @@ impl Sighting {
         }
     }
 
-    /// A value that was told at a generation.
+    /// Creates a sighting of a value that was told at `generation`.
     pub(crate) fn known(generation: Generation, key: Key, value: Value) -> Self
         requires { IsSighting (key, Known generation value) }
         ensures { result ≡ (key, Known generation value) }
@@ -88,7 +87,7 @@ impl Sighting {
         Sighting::of(&key, &Cell::Known(generation, value))
     }
 
-    /// A key and a cell that are one.
+    /// Creates a sighting of a key and a cell that fit each other.
     fn of(key: &Key, cell: &Cell<Value>) -> Self
         requires { IsSighting (key.now, cell.now) }
         ensures { result ≡ (key.now, cell.now) }
@@ -103,7 +102,7 @@ impl Sighting {
         }
     }
 
-    /// What the fact is about.
+    /// Returns what the fact is about.
     pub fn key(&self) -> Key
         ensures value { result ≡ self.now.0 }
         ensures in_range { IsSighting self.now }
@@ -123,7 +122,7 @@ impl Sighting {
         }
     }
 
-    /// How its key stands to another.
+    /// Compares the sighting's key with `other`.
     pub fn key_cmp(&self, other: &Key) -> Ordering
         ensures { result ≡ key_cmp self.now.0 other.now }
     {
@@ -135,7 +134,7 @@ impl Sighting {
         sort_key.cmp(&other.sort_key())
     }
 
-    /// What was told of it, and at which generation.
+    /// Returns the cell: what was told, and at which generation.
     pub fn cell(&self) -> Cell<Value>
         ensures value { result ≡ self.now.1 }
         ensures in_range { IsSighting self.now }
@@ -146,7 +145,7 @@ impl Sighting {
         }
     }
 
-    /// What was told. None where it is disputed.
+    /// Returns the value that was told, or `None` if it is disputed.
     pub fn value(&self) -> Option<Value>
         ensures { result ≡ value_in (Some self.now.1) }
     {
@@ -170,7 +169,7 @@ impl Sighting {
     }
 }
 
-/// The GUID that a value has, or 0.
+/// Returns the GUID that the value has, or 0.
 fn other_of(cell: &Cell<Value>) -> Guid
     ensures { result ≡ other_of cell.now }
 {
@@ -180,7 +179,7 @@ fn other_of(cell: &Cell<Value>) -> Guid
     }
 }
 
-/// How many ports, the port, the LID or the count that a value has, or 0.
+/// Returns the count of ports, the port, the LID or the table room that the value has, or 0.
 fn number_of(cell: &Cell<Value>) -> u16
     ensures { result ≡ number_of cell.now }
 {
@@ -193,7 +192,7 @@ fn number_of(cell: &Cell<Value>) -> u16
     }
 }
 
-/// A disputed node of GUID 0 at generation 1.
+/// Returns a sighting of a disputed node, with GUID 0 and generation 1.
 impl Default for Sighting {
     ghost use Rattle.reply_facts.specs.declared.key.Key.TheVariants.{Node};
 
@@ -269,7 +268,7 @@ fn is_any_port(port: PortNum) -> bool
     matches!(port.number(), 0..=254)
 }
 
-/// Whether a cable can be in the port; also whether a node can have so many ports.
+/// Returns whether a cable can be in the port; also whether a node can have `port` ports.
 pub(crate) fn is_cabled_port(port: u8) -> bool
     ensures { result ≡ is_cabled_port port }
 {

@@ -1,20 +1,20 @@
 use fact_join::Exact;
 use smp_bytes::{Guid, Lid, NodeType, PortNum};
 
-/// What a fact says of the thing that its key names.
+/// What a fact says about its key.
 #[derive(Clone, Copy, Debug)]
 pub enum Value {
-    /// Of a node: its type and the number of its ports.
+    /// For a node: its type and its number of ports.
     Kind(NodeType, u8),
-    /// Of a port: its GUID.
+    /// For a port: its GUID.
     Guid(Guid),
-    /// Of a link: the node and the port at its other end.
+    /// For a link: the node and the port at its other end.
     Peer(Guid, PortNum),
-    /// Of a port: whether it is up.
+    /// For a port: whether it is up.
     Up(bool),
-    /// Of a port: the LID that it claims.
+    /// For a port: the LID that it claims.
     Lid(Lid),
-    /// Of a switch: how many LIDs its linear forwarding table has room for.
+    /// For a switch: how many LIDs its linear forwarding table has room for.
     Count(u16),
 }
 

@@ -3,12 +3,12 @@ use Rattle.std.specs.Prelude.{◌≡◌, ℕ, ◌≤◌, Bool, true, false, List
 use Rattle.std.specs.List.{AllByRecursion}
 use Rattle.std.specs.List.Sorted.{IsPartitionPoint}
 
--- each is related to all that come later
+-- each item is related to all later ones
 abbrev pub AreOrdered : {T : Type 0} → (T → T → Type 0) → List T → Type 0
 AreOrdered R [] = Unit {0}
 AreOrdered R (x ∷ xs) = AllByRecursion (R x) xs × AreOrdered R xs
 
--- the test holds of all before the index, and of none from it on
+-- the test holds for all items before the index, and for none from it on
 pub record IsIndex {T : Type 0} (test : T → Bool) (items : List T) (index : ℕ) : Type 0 where
   pub within : index ≤ length items
   pub parts : IsPartitionPoint (λ x. test x ≡ true) (λ x. test x ≡ false) items index

@@ -1,4 +1,4 @@
-//! Requests that wait for their answers, by rising numbers.
+//! Requests that wait for their answers, in the order of their numbers.
 #![tactic(auto)]
 
 mod numbered;

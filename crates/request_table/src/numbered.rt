@@ -1,6 +1,6 @@
 ghost use Rattle.std.specs.Prelude.{◌≡◌, ℕ};
 
-/// A request that has a number of its own.
+/// A request with a number of its own.
 pub trait Numbered {
     ghost number: { Self → ℕ };
 

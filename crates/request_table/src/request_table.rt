@@ -8,8 +8,8 @@ use std::alloc::{AllocError, Global};
 use std::collections::VecDeque;
 use std::marker::Model;
 
-/// Requests by rising numbers, none of which is given twice. Contracts see them, the number of the
-/// next one, and for how many more there is memory.
+/// Requests by rising numbers. No number is given twice. Contracts see the requests, the number of the next one, and
+/// how many more there is memory for.
 #[derive(Drop)]
 pub struct RequestTable<T: Numbered> {
     next: u64,
@@ -33,7 +33,7 @@ impl<T: Numbered> Model for RequestTable<T> {
 }
 
 impl<T: Numbered + Drop> RequestTable<T> {
-    /// None yet; the first will have this number. Takes no memory.
+    /// Creates an empty table whose first request will have the number `first`. Takes no memory.
     pub fn new(alloc: Global, first: u32) -> Self
         ensures next { result.next ≡ first }
         ensures requests { result.requests ≡ [] }
@@ -44,7 +44,7 @@ impl<T: Numbered + Drop> RequestTable<T> {
         }
     }
 
-    /// The number of the next one, which 32 bits may not hold.
+    /// Returns the number of the next request; 2^32 if no numbers are left.
     pub fn next(&self) -> u64
         ensures next { result ≡ self.now.next }
         ensures numbered { AreNumbered T.number self.now.requests self.now.next }
@@ -52,7 +52,7 @@ impl<T: Numbered + Drop> RequestTable<T> {
         self.next
     }
 
-    /// How many there are.
+    /// Returns the number of waiting requests.
     pub fn len(&self) -> usize
         ensures count { result ≡ length self.now.requests }
         ensures numbered { AreNumbered T.number self.now.requests self.now.next }
@@ -66,7 +66,7 @@ impl<T: Numbered + Drop> RequestTable<T> {
         self.requests.is_empty()
     }
 
-    /// Whether there are numbers for so many more.
+    /// Returns whether numbers are left for `count` more requests.
     pub fn has_numbers(&self, count: usize) -> bool
         ensures enough { result ≡ nat_le (self.now.next + count) (2 ^ 32) }
         ensures numbered { AreNumbered T.number self.now.requests self.now.next }
@@ -74,7 +74,7 @@ impl<T: Numbered + Drop> RequestTable<T> {
         count as u64 <= 0x1_0000_0000 - self.next
     }
 
-    /// Memory for so many more.
+    /// Reserves memory for `count` more requests.
     pub fn reserve(&mut self, count: usize) -> Result<(), AllocError>
         ensures next { self.new.next ≡ self.old.next }
         ensures requests { self.new.requests ≡ self.old.requests }
@@ -83,7 +83,7 @@ impl<T: Numbered + Drop> RequestTable<T> {
         self.requests.reserve(count)
     }
 
-    /// One more, which has the next number. Takes no memory.
+    /// Adds a request, which has the next number. Takes no memory.
     pub fn push(&mut self, request: T)
         requires room { 0 < self.old.room }
         requires number { T.number request ≡ self.old.next }
@@ -96,15 +96,15 @@ impl<T: Numbered + Drop> RequestTable<T> {
         self.next += 1;
     }
 
-    /// One, by its index in the order of their numbers.
+    /// Returns the request at `index`, in the order of their numbers.
     pub fn get(&self, index: usize) -> Option<&T>
         ensures { option_copied result ≡ slice_get self.now.requests index }
     {
         self.requests.get(index)
     }
 
-    /// How many have a lower number: the index of the one with this number, if there is one. Halves
-    /// the indices at each step.
+    /// Counts the requests with numbers below `number`: the index of the request with this number, if there is one.
+    /// Takes a binary search.
     pub fn count_below(&self, number: u64) -> usize
         ensures index { IsIndex (λ r. nat_lt (T.number r) number) self.now.requests result }
         ensures numbered { AreNumbered T.number self.now.requests self.now.next }
@@ -113,7 +113,7 @@ impl<T: Numbered + Drop> RequestTable<T> {
             .partition_point(|request| u64::from(request.number()) < number)
     }
 
-    /// The index of the one with this number. Takes a search.
+    /// Returns the index of the request with this number, if there is one. Takes a binary search.
     pub fn index_of(&self, number: u64) -> Option<usize>
         ensures { IsIndexFor (with_number T.number number self.now.requests)
             self.now.requests result }
@@ -127,7 +127,7 @@ impl<T: Numbered + Drop> RequestTable<T> {
         }
     }
 
-    /// One has ended. Moves those on one side of it.
+    /// Removes and returns the request at `index`. Moves the requests on one side of it.
     pub fn end(&mut self, index: usize) -> T
         requires { index < length self.old.requests }
         ensures request { Some result ≡ slice_get self.old.requests index }

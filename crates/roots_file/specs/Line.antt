@@ -6,7 +6,7 @@ use Rattle.text_words.specs.Number.{number_of}
 use Rattle.roots_file.specs.declared.fault.RootsTextError.{RootsTextError}
 use Rattle.roots_file.specs.declared.fault.RootsTextError.TheVariants as wrong
 
--- the digits of a word: what stands behind '0x', where it begins so
+-- the digits of a word: what follows '0x', if the word begins with that, and else the word
 abbrev pub digits_of : List ℕ → List ℕ
 digits_of word = if bytes_eq (take 2 word) (codes "0x") then drop 2 word else word
 
@@ -24,7 +24,7 @@ abbrev pub on_line : Result ℕ RootsTextError → Result (Option ℕ) RootsText
 on_line (Ok root) = Ok (Some root)
 on_line (Err what) = Err what
 
--- the root that the words name, if there is one
+-- the root that the words of a line name, if there is a word
 abbrev pub root_in : List (List ℕ) → Result (Option ℕ) RootsTextError
 root_in [] = Ok None
 root_in (word ∷ []) = on_line (root_of word)

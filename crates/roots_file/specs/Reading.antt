@@ -7,17 +7,17 @@ use Rattle.roots_file.specs.declared.fault.RootsTextError.TheVariants.{Repeated}
 use Rattle.roots_file.specs.RootsTextFault.{RootsLineFault}
 use Rattle.roots_file.specs.Line.{root_on}
 
--- whether a root is among these
+-- whether a root is in the list
 abbrev pub is_among : List ℕ → ℕ → Bool
 is_among roots root = list_any (λ r. r == root) roots
 
--- the roots with one more, which none of them may be
+-- the roots with one more, if it is not there already
 abbrev pub root_more : ℕ → List ℕ → ℕ → Result (List ℕ) RootsLineFault
 root_more number roots root =
     if is_among roots root then Err (record { line = number; wrong = Repeated })
     else Ok (roots ++ root ∷ [])
 
--- the roots with what the line of a number says
+-- the roots, with what line `number` says
 abbrev pub more_by : ℕ → List ℕ → Result (Option ℕ) RootsTextError → Result (List ℕ) RootsLineFault
 more_by number roots (Ok None) = Ok roots
 more_by number roots (Ok (Some root)) = root_more number roots root
@@ -26,13 +26,13 @@ more_by number roots (Err what) = Err (record { line = number; wrong = what })
 abbrev pub with_line : ℕ → List ℕ → List ℕ → Result (List ℕ) RootsLineFault
 with_line number roots line = more_by number roots (root_on line)
 
--- what follows these roots, or their fault
+-- what follows the roots, or their fault
 abbrev pub then_from : Result (List ℕ) RootsLineFault → (List ℕ → Result (List ℕ) RootsLineFault)
     → Result (List ℕ) RootsLineFault
 then_from (Ok roots) next = next roots
 then_from (Err fault) next = Err fault
 
--- the roots with what lines say that count from a number
+-- the roots, with what the lines say; they count from `number`
 abbrev pub with_lines : ℕ → List ℕ → List (List ℕ) → Result (List ℕ) RootsLineFault
 with_lines number roots [] = Ok roots
 with_lines number roots (line ∷ later) =
@@ -42,7 +42,7 @@ with_lines number roots (line ∷ later) =
 unfoldable pub roots_of : List ℕ → Result (List ℕ) RootsLineFault
 roots_of text = with_lines 1 [] (lines text)
 
--- the same by lines alone -------------------------------------------------------------------------
+-- the first fault, by lines alone ---------------------------------------------------------------------
 
 -- a line names the root
 abbrev pub is_root : ℕ → Result (Option ℕ) RootsTextError → Bool
@@ -52,7 +52,7 @@ is_root root _ = false
 abbrev pub names : ℕ → List ℕ → Bool
 names root line = is_root root (root_on line)
 
--- what is wrong with a line that says this, below these
+-- the fault of a line that says this, below the lines `above`
 abbrev pub wrong_below : List (List ℕ) → Result (Option ℕ) RootsTextError → Option RootsTextError
 wrong_below above (Ok None) = None
 wrong_below above (Ok (Some root)) = if list_any (names root) above then Some Repeated else None

@@ -1,4 +1,4 @@
--- What is said of a fault of a text of roots, and what reading such a text tells.
+-- What is printed about a fault of a text of roots, and what reading such a text answers.
 use Rattle.std.specs.Prelude.{◌≡◌, ℕ, List, Result, Ok, Err, codes}
 use Rattle.text_words.specs.declared.fault.LineFault.{LineFault}
 use Rattle.text_words.specs.declared.fault.LinesFault.{LinesFault}
@@ -12,13 +12,13 @@ RootsLineFault = LineFault RootsTextError
 abbrev pub RootsTextFault : Type 0
 RootsTextFault = LinesFault RootsTextError
 
--- the word for it
+-- the word for the fault
 abbrev pub wrong_word : RootsTextError → List ℕ
 wrong_word Syntax = codes "syntax"
 wrong_word Guid = codes "guid"
 wrong_word Repeated = codes "repeated"
 
--- exactly what is told, roots or the first fault, unless memory was refused
+-- the answer is what the text says, roots or the first fault, unless memory ran out
 abbrev pub Reads : Result (List ℕ) RootsTextFault → Result (List ℕ) RootsLineFault → Type 0
 Reads (Ok roots) told = told ≡ Ok roots
 Reads (Err (Line fault)) told = told ≡ Err fault

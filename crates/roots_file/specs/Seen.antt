@@ -1,4 +1,4 @@
--- The set by which a root that is there is found.
+-- The set in which a root that is there already is found.
 use Rattle.std.specs.Prelude.{◌≡◌, ℕ, List}
 use Rattle.std.specs.BTreeSet.{BTreeSet, contains}
 use Rattle.std.specs.Ordering.{nat_cmp}

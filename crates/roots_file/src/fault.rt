@@ -1,13 +1,13 @@
 use text_words::{LineError, LineFault, LinesFault};
 
-/// What is wrong with a line.
+/// A fault of one line.
 #[derive(Clone, Copy, Debug, PartialEq, Eq)]
 pub enum RootsTextError {
-    /// It has more than one word, or one that is none of hex digits.
+    /// It has more than one word, or a word that is not made of hex digits.
     Syntax,
-    /// A GUID that is 0, or has more than 16 digits.
+    /// The GUID is 0, or has more than 16 digits.
     Guid,
-    /// A GUID that a line above has too.
+    /// The GUID is also on a line above.
     Repeated,
 }
 
@@ -25,8 +25,8 @@ impl LineError for RootsTextError {
     }
 }
 
-/// The first faulty line of a text, from 1, and what is wrong with it.
+/// The first faulty line of a text, counted from 1, and its fault.
 pub type RootsLineFault = LineFault<RootsTextError>;
 
-/// Why a text is not read.
+/// Why a text is refused.
 pub type RootsTextFault = LinesFault<RootsTextError>;

@@ -6,7 +6,7 @@ use smp_bytes::Guid;
 use text_words::{number, split_word};
 
 #[tactic(auto, unfolding(crate::specs::Line::root_on))]
-/// The root that a line names; `None` is an empty line.
+/// Returns the root that a line names, or `None` if the line is empty.
 pub(crate) fn root_on(line: &[u8]) -> Result<Option<Guid>, RootsTextError>
     ensures { result ≡ root_on line.now }
 {
@@ -23,7 +23,7 @@ pub(crate) fn root_on(line: &[u8]) -> Result<Option<Guid>, RootsTextError>
 }
 
 #[tactic(auto, using(crate::proofs::Guids::whole, crate::proofs::Guids::long, crate::proofs::Guids::zero_is_none, crate::proofs::Guids::no_digits))]
-/// The root that a word names: 1 to 16 hex digits, or the same behind `0x`.
+/// Parses a root: 1 to 16 hex digits, with or without `0x`.
 fn root(word: &[u8]) -> Result<Guid, RootsTextError>
     ensures { result ≡ root_of word.now }
 {
@@ -37,7 +37,7 @@ fn root(word: &[u8]) -> Result<Guid, RootsTextError>
     Ok(Guid::new(number))
 }
 
-/// The digits of a word: what stands behind `0x`, where it begins so.
+/// Returns the digits of a word: what follows `0x`, if the word begins with that, and otherwise the word.
 fn digits(word: &[u8]) -> &[u8]
     ensures { result.now ≡ digits_of word.now }
 {

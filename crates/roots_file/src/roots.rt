@@ -12,7 +12,7 @@ use std::marker::Model;
 #[derive(Drop)]
 pub(crate) struct Roots {
     guids: Vec<Guid>,
-    /// The same, by which one that is there is found.
+    /// The set of the roots, to find one that is there already.
     seen: BTreeSet<Guid>,
 }
 
@@ -28,7 +28,7 @@ impl Model for Roots {
 }
 
 impl Roots {
-    /// No roots.
+    /// Creates an empty list of roots.
     pub(crate) fn new(alloc: Global) -> Self
         ensures { result ≡ [] }
     {
@@ -38,7 +38,7 @@ impl Roots {
         }
     }
 
-    /// These roots and that of the line of a number. Takes a search.
+    /// Appends the root of line `line`. Returns its fault if the root is there already. Takes a search.
     pub(crate) fn with(self, line: usize, root: Guid) -> Result<Self, RootsTextFault>
         ensures { Reads result (root_more line self root) }
     {
@@ -56,7 +56,7 @@ impl Roots {
         Ok(Roots { guids, seen })
     }
 
-    /// The roots alone.
+    /// Returns the roots as a list.
     pub(crate) fn into_guids(self) -> Vec<Guid>
         ensures { result.items ≡ self }
     {

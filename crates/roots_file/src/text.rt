@@ -15,8 +15,8 @@ use smp_bytes::Guid;
 use std::alloc::Global;
 use text_words::{LinesFault, split_line};
 
-/// Reads a text of roots: one GUID a line, as 1 to 16 hex digits, or the same behind `0x`. Lines end with LF or
-/// CR LF, empty ones are skipped, and `#` begins a comment:
+/// Parses a text of roots: one GUID a line, as 1 to 16 hex digits, with or without `0x`. Lines end with LF or CR LF,
+/// empty ones are skipped, and `#` begins a comment:
 ///
 /// ```text
 /// # the cores
@@ -24,12 +24,12 @@ use text_words::{LinesFault, split_line};
 /// 2c903000010b0
 /// ```
 ///
-/// Takes a step for each byte and a search for each line; where memory is refused, a walk over the lines above
-/// for each line besides.
+/// Takes one step for each byte and a search for each line. If memory runs out, also takes a walk over the lines above
+/// for each line.
 ///
 /// # Errors
 ///
-/// The first fault of its lines, and `Memory` where they have none.
+/// Returns the first fault of the lines, or `Memory` if they have none and memory runs out.
 pub fn parse(alloc: Global, text: &[u8]) -> Result<Vec<Guid>, RootsTextFault>
     ensures judged { JudgesButFor is_memory result
         (option_map LinesFault.Line (result_err (roots_of text.now))) }
@@ -46,7 +46,7 @@ pub fn parse(alloc: Global, text: &[u8]) -> Result<Vec<Guid>, RootsTextFault>
 }
 
 #[tactic(auto, using(crate::proofs::Folds::reading))]
-/// What the lines of a text say.
+/// Returns the roots that the lines of a text name.
 fn read_lines(alloc: Global, text: &[u8]) -> Result<Roots, RootsTextFault>
     ensures { Reads result (roots_of text.now) }
 {
@@ -61,7 +61,7 @@ fn read_lines(alloc: Global, text: &[u8]) -> Result<Roots, RootsTextFault>
     Ok(roots)
 }
 
-/// Roots, and that of the line of a number.
+/// Appends the root that line `number` names, if it names one.
 fn with_line(roots: Roots, number: usize, line: &[u8]) -> Result<Roots, RootsTextFault>
     ensures { Reads result (with_line number roots line.now) }
 {
@@ -76,7 +76,7 @@ fn with_line(roots: Roots, number: usize, line: &[u8]) -> Result<Roots, RootsTex
 }
 
 #[tactic(auto, using(crate::proofs::Folds::judging))]
-/// The first fault of a text. Takes no memory.
+/// Returns the first fault of a text. Takes no memory.
 fn first_fault(text: &[u8]) -> Option<RootsLineFault>
     ensures { result ≡ result_err (roots_of text.now) }
 {
@@ -93,7 +93,7 @@ fn first_fault(text: &[u8]) -> Option<RootsLineFault>
     None
 }
 
-/// What is wrong with a line below the first lines of a text.
+/// Returns the fault of a line that stands below the first `above` lines of a text.
 fn wrong_below(text: &[u8], above: usize, line: &[u8]) -> Option<RootsTextError>
     ensures { result ≡ wrong_below (take above (lines text.now)) (root_on line.now) }
 {
@@ -111,7 +111,7 @@ fn wrong_below(text: &[u8], above: usize, line: &[u8]) -> Option<RootsTextError>
 }
 
 #[tactic(auto, using(crate::proofs::Folds::naming))]
-/// Whether one of the first lines of a text names a root.
+/// Returns whether one of the first `count` lines of a text names a root.
 fn is_named(text: &[u8], count: usize, root: Guid) -> bool
     ensures { result ≡ list_any (names root) (take count (lines text.now)) }
 {
@@ -128,7 +128,7 @@ fn is_named(text: &[u8], count: usize, root: Guid) -> bool
     false
 }
 
-/// Whether a line names a root.
+/// Returns whether a line names a root.
 fn names(line: &[u8], root: Guid) -> bool
     ensures { result ≡ names root line.now }
 {

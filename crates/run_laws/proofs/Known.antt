@@ -45,6 +45,7 @@ use Rattle.sm_manager.specs.Packets.{request_answered, after_request, sweep_answ
 use Rattle.sm_manager.specs.Plans.{writing_fault}
 use Rattle.sm_manager.specs.Served.{served}
 use Rattle.sm_manager.specs.Writing.{is_spent, after_write_steps}
+use Rattle.sm_manager.proofs.Refusals.{packet_leaves}
 use Rattle.sm_manager.proofs.Lives.{Keeps, handing_keeps, planning_stays, takes_call, timeout_keeps}
 use Rattle.schedule_world.specs.Commands.{after_arrival, after_ask_line, after_command, after_commands, after_cut_line, after_drain_line}
 use Rattle.schedule_world.specs.Commands.{after_fate, after_floor_line, after_give_up, after_giving_up, after_hand_up, after_manager_line, after_merge_line}
@@ -58,42 +59,6 @@ use Rattle.run_laws.specs.Accounts.{Account, Accounts, RunsAreAccountedFor, acco
 use Rattle.run_laws.specs.Accounts.{told_by_commands, told_by_deliver, told_by_delivery, told_by_drain, told_by_merge, told_by_packet, told_by_step}
 use Rattle.run_laws.specs.Accounts.{with_more}
 use Rattle.run_laws.proofs.Seats.{AreKnown, all_new, at_seat_is, called_is, grown, kept, nobody, repeated}
-
--- a packet that is refused leaves the manager ----------------------------------------------------------
-
--- a refusal leaves this manager
-abbrev RefusalLeaves : Manager → Called → Type 0
-RefusalLeaves m called = (why : ManagerFault) → called.fault ≡ Some why → called.manager ≡ m
-
-done_leaves : (m after : Manager) → RefusalLeaves m (done after)
-done_leaves m after why e = absurd (cc)
-
-unless_leaves : (m after : Manager) → RefusalLeaves m (unless_spent m after)
-unless_leaves m after = cond_both (is_spent after) (refused m SequenceSpent) (done after) (RefusalLeaves m) (λ _ why e. refl) (λ _. done_leaves m after)
-
-module _ (m : Manager) (bytes : List ℕ) where
-  answer_leaves : (s : Sweep) (r : Result Answer SweepFault) → RefusalLeaves m (answered_by m s bytes r)
-  answer_leaves s (Ok answer) why e = absurd (cc)
-  answer_leaves s (Err fault) why e = refl
-
-  reply_leaves : (s : Option Sweep) → RefusalLeaves m (sweep_answered m bytes s)
-  reply_leaves None = λ why e. refl
-  reply_leaves (Some s) = answer_leaves s (judged s bytes)
-
-  over_leaves : (p : Pending) (answer : Option ℕ) (of : Purpose) → RefusalLeaves m (after_request m p answer of)
-  over_leaves p answer purpose.Poll = done_leaves m _
-  over_leaves p answer purpose.Control = done_leaves m _
-  over_leaves p answer (purpose.Step counts) = unless_leaves m _
-
-  request_leaves : (p : Option Pending) → RefusalLeaves m (request_answered m bytes p)
-  request_leaves None = λ why e. refl
-  request_leaves (Some p) = over_leaves p (Some (status bytes)) p.purpose
-
-  packet_leaves : (from : Option ℕ) (fault : Option SmpFault) → RefusalLeaves m (packet_taken m bytes from fault)
-  packet_leaves from (Some fault) = λ why e. refl
-  packet_leaves from None =
-      cond_both (is_info_request bytes) _ _ (RefusalLeaves m) (λ _. unless_leaves m (served m bytes from))
-      (λ _. cond_both (is_for_sweep bytes) _ _ (RefusalLeaves m) (λ _. reply_leaves m.sweep) (λ _. request_leaves (pending_for m bytes)))
 
 -- what managers are asked for ----------------------------------------------------------------------------
 

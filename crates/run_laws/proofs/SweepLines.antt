@@ -11,20 +11,20 @@ use Rattle.sm_manager.specs.declared.progress.Progress.TheVariants.{Done, Runnin
 use Rattle.sm_manager.specs.Manager.{progress_of, silent_in}
 use Rattle.manager_laws.specs.Complete.{IsWhole}
 use Rattle.schedule_lines.specs.Lines.{counts_text, progress_line, silent_line, stage_text}
-use Rattle.schedule_world.specs.Commands.{shown_of, text_of}
+use Rattle.schedule_world.specs.Commands.{shown_at, shown_of}
 use Rattle.schedule_world.specs.World.{SeatedValue, WorldValue}
 use Rattle.run_laws.specs.Lines.{SayAllAnswered, SweepLinesTell}
 
 -- the lines of a manager in its seat
 progress_shown : (w : WorldValue) (seat : ℕ) (s : SeatedValue) → slice_get w.managers seat ≡ Some s
-    → shown_of w seat Progress ≡ progress_line s.name (progress_of s.manager.sweep)
+    → shown_of w seat Progress ≡ progress_line (Some s.name) (progress_of s.manager.sweep)
 unfolding shown_of
-progress_shown w seat s there = ap (λ o. option_map_or (text_of Progress) o []) there
+progress_shown w seat s there = ap (λ o. option_map_or (shown_at Progress) o []) there
 
 silent_shown : (w : WorldValue) (seat : ℕ) (s : SeatedValue) → slice_get w.managers seat ≡ Some s
-    → shown_of w seat Silent ≡ silent_line s.name (silent_in s.manager.sweep)
+    → shown_of w seat Silent ≡ silent_line (Some s.name) (silent_in s.manager.sweep)
 unfolding shown_of
-silent_shown w seat s there = ap (λ o. option_map_or (text_of Silent) o []) there
+silent_shown w seat s there = ap (λ o. option_map_or (shown_at Silent) o []) there
 
 -- what stands behind equal beginnings
 behind : (xs : List ℕ) {a b : List ℕ} → xs ++ a ≡ xs ++ b → a ≡ b
@@ -71,23 +71,23 @@ counts_alike a b u v few_a few_b few_u few_v e =
 
 -- a line of a sweep that is done
 done_alike : (name : List ℕ) (a b u v : ℕ) → a < 2 ^ 64 → b < 2 ^ 64 → u < 2 ^ 64 → v < 2 ^ 64
-    → progress_line name (Done a b) ≡ progress_line name (Done u v) → (a ≡ u) × (b ≡ v)
+    → progress_line (Some name) (Done a b) ≡ progress_line (Some name) (Done u v) → (a ≡ u) × (b ≡ v)
 done_alike name a b u v few_a few_b few_u few_v e =
     counts_alike a b u v few_a few_b few_u few_v
     (ap (drop 5) (stage_alike name (stage_text (Done a b)) (stage_text (Done u v)) (ap (drop 9) e)))
 
-never_running : (name : List ℕ) (a b u v : ℕ) → progress_line name (Running a b) ≡ progress_line name (Done u v) → ⊥
+never_running : (name : List ℕ) (a b u v : ℕ) → progress_line (Some name) (Running a b) ≡ progress_line (Some name) (Done u v) → ⊥
 never_running name a b u v e =
     let letter : 114 ≡ 100 =
     ap (λ l. get_or l 1 0) (stage_alike name (stage_text (Running a b)) (stage_text (Done u v)) (ap (drop 9) e)) in omega (arith, letter)
 
-silent_alike : (name : List ℕ) (a b : ℕ) → a < 2 ^ 64 → b < 2 ^ 64 → silent_line name (Some a) ≡ silent_line name (Some b) → a ≡ b
+silent_alike : (name : List ℕ) (a b : ℕ) → a < 2 ^ 64 → b < 2 ^ 64 → silent_line (Some name) (Some a) ≡ silent_line (Some name) (Some b) → a ≡ b
 silent_alike name a b few_a few_b e =
     last_alike a b few_a few_b (ap (drop 1) (stage_alike name (codes " " ++ decimal a) (codes " " ++ decimal b) (ap (drop 7) e)))
 
 module _ (name : List ℕ) (s : Sweep) (is : IsSweep s) where
   abbrev stage : Bool → List ℕ
-  stage done = progress_line name (if done then Done s.unanswered s.too_far else Running s.unanswered s.too_far)
+  stage done = progress_line (Some name) (if done then Done s.unanswered s.too_far else Running s.unanswered s.too_far)
 
   few_unanswered : s.unanswered < 2 ^ 64
   few_unanswered = omega (arith, is.counted, is.next)
@@ -98,8 +98,8 @@ module _ (name : List ℕ) (s : Sweep) (is : IsSweep s) where
   few_silent : s.silent_managers < 2 ^ 64
   few_silent = omega (arith, is.silent, few_unanswered)
 
-  whole_by : (done : Bool) → is_done s ≡ done → (u : ℕ) → u < 2 ^ 64 → stage done ≡ progress_line name (Done u 0)
-      → silent_line name (Some s.silent_managers) ≡ silent_line name (Some u) → IsWhole s
+  whole_by : (done : Bool) → is_done s ≡ done → (u : ℕ) → u < 2 ^ 64 → stage done ≡ progress_line (Some name) (Done u 0)
+      → silent_line (Some name) (Some s.silent_managers) ≡ silent_line (Some name) (Some u) → IsWhole s
   whole_by true h u few e f =
       let counts = done_alike name s.unanswered s.too_far u 0 few_unanswered few_far few (omega arith) e in
       record {
@@ -111,8 +111,8 @@ module _ (name : List ℕ) (s : Sweep) (is : IsSweep s) where
 
 pub sweep_lines_tell : SweepLinesTell
 sweep_lines_tell w seat s sweep there last is =
-    let progress = progress_shown w seat s there ∙ ap (λ o. progress_line s.name (progress_of o)) last in
-    let silent = silent_shown w seat s there ∙ ap (λ o. silent_line s.name (silent_in o)) last in (
+    let progress = progress_shown w seat s there ∙ ap (λ o. progress_line (Some s.name) (progress_of o)) last in
+    let silent = silent_shown w seat s there ∙ ap (λ o. silent_line (Some s.name) (silent_in o)) last in (
       (λ said. (
           let lines = said.1 in
           whole_by s.name sweep is (is_done sweep) refl said.0 lines.few (sym progress ∙ lines.progress) (sym silent ∙ lines.silent))),
@@ -120,9 +120,9 @@ sweep_lines_tell w seat s sweep there last is =
         sweep.unanswered,
         record {
           few = few_unanswered s.name sweep is;
-          progress = progress ∙ (λ i. progress_line s.name (if whole.done i then Done sweep.unanswered (whole.near i)
+          progress = progress ∙ (λ i. progress_line (Some s.name) (if whole.done i then Done sweep.unanswered (whole.near i)
               else Running sweep.unanswered sweep.too_far));
-          silent = silent ∙ ap (λ n. silent_line s.name (Some n)) (sym whole.answered);
+          silent = silent ∙ ap (λ n. silent_line (Some s.name) (Some n)) (sym whole.answered);
         },
       )),
     )

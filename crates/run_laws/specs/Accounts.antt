@@ -1,5 +1,5 @@
--- What the managers of a world take in as a schedule is run: each what it is told, and what those whose facts it merges
--- were.
+-- What the managers of a world take in while a schedule runs: what each is told, and what those took in whose facts it
+-- merges.
 use Rattle.std.specs.Prelude.{◌≡◌, ℕ, zero, suc, max, List, [], ◌∷◌, ◌++◌, slice_get, ◌==◌, if◌then◌else◌, Some, Result, Ok, Err}
 use Rattle.std.specs.Option.{option_map_or}
 use Rattle.fabric_model.specs.declared.cable.NodePort.{NodePort}
@@ -23,30 +23,30 @@ use Rattle.schedule_world.specs.Commands.{after_command, after_commands, seat_at
 use Rattle.schedule_world.specs.Flights.{serial_of}
 use Rattle.schedule_world.specs.World.{SeatedValue, WorldValue, after_fabric_call}
 
--- of a manager: the sightings that it took in, and the greatest floor that it was given, or 1
+-- what a manager took in: its sightings, and the greatest floor that it was given, or 1
 pub record Account : Type 0 where
   pub told : Sightings
   pub floor : ℕ
 
--- by the seats of the managers
+-- an account for each manager's seat
 abbrev pub Accounts : Type 0
 Accounts = ℕ → Account
 
--- as a run begins
+-- the accounts when a run begins
 abbrev pub opened : Accounts
 opened seat = record { told = []; floor = 1 }
 
--- what is told behind what was, at the greater floor
+-- what was told before and then `more`, at the greater floor
 abbrev pub joined : Account → Account → Account
 joined before more = record { told = before.told ++ more.told; floor = max before.floor more.floor }
 
--- the manager of a seat takes in more
+-- the manager in `seat` takes in more
 abbrev pub with_more : Accounts → ℕ → Account → Accounts
 with_more accounts seat more other = if other == seat then joined (accounts other) more else accounts other
 
 -- packets ----------------------------------------------------------------------------------------
 
--- what a packet tells the manager of a seat: the sightings of a report that it accepts, and nothing else
+-- what a packet tells the manager in `seat`: the sightings of a report that it accepts, and nothing else
 abbrev pub told_by_packet : WorldValue → Accounts → Packet → ℕ → Accounts
 told_by_packet w accounts packet seat =
     option_map_or (λ s. with_more accounts seat (record {
@@ -56,7 +56,7 @@ told_by_packet w accounts packet seat =
     }))
     (slice_get w.managers seat) accounts
 
--- a packet that comes to a port is taken in by the manager there
+-- a packet that gets to a port is taken in by the manager there
 abbrev pub told_at : WorldValue → Accounts → NodePort → Packet → Accounts
 told_at w accounts p packet = option_map_or (told_by_packet w accounts packet) (seat_at w p) accounts
 
@@ -67,16 +67,16 @@ told_by_delivery w accounts (Ok (delivered_is.Answered serial)) = accounts
 told_by_delivery w accounts (Ok (delivered_is.Discarded reason)) = accounts
 told_by_delivery w accounts (Err fault) = accounts
 
--- the packet of a serial number takes one step
+-- the packet with this serial number takes one step
 abbrev pub told_by_step : WorldValue → Accounts → ℕ → Accounts
 told_by_step w accounts serial = let called =
     after_deliver w.fabric serial in told_by_delivery (after_fabric_call w called).now accounts called.result
 
--- the packet that is meant does
+-- the packet that is meant takes one step
 abbrev pub told_by_deliver : WorldValue → Accounts → Which → Accounts
 told_by_deliver w accounts which = option_map_or (told_by_step w accounts) (serial_of w.fabric.flights which) accounts
 
--- the packet of the least serial number does, at most so many times
+-- the packet with the least serial number takes one step, at most `most` times
 abbrev pub told_by_drain : WorldValue → Accounts → ℕ → Accounts
 told_by_drain w accounts zero = accounts
 told_by_drain w accounts (suc most) =
@@ -85,12 +85,12 @@ told_by_drain w accounts (suc most) =
 
 -- managers ---------------------------------------------------------------------------------------
 
--- the manager of a seat takes in all that another took in
+-- the manager in `seat` takes in all that the one in `other` took in
 abbrev pub told_by_merge : WorldValue → Accounts → ℕ → ℕ → Accounts
 told_by_merge w accounts seat other =
     option_map_or (λ o. with_more accounts seat (accounts other)) (slice_get w.managers other) accounts
 
--- all of them ------------------------------------------------------------------------------------
+-- lines -------------------------------------------------------------------------------------------
 
 -- what the managers took in by a line
 abbrev pub told_by_command : WorldValue → Accounts → SeatCommand → Accounts
@@ -100,7 +100,7 @@ told_by_command w accounts (command.Packet which fate.Deliver) = told_by_deliver
 told_by_command w accounts (command.Drain most) = told_by_drain w accounts most
 told_by_command w accounts command = accounts
 
--- by one line after the other
+-- what the managers took in by one line after the other
 abbrev pub told_by_commands : List Node → WorldValue → Accounts → List SeatCommand → Accounts
 told_by_commands nodes w accounts [] = accounts
 told_by_commands nodes w accounts (command ∷ later) =
@@ -108,12 +108,12 @@ told_by_commands nodes w accounts (command ∷ later) =
 
 -- runs -------------------------------------------------------------------------------------------
 
--- the world once a schedule was run
+-- the world after a schedule has run
 abbrev pub world_after : Planning → Layout → Script → WorldValue
 world_after planning topology script =
     (after_commands topology.nodes (world_of planning topology script.seats) script.commands).now
 
--- and what the manager of a seat has taken in by then
+-- what the manager in each seat has taken in after a schedule has run
 abbrev pub account_after : Planning → Layout → Script → ℕ → Account
 account_after planning topology script =
     told_by_commands topology.nodes (world_of planning topology script.seats) opened script.commands
@@ -124,7 +124,7 @@ KnowWhatTheyTookIn w accounts =
     (seat : ℕ) (s : SeatedValue) → slice_get w.managers seat ≡ Some s → s.manager.store
     ≡ view_at (accounts seat).floor (accounts seat).told
 
--- so it is after every run
+-- after every run, the managers know what they took in
 abbrev pub RunsAreAccountedFor : Type 0
 RunsAreAccountedFor = (planning : Planning) (topology : Layout) (script : Script)
     → KnowWhatTheyTookIn (world_after planning topology script) (account_after planning topology script)

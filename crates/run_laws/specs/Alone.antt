@@ -1,4 +1,4 @@
--- A run with one manager: it sweeps, and then writes its plan; and what pings print behind it.
+-- A run with one manager: it sweeps, and then writes its plan; and what pings print after it.
 use Rattle.std.specs.Prelude.{◌≡◌, ◌<◌, ℕ, zero, suc, true, List, [], ◌∷◌, slice_get, Option, Some, None}
 use Rattle.std.specs.Option.{option_map_or}
 use Rattle.topo_file.specs.declared.node.Node.{Node}
@@ -25,7 +25,7 @@ use Rattle.schedule_world.specs.Flights.{serial_of}
 use Rattle.schedule_world.specs.World.{SeatedValue, WorldValue}
 use Rattle.run_laws.specs.Reached.{EachPingSaysReached}
 
--- lines by which no sweep and no writing begins, no cable moves, no manager comes to sit, and none is given facts or a
+-- lines by which no sweep or writing begins, no cable moves, no manager comes to sit, and none is given facts or a
 -- floor
 abbrev pub IsLine : SeatCommand → Type 0
 IsLine (command.Manager seat) = ⊥
@@ -43,7 +43,7 @@ AreLines (command ∷ later) = IsLine command × AreLines later
 
 -- what agents take -------------------------------------------------------------------------------------
 
--- the packet of the least serial number, and the world once it took its step
+-- the packet with the least serial number, and the world after it took its step
 abbrev pub first_serial : WorldValue → Option ℕ
 first_serial w = option_map_or (λ flight. Some flight.serial) (slice_get w.fabric.flights 0) None
 
@@ -51,7 +51,7 @@ abbrev pub after_first : WorldValue → WorldValue
 after_first w = option_map_or (λ flight. (after_step w flight.serial).now) (slice_get w.fabric.flights 0) w
 
 module _ (plan : PlanValue) (own : OwnSets) where
-  -- a Set that an agent takes by this delivery is one of the own, or carries the plan's values
+  -- a Set that an agent takes by this delivery is one of the writing's own or carries the plan's values
   abbrev pub KeepsStep : Simulation → Option ℕ → Type 0
   KeepsStep fabric None = Unit {0}
   KeepsStep fabric (Some serial) = KeepsPlan plan own fabric (around.Deliver serial)
@@ -72,7 +72,7 @@ module _ (plan : PlanValue) (own : OwnSets) where
 
 -- runs -------------------------------------------------------------------------------------------------
 
--- the world after a sweep was begun and these lines, after a writing was begun, and after more lines
+-- the world after a sweep began and these lines, then after a writing began, and then after more lines
 abbrev pub at_writing : List Node → WorldValue → List SeatCommand → WorldValue
 at_writing nodes w between = (after_commands nodes (after_command nodes w (command.Ask 0 ask.Sweep)).now between).now
 
@@ -82,16 +82,16 @@ at_first_steps nodes w between = (after_command nodes (at_writing nodes w betwee
 abbrev pub at_end : List Node → WorldValue → List SeatCommand → List SeatCommand → WorldValue
 at_end nodes w between after = (after_commands nodes (at_first_steps nodes w between) after).now
 
--- this manager is the only one, in its seat
+-- the only manager is this one, in its seat
 abbrev pub IsOnly : WorldValue → SeatedValue → Manager → Type 0
 IsOnly w s manager = w.managers ≡ record s { manager = manager } ∷ []
 
--- One new manager sits on a fabric where nothing is on its way; it is told to sweep, and some time later to write.
+-- One new manager sits on a fabric where nothing is on its way. It is told to sweep, and some time later to write.
 pub record BringsUpAlone (nodes : List Node) (w : WorldValue) (s : SeatedValue) (between after : List SeatCommand) :
     Type 0 where
   pub port_guid : ℕ
   pub priority : ℕ
-  -- an LMC that there is
+  -- an LMC of at most 7
   pub planning : Planning
   pub few : planning.lmc < 8
   pub only : IsOnly w s (new_manager port_guid s.at.port priority planning)
@@ -112,20 +112,20 @@ pub record BringsUpAlone (nodes : List Node) (w : WorldValue) (s : SeatedValue) 
   pub keeps : KeepsLines (plan_of swept.planning.rule swept.planning.lmc (cells_of swept.store))
       (IsOwnSet (fabric_of w.fabric) s.at (phases_by swept swept.sweep)) nodes
       (at_first_steps nodes w between) after
-  -- and in the end the line `written` says that it is written
+  -- the line `written` says in the end that the plan is written
   pub writer : Manager
   pub only_at_end : IsOnly (at_end nodes w between after) s writer
-  pub written : shown_of (at_end nodes w between after) 0 Written ≡ written_line s.name true
+  pub written : shown_of (at_end nodes w between after) 0 Written ≡ written_line (Some s.name) true
 
--- then each `ping` from an end port of what its port is joined to, for each LID of the plan, says that it reached the
--- owner
+-- each `ping` from an end port of what the manager's port is joined to, for each LID of the plan, then says that it
+-- reached the owner
 abbrev pub RunsOfOneAreReached : Type 0
 RunsOfOneAreReached = (nodes : List Node) (w : WorldValue) (s : SeatedValue) (between after : List SeatCommand)
     → (b : BringsUpAlone nodes w s between after)
     → EachPingSaysReached (plan_of b.swept.planning.rule b.swept.planning.lmc (cells_of b.swept.store))
     (at_end nodes w between after) s.at
 
--- there is such a run: a fabric, a manager on it, and lines
+-- a run that brings a subnet up: a fabric, a manager on it, and lines
 pub record SomeRunOfOne : Type 0 where
   pub nodes : List Node
   pub world : WorldValue

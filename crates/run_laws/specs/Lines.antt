@@ -1,4 +1,4 @@
--- What managers that took in the same print.
+-- What managers print that took in the same.
 use Rattle.lft_blocks.specs.Planning.{Planning}
 use Rattle.std.specs.Prelude.{◌≡◌, ◌↔◌, ◌<◌, ◌^◌, ℕ, true, List, [], ◌∷◌, ◌++◌, length, slice_get, Some}
 use Rattle.topo_file.specs.Topology.{Layout}
@@ -15,11 +15,11 @@ use Rattle.schedule_world.specs.Commands.{after_commands, script_text, shown_of}
 use Rattle.schedule_world.specs.World.{SeatedValue, WorldValue}
 use Rattle.run_laws.specs.Accounts.{account_after, world_after}
 
--- these lines stand behind a schedule
+-- the schedule with these lines after it
 abbrev pub and_lines : Script → List SeatCommand → Script
 and_lines script lines = record script { commands = script.commands ++ lines }
 
--- what stands behind a schedule changes nothing of what it prints, and prints what it does in the world then
+-- lines after a schedule change nothing of what it prints, and print what they print in the world then
 abbrev pub LaterLinesComeBehind : Type 0
 LaterLinesComeBehind =
     (planning : Planning) (topology : Layout) (script : Script) (lines : List SeatCommand)
@@ -27,13 +27,13 @@ LaterLinesComeBehind =
     ≡ script_text planning topology script
     ++ (after_commands topology.nodes (world_after planning topology script) lines).text
 
--- a manager of one world and a manager of another print the same of what they know, and the same plan
+-- two managers, of one world each, print the same facts and the same plan
 pub record TellTheSame (one other : WorldValue) (seat seat' : ℕ) : Type 0 where
   pub facts : shown_of one seat Facts ≡ shown_of other seat' Facts
   pub plan : shown_of one seat Plan ≡ shown_of other seat' Plan
 
 -- two managers, of one run or of two under the same LMC, that took in the same, in whatever order and however often,
--- and have one greatest floor
+-- and have the same greatest floor, print the same
 abbrev pub SameTakenInSameLines : Type 0
 SameTakenInSameLines =
     (planning : Planning) (topology topology' : Layout) (script script' : Script) (seat seat' : ℕ) → seat
@@ -43,14 +43,14 @@ SameTakenInSameLines =
     → (account_after planning topology script seat).floor ≡ (account_after planning topology' script' seat').floor
     → TellTheSame (world_after planning topology script) (world_after planning topology' script') seat seat'
 
--- behind a schedule the plans of two managers are printed alike
+-- after a schedule the plans of two managers are printed alike
 pub record PrintsPlansAlike (planning : Planning) (topology : Layout) (script : Script) (seat other : ℕ) : Type 0 where
   pub plan : List ℕ
   pub twice :
       script_text planning topology (and_lines script (Show seat Plan ∷ Show other Plan ∷ []))
       ≡ script_text planning topology script ++ (plan ++ plan)
 
--- where they took in the same, and have one greatest floor
+-- plans are printed alike if both managers took in the same and have the same greatest floor
 abbrev pub SameTakenInPlansAlike : Type 0
 SameTakenInPlansAlike =
     (planning : Planning) (topology : Layout) (script : Script) (seat other : ℕ) → seat < length script.seats → other
@@ -60,27 +60,27 @@ SameTakenInPlansAlike =
     → (account_after planning topology script seat).floor ≡ (account_after planning topology script other).floor
     → PrintsPlansAlike planning topology script seat other
 
--- and whenever each has merged what the other knows
+-- plans are printed alike once each manager has merged what the other knows
 abbrev pub MergedManagersPlanAlike : Type 0
 MergedManagersPlanAlike =
     (planning : Planning) (topology : Layout) (script : Script) (seat other : ℕ) → seat < length script.seats → other
     < length script.seats
     → PrintsPlansAlike planning topology (and_lines script (Merge seat other ∷ Merge other seat ∷ [])) seat other
 
--- `written` prints `yes` exactly where the manager's plan is written then
+-- `written` prints `yes` exactly if the manager's plan is written then
 abbrev pub WrittenLinesTell : Type 0
 WrittenLinesTell =
     (w : WorldValue) (seat : ℕ) (s : SeatedValue) → slice_get w.managers seat ≡ Some s
-    → (shown_of w seat Written ≡ written_line s.name true) ↔ (is_written s.manager ≡ true)
+    → (shown_of w seat Written ≡ written_line (Some s.name) true) ↔ (is_written s.manager ≡ true)
 
--- `progress` and `silent` print a sweep that is done, so many requests without an answer, all to managers, and no port
--- that leads too far
+-- `progress` and `silent` print a sweep that is done, with this number of requests without an answer, all to managers,
+-- and no port that leads too far
 pub record SayAllAnswered (w : WorldValue) (seat : ℕ) (name : List ℕ) (unanswered : ℕ) : Type 0 where
   pub few : unanswered < 2 ^ 64
-  pub progress : shown_of w seat Progress ≡ progress_line name (Done unanswered 0)
-  pub silent : shown_of w seat Silent ≡ silent_line name (Some unanswered)
+  pub progress : shown_of w seat Progress ≡ progress_line (Some name) (Done unanswered 0)
+  pub silent : shown_of w seat Silent ≡ silent_line (Some name) (Some unanswered)
 
--- they do so exactly where the manager's last sweep has every answer then
+-- the lines print that exactly if the manager's last sweep has every answer then
 abbrev pub SweepLinesTell : Type 0
 SweepLinesTell =
     (w : WorldValue) (seat : ℕ) (s : SeatedValue) (sweep : Sweep) → slice_get w.managers seat ≡ Some s

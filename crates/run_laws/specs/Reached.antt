@@ -1,4 +1,4 @@
--- What `ping` prints where a plan is held, and once it is written.
+-- What `ping` prints if a plan is held, and once it is written.
 use Rattle.std.specs.Prelude.{◌≡◌, ℕ, List, Some}
 use Rattle.fabric_model.specs.declared.cable.NodePort.{NodePort}
 use Rattle.fabric_model.specs.Fabric.{IsEndPort}
@@ -20,7 +20,7 @@ use Rattle.schedule_world.specs.Commands.{ping_shown}
 use Rattle.schedule_lines.specs.Lines.{ping_line}
 use Rattle.schedule_world.specs.World.{WorldValue}
 
--- the line says that the packet reaches the port of that end port, over so many wires
+-- the line says that the packet reaches the port of the owner, over some number of wires
 pub record SaysReached (nodes : List Node) (w : WorldValue) (source : NodePort) (lid : ℕ) (owner : EndPort) : Type 0
   where
     pub target : NodePort
@@ -28,13 +28,14 @@ pub record SaysReached (nodes : List Node) (w : WorldValue) (source : NodePort) 
     pub hops : ℕ
     pub line : ping_shown nodes w source lid ≡ ping_line nodes source lid (Reached target hops)
 
--- each `ping` from an end port of what the origin is joined to, for each LID of the plan, says so of its owner
+-- each `ping` from an end port of what `origin` is joined to, for each LID of the plan, says that it reaches the LID's
+-- owner
 abbrev pub EachPingSaysReached : PlanValue → WorldValue → NodePort → Type 0
 EachPingSaysReached plan w origin = (nodes : List Node) (source : NodePort) → IsEndPort (fabric_of w.fabric) source
     → IsJoinedTo (fabric_of w.fabric) origin source
     → (lid : ℕ) (owner : EndPort) → owner_of plan.given lid ≡ Some owner → SaysReached nodes w source lid owner
 
--- so it is if facts describe exactly what an end port of a world's fabric is joined to, and their plan is held there
+-- pings say so if facts describe exactly what an end port of a world's fabric is joined to, and that holds their plan
 abbrev pub HeldPlansAreReached : Type 0
 HeldPlansAreReached = (rule : RuleValue) (lmc : ℕ) (facts : Facts) (w : WorldValue) (origin : NodePort)
     → ¬ (IsNoRoom lmc (cells_of facts)) → IsSimulation w.fabric
@@ -43,8 +44,8 @@ HeldPlansAreReached = (rule : RuleValue) (lmc : ℕ) (facts : Facts) (w : WorldV
     → HoldsPlan (IsJoinedTo (fabric_of w.fabric) origin) (plan_of rule lmc (cells_of facts)) (fabric_of w.fabric)
     → EachPingSaysReached (plan_of rule lmc (cells_of facts)) w origin
 
--- and where the fabric is as it is once a manager has brought its subnet up: after a sweep with every answer, a writing
--- that is finished, and nothing else that writes other values
+-- pings say so if the fabric is as it is once a manager has brought its subnet up: after a sweep with every answer, a
+-- finished writing, and no other Sets with other values
 abbrev pub WrittenPlansAreReached : Type 0
 WrittenPlansAreReached = (m : Managing) (before between after : List ManagerEvent) → BringsUp m before between after
     → (w : WorldValue) → w.fabric ≡ (at_end m before between after).scene.fabric

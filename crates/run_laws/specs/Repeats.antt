@@ -6,8 +6,8 @@ use Rattle.sm_cli.specs.declared.asked.RuleAsked.{RuleAsked}
 use Rattle.schedule_world.specs.Commands.{run_text}
 use Rattle.schedule_run.specs.Run.{HasRun, schedule_source, topology_source}
 
--- where a run has ended well whose sources of topology and schedule held these bytes as it began, exactly `run_text` of
--- them was written
+-- if a run has ended well, exactly `run_text` was written of the texts that its sources of topology and schedule held
+-- when it began
 abbrev pub TextsDecideOutput : {S W : Type 0} → (S → SourceState) → (W → Option (List ℕ)) → Type 0
 TextsDecideOutput {S} {W} state written =
     (lmc : ℕ) (asked : RuleAsked) (olds news : List S) (sink sink' : W) (topology schedule : List ℕ)

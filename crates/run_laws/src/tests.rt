@@ -1,4 +1,4 @@
-//! What a manager does about another one, as the table of states has it.
+//! What a manager does about another one, by the table of states.
 use attr_codec::{Attribute, Lmc, Priority, SmInfo};
 use lft_blocks::{Planning, Rule};
 use sm_manager::Manager;
@@ -11,21 +11,21 @@ mod ranks;
 mod sweeps;
 mod texts;
 
-/// The statuses of answers: done, a field that is not valid, and a method that is not supported.
+/// The statuses of answers: done, invalid field, and method not supported.
 const DONE: Status = Status(0);
 
 const INVALID_FIELD: Status = Status(0x001C);
 
 const NO_METHOD: Status = Status(0x0008);
 
-/// A manager of priority 3 at port 1 of an adapter, the port's GUID 0x101.
+/// Returns a manager of priority 3 at port 1 of an adapter, with the port GUID 0x101.
 fn manager(alloc: Global) -> Manager {
     let planning = Planning::new(Lmc::ZERO, Rule::UpDown);
     let info = info_in(SmState::Discovering);
     Manager::new(alloc, info.guid, PortNum::new(1), info.priority, planning)
 }
 
-/// What it says of itself in a state, once it has begun a sweep.
+/// Returns what the manager says of itself in `state`, once it has begun a sweep.
 fn info_in(state: SmState) -> SmInfo {
     SmInfo {
         guid: Guid::new(0x101),
@@ -36,12 +36,12 @@ fn info_in(state: SmState) -> SmInfo {
     }
 }
 
-/// The LID of the other one.
+/// Returns the LID of the other manager.
 fn sender() -> Lid {
     Lid::new(9)
 }
 
-/// Whether it takes a packet from there.
+/// Returns whether the manager takes a packet from the other one.
 fn takes(manager: &mut Manager, packet: &Smp) -> bool {
     manager.on_packet(packet.bytes(), Some(sender())).is_ok()
 }

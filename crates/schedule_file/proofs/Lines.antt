@@ -2,6 +2,7 @@
 use Rattle.std.proofs.Common.{◌≡◌, ℕ, zero, suc, ◌≤◌, ◌-◌, ◌^◌, Bool, true, false, cond, leb, List, [], ◌∷◌, Option, None, Some, arith, refl}
 use Rattle.std.proofs.Common.{◌<◌, ◌∙◌, not, length, ap}
 use Rattle.std.specs.Prelude.{IfSome, IsTrue, codes, option_and_then, ◌==◌, decimal}
+use Rattle.std.specs.Option.{option_map_or}
 use Rattle.std.specs.Str.{bytes_eq}
 use Rattle.std.proofs.lemmas.Bool.{leb-true}
 use Rattle.text_words.specs.NodeName.{is_name, name_in, is_name_byte}
@@ -23,9 +24,10 @@ use Rattle.schedule_file.specs.declared.line.ScheduleLine.{ScheduleLine}
 use Rattle.schedule_file.specs.declared.line.ScheduleLine.TheVariants as line
 use Rattle.schedule_file.specs.declared.named.PortName.{PortName}
 use Rattle.schedule_file.specs.Command.{fate_word, named_words, port_word, shown_word, which_word}
-use Rattle.schedule_file.specs.Command.{NamedCommand, ask, bare_of, bracketed_number, command_in, floor, generation_of, line_in, line_of, merge}
-use Rattle.schedule_file.specs.Command.{new_manager, number_up_to, of_one, of_two, packet, pair, ping, plug, poll, port_name, show, to_manager}
+use Rattle.schedule_file.specs.Command.{NamedCommand, ask, bare_of, bracketed_number, command_in, floor, line_in, line_of, merge}
+use Rattle.schedule_file.specs.Command.{new_manager, of_one, of_two, packet, pair, ping, plug, poll, port_name, show, to_manager}
 use Rattle.schedule_file.specs.Command.{which_of}
+use Rattle.schedule_file.specs.ManagerWords.{asked_by, generation_of, number_up_to, shown_by}
 use Rattle.schedule_file.specs.ManagerName.{is_manager_name, manager_name_in}
 use Rattle.std.specs.Char.{digit_value, is_ascii_alphanumeric}
 use Rattle.std.specs.List.{AllByRecursion, list_all}
@@ -134,18 +136,21 @@ show_range what name = mapped IsName IsNamed (manager_name_in name) _ (manager_r
 packet_range : (fate : Fate) (word : List ℕ) → IfSome (packet fate word) IsNamed
 packet_range fate word = mapped IsWhich IsNamed (which_of word) _ (which_range word) (λ w is. is)
 
+asked_range : (word : List ℕ) → IfSome (asked_by word) IsAsk
+asked_range word =
+    either IsAsk (bytes_eq word (codes "sweep")) _ _ tt
+    (either IsAsk (bytes_eq word (codes "write")) _ _ tt (either IsAsk (bytes_eq word (codes "handover")) _ None tt tt))
+
+by_asked : (name : List ℕ) (asked : Option Ask) (other : Option NamedCommand) → IfSome asked IsAsk → IfSome other IsNamed
+    → IfSome (option_map_or (λ what. ask what name) asked other) IsNamed
+by_asked name None other h k = k
+by_asked name (Some what) other h k = ask_range what name h
+
 to_manager_range : (word name : List ℕ) → IfSome (to_manager word name) IsNamed
 to_manager_range word name =
-    either IsNamed (bytes_eq word (codes "sweep")) _ _ (ask_range Sweep name tt)
-    (either IsNamed (bytes_eq word (codes "write")) _ _ (ask_range Write name tt)
-    (either IsNamed (bytes_eq word (codes "handover")) _ _ (ask_range Handover name tt)
+    by_asked name (asked_by word) _ (asked_range word)
     (either IsNamed (bytes_eq word (codes "timeout")) _ _ (mapped IsName IsNamed (manager_name_in name) _ (manager_range name) (λ n is. is))
-    (either IsNamed (bytes_eq word (codes "facts")) _ _ (show_range Facts name)
-    (either IsNamed (bytes_eq word (codes "plan")) _ _ (show_range Plan name)
-    (either IsNamed (bytes_eq word (codes "progress")) _ _ (show_range Progress name)
-    (either IsNamed (bytes_eq word (codes "silent")) _ _ (show_range Silent name)
-    (either IsNamed (bytes_eq word (codes "written")) _ _ (show_range Written name)
-    (either IsNamed (bytes_eq word (codes "state")) _ None (show_range State name) tt)))))))))
+    (then_some (λ _. Unit {0}) IsNamed (shown_by word) _ (always _) (λ what _. show_range what name)))
 
 one_range : (word arg : List ℕ) → IfSome (of_one word arg) IsNamed
 one_range word arg =

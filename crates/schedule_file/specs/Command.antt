@@ -1,5 +1,6 @@
--- What a line says: nothing, a new manager, or a command with the names that it tells.
-use Rattle.std.specs.Prelude.{ℕ, ◌-◌, ◌^◌, List, [], ◌∷◌, Option, None, Some, option_map, option_and_then, codes, decimal, nat_le, ◌==◌, if◌then◌else◌}
+-- What a line says: nothing, a new manager, or a command with its names.
+use Rattle.std.specs.Prelude.{ℕ, ◌-◌, ◌^◌, List, [], ◌∷◌, Option, None, Some, option_map, option_and_then, codes, decimal, if◌then◌else◌}
+use Rattle.std.specs.Option.{option_map_or}
 use Rattle.std.specs.Str.{bytes_eq}
 use Rattle.text_words.specs.Text.{words}
 use Rattle.text_words.specs.NodeName.{name_in}
@@ -21,21 +22,18 @@ use Rattle.schedule_file.specs.declared.line.ScheduleLine.TheVariants as line
 use Rattle.schedule_file.specs.declared.line.NewManager.{NewManager}
 use Rattle.schedule_file.specs.declared.named.PortName.{PortName}
 use Rattle.schedule_file.specs.ManagerName.{manager_name_in}
+use Rattle.schedule_file.specs.ManagerWords.{asked_by, generation_of, lid_of, number_up_to, shown_by}
 
--- a command as its line tells it: managers and nodes by their names
+-- a command as in its line: managers and nodes by their names
 abbrev pub NamedCommand : Type 0
 NamedCommand = Command (List ℕ) PortName
 
--- both of two words
+-- the two words of a list of two
 abbrev pub pair : List (List ℕ) → Option (List ℕ × List ℕ)
 pair (one ∷ other ∷ []) = Some (one, other)
 pair _ = None
 
--- a number in decimal, up to the most
-abbrev pub number_up_to : ℕ → List ℕ → Option ℕ
-number_up_to most word = option_and_then (λ n. if nat_le n most then Some n else None) (number_of 10 word)
-
--- a packet in flight: the last, or one by its serial number
+-- a packet in flight: the last, or the one with a serial number
 abbrev pub which_of : List ℕ → Option Which
 which_of word = if bytes_eq word (codes "last") then Some Last else option_map Serial (number_up_to (2 ^ 64 - 1) word)
 
@@ -43,7 +41,7 @@ which_of word = if bytes_eq word (codes "last") then Some Last else option_map S
 abbrev pub bracketed_number : List ℕ → Option ℕ
 bracketed_number word = option_and_then (number_up_to 255) (option_and_then alone (enclosed 91 93 word))
 
--- a node's name in quotes, and at once behind it a port in brackets
+-- a node's name in quotes, directly followed by a port in brackets
 abbrev pub port_name : List ℕ → Option PortName
 port_name word =
     option_and_then (λ x. option_and_then
@@ -58,10 +56,6 @@ new_manager (name ∷ rest) =
     (λ n. option_and_then (λ p. option_map (λ q. record { name = n; at = p; priority = q })
     (number_up_to 15 x.1)) (port_name x.0)) (manager_name_in name)) (pair rest)
 
--- a generation in decimal
-abbrev pub generation_of : List ℕ → Option ℕ
-generation_of word = option_and_then (λ n. if n == 0 then None else Some n) (number_up_to 0xFFFFFFFF word)
-
 -- commands of one word -----------------------------------------------------------------------
 
 abbrev pub bare_of : List ℕ → Option NamedCommand
@@ -70,35 +64,27 @@ bare_of word =
     else if bytes_eq word (codes "flight") then Some command.Flight
     else None
 
--- commands with one word behind their own --------------------------------------------------------
+-- commands of two words --------------------------------------------------------------------------
 
--- the manager of a name is asked for something, or something of it is shown
+-- the manager `name` is asked for something
 abbrev pub ask : Ask → List ℕ → Option NamedCommand
 ask what name = option_map (λ manager. command.Ask manager what) (manager_name_in name)
 
 abbrev pub show : Shown → List ℕ → Option NamedCommand
 show what name = option_map (λ manager. command.Show manager what) (manager_name_in name)
 
--- a command to one manager, by its word
+-- a command to one manager, by its first word
 abbrev pub to_manager : List ℕ → List ℕ → Option NamedCommand
 to_manager word name =
-    if bytes_eq word (codes "sweep") then ask Sweep name
-    else if bytes_eq word (codes "write") then ask Write name
-    else if bytes_eq word (codes "handover") then ask Handover name
-    else if bytes_eq word (codes "timeout") then option_map command.Timeout (manager_name_in name)
-    else if bytes_eq word (codes "facts") then show Facts name
-    else if bytes_eq word (codes "plan") then show Plan name
-    else if bytes_eq word (codes "progress") then show Progress name
-    else if bytes_eq word (codes "silent") then show Silent name
-    else if bytes_eq word (codes "written") then show Written name
-    else if bytes_eq word (codes "state") then show State name
-    else None
+    option_map_or (λ what. ask what name) (asked_by word)
+    (if bytes_eq word (codes "timeout") then option_map command.Timeout (manager_name_in name)
+    else option_and_then (λ what. show what name) (shown_by word))
 
--- what becomes of a packet in flight
+-- a packet in flight meets its fate
 abbrev pub packet : Fate → List ℕ → Option NamedCommand
 packet fate which = option_map (λ w. command.Packet w fate) (which_of which)
 
--- any other command
+-- any command of two words
 abbrev pub of_one : List ℕ → List ℕ → Option NamedCommand
 of_one word arg =
     if bytes_eq word (codes "deliver") then packet Deliver arg
@@ -108,14 +94,14 @@ of_one word arg =
     else if bytes_eq word (codes "cut") then option_map command.Cut (port_name arg)
     else to_manager word arg
 
--- commands with two words behind their own -------------------------------------------------------
+-- commands of three words ------------------------------------------------------------------------
 
 abbrev pub merge : List ℕ → List ℕ → Option NamedCommand
 merge one other = option_and_then (λ m. option_map (command.Merge m) (manager_name_in other)) (manager_name_in one)
 
 abbrev pub poll : List ℕ → List ℕ → Option NamedCommand
 poll name lid =
-    option_and_then (λ m. option_map (λ n. command.Ask m (Poll n)) (number_up_to 0xFFFF lid)) (manager_name_in name)
+    option_and_then (λ m. option_map (λ n. command.Ask m (Poll n)) (lid_of lid)) (manager_name_in name)
 
 abbrev pub floor : List ℕ → List ℕ → Option NamedCommand
 floor name generation =
@@ -125,7 +111,7 @@ abbrev pub plug : List ℕ → List ℕ → Option NamedCommand
 plug one other = option_and_then (λ p. option_map (command.Plug p) (port_name other)) (port_name one)
 
 abbrev pub ping : List ℕ → List ℕ → Option NamedCommand
-ping port lid = option_and_then (λ p. option_map (command.Ping p) (number_up_to 0xFFFF lid)) (port_name port)
+ping port lid = option_and_then (λ p. option_map (command.Ping p) (lid_of lid)) (port_name port)
 
 abbrev pub of_two : List ℕ → List ℕ → List ℕ → Option NamedCommand
 of_two word one other =
@@ -165,7 +151,7 @@ ask_words Write name = codes "write" ∷ name ∷ []
 ask_words Handover name = codes "handover" ∷ name ∷ []
 ask_words (Poll lid) name = codes "poll" ∷ name ∷ decimal lid ∷ []
 
--- the words of a command; those of a new manager say more of it
+-- the words of a command; a new manager's line has more words
 abbrev pub named_words : NamedCommand → List (List ℕ)
 named_words (command.Manager name) = []
 named_words (command.Ask name what) = ask_words what name
@@ -183,14 +169,14 @@ named_words command.Flight = codes "flight" ∷ []
 
 -- lines ----------------------------------------------------------------------------------------
 
--- the command that a word and those behind it are
+-- the command with these words
 abbrev pub command_in : List ℕ → List (List ℕ) → Option NamedCommand
 command_in word [] = bare_of word
 command_in word (arg ∷ []) = of_one word arg
 command_in word (one ∷ other ∷ []) = of_two word one other
 command_in word _ = None
 
--- the line that the words are
+-- what a line with these words says
 abbrev pub line_in : List (List ℕ) → Option ScheduleLine
 line_in [] = Some line.Empty
 line_in (word ∷ args) =

@@ -1,4 +1,4 @@
--- The first fault of a text, by the managers alone.
+-- The first fault of a text, given only the managers.
 use Rattle.std.specs.Prelude.{◌≡◌, ◌⊎◌, ◌<◌, ℕ, Bool, true, false, List, [], ◌∷◌, ◌++◌, Option, None, Some, Result, Ok, Err, length}
 use Rattle.topo_file.specs.declared.node.Node.{Node}
 use Rattle.schedule_file.specs.declared.fault.ScheduleFault.{ScheduleFault}
@@ -8,12 +8,12 @@ use Rattle.schedule_file.specs.declared.line.ScheduleLine.TheVariants as line
 use Rattle.schedule_file.specs.declared.schedule.Seat.{Seat}
 use Rattle.schedule_file.specs.Schedule.{◌>>=◌, Script, command_of, new_seat, schedule_of_lines, where_known}
 
--- the fault of what is told, where it has one
+-- the fault of a result, if it is one
 abbrev pub fault_of : {T : Type 0} → Result T ScheduleFault → Option ScheduleFault
 fault_of (Ok value) = None
 fault_of (Err fault) = Some fault
 
--- some of the lines, from the first on, tell more than 64 managers, and have no fault
+-- some of the lines, from the first on, have no fault, and more than 64 managers
 pub record IsCrowded (nodes : List Node) (lines : List (List ℕ)) : Type 0 where
   pub front : List (List ℕ)
   pub back : List (List ℕ)
@@ -26,7 +26,7 @@ pub record IsCrowded (nodes : List Node) (lines : List (List ℕ)) : Type 0 wher
 abbrev pub IsSoundOrCrowded : List Node → List (List ℕ) → Type 0
 IsSoundOrCrowded nodes lines = (fault_of (schedule_of_lines nodes lines) ≡ None) ⊎ IsCrowded nodes lines
 
--- the managers with that of a line
+-- the managers with the one in a line, if it is one
 abbrev pub seats_with : List Node → ℕ → List Seat → Option ScheduleLine → Result (List Seat) ScheduleFault
 seats_with nodes number seats None = Err (Syntax number)
 seats_with nodes number seats (Some line.Empty) = Ok seats
@@ -35,7 +35,7 @@ seats_with nodes number seats (Some (line.Manager new)) =
 seats_with nodes number seats (Some (line.Command named)) =
     where_known number (command_of nodes seats named) >>= λ command. Ok seats
 
--- a call left these managers, or there was no room for all of them, or it answered the fault
+-- a call left these managers, or there was no room for all of them, or it returned the fault
 abbrev pub Leaves : Result (List Seat) ScheduleFault → Result Bool ScheduleFault → List Seat → Type 0
 Leaves (Ok now) (Ok true) new = new ≡ now
 Leaves (Ok now) (Ok false) new = 64 < length now

@@ -22,7 +22,7 @@ use Rattle.schedule_file.specs.declared.named.PortName.{PortName}
 use Rattle.schedule_file.specs.declared.schedule.Seat.{Seat}
 use Rattle.schedule_file.specs.Command.{NamedCommand, line_of}
 
--- a command as it is run: managers by the indices of their seats, from 0, and nodes by theirs
+-- a command as it is run: managers by the indices of their seats, from 0, and nodes by their indices
 abbrev pub SeatCommand : Type 0
 SeatCommand = Command ℕ NodePort
 
@@ -31,13 +31,13 @@ pub record Script : Type 0 where
   pub seats : List Seat
   pub commands : List SeatCommand
 
--- what may follow a value, or its fault
+-- the value goes to `next`, and a fault stays
 infixl 10 ◌>>=◌
 abbrev pub ◌>>=◌ : {A B : Type 0} → Result A ScheduleFault → (A → Result B ScheduleFault) → Result B ScheduleFault
 (Ok value) >>= next = next value
 (Err fault) >>= next = Err fault
 
--- the index of the manager that has the name
+-- the index of the manager with this name
 abbrev pub seat_of : List Seat → List ℕ → Option ℕ
 seat_of seats name = position (λ seat. bytes_eq seat.name name) seats
 
@@ -45,7 +45,7 @@ seat_of seats name = position (λ seat. bytes_eq seat.name name) seats
 abbrev pub is_taken : List Seat → NodePort → Bool
 is_taken seats p = list_any (λ seat. is_same_port seat.at p) seats
 
--- a manager may sit at a port that the node has, and that is no switch's
+-- a manager may sit at the port: the node has it, and is not a switch
 abbrev pub may_seat : Node → ℕ → Bool
 may_seat node port = not (is_switch node.kind) && is_within port node.ports
 
@@ -57,11 +57,11 @@ is_seat nodes p = option_map_or (λ node. may_seat node p.port) (slice_get nodes
 abbrev pub is_free : List Node → List Seat → NodePort → Bool
 is_free nodes seats p = is_seat nodes p && not (is_taken seats p)
 
--- the port that has the name
+-- the port with this name
 abbrev pub port_of : List Node → PortName → Option NodePort
 port_of nodes name = option_map (λ id. record { node = id; port = name.port }) (id_of nodes name.node)
 
--- the command, where all its names are known
+-- the command with its names resolved, if all are known
 abbrev pub command_of : List Node → List Seat → NamedCommand → Option SeatCommand
 command_of nodes seats (command.Manager name) = option_map command.Manager (seat_of seats name)
 command_of nodes seats (command.Ask name what) = option_map (λ seat. command.Ask seat what) (seat_of seats name)
@@ -79,16 +79,16 @@ command_of nodes seats (command.Ping p lid) = option_map (λ a. command.Ping a l
 command_of nodes seats command.Tables = Some command.Tables
 command_of nodes seats command.Flight = Some command.Flight
 
--- the command of a line of this number
+-- the command, or the fault of the line `number` if a name is unknown
 abbrev pub where_known : ℕ → Option SeatCommand → Result SeatCommand ScheduleFault
 where_known number (Some command) = Ok command
 where_known number None = Err (fault.Name number)
 
--- a command more
+-- the schedule with one more command
 abbrev pub with_command : Script → SeatCommand → Script
 with_command before command = record before { commands = before.commands ++ command ∷ [] }
 
--- the seat at a port, where a manager may sit and none sits
+-- the seat of a new manager at a port, if a manager may sit there and none does
 abbrev pub seat_at : List Node → List Seat → ℕ → NewManager → Option NodePort → Result Seat ScheduleFault
 seat_at nodes seats number new (Some p) =
     if is_free nodes seats p then Ok (record { name = new.name; at = p; priority = new.priority })
@@ -101,7 +101,7 @@ new_seat nodes seats number new =
     if is_some (seat_of seats new.name) then Err (fault.Name number)
     else seat_at nodes seats number new (port_of nodes new.at)
 
--- a manager more
+-- the schedule with one more manager
 abbrev pub with_seat : Script → Seat → Script
 with_seat before seat =
     record {
@@ -110,7 +110,7 @@ with_seat before seat =
           ∷ [];
     }
 
--- what a line of this number adds to the lines before it
+-- the schedule before, with what the line `number` adds
 abbrev pub with_line : List Node → ℕ → Script → Option ScheduleLine → Result Script ScheduleFault
 with_line nodes number before None = Err (fault.Syntax number)
 with_line nodes number before (Some line.Empty) = Ok before
@@ -119,23 +119,23 @@ with_line nodes number before (Some (line.Manager new)) =
 with_line nodes number before (Some (line.Command named)) =
     where_known number (command_of nodes before.seats named) >>= λ command. Ok (with_command before command)
 
--- what lines add that count from this number
+-- the schedule before, with what lines add that are numbered from `number` on
 abbrev pub with_lines : List Node → ℕ → Script → List (List ℕ) → Result Script ScheduleFault
 with_lines nodes number before [] = Ok before
 with_lines nodes number before (line ∷ later) =
     with_line nodes number before (line_of line) >>= λ now. with_lines nodes (number + 1) now later
 
--- what all lines tell
+-- the schedule that the lines say, or their first fault
 abbrev pub schedule_of_lines : List Node → List (List ℕ) → Result Script ScheduleFault
 schedule_of_lines nodes lines = with_lines nodes 1 (record { seats = []; commands = [] }) lines
 
--- what a text says of a fabric that has these nodes
+-- the schedule that a text says, for a fabric with `nodes`, or its first fault
 unfoldable pub schedule_of : List Node → List ℕ → Result Script ScheduleFault
 schedule_of nodes text = schedule_of_lines nodes (lines text)
 
 -- what holds of each schedule ---------------------------------------------------------------
 
--- the command names managers only that are among so many
+-- the command names only managers with an index below `count`
 abbrev pub NamesManagers : ℕ → SeatCommand → Type 0
 NamesManagers count (command.Manager seat) = seat < count
 NamesManagers count (command.Ask seat what) = seat < count
@@ -145,7 +145,7 @@ NamesManagers count (command.Merge seat other) = (seat < count) × (other < coun
 NamesManagers count (command.Show seat what) = seat < count
 NamesManagers count _ = Unit {0}
 
--- its managers sit at ports of the fabric's adapters, and its commands name no others
+-- the managers sit at ports of the fabric's adapters, and the commands name no other managers
 pub record IsScript (nodes : List Node) (script : Script) : Type 0 where
   pub seats : All (λ seat. is_seat nodes seat.at ≡ true) script.seats
   pub commands : All (NamesManagers (length script.seats)) script.commands

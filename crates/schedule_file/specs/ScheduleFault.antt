@@ -1,4 +1,4 @@
--- What a call answers that may refuse its text, and what is said of a fault: its line, and a word.
+-- What a call returns that may refuse its text, and what is said of a fault: its line, and a word.
 use Rattle.std.specs.Prelude.{◌≡◌, ℕ, List, Option, None, Some, Result, Ok, Err, ◌++◌, codes, decimal}
 use Rattle.schedule_file.specs.declared.fault.ScheduleFault.{ScheduleFault}
 use Rattle.schedule_file.specs.declared.fault.ScheduleFault.TheVariants.{Syntax, Name, Seat, Memory}
@@ -8,26 +8,26 @@ abbrev pub IsRefused : {T : Type 0} → ScheduleFault → Result T ScheduleFault
 IsRefused Memory told = Unit {0}
 IsRefused fault told = told ≡ Err fault
 
--- a call answers exactly what is told, a value or the first fault, unless memory was refused
+-- a call returns exactly `told`, a value or the first fault, unless memory was refused
 abbrev pub Reads : {T : Type 0} → Result T ScheduleFault → Result T ScheduleFault → Type 0
 Reads (Ok value) told = told ≡ Ok value
 Reads (Err fault) told = IsRefused fault told
 
--- what is said of the fault
+-- what is said of the fault, without its line
 abbrev pub fault_word : ScheduleFault → List ℕ
 fault_word (Syntax line) = codes "syntax"
 fault_word (Name line) = codes "name"
 fault_word (Seat line) = codes "seat"
 fault_word Memory = codes "out of memory"
 
--- the line that has the fault, from 1; out of memory is no line's
+-- the number of the faulty line, from 1; lack of memory has none
 abbrev pub fault_line : ScheduleFault → Option ℕ
 fault_line (Syntax line) = Some line
 fault_line (Name line) = Some line
 fault_line (Seat line) = Some line
 fault_line Memory = None
 
--- what `{}` writes of a fault: its line, where it has one, and the word
+-- what `{}` writes of a fault: its line, if there is one, and the word
 abbrev pub said_at : Option ℕ → List ℕ → List ℕ
 said_at None word = word
 said_at (Some line) word = codes "line " ++ decimal line ++ codes ": " ++ word

@@ -1,31 +1,31 @@
 //! The commands of a schedule.
 use smp_bytes::{Generation, Lid};
 
-/// A command over managers `M` and ports `P`: as its line tells it, by their names, or as it is run, by the index of a
-/// manager's seat, from 0, and of a port's node.
+/// A command over managers `M` and ports `P`. In a line, `M` and `P` are names; in a command as it is run, `M` is the
+/// index of a manager's seat, from 0, and `P` has the index of a port's node.
 #[derive(Clone, Copy, PartialEq, Eq, Drop)]
 pub enum Command<M, P> {
-    /// The manager is there from now on.
+    /// A manager is added.
     Manager(M),
-    /// The manager is asked for something, and may refuse it.
+    /// A manager is asked for something, and may refuse it.
     Ask(M, Ask),
-    /// The manager waits no longer for the answers that it waits for.
+    /// A manager stops waiting for all answers.
     Timeout(M),
-    /// The manager forgets what is older than a generation.
+    /// A manager forgets what is older than the generation.
     Floor(M, Generation),
-    /// The second manager's records go to the first.
+    /// The records of the second manager go to the first.
     Merge(M, M),
-    /// Something of the manager is shown.
+    /// Something of a manager is shown.
     Show(M, Shown),
-    /// What becomes of a packet in flight.
+    /// A packet in flight meets its fate.
     Packet(Which, Fate),
-    /// At most so many packets arrive, up to 1,000,000.
+    /// At most this many packets arrive, up to 1,000,000.
     Drain(u32),
     /// The cable in the port is cut.
     Cut(P),
     /// A cable joins two ports.
     Plug(P, P),
-    /// A packet goes from the port to a LID.
+    /// A packet is sent from the port to the LID.
     Ping(P, Lid),
     /// The forwarding tables are shown.
     Tables,
@@ -33,16 +33,16 @@ pub enum Command<M, P> {
     Flight,
 }
 
-/// What a manager is asked for.
+/// A request to a manager.
 #[derive(Clone, Copy, PartialEq, Eq)]
 pub enum Ask {
     /// A sweep of the fabric.
     Sweep,
-    /// To write the plan of what it knows.
+    /// A writing of the plan of what it knows.
     Write,
-    /// To hand over to the greatest that wins over it.
+    /// A handover to the greatest manager that wins over it.
     Handover,
-    /// To ask the manager at a LID whether it is there.
+    /// A poll of the manager at the LID.
     Poll(Lid),
 }
 
@@ -53,9 +53,9 @@ pub enum Shown {
     Facts,
     /// Its plan.
     Plan,
-    /// How far it is with its sweep.
+    /// The progress of its sweep.
     Progress,
-    /// How many managers did not answer its sweep.
+    /// The number of managers that did not answer its sweep.
     Silent,
     /// Whether its plan is written.
     Written,
@@ -63,7 +63,7 @@ pub enum Shown {
     State,
 }
 
-/// What becomes of a packet in flight.
+/// The fate of a packet in flight.
 #[derive(Clone, Copy, PartialEq, Eq)]
 pub enum Fate {
     /// It arrives.
@@ -77,8 +77,8 @@ pub enum Fate {
 /// A packet in flight.
 #[derive(Clone, Copy, PartialEq, Eq)]
 pub enum Which {
-    /// The one sent last.
+    /// The packet sent last.
     Last,
-    /// The one with the serial number.
+    /// The packet with the serial number.
     Serial(u64),
 }

@@ -4,14 +4,14 @@ use std::alloc::{AllocError, AllocFailed};
 use std::error::Error;
 use std::fmt;
 
-/// Why a text is no schedule, in the order in which each line is judged. Lines count from 1.
+/// Why a text is not a schedule, in the order of checks of each line. Lines count from 1.
 #[derive(Clone, Copy, Debug, PartialEq, Eq)]
 pub enum ScheduleFault {
-    /// The line is none of the grammar's, or a number in it is out of its range.
+    /// The line is not one of the grammar, or a number in it is out of its range.
     Syntax { line: usize },
-    /// A name that no node or no manager above has, or a new manager's that another has.
+    /// No node, or no manager above, has the name, or a new manager's name is taken.
     Name { line: usize },
-    /// A new manager at a switch, at a port that the node does not have, or where a manager sits.
+    /// A new manager is at a switch, at a port that the node does not have, or where a manager sits.
     Seat { line: usize },
     /// Memory was refused.
     Memory,
@@ -20,7 +20,7 @@ pub enum ScheduleFault {
 impl ScheduleFault {
     ghost use Rattle.schedule_file.specs.ScheduleFault.{fault_word, fault_line};
 
-    /// What `{}` says of the line, and the whole of what it says where there is none.
+    /// Returns what `{}` writes of the fault, without the line.
     pub fn word(self) -> &'static str
         ensures { result.now ≡ fault_word self }
     {
@@ -32,7 +32,7 @@ impl ScheduleFault {
         }
     }
 
-    /// The line that has the fault, from 1. Out of memory is no line's.
+    /// Returns the number of the faulty line, from 1; `None` for lack of memory.
     pub fn line(self) -> Option<usize>
         ensures { result ≡ fault_line self }
     {
@@ -45,7 +45,7 @@ impl ScheduleFault {
     }
 }
 
-/// The line and the word, as in `line 3: name`; or that memory is out.
+/// Writes the line and the word, as in `line 3: name`, or that memory ran out.
 impl fmt::Display for ScheduleFault {
     ghost use Rattle.std.specs.Prelude.{Some};
     ghost use Rattle.schedule_file.specs.ScheduleFault.{fault_text};

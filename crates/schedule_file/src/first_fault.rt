@@ -1,4 +1,4 @@
-//! The first fault of a text, found with no memory from the allocator.
+//! The first fault of a text, found without memory from the allocator.
 ghost use Rattle.std.specs.Prelude.{◌≡◌, None, Some, IfSome};
 ghost use Rattle.text_words.specs.Text.{lines};
 ghost use Rattle.schedule_file.specs.Command.{line_of};
@@ -13,11 +13,11 @@ use arrayvec::ArrayVec;
 use text_words::split_line;
 use topo_file::Topology;
 
-/// The managers so far, as many as are known with no memory from the allocator.
+/// The managers so far, as many as can be stored without memory from the allocator.
 type Seats = ArrayVec<Seat, 64>;
 
-/// The first fault of a text. `None` also where more than 64 managers stand above it. Takes a search
-/// and a walk over the managers for each line.
+/// Returns the first fault of a text. Also returns `None` if more than 64 managers stand above the fault. Takes a
+/// search and a walk over the managers for each line.
 pub(crate) fn first_fault(topology: &Topology, text: &[u8]) -> Option<ScheduleFault>
     ensures found { IfSome result (λ fault.
         fault_of (schedule_of_lines topology.now.nodes (lines text.now)) ≡ Some fault) }
@@ -37,7 +37,7 @@ pub(crate) fn first_fault(topology: &Topology, text: &[u8]) -> Option<ScheduleFa
     None
 }
 
-/// Judges a line below these managers, and whether there is room for its own.
+/// Checks a line, given the managers above, and adds its manager. Returns whether there was room for it.
 fn judge_line(
     topology: &Topology,
     seats: &mut Seats,
@@ -55,7 +55,7 @@ fn judge_line(
             Ok(seats.try_push(seat).is_ok())
         }
         Some(ScheduleLine::Command(named)) => {
-            let _known = resolve(topology, seats.as_slice(), number, named)?;
+            resolve(topology, seats.as_slice(), number, named)?;
             Ok(true)
         }
     }

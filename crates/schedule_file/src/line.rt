@@ -1,6 +1,7 @@
 ghost use Rattle.std.specs.Prelude.{◌≡◌};
 ghost use Rattle.text_words.specs.Text.{words};
-ghost use Rattle.schedule_file.specs.Command.{line_of, new_manager, number_up_to};
+ghost use Rattle.schedule_file.specs.Command.{line_of, new_manager};
+ghost use Rattle.schedule_file.specs.ManagerWords.{number_up_to};
 
 use crate::manager_name::ManagerName;
 use crate::named::{NamedCommand, PortName, named_command, pair, port_name};
@@ -16,7 +17,7 @@ pub(crate) enum ScheduleLine {
     Command(NamedCommand),
 }
 
-/// A new manager as its line tells it.
+/// A new manager as in its line.
 #[derive(Drop)]
 pub(crate) struct NewManager {
     pub(crate) name: ManagerName,
@@ -25,7 +26,7 @@ pub(crate) struct NewManager {
 }
 
 #[tactic(auto, unfolding(crate::specs::Command::line_of))]
-/// What a line says; `None` is a line that is none of the grammar's.
+/// Parses a line. Returns `None` if the grammar has no such line.
 pub(crate) fn read_line(line: &[u8]) -> Option<ScheduleLine>
     ensures { result ≡ line_of line.now }
 {
@@ -39,7 +40,7 @@ pub(crate) fn read_line(line: &[u8]) -> Option<ScheduleLine>
     }
 }
 
-/// The rest of the line of a new manager.
+/// Parses the line of a new manager, without its first word.
 fn new_manager(line: &[u8]) -> Option<NewManager>
     ensures { result ≡ new_manager (words line.now) }
 {
@@ -52,7 +53,7 @@ fn new_manager(line: &[u8]) -> Option<NewManager>
     })
 }
 
-/// A priority up to 15 in decimal.
+/// Parses a priority up to 15, in decimal.
 fn priority_of(word: &[u8]) -> Option<Priority>
     ensures { result ≡ number_up_to 15 word.now }
 {

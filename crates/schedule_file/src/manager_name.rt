@@ -25,7 +25,7 @@ impl Model for ManagerName {
 }
 
 impl ManagerName {
-    /// The bytes as a name, where they are one.
+    /// Returns the bytes as a name, or `None` if they are not one.
     pub fn new(name: &[u8]) -> Option<Self>
         ensures { result ≡ manager_name_in name.now }
     {
@@ -36,7 +36,7 @@ impl ManagerName {
         }
     }
 
-    /// The name as text.
+    /// Returns the name as text.
     pub fn as_str(&self) -> &str
         ensures name { result.now ≡ self.now }
         ensures is_name { IsTrue (is_manager_name self.now) }
@@ -44,7 +44,7 @@ impl ManagerName {
         self.text.as_str()
     }
 
-    /// Whether the names are the same.
+    /// Returns whether the names are the same.
     pub(crate) fn is(&self, other: &ManagerName) -> bool
         ensures { result ≡ bytes_eq self.now other.now }
     {
@@ -52,28 +52,28 @@ impl ManagerName {
     }
 }
 
-/// What fills the unused slots of a vector of fixed capacity.
+/// The value of the unused slots of a vector of fixed capacity.
 impl Default for ManagerName {
     fn default() -> Self {
         ManagerName { text: text(b"0") }
     }
 }
 
-/// Whether the bytes are a name.
+/// Returns whether the bytes are a name.
 fn is_manager_name(name: &[u8]) -> bool
     ensures { result ≡ is_manager_name name.now }
 {
     !name.is_empty() && name.len() <= 16 && are_letters_and_digits(name)
 }
 
-/// Whether all are ASCII letters and digits.
+/// Returns whether all bytes are ASCII letters or digits.
 fn are_letters_and_digits(bytes: &[u8]) -> bool
     ensures { result ≡ list_all is_ascii_alphanumeric bytes.now }
 {
     bytes.iter().all(|byte| byte.is_ascii_alphanumeric())
 }
 
-/// The text of a name.
+/// Returns the text of a name.
 fn text(name: &[u8]) -> ArrayString<16>
     requires { IsTrue (is_manager_name name.now) }
     ensures { result.bytes ≡ name.now }

@@ -1,27 +1,29 @@
-//! Commands as their lines tell them. A table by the number of words behind a command's own has a line for each.
+//! Commands with names, as in their lines. For each number of words behind a command's own, a table has a line for each
+//! command.
 ghost use Rattle.std.specs.Prelude.{◌≡◌, option_map};
 ghost use Rattle.text_words.specs.Text.{words};
-ghost use Rattle.schedule_file.specs.Command.{ask, bare_of, bracketed_number, command_in, floor, generation_of};
-ghost use Rattle.schedule_file.specs.Command.{merge, number_up_to, of_one, of_two, packet, pair, ping, plug, poll};
+ghost use Rattle.schedule_file.specs.Command.{ask, bare_of, bracketed_number, command_in, floor};
+ghost use Rattle.schedule_file.specs.Command.{merge, of_one, of_two, packet, pair, ping, plug, poll};
 ghost use Rattle.schedule_file.specs.Command.{port_name, show, to_manager, which_of};
 
 use crate::command::{Ask, Command, Fate, Shown, Which};
 use crate::manager_name::ManagerName;
+use crate::manager_words::{asked_by, generation_of, lid_of, shown_by};
 use crate::numbers::{number_up_to, serial};
-use smp_bytes::{Generation, Lid, PortNum};
+use smp_bytes::PortNum;
 use text_words::{NodeName, enclosed, is_word, split_word};
 
-/// A port as a line tells it.
+/// A port as in a line.
 #[derive(Drop)]
 pub(crate) struct PortName {
     pub(crate) node: NodeName,
     pub(crate) port: PortNum,
 }
 
-/// A command as its line tells it. A `manager` line tells more, and is no command before its seat is found.
+/// A command as in its line. A `manager` line says more, and is not a command before its seat is found.
 pub(crate) type NamedCommand = Command<ManagerName, PortName>;
 
-/// The command that a word and the rest of its line are.
+/// Parses a command from its word and the rest of its line.
 pub(crate) fn named_command(word: &[u8], line: &[u8]) -> Option<NamedCommand>
     ensures { result ≡ command_in word.now (words line.now) }
 {
@@ -37,7 +39,7 @@ pub(crate) fn named_command(word: &[u8], line: &[u8]) -> Option<NamedCommand>
     of_two(word, one, other)
 }
 
-/// A command of one word.
+/// Parses a command of one word.
 fn bare(word: &[u8]) -> Option<NamedCommand>
     ensures { result ≡ bare_of word.now }
 {
@@ -50,7 +52,7 @@ fn bare(word: &[u8]) -> Option<NamedCommand>
     }
 }
 
-/// A command with one word behind its own.
+/// Parses a command of two words.
 fn of_one(word: &[u8], arg: &[u8]) -> Option<NamedCommand>
     ensures { result ≡ of_one word.now arg.now }
 {
@@ -69,36 +71,20 @@ fn of_one(word: &[u8], arg: &[u8]) -> Option<NamedCommand>
     }
 }
 
-/// A command to one manager.
+/// Parses a command to one manager.
 fn to_manager(word: &[u8], name: &[u8]) -> Option<NamedCommand>
     ensures { result ≡ to_manager word.now name.now }
 {
-    if is_word(word, "sweep") {
-        ask(Ask::Sweep, name)
-    } else if is_word(word, "write") {
-        ask(Ask::Write, name)
-    } else if is_word(word, "handover") {
-        ask(Ask::Handover, name)
+    if let Some(what) = asked_by(word) {
+        ask(what, name)
     } else if is_word(word, "timeout") {
         Some(Command::Timeout(ManagerName::new(name)?))
-    } else if is_word(word, "facts") {
-        show(Shown::Facts, name)
-    } else if is_word(word, "plan") {
-        show(Shown::Plan, name)
-    } else if is_word(word, "progress") {
-        show(Shown::Progress, name)
-    } else if is_word(word, "silent") {
-        show(Shown::Silent, name)
-    } else if is_word(word, "written") {
-        show(Shown::Written, name)
-    } else if is_word(word, "state") {
-        show(Shown::State, name)
     } else {
-        None
+        show(shown_by(word)?, name)
     }
 }
 
-/// A command with two words behind its own.
+/// Parses a command of three words.
 fn of_two(word: &[u8], one: &[u8], other: &[u8]) -> Option<NamedCommand>
     ensures { result ≡ of_two word.now one.now other.now }
 {
@@ -170,7 +156,7 @@ fn ping(port: &[u8], lid: &[u8]) -> Option<NamedCommand>
     Some(Command::Ping(port, lid_of(lid)?))
 }
 
-/// The packet in flight that a word tells.
+/// Parses a packet in flight.
 fn which(word: &[u8]) -> Option<Which>
     ensures { result ≡ which_of word.now }
 {
@@ -181,21 +167,7 @@ fn which(word: &[u8]) -> Option<Which>
     }
 }
 
-/// A LID up to 65,535 in decimal.
-fn lid_of(word: &[u8]) -> Option<Lid>
-    ensures { result ≡ number_up_to 0xFFFF word.now }
-{
-    Some(Lid::new(number_up_to(word, 0xFFFF)? as u16))
-}
-
-/// A generation from 1 to 4,294,967,295 in decimal.
-fn generation_of(word: &[u8]) -> Option<Generation>
-    ensures { result ≡ generation_of word.now }
-{
-    Generation::new(number_up_to(word, u32::MAX)?)
-}
-
-/// A node's name in quotes, and at once behind it a port up to 255 in brackets.
+/// Parses a node's name in quotes, directly followed by a port up to 255 in brackets.
 pub(crate) fn port_name(word: &[u8]) -> Option<PortName>
     ensures { result ≡ port_name word.now }
 {
@@ -205,7 +177,7 @@ pub(crate) fn port_name(word: &[u8]) -> Option<PortName>
     Some(PortName { node, port })
 }
 
-/// A number up to 255 in brackets.
+/// Parses a number up to 255 in brackets.
 fn bracketed_number(word: &[u8]) -> Option<u8>
     ensures { result ≡ bracketed_number word.now }
 {
@@ -216,7 +188,7 @@ fn bracketed_number(word: &[u8]) -> Option<u8>
     Some(number_up_to(port, 255)? as u8)
 }
 
-/// Both words of a line of two.
+/// Splits a line into its two words. Returns `None` if it has more or fewer.
 pub(crate) fn pair(line: &[u8]) -> Option<(&[u8], &[u8])>
     ensures { option_map (λ x. (x.0.now, x.1.now)) result ≡ pair (words line.now) }
 {

@@ -1,9 +1,9 @@
 ghost use Rattle.std.specs.Prelude.{◌≡◌, ◌^◌, ◌-◌};
-ghost use Rattle.schedule_file.specs.Command.{number_up_to};
+ghost use Rattle.schedule_file.specs.ManagerWords.{number_up_to};
 
 use text_words::number;
 
-/// The number up to `most` that a word of decimal digits writes. Takes a step for each digit.
+/// Parses a word of decimal digits as a number up to `most`. Takes a step for each digit.
 pub(crate) fn number_up_to(word: &[u8], most: u32) -> Option<u32>
     ensures { result ≡ number_up_to most word.now }
 {
@@ -15,7 +15,7 @@ pub(crate) fn number_up_to(word: &[u8], most: u32) -> Option<u32>
     }
 }
 
-/// The number of 64 bits that a word of decimal digits writes. Takes a step for each digit.
+/// Parses a word of decimal digits as a `u64`. Takes a step for each digit.
 pub(crate) fn serial(word: &[u8]) -> Option<u64>
     ensures { result ≡ number_up_to (2 ^ 64 - 1) word.now }
 {

@@ -1,4 +1,4 @@
-//! Commands as they are run: names are looked up.
+//! Commands with their names resolved, as they are run.
 ghost use Rattle.std.specs.Prelude.{◌≡◌};
 ghost use Rattle.schedule_file.specs.Schedule.{command_of, is_free, is_seat, is_taken, may_seat};
 ghost use Rattle.schedule_file.specs.Schedule.{port_of, seat_of, where_known};
@@ -12,10 +12,14 @@ use fabric_model::NodePort;
 use smp_bytes::PortNum;
 use topo_file::{Node, Topology};
 
-/// A command as it is run: managers by the indices of their seats, from 0, and nodes by theirs.
+/// A command as it is run: managers by the indices of their seats, from 0, and nodes by their indices.
 pub type SeatCommand = Command<usize, NodePort>;
 
-/// The command of a line, where all its names are known.
+/// Resolves the names in a command.
+///
+/// # Errors
+///
+/// Returns `Name` if a name is unknown.
 pub(crate) fn resolve(
     topology: &Topology,
     seats: &[Seat],
@@ -30,7 +34,7 @@ pub(crate) fn resolve(
     }
 }
 
-/// The command, where all its names are known.
+/// Resolves the names in a command. Returns `None` if one is unknown.
 fn command_of(topology: &Topology, seats: &[Seat], command: NamedCommand) -> Option<SeatCommand>
     ensures { result ≡ command_of topology.now.nodes seats.now command }
 {
@@ -57,14 +61,14 @@ fn command_of(topology: &Topology, seats: &[Seat], command: NamedCommand) -> Opt
     })
 }
 
-/// The index of the manager that has the name. A walk over the seats.
+/// Returns the index of the manager with this name. Takes a walk over the seats.
 pub(crate) fn seat(seats: &[Seat], name: &ManagerName) -> Option<usize>
     ensures { result ≡ seat_of seats.now name.now }
 {
     seats.iter().position(|seat| seat.name.is(name))
 }
 
-/// The port that has the name. A search.
+/// Returns the port with this name. Takes a search.
 pub(crate) fn port(topology: &Topology, name: &PortName) -> Option<NodePort>
     ensures { result ≡ port_of topology.now.nodes name.now }
 {
@@ -74,21 +78,21 @@ pub(crate) fn port(topology: &Topology, name: &PortName) -> Option<NodePort>
     })
 }
 
-/// Whether a manager may sit at the port, and none sits there. A walk over the seats.
+/// Returns whether a manager may sit at the port, and none does. Takes a walk over the seats.
 pub(crate) fn is_free(topology: &Topology, seats: &[Seat], port: &NodePort) -> bool
     ensures { result ≡ is_free topology.now.nodes seats.now port.now }
 {
     is_seat(topology, port) && !is_taken(seats, port)
 }
 
-/// Whether a manager sits at the port. A walk over the seats.
+/// Returns whether a manager sits at the port. Takes a walk over the seats.
 fn is_taken(seats: &[Seat], port: &NodePort) -> bool
     ensures { result ≡ is_taken seats.now port.now }
 {
     seats.iter().any(|seat| seat.at == *port)
 }
 
-/// Whether a manager may sit at the port.
+/// Returns whether a manager may sit at the port.
 fn is_seat(topology: &Topology, port: &NodePort) -> bool
     ensures { result ≡ is_seat topology.now.nodes port.now }
 {
@@ -98,7 +102,7 @@ fn is_seat(topology: &Topology, port: &NodePort) -> bool
     }
 }
 
-/// Whether a manager may sit at a port of the node.
+/// Returns whether a manager may sit at port `port` of the node.
 fn may_seat(node: &Node, port: PortNum) -> bool
     ensures { result ≡ may_seat node.now port }
 {

@@ -23,12 +23,12 @@ use topo_file::Topology;
 #[derive(Drop)]
 pub struct Seat {
     pub name: ManagerName,
-    /// The port at which it sits.
+    /// The port that it sits at.
     pub at: NodePort,
     pub priority: Priority,
 }
 
-/// What fills the unused slots of a vector of fixed capacity.
+/// The value of the unused slots of a vector of fixed capacity.
 impl Default for Seat {
     fn default() -> Self {
         Seat {
@@ -58,21 +58,21 @@ impl Model for Schedule {
 }
 
 impl Schedule {
-    /// The managers, in the order of their lines.
+    /// Returns the managers, in the order of their lines.
     pub fn seats(&self) -> &[Seat]
         ensures { result.now ≡ self.now.seats }
     {
         &self.seats
     }
 
-    /// The commands in their order.
+    /// Returns the commands in their order.
     pub fn commands(&self) -> &[SeatCommand]
         ensures { result.now ≡ self.now.commands }
     {
         &self.commands
     }
 
-    /// No lines.
+    /// Creates a schedule of no lines.
     fn new(alloc: Global) -> Self
         ensures { result ≡ record { seats = []; commands = [] } }
     {
@@ -82,7 +82,7 @@ impl Schedule {
         }
     }
 
-    /// These lines and the next one.
+    /// Adds the next line, whose number is `number`.
     fn with(self, topology: &Topology, number: usize, line: &[u8]) -> Result<Self, ScheduleFault>
         ensures { Reads result (with_line topology.now.nodes number self (line_of line.now)) }
     {
@@ -106,7 +106,7 @@ impl Schedule {
     }
 }
 
-/// Items, and one more.
+/// Appends `item` to `items`.
 fn and_one<T: Drop>(items: Vec<T>, item: T) -> Result<Vec<T>, ScheduleFault>
     ensures grown { IfOk result (λ now. now.items ≡ items.items ++ item ∷ []) }
     ensures memory { OnErr result (result ≡ Err ScheduleFault.Memory) }
@@ -116,7 +116,7 @@ fn and_one<T: Drop>(items: Vec<T>, item: T) -> Result<Vec<T>, ScheduleFault>
     Ok(items)
 }
 
-/// The seat of a new manager. A search, and a walk over the seats.
+/// Builds the seat of a new manager. Takes a search, and a walk over the seats.
 pub(crate) fn new_seat(
     topology: &Topology,
     seats: &[Seat],
@@ -139,7 +139,7 @@ pub(crate) fn new_seat(
 }
 
 #[tactic(auto, using(crate::proofs::Scripts::told_is_script), unfolding(crate::specs::Schedule::schedule_of))]
-/// Reads the text of a schedule for a fabric. Each line, which ends with LF or CR LF, is empty or a command, and `#`
+/// Parses the text of a schedule for a fabric. Each line, which ends with LF or CR LF, is empty or a command. `#`
 /// outside quotes begins a comment:
 ///
 /// ```text
@@ -165,8 +165,10 @@ pub(crate) fn new_seat(
 /// A manager sits at an adapter's port, and has a name of 1 to 16 ASCII letters and digits, known from its line on.
 /// Takes a search and a walk over the managers for each line.
 ///
-/// Out of memory is answered only where no line has a fault, or more than 64 managers stand above it: once memory is
-/// refused, the lines are judged with none, and so many managers are known then.
+/// # Errors
+///
+/// Returns the first fault. Lack of memory is returned only if no line has a fault, or if more than 64 managers stand
+/// above it: once memory is refused, the lines are checked without any, and only 64 managers can be stored then.
 pub fn parse(alloc: Global, text: &str, topology: &Topology) -> Result<Schedule, ScheduleFault>
     ensures reads { Reads result (schedule_of topology.now.nodes text.now) }
     ensures script { IfOk result (IsScript topology.now.nodes) }
@@ -183,7 +185,7 @@ pub fn parse(alloc: Global, text: &str, topology: &Topology) -> Result<Schedule,
     }
 }
 
-/// What a text's lines tell.
+/// Parses the lines of a text.
 fn read_lines(alloc: Global, text: &[u8], topology: &Topology) -> Result<Schedule, ScheduleFault>
     ensures { Reads result (schedule_of_lines topology.now.nodes (lines text.now)) }
 {

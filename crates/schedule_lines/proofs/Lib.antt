@@ -3,4 +3,7 @@ pub mod LinesFrom
 pub mod Order
 pub mod Present
 pub mod Printing
+pub mod Refused
+pub mod Taking
+pub mod Waits
 pub mod Written

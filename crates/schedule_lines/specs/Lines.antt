@@ -1,5 +1,6 @@
 -- The lines that commands print.
-use Rattle.std.specs.Prelude.{ℕ, Bool, true, false, List, ◌++◌, codes, decimal, Option, None, Some}
+use Rattle.std.specs.Prelude.{ℕ, Bool, true, false, List, ◌++◌, codes, decimal, Option, None, Some, option_map}
+use Rattle.std.specs.Borrow.{Bor}
 use Rattle.fabric_model.specs.declared.cable.NodePort.{NodePort}
 use Rattle.text_words.specs.Printed.{bracketed_text, quoted_text}
 use Rattle.topo_file.specs.declared.node.Node.{Node}
@@ -11,7 +12,7 @@ use Rattle.sm_state.specs.States.{state_word}
 use Rattle.sm_manager.specs.declared.progress.Progress.{Progress}
 use Rattle.sm_manager.specs.declared.progress.Progress.TheVariants.{Never, Running, Done}
 
--- words, and how many
+-- words, and a number
 abbrev pub count_text : List ℕ → ℕ → List ℕ
 count_text words count = words ++ decimal count
 
@@ -24,45 +25,58 @@ stage_text Never = codes " never"
 stage_text (Running unanswered too_far) = codes " running" ++ counts_text unanswered too_far
 stage_text (Done unanswered too_far) = codes " done" ++ counts_text unanswered too_far
 
--- how far the manager of a name is with its sweep
-abbrev pub progress_line : List ℕ → Progress → List ℕ
-progress_line manager progress = codes "progress " ++ manager ++ stage_text progress ++ codes "\n"
+-- the name of a manager, if lines have one
+abbrev pub name_of : Option (Bor (List ℕ)) → Option (List ℕ)
+name_of name = option_map (λ n. n.now) name
+
+-- a word, and behind it a manager's name, if lines have one
+abbrev pub head_text : List ℕ → Option (List ℕ) → List ℕ
+head_text word None = word
+head_text word (Some manager) = word ++ codes " " ++ manager
+
+-- a word at the end of a line
+abbrev pub end_word : List ℕ → List ℕ
+end_word word = codes " " ++ word ++ codes "\n"
+
+-- the progress of a manager's sweep
+abbrev pub progress_line : Option (List ℕ) → Progress → List ℕ
+progress_line manager progress = head_text (codes "progress") manager ++ stage_text progress ++ codes "\n"
 
 -- how many managers did not answer a sweep
 abbrev pub silent_text : Option ℕ → List ℕ
 silent_text None = codes " never"
 silent_text (Some silent) = count_text (codes " ") silent
 
--- how many managers did not answer the last sweep of the manager of a name
-abbrev pub silent_line : List ℕ → Option ℕ → List ℕ
-silent_line manager silent = codes "silent " ++ manager ++ silent_text silent ++ codes "\n"
+-- how many managers did not answer the last sweep of a manager
+abbrev pub silent_line : Option (List ℕ) → Option ℕ → List ℕ
+silent_line manager silent = head_text (codes "silent") manager ++ silent_text silent ++ codes "\n"
 
 abbrev pub answer_word : Bool → List ℕ
 answer_word true = codes "yes"
 answer_word false = codes "no"
 
--- whether the plan of the manager of a name is written
-abbrev pub written_line : List ℕ → Bool → List ℕ
-written_line manager written = codes "written " ++ manager ++ codes " " ++ answer_word written ++ codes "\n"
+-- whether the plan of a manager is written
+abbrev pub written_line : Option (List ℕ) → Bool → List ℕ
+written_line manager written = head_text (codes "written") manager ++ end_word (answer_word written)
 
--- the manager of a name is in this state
-abbrev pub state_line : List ℕ → SmState → List ℕ
-state_line manager state = codes "state " ++ manager ++ codes " " ++ state_word state ++ codes "\n"
+-- the state of a manager
+abbrev pub state_line : Option (List ℕ) → SmState → List ℕ
+state_line manager state = head_text (codes "state") manager ++ end_word (state_word state)
 
 -- a port: its node's name in quotes, and its number in brackets
 abbrev pub port_text : List Node → NodePort → List ℕ
 port_text nodes p = quoted_text (name_at nodes p.node) ++ bracketed_text p.port
 
--- from where a packet is sent, and to which LID
+-- the port that a packet is sent from, and its LID
 unfoldable pub start_text : List Node → NodePort → ℕ → List ℕ
 start_text nodes source lid = codes "ping " ++ port_text nodes source ++ codes " " ++ decimal lid
 
--- where it comes to
+-- where a packet ends
 unfoldable pub end_text : List Node → Ping → List ℕ
 end_text nodes (Reached p hops) = codes " reached " ++ port_text nodes p ++ codes " hops " ++ decimal hops
 end_text nodes (Lost number) = codes " lost " ++ quoted_text (name_at nodes number)
 
--- both
+-- the port that a packet is sent from, its LID, and where it ends
 abbrev pub ping_line : List Node → NodePort → ℕ → Ping → List ℕ
 ping_line nodes source lid ping = start_text nodes source lid ++ end_text nodes ping ++ codes "\n"
 

@@ -1,16 +1,16 @@
--- What a run prints, and how much of it where it ends before its schedule does.
+-- What a run prints, and how much of it if it ends before its schedule does.
 use Rattle.std.specs.Prelude.{◌≡◌, ℕ, Bool, false, List, ◌++◌, Option, Result, Ok, Err, IsTrue}
 use Rattle.std.specs.Io.KnownBytes.{Appends}
 use Rattle.schedule_lines.specs.declared.run_fault.RunFault.{RunFault}
 use Rattle.schedule_lines.specs.declared.run_fault.RunFault.TheVariants.{Write, Memory}
 
--- a text stands behind what was written, and the output has not failed meanwhile
+-- `text` stands behind what was written, and the output has not failed meanwhile
 pub record Prints {W : Type 0} (written : W → Option (List ℕ)) (has_failed : W
     → Bool) (old new : W) (text : List ℕ) : Type 0 where
   pub grown : Appends (written old) (written new) text
   pub works : has_failed old ≡ false → has_failed new ≡ false
 
--- the same of a beginning of the text
+-- a beginning of `text` stands behind what was written, and the output has not failed meanwhile
 pub record PrintsSome {W : Type 0} (written : W → Option (List ℕ)) (has_failed : W
     → Bool) (old new : W) (text : List ℕ) : Type 0 where
   pub front : List ℕ
@@ -18,7 +18,7 @@ pub record PrintsSome {W : Type 0} (written : W → Option (List ℕ)) (has_fail
   pub parts : front ++ rest ≡ text
   pub prints : Prints written has_failed old new front
 
--- a call prints the text; or it ends for lack of memory, and prints a beginning of it, or because the output has failed
+-- a call prints the text; or it ends for lack of memory, and prints a beginning of it; or the output has failed
 abbrev pub PrintsUnless : {W T : Type 0} → (W → Option (List ℕ)) → (W → Bool) → Result T RunFault → W → W → List ℕ
     → Type 0
 PrintsUnless written has_failed (Ok value) old new text = Prints written has_failed old new text

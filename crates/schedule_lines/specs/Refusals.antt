@@ -1,6 +1,6 @@
--- What is printed of a call that is refused.
+-- The line of a refused call.
 use Rattle.std.specs.Prelude.{ℕ, List, ◌++◌, codes}
 
--- the line of a refusal
+-- the line of a refusal for the fault `name`
 abbrev pub refusal_line : List ℕ → List ℕ
 refusal_line name = codes "refused " ++ name ++ codes "\n"

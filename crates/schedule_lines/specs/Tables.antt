@@ -1,4 +1,4 @@
--- What the agents of a fabric hold, in the form of a plan.
+-- What the agents of a fabric hold, printed in the form of a plan.
 use Rattle.std.specs.Prelude.{ℕ, ◌+◌, ◌*◌, ◌/◌, Bool, not, List, [], ◌∷◌, ◌++◌, filter, map, ◌==◌, if◌then◌else◌}
 use Rattle.std.specs.List.{flat_map, range_with_len}
 use Rattle.std.specs.Ordering.{is_lt, nat_cmp, ordering_then}
@@ -9,12 +9,12 @@ use Rattle.fabric_sim.specs.Simulation.{Simulation}
 
 -- an order ---------------------------------------------------------------------------------------------
 
--- before the first that it comes before
+-- `x` inserted in front of the first item that does not come before it
 abbrev pub put_in_order : {X : Type 0} → (X → X → Bool) → X → List X → List X
 put_in_order before x [] = x ∷ []
 put_in_order before x (y ∷ ys) = if before y x then y ∷ put_in_order before x ys else x ∷ y ∷ ys
 
--- each put in its number, in front of those that tie with it
+-- the items sorted; items that tie keep their order
 abbrev pub in_order : {X : Type 0} → (X → X → Bool) → List X → List X
 in_order before [] = []
 in_order before (x ∷ xs) = put_in_order before x (in_order before xs)
@@ -25,23 +25,23 @@ in_order before (x ∷ xs) = put_in_order before x (in_order before xs)
 abbrev pub Held : Type 0
 Held = ℕ × ℕ × ℕ × ℕ
 
--- those of a node, from port 0 on
+-- the LIDs that a node's ports hold, from port 0 on
 abbrev pub held_by : Agent → List Held
 held_by a = filter (λ x. not (x.0 == 0))
     (map (λ port. (base_lid_at a port, a.node.guid, port, lmc_at a port)) (range_with_len 0 (a.node.ports + 1)))
 
--- by LID, GUID and port
+-- the order by LID, GUID and port
 abbrev pub key_cmp : ℕ × ℕ × ℕ → ℕ × ℕ × ℕ → Ordering
 key_cmp x y = ordering_then (ordering_then (nat_cmp x.0 y.0) (nat_cmp x.1 y.1)) (nat_cmp x.2 y.2)
 
 abbrev pub held_cmp : Held → Held → Ordering
 held_cmp x y = key_cmp (x.0, x.1, x.2) (y.0, y.1, y.2)
 
--- of all nodes, in this order, and where all three are the same by the numbers of the nodes
+-- the LIDs that the ports of all nodes hold, by LID, GUID and port, and for a tie by node number
 abbrev pub all_held : List Agent → List Held
 all_held agents = in_order (λ x y. is_lt (held_cmp x y)) (flat_map held_by agents)
 
--- a line for each
+-- the line of a LID
 abbrev pub held_line : Held → List ℕ
 held_line x = lid_line (x.0, x.3, record { node = x.1; port = x.2 })
 
@@ -55,21 +55,21 @@ block_at a b = map (λ i. entry_at a (64 * b + i)) (range_with_len 0 64)
 abbrev pub block_shown : Agent → ℕ → List ℕ
 block_shown a b = block_line (b, block_at a b)
 
--- the blocks up to the top's
+-- the numbers of the blocks up to that of the top
 abbrev pub blocks_to : ℕ → List ℕ
 blocks_to top = range_with_len 0 (top / 64 + 1)
 
 abbrev pub blocks_text : Agent → List ℕ
 blocks_text a = flat_map (block_shown a) (blocks_to a.top)
 
--- a switch with its top, and these blocks
+-- the table of a switch: its top, and its blocks
 unfoldable pub table_text : Agent → List ℕ
 table_text a = switch_line a.top a.node.guid ++ blocks_text a
 
--- the switches by GUID, and those of one GUID by their numbers
+-- the switches by GUID, and for equal GUIDs by node number
 abbrev pub switches : List Agent → List Agent
 switches agents = in_order (λ a b. is_lt (nat_cmp a.node.guid b.node.guid)) (filter is_switch agents)
 
--- the LIDs, and then the switches
+-- the LIDs, and then the tables of the switches
 unfoldable pub tables_text : Simulation → List ℕ
 tables_text fabric = flat_map held_line (all_held fabric.agents) ++ flat_map table_text (switches fabric.agents)

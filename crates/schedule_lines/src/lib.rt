@@ -1,14 +1,16 @@
-//! What commands of a schedule print, and the fault of a run that ends before its schedule does.
+//! Requests to managers, the lines that commands print, and the fault of a run that ends before its commands do.
 #![tactic(auto)]
 
+mod asked;
 mod lines;
 mod refusals;
 mod run_fault;
+mod shown;
 mod tables;
 
-pub use lines::{
-    write_flight, write_ping, write_progress, write_silent, write_state, write_written,
-};
+pub use asked::{ask_manager, waiting};
+pub use lines::{write_flight, write_ping};
 pub use refusals::{refuse_fabric, refuse_manager};
 pub use run_fault::RunFault;
+pub use shown::show_manager;
 pub use tables::show_tables;

@@ -5,7 +5,8 @@ ghost use Rattle.text_words.specs.Printed.{named_text, quoted_text};
 ghost use Rattle.topo_file.specs.Printed.{name_at};
 ghost use Rattle.schedule_lines.specs.Lines.{count_text, counts_text, end_text, flight_line, ping_line};
 ghost use Rattle.schedule_lines.specs.Lines.{port_text, progress_line, start_text, stage_text, state_line};
-ghost use Rattle.schedule_lines.specs.Lines.{answer_word, silent_line, silent_text, written_line};
+ghost use Rattle.schedule_lines.specs.Lines.{answer_word, end_word, head_text, name_of, silent_line, silent_text};
+ghost use Rattle.schedule_lines.specs.Lines.{written_line};
 
 use byte_io::{Sink, WriteFault, write_number};
 use fabric_model::{NodeId, NodePort};
@@ -15,7 +16,7 @@ use sm_state::SmState;
 use smp_bytes::Lid;
 use topo_file::Topology;
 
-/// The name of a node, and nothing where there is no such node.
+/// Returns the name of a node, empty if there is no such node.
 fn name_at(topology: &Topology, node: NodeId) -> &str
     ensures { result.now ≡ name_at topology.now.nodes node }
 {
@@ -25,18 +26,29 @@ fn name_at(topology: &Topology, node: NodeId) -> &str
     }
 }
 
-/// Prints how far a manager is with its sweep.
+/// Prints the progress of a manager's sweep, with the manager's name if there is one.
 pub fn write_progress<W: Sink>(
     sink: &mut W,
-    manager: &str,
+    manager: Option<&str>,
     progress: Progress,
 ) -> Result<(), WriteFault>
     ensures writes { Writes W.written W.has_failed result sink.old sink.new
-        (progress_line manager.now progress) }
+        (progress_line (name_of manager.entry) progress) }
 {
-    write_pair(sink, b"progress ", manager.as_bytes())?;
+    write_head(sink, b"progress", manager)?;
     write_stage(sink, progress)?;
     sink.write(b"\n")
+}
+
+/// Prints `word`, and behind it the name of a manager if there is one.
+fn write_head<W: Sink>(sink: &mut W, word: &[u8], manager: Option<&str>) -> Result<(), WriteFault>
+    ensures writes { Writes W.written W.has_failed result sink.old sink.new
+        (head_text word.now (name_of manager.entry)) }
+{
+    match manager {
+        None => sink.write(word),
+        Some(name) => write_between(sink, word, b" ", name.as_bytes()),
+    }
 }
 
 fn write_stage<W: Sink>(sink: &mut W, progress: Progress) -> Result<(), WriteFault>
@@ -64,13 +76,13 @@ fn write_stage<W: Sink>(sink: &mut W, progress: Progress) -> Result<(), WriteFau
 /// Prints how many managers did not answer a manager's last sweep.
 pub fn write_silent<W: Sink>(
     sink: &mut W,
-    manager: &str,
+    manager: Option<&str>,
     silent: Option<u64>,
 ) -> Result<(), WriteFault>
     ensures writes { Writes W.written W.has_failed result sink.old sink.new
-        (silent_line manager.now silent) }
+        (silent_line (name_of manager.entry) silent) }
 {
-    write_pair(sink, b"silent ", manager.as_bytes())?;
+    write_head(sink, b"silent", manager)?;
     write_how_many(sink, silent)?;
     sink.write(b"\n")
 }
@@ -85,12 +97,23 @@ fn write_how_many<W: Sink>(sink: &mut W, silent: Option<u64>) -> Result<(), Writ
 }
 
 /// Prints whether a manager's plan is written.
-pub fn write_written<W: Sink>(sink: &mut W, manager: &str, written: bool) -> Result<(), WriteFault>
+pub fn write_written<W: Sink>(
+    sink: &mut W,
+    manager: Option<&str>,
+    written: bool,
+) -> Result<(), WriteFault>
     ensures writes { Writes W.written W.has_failed result sink.old sink.new
-        (written_line manager.now written) }
+        (written_line (name_of manager.entry) written) }
 {
-    write_between(sink, b"written ", manager.as_bytes(), b" ")?;
-    write_pair(sink, answer_word(written).as_bytes(), b"\n")
+    write_head(sink, b"written", manager)?;
+    write_end_word(sink, answer_word(written))
+}
+
+/// Prints a blank, `word` and a line feed.
+fn write_end_word<W: Sink>(sink: &mut W, word: &str) -> Result<(), WriteFault>
+    ensures writes { Writes W.written W.has_failed result sink.old sink.new (end_word word.now) }
+{
+    write_between(sink, b" ", word.as_bytes(), b"\n")
 }
 
 fn answer_word(answer: bool) -> &'static str
@@ -100,12 +123,16 @@ fn answer_word(answer: bool) -> &'static str
 }
 
 /// Prints a manager's state.
-pub fn write_state<W: Sink>(sink: &mut W, manager: &str, state: SmState) -> Result<(), WriteFault>
+pub fn write_state<W: Sink>(
+    sink: &mut W,
+    manager: Option<&str>,
+    state: SmState,
+) -> Result<(), WriteFault>
     ensures writes { Writes W.written W.has_failed result sink.old sink.new
-        (state_line manager.now state) }
+        (state_line (name_of manager.entry) state) }
 {
-    write_between(sink, b"state ", manager.as_bytes(), b" ")?;
-    write_pair(sink, state.word().as_bytes(), b"\n")
+    write_head(sink, b"state", manager)?;
+    write_end_word(sink, state.word())
 }
 
 /// Prints how many requests were not answered, and how many ports lead too far.
@@ -118,7 +145,7 @@ fn write_counts<W: Sink>(sink: &mut W, unanswered: u64, too_far: u64) -> Result<
     write_count(sink, b" toofar ", too_far)
 }
 
-/// Prints words, and a number.
+/// Prints `words` and then `count`.
 fn write_count<W: Sink>(sink: &mut W, words: &[u8], count: u64) -> Result<(), WriteFault>
     ensures writes { Writes W.written W.has_failed result sink.old sink.new
         (count_text words.now count) }
@@ -127,7 +154,7 @@ fn write_count<W: Sink>(sink: &mut W, words: &[u8], count: u64) -> Result<(), Wr
     write_number(sink, count)
 }
 
-/// Prints where a packet comes to that is sent from a port to a LID.
+/// Prints where a packet ends that is sent from the port `from` to `lid`.
 pub fn write_ping<W: Sink>(
     sink: &mut W,
     topology: &Topology,
@@ -143,7 +170,7 @@ pub fn write_ping<W: Sink>(
     sink.write(b"\n")
 }
 
-/// Prints from where the packet is sent, and to which LID.
+/// Prints the port that the packet is sent from, and its LID.
 fn write_start<W: Sink>(
     sink: &mut W,
     topology: &Topology,
@@ -158,7 +185,7 @@ fn write_start<W: Sink>(
     write_count(sink, b" ", u64::from(lid.number()))
 }
 
-/// Prints where the packet comes to.
+/// Prints where the packet ends.
 fn write_end<W: Sink>(sink: &mut W, topology: &Topology, ping: &Ping) -> Result<(), WriteFault>
     ensures writes { Writes W.written W.has_failed result sink.old sink.new
         (end_text topology.now.nodes ping.now) }
@@ -209,7 +236,7 @@ pub fn write_flight<W: Sink>(
     sink.write(b"\n")
 }
 
-/// Prints a text between two others.
+/// Prints `text` between `front` and `back`.
 pub(crate) fn write_between<W: Sink>(
     sink: &mut W,
     front: &[u8],
@@ -223,7 +250,7 @@ pub(crate) fn write_between<W: Sink>(
     sink.write(back)
 }
 
-/// Prints one text and then another.
+/// Prints `front` and then `back`.
 fn write_pair<W: Sink>(sink: &mut W, front: &[u8], back: &[u8]) -> Result<(), WriteFault>
     ensures writes { Writes W.written W.has_failed result sink.old sink.new
         (front.now ++ back.now) }

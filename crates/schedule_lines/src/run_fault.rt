@@ -4,7 +4,7 @@ use std::alloc::{AllocError, AllocFailed};
 /// Why a run ends before its schedule does.
 #[derive(Clone, Copy, Debug, PartialEq, Eq)]
 pub enum RunFault {
-    /// The output took no more.
+    /// A write to the output failed.
     Write,
     /// Memory was refused.
     Memory,

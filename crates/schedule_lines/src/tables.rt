@@ -1,4 +1,4 @@
-//! What the agents of a fabric hold, in the form of a plan.
+//! What the agents of a fabric hold, printed in the form of a plan.
 ghost use Rattle.std.specs.Prelude.{◌≡◌, ◌++◌, ◌<◌, map, IfOk, OnOk};
 ghost use Rattle.schedule_lines.specs.Prints.{PrintsUnless};
 ghost use Rattle.std.specs.List.{flat_map};
@@ -45,7 +45,7 @@ fn write_held<W: Sink>(sink: &mut W, lids: &[AgentLid]) -> Result<(), RunFault>
     Ok(())
 }
 
-/// The LIDs that ports hold, with the GUIDs of their nodes and their numbers, in this order.
+/// Returns the LIDs that ports hold, sorted by LID, by the GUID of the node and by port.
 fn held_lids(alloc: Global, fabric: &Fabric) -> Result<Vec<AgentLid>, AllocError>
     ensures { IfOk result (λ held. held.items ≡ all_held fabric.now.agents) }
 {
@@ -57,7 +57,7 @@ fn held_lids(alloc: Global, fabric: &Fabric) -> Result<Vec<AgentLid>, AllocError
     Ok(held)
 }
 
-/// And those of a node.
+/// Appends the LIDs of a node's ports.
 fn hold_lids(held: &mut Vec<AgentLid>, agent: &Agent) -> Result<(), AllocError>
     ensures { OnOk result (held.new.items ≡ held.old.items ++ held_by agent.now) }
 {
@@ -72,7 +72,7 @@ fn hold_lids(held: &mut Vec<AgentLid>, agent: &Agent) -> Result<(), AllocError>
     Ok(())
 }
 
-/// The agents of the switches by their GUIDs, and then by their numbers.
+/// Returns the agents of the switches, sorted by GUID, and for equal GUIDs by node number.
 fn switches<'f>(alloc: Global, fabric: &'f Fabric) -> Result<Vec<&'f Agent>, AllocError>
     ensures { IfOk result (λ found. map (λ agent. agent.now) found.items ≡ switches fabric.now.agents) }
 {
@@ -87,7 +87,7 @@ fn switches<'f>(alloc: Global, fabric: &'f Fabric) -> Result<Vec<&'f Agent>, All
     Ok(switches)
 }
 
-/// Prints switches.
+/// Prints the tables of switches.
 fn write_tables<W: Sink>(sink: &mut W, switches: &[&Agent]) -> Result<(), RunFault>
     ensures prints { PrintsUnless W.written W.has_failed result sink.old sink.new
         (flat_map (λ agent. table_text agent.now) switches.now) }
@@ -98,7 +98,7 @@ fn write_tables<W: Sink>(sink: &mut W, switches: &[&Agent]) -> Result<(), RunFau
     Ok(())
 }
 
-/// Prints a switch's GUID and the top of its table, and the blocks up to the top's.
+/// Prints a switch's GUID, the top of its table, and the blocks up to that of the top.
 fn write_table<W: Sink>(sink: &mut W, agent: &Agent) -> Result<(), RunFault>
     ensures prints { PrintsUnless W.written W.has_failed result sink.old sink.new
         (table_text agent.now) }
@@ -107,7 +107,7 @@ fn write_table<W: Sink>(sink: &mut W, agent: &Agent) -> Result<(), RunFault>
     write_blocks(sink, agent)
 }
 
-/// Prints the blocks of a switch, up to its top's.
+/// Prints the blocks of a switch, up to that of its top.
 fn write_blocks<W: Sink>(sink: &mut W, agent: &Agent) -> Result<(), RunFault>
     ensures prints { PrintsUnless W.written W.has_failed result sink.old sink.new
         (blocks_text agent.now) }
@@ -118,7 +118,7 @@ fn write_blocks<W: Sink>(sink: &mut W, agent: &Agent) -> Result<(), RunFault>
     Ok(())
 }
 
-/// A block of a switch.
+/// Returns block `b` of a switch.
 fn block(agent: &Agent, b: usize) -> [u8; 64]
     requires { b < 1024 }
     ensures { result ≡ block_at agent.now b }

@@ -1,5 +1,5 @@
--- A run of a schedule: its inputs are read in order, the text that a rule takes, the topology and the schedule, and then
--- judged.
+-- A run of a schedule: its inputs are read in order, the text that the rule takes, the topology and the schedule, and
+-- then judged.
 use Rattle.std.specs.Prelude.{◌≡◌, ◌⊎◌, ◌+◌, ℕ, Bool, true, List, [], ◌∷◌, Option, Some, None, Result, Ok, Err, IsTrue, if◌then◌else◌}
 use Rattle.std.specs.Str.{is_utf8}
 use Rattle.byte_io.specs.Source.{SourceState}
@@ -30,56 +30,56 @@ use Rattle.schedule_lines.specs.declared.run_fault.RunFault.TheVariants as runs
 
 -- judging ---------------------------------------------------------------------------------------
 
--- what is wrong with the schedule at an input, by what its text says
+-- what is wrong with the schedule at `input`, by what its text says
 abbrev pub fault_of_script : ℕ → Result Script ScheduleFault → Option Fault
 fault_of_script input (Ok script) = None
 fault_of_script input (Err fault) = Some (Text input (Schedule fault))
 
--- what is wrong with its text for a fabric that has these nodes
+-- what is wrong with the text of the schedule at `input`, for a fabric with `nodes`
 abbrev pub schedule_fault : ℕ → List Node → List ℕ → Option Fault
 schedule_fault input nodes text =
     if is_utf8 text then fault_of_script input (schedule_of nodes text) else Some (Text input NotUtf8)
 
--- what is wrong with the topology at an input or, where it is sound, with the text of the schedule behind it
+-- what is wrong with the topology at `input` or, if it is sound, with the text of the schedule behind it
 abbrev pub fault_behind : ℕ → Result Layout TopoFault → List ℕ → Option Fault
 fault_behind input (Ok layout) schedule = schedule_fault (input + 1) layout.nodes schedule
 fault_behind input (Err fault) schedule = Some (Text input (Topology fault))
 
--- the first fault of the texts of a topology, which is at an input, and of a schedule, at the next one, where they have
--- a fault
+-- the first fault, if any, of the texts of a topology, at `input`, and of a schedule, at the next input
 abbrev pub input_fault : ℕ → List ℕ → List ℕ → Option Fault
 input_fault input topology schedule =
     if is_utf8 topology then fault_behind input (topology_of topology) schedule else Some (Text input NotUtf8)
 
--- the bytes tell this topology
+-- the bytes are UTF-8 and say the topology `layout`
 pub record TellsTopology (text : List ℕ) (layout : Layout) : Type 0 where
   pub utf8 : is_utf8 text ≡ true
   pub told : topology_of text ≡ Ok layout
 
--- a fault of one of the two texts, of which the first is at an input, is the one that is found, or out of memory
+-- the fault is at one of the two texts, inputs `first` and `first` + 1; unless it is lack of memory, it is the one
+-- found
 abbrev pub IsRefused : ℕ → Option Fault → Fault → Type 0
 IsRefused first found (Text input fault) =
     ((input ≡ first) ⊎ (input ≡ first + 1)) × (is_of_text fault ≡ true → found ≡ Some (Text input fault))
 IsRefused first found fault = ⊥
 
--- out of memory for a topology hides no fault of a line, but for a link's peer and ports
+-- lack of memory for a topology hides no fault of a line, except those of a link's peer and ports
 abbrev pub HidesLinksAlone : List ℕ → Fault → Type 0
 HidesLinksAlone topology (Text input (Topology topologies.Memory)) = first_line_fault topology ≡ None
 HidesLinksAlone topology _ = Unit {0}
 
--- out of memory for a schedule hides no fault, but below more than 64 managers
+-- lack of memory for a schedule hides no fault, except those below more than 64 managers
 abbrev pub HidesBelowManagers : List Node → List ℕ → Fault → Type 0
 HidesBelowManagers nodes schedule (Text input (Schedule schedules.Memory)) = IsSoundOrCrowded nodes (lines schedule)
 HidesBelowManagers nodes schedule _ = Unit {0}
 
--- the text of a schedule, behind the topology at an input, is refused for its first fault, or memory was wanting as it
+-- the text of a schedule, behind the topology at `first`, is refused for its first fault, or memory was refused as it
 -- was judged
 pub record RefusesScript (first : ℕ) (nodes : List Node) (text : List ℕ) (fault : Fault) : Type 0 where
   pub refused : IsRefused first (schedule_fault (first + 1) nodes text) fault
   pub hides : HidesBelowManagers nodes text fault
   pub no_topology : (topology : List ℕ) → HidesLinksAlone topology fault
 
--- the texts are refused for their first fault, or memory was wanting as they were judged
+-- the texts are refused for their first fault, or memory was refused as they were judged
 pub record RefusesTexts (first : ℕ) (topology schedule : List ℕ) (fault : Fault) : Type 0 where
   pub refused : IsRefused first (input_fault first topology schedule) fault
   pub hides : HidesLinksAlone topology fault
@@ -88,13 +88,13 @@ pub record RefusesTexts (first : ℕ) (topology schedule : List ℕ) (fault : Fa
 
 -- reading ---------------------------------------------------------------------------------------
 
--- there are two sources, and these are they: a topology's and a schedule's
+-- there are two sources: a topology's and a schedule's
 pub record AreTexts {S : Type 0} (sources : List S) : Type 0 where
   pub topology : S
   pub schedule : S
   pub are : sources ≡ topology ∷ schedule ∷ []
 
--- both sources were read to their ends, and these are their bytes
+-- both sources were read to their ends, and `topology` and `schedule` are their bytes
 pub record AreRead {S : Type 0} (state : S → SourceState) (old new : S) (old' new' : S)
     (topology schedule : List ℕ) : Type 0 where
   pub topology_read : IsReadWhole state old new topology
@@ -115,7 +115,7 @@ pub record FailsAtSchedule {S : Type 0} (state : S → SourceState) (first : ℕ
   pub read : IsReadWhole state old new topology
   pub fails : FailsToRead state old' new' fault
 
--- the fault is that of the source that can't be read whole, the topology's first, which is at this input
+-- the fault is that of the source that can't be read whole; the topology's comes first, and is at input `first`
 abbrev pub FailsToReadThem : {S : Type 0} → (S → SourceState) → ℕ → S → S → S → S → Fault
     → Type 0
 FailsToReadThem state first old new old' new' (File input fault) =
@@ -123,12 +123,12 @@ FailsToReadThem state first old new old' new' (File input fault) =
     ⊎ FailsAtSchedule state first old new old' new' input fault
 FailsToReadThem state first old new old' new' fault = ⊥
 
--- the texts tell this topology and, for it, this schedule
+-- the texts say this topology and, for it, this schedule
 pub record Tells (topology schedule : List ℕ) (layout : Layout) (script : Script) : Type 0 where
   pub topology_told : TellsTopology topology layout
   pub schedule_told : schedule_of layout.nodes schedule ≡ Ok script
 
--- both sources were read to their ends, and this is what they tell
+-- both sources were read to their ends, and `setting` is what they say
 pub record AreTold {S : Type 0} (state : S → SourceState) (olds news : List S) (setting : Setting) : Type 0 where
   pub were : AreTexts olds
   pub are : AreTexts news
@@ -138,7 +138,7 @@ pub record AreTold {S : Type 0} (state : S → SourceState) (olds news : List S)
   pub tells : Tells topology schedule setting.topology setting.schedule
   pub is_script : IsScript setting.topology.nodes setting.schedule
 
--- they were read to their ends, and what they say is refused with this fault
+-- both sources were read to their ends, and what they say is refused with `fault`
 pub record AreRefused {S : Type 0} (state : S → SourceState) (first : ℕ) (old new old' new' : S)
     (fault : Fault) : Type 0 where
   pub topology : List ℕ
@@ -153,7 +153,7 @@ IsTextsFault state first old new old' new' fault =
     FailsToReadThem state first old new old' new' fault
     ⊎ AreRefused state first old new old' new' fault
 
--- why the two texts tell nothing, of which the first is at this input
+-- why the two texts are not read or are refused; the topology is at input `first`
 pub record AreNotTold {S : Type 0} (state : S → SourceState) (first : ℕ) (olds news : List S)
     (fault : Fault) : Type 0 where
   pub were : AreTexts olds
@@ -162,7 +162,7 @@ pub record AreNotTold {S : Type 0} (state : S → SourceState) (first : ℕ) (ol
 
 -- running ---------------------------------------------------------------------------------------
 
--- what reads both texts, and knows the switches of the topology
+-- a reader of both texts, which knows the switches of the topology
 abbrev pub texts_reader : {S : Type 0} → (S → SourceState) → Reader S Setting
 texts_reader state = record {
   reads = AreTold state;
@@ -170,8 +170,8 @@ texts_reader state = record {
   has_switch = λ setting. has_switch setting.topology.nodes;
 }
 
--- the inputs were read, the text that the rule takes and then topology and schedule, and this holds of what the run of
--- what they say by managers that plan so prints
+-- the inputs were read, the text that the rule takes and then topology and schedule, and `prints` holds of what their
+-- run prints, by managers that plan under `lmc` and by the rule
 pub record HasRun {S : Type 0} (state : S → SourceState) (lmc : ℕ) (asked : RuleAsked) (olds news : List S)
     (prints : List ℕ → Type 0) : Type 0 where
   pub rule : RuleValue
@@ -180,7 +180,7 @@ pub record HasRun {S : Type 0} (state : S → SourceState) (lmc : ℕ) (asked : 
   pub printed : prints (run_text (record { lmc = lmc; rule = rule }) inputs.read.others_read.topology
       inputs.read.others_read.schedule)
 
--- the source of the topology as the run began, and that of the schedule
+-- the source of the topology as the run began
 abbrev pub topology_source : {S : Type 0} {state : S → SourceState} {lmc : ℕ} {asked : RuleAsked} {olds news : List S}
     {prints : List ℕ → Type 0} → HasRun state lmc asked olds news prints → S
 topology_source run = run.inputs.read.others_read.were.topology
@@ -196,7 +196,7 @@ abbrev pub fault_of_run : RunFault → Fault
 fault_of_run runs.Write = Write
 fault_of_run runs.Memory = Memory
 
--- the run ended early; where memory was refused as it went on, this holds of what it would have printed
+-- the run ended early; if memory was refused as it went on, `prints` holds of what it would have printed
 abbrev pub StopsEarly : {S : Type 0} → (S → SourceState) → ℕ → RuleAsked → List S → List S
     → (List ℕ → Type 0) → Bool → Fault → Type 0
 StopsEarly state lmc asked olds news prints sink_failed Write =

@@ -15,18 +15,18 @@ use sm_cli::{Fault, RuleAsked, read_inputs};
 use std::alloc::Global;
 
 /// Runs a schedule in the simulated fabric of a topology, with managers that plan 2^LMC LIDs for each adapter port by
-/// the rule that is asked for. The inputs are the text that a rule takes, the topology and the schedule
-/// (`read_inputs`). The topology and the schedule are read to their ends, and then judged, the topology first. Then the
-/// commands are run in their order, and their output is flushed.
+/// the rule that is asked for. The inputs are the text that the rule takes, the topology and the schedule
+/// (`read_inputs`). Reads the topology and the schedule to their ends, and judges both, the topology first. Then runs
+/// the commands in their order, and flushes their output.
 ///
-/// What is written is `run_text` of the two texts: the lines of all commands in turn. Where an input is refused nothing
-/// is written; where memory is refused as the commands are run it is a beginning of that text; how much went out before
-/// a write failed is not said. A call that the fabric or a manager refuses is told by a line with its fault's name, and
-/// the run goes on; only out of memory ends it. `docs/FORMATS.md` has the table of the commands.
+/// Writes `run_text` of the two texts: the lines of all commands in turn. If an input is refused, writes nothing. If
+/// memory is refused as the commands are run, writes a beginning of that text. If a write fails, how much was written
+/// is unspecified. If the fabric or a manager refuses a call, writes a line with the fault's name and goes on; only
+/// lack of memory ends the run. `docs/FORMATS.md` has the table of the commands.
 ///
-/// It takes the memory of the texts, of the fabric and of what is in flight and known. A delivery takes one step where
-/// the packet of the least serial number is delivered, as `drain` does, and a search elsewhere, and what the manager
-/// takes for the packet where it comes to one.
+/// Takes the memory of the texts, of the fabric, and of what is in flight and known. A delivery costs one step for the
+/// packet of the least serial number (as in `drain`), otherwise a search, plus the manager's work if the packet comes
+/// to one.
 pub fn run_schedule<S: Source, W: Sink>(
     alloc: Global,
     inputs: &mut [S],
@@ -56,7 +56,7 @@ pub fn run_schedule<S: Source, W: Sink>(
     }
 }
 
-/// The fault of a run as one of the program.
+/// Returns the fault of a run as one of the program.
 fn fault_of_run(fault: RunFault) -> Fault
     ensures { result ≡ fault_of_run fault }
 {

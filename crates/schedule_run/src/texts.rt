@@ -1,4 +1,4 @@
-//! The texts of a topology and of a schedule: they are read, and then judged.
+//! The texts of a topology and of a schedule, which are read and then judged.
 ghost use Rattle.std.specs.Prelude.{◌≡◌, ◌+◌, ◌<◌, ◌≤◌, ℕ, List, IfOk, IfErr, Ok, OnOk, None, length};
 ghost use Rattle.schedule_file.specs.Schedule.{IsScript, schedule_of};
 ghost use Rattle.schedule_run.specs.Run.{AreNotTold, AreRead, AreTold, FailsToReadThem, RefusesScript};
@@ -21,14 +21,14 @@ struct Texts {
     schedule: Vec<u8>,
 }
 
-/// What the texts tell.
+/// What the topology and the schedule say.
 #[derive(Drop)]
 pub(crate) struct Setting {
     pub(crate) topology: Topology,
     pub(crate) schedule: Schedule,
 }
 
-/// What reads both texts, and knows the switches of the topology.
+/// The reader of both texts, which knows the switches of the topology.
 #[derive(Clone, Copy, Debug, PartialEq, Eq)]
 pub(crate) struct TopologyAndSchedule;
 
@@ -51,8 +51,11 @@ impl<S: Source> InputReader<S> for TopologyAndSchedule {
     }
 }
 
-/// What both texts tell, or their first fault. Both are read to their ends, the topology first, and then judged. So
-/// many inputs come before them.
+/// Reads both texts to their ends, the topology first, and returns what they say. `before` inputs precede them.
+///
+/// # Errors
+///
+/// Returns the first fault. A fault of reading comes before one of what a text says.
 fn read_setting<S: Source>(alloc: Global, before: usize, texts: &mut [S]) -> Result<Setting, Fault>
     requires two { length texts.old ≡ 2 }
     requires counted { before + length texts.old ≤ usize.MAX }
@@ -71,7 +74,7 @@ fn read_setting<S: Source>(alloc: Global, before: usize, texts: &mut [S]) -> Res
     }
 }
 
-/// The bytes of both texts, the topology's first.
+/// Reads both texts, the topology first. `first` is the number of the topology's input.
 fn read_texts<S: Source>(
     alloc: Global,
     first: usize,
@@ -103,7 +106,7 @@ fn read_texts<S: Source>(
 }
 
 #[tactic(auto, using(crate::proofs::Judging::behind, crate::proofs::Judging::refused_behind))]
-/// What both texts tell, or their first fault: the topology is judged first.
+/// Parses both texts, the topology first. `first` is the number of the topology's input.
 fn judge(alloc: Global, first: usize, texts: &Texts) -> Result<Setting, Fault>
     requires { first < usize.MAX }
     ensures sound { OnOk result
@@ -119,7 +122,7 @@ fn judge(alloc: Global, first: usize, texts: &Texts) -> Result<Setting, Fault>
     Ok(Setting { topology, schedule })
 }
 
-/// The topology that bytes tell.
+/// Parses the topology. `first` is the number of its input.
 fn judge_topology(alloc: Global, first: usize, bytes: &[u8]) -> Result<Topology, Fault>
     ensures sound { IfOk result (λ topology. TellsTopology bytes.now topology) }
     ensures refused { (schedule : List ℕ) → IfErr result (RefusesTexts first bytes.now schedule) }
@@ -133,7 +136,7 @@ fn judge_topology(alloc: Global, first: usize, bytes: &[u8]) -> Result<Topology,
     }
 }
 
-/// The schedule for a topology that bytes tell.
+/// Parses the schedule for `topology`. `first` is the number of the topology's input.
 fn judge_schedule(
     alloc: Global,
     first: usize,
@@ -156,7 +159,7 @@ fn judge_schedule(
     }
 }
 
-/// The fault of the text at an input.
+/// Returns the fault of the text at `input`.
 fn refused(input: usize, fault: TextFault) -> Fault
     ensures { result ≡ Fault.Text input fault }
 {

@@ -28,19 +28,6 @@ given_next w seat items i h =
 pub given_none : (w : WorldValue) (seat : ℕ) (items : List ℕ) (i : ℕ) → length items ≤ i → after_giving_up w seat (drop i items) ≡ quiet w
 given_none w seat items i h = ap (after_giving_up w seat) (drop_of_length-le items h)
 
--- the first of several, and one more
-pub waits_more : (xs items now : List ℕ) (n t : ℕ) → items ≡ take (length items) xs → n ≡ length items → Some t ≡ slice_get xs n → now ≡ items ++ t ∷ []
-    → (now ≡ take (length now) xs) × (length now ≤ length xs) × (length items < length now)
-waits_more xs items now n t so_far same found pushed =
-    let there : slice_get xs (length items) ≡ Some t = ap (slice_get xs) (sym same) ∙ sym found in
-    let within = slice_get_within xs (length items) t there in
-    let counted = ap length pushed in
-    let long : length now ≡ length items + 1 = omega (arith, counted, length-append items (t ∷ [])) in (
-      pushed ∙ ap (λ ys. ys ++ t ∷ []) so_far ∙ sym (one_more xs (length items) t there) ∙ ap (λ k. take k xs) (sym long),
-      omega (arith, within, long),
-      omega (arith, long),
-    )
-
 -- packets that take steps -------------------------------------------------------------------------------------
 
 pub drain_next : (w : WorldValue) (most i : ℕ) (flight : Flight) → i < most → slice_get w.fabric.flights 0 ≡ Some flight

@@ -1,4 +1,4 @@
--- What each line of a schedule does, and what it prints; and so what a run prints.
+-- What each line of a schedule does, what it prints, and what a run prints.
 use Rattle.std.specs.Prelude.{ℕ, zero, suc, ◌+◌, List, [], ◌∷◌, map, position, slice_get, if◌then◌else◌, Option, None, Some, Result, Ok, Err}
 use Rattle.std.specs.List.{flat_map}
 use Rattle.std.specs.Option.{option_map_or}
@@ -10,12 +10,10 @@ use Rattle.topo_file.specs.declared.fault.TopoFault.{TopoFault}
 use Rattle.topo_file.specs.declared.node.Node.{Node}
 use Rattle.schedule_file.specs.Schedule.{Script, SeatCommand, schedule_of}
 use Rattle.schedule_file.specs.declared.command.Ask.{Ask}
-use Rattle.schedule_file.specs.declared.command.Ask.TheVariants.{Sweep, Write, Handover, Poll}
 use Rattle.schedule_file.specs.declared.command.Command.TheVariants as command
 use Rattle.schedule_file.specs.declared.command.Fate.{Fate}
 use Rattle.schedule_file.specs.declared.command.Fate.TheVariants.{Deliver, Lose, Repeat}
 use Rattle.schedule_file.specs.declared.command.Shown.{Shown}
-use Rattle.schedule_file.specs.declared.command.Shown.TheVariants.{Facts, Plan, Progress, Silent, State, Written}
 use Rattle.schedule_file.specs.declared.command.Which.{Which}
 use Rattle.schedule_file.specs.declared.fault.ScheduleFault.{ScheduleFault}
 use Rattle.schedule_file.specs.declared.schedule.Seat.{Seat}
@@ -31,71 +29,49 @@ use Rattle.fabric_sim.specs.declared.fault.FabricFault.{FabricFault}
 use Rattle.fabric_sim.specs.declared.fault.FabricFault.TheVariants.{NoSuchPacket}
 use Rattle.fabric_sim.specs.declared.flight.Flight.{Flight}
 use Rattle.fabric_sim.specs.declared.packet.Packet.{Packet}
-use Rattle.fact_store.specs.View.{cells_of}
-use Rattle.lft_blocks.specs.Plan.{plan_of}
-use Rattle.lft_blocks.specs.PlanText.{plan_text}
-use Rattle.subnet_view.specs.Reading.{Cells}
-use Rattle.record_file.specs.FactsText.{facts_text}
-use Rattle.sm_manager.specs.declared.fault.ManagerFault.{ManagerFault}
-use Rattle.sm_manager.specs.Election.{after_handover, handover_fault, poll_fault, after_poll}
 use Rattle.lft_blocks.specs.Planning.{Planning}
-use Rattle.sm_manager.specs.Manager.{Manager, begin_fault, after_raise_floor, after_merge, new_manager, outstanding, progress_of, after_begin_sweep, silent_in}
+use Rattle.sm_manager.specs.Manager.{after_raise_floor, after_merge, new_manager, outstanding}
 use Rattle.sm_manager.specs.Packets as manager
-use Rattle.sm_manager.specs.Plans.{plan_fault, writing_fault}
-use Rattle.sm_manager.specs.Writing.{after_write_steps, is_written}
 use Rattle.schedule_world.specs.Flights.{serial_of}
-use Rattle.schedule_lines.specs.Lines.{flight_line, ping_line, progress_line, silent_line, state_line, written_line}
+use Rattle.schedule_lines.specs.Asked.{after_asked, asked_fault, text_of}
+use Rattle.schedule_lines.specs.Lines.{flight_line, ping_line}
 use Rattle.schedule_lines.specs.Refusals.{refusal_line}
 use Rattle.schedule_lines.specs.Tables.{tables_text}
 use Rattle.schedule_lines.specs.Outcome.{Outcome, and_then, quiet, shows}
-use Rattle.schedule_world.specs.World.{SeatedValue, WorldValue, after_ask, at_seat, after_fabric_call, manager_line, after_send, with_manager}
+use Rattle.schedule_world.specs.World.{SeatedValue, WorldValue, after_ask, at_seat, after_fabric_call, after_send, with_manager}
 
 -- managers -----------------------------------------------------------------------------------------
 
--- `manager M "n"[p] P`: the manager comes to sit at its port
+-- `manager M "n"[p] P`: the manager is seated at its port
 unfoldable pub after_manager_line : WorldValue → ℕ → Outcome WorldValue
 after_manager_line w seat = at_seat w seat (λ s. after_fabric_call w (after_seat w.fabric s.at))
 
--- why a manager refuses what it is asked for, by `sweep`, `write`, `handover` or `poll`
-abbrev pub asked_fault : Ask → Manager → Option ManagerFault
-asked_fault Sweep m = begin_fault m
-asked_fault Write m = writing_fault m
-asked_fault Handover m = handover_fault m
-asked_fault (Poll lid) m = poll_fault m
-
--- the manager that does what it is asked for
-abbrev pub after_asked : Ask → Manager → Manager
-after_asked Sweep m = after_begin_sweep m
-after_asked Write m = after_write_steps m
-after_asked Handover m = after_handover m
-after_asked (Poll lid) m = after_poll m lid
-
--- such a line: the manager of a seat does it, and then it sends what it has queued
+-- `sweep`, `write`, `handover` or `poll`: the manager of a seat does it, and then sends what it has queued
 unfoldable pub after_ask_line : WorldValue → ℕ → Ask → Outcome WorldValue
 after_ask_line w seat what = after_ask (λ now. after_send now seat) w seat (asked_fault what) (after_asked what)
 
--- `merge M N`: the first takes in all that the second knows
+-- `merge M N`: the first manager takes in all that the second knows
 unfoldable pub after_merge_line : WorldValue → ℕ → ℕ → Outcome WorldValue
 after_merge_line w seat other =
     at_seat w seat (λ s. at_seat w other (λ o. quiet (with_manager w seat s (after_merge s.manager o.manager.store))))
 
--- `floor M G`: the manager forgets what is older
+-- `floor M G`: the manager forgets what is older than G
 unfoldable pub after_floor_line : WorldValue → ℕ → ℕ → Outcome WorldValue
 after_floor_line w seat floor = at_seat w seat (λ s. quiet (with_manager w seat s (after_raise_floor s.manager floor)))
 
--- `timeout M`: the manager gives up a request
+-- the manager gives up a request
 unfoldable pub after_give_up : WorldValue → ℕ → ℕ → Outcome WorldValue
 after_give_up w seat transaction =
     after_ask quiet w seat (λ m. (manager.after_timeout m transaction).fault)
     (λ m. (manager.after_timeout m transaction).manager)
 
--- one after the other
+-- the manager gives up requests, one after the other
 abbrev pub after_giving_up : WorldValue → ℕ → List ℕ → Outcome WorldValue
 after_giving_up w seat [] = quiet w
 after_giving_up w seat (transaction ∷ later) =
     and_then (after_give_up w seat transaction) (λ now. after_giving_up now seat later)
 
--- all that wait as the line begins, and then it sends what it has queued
+-- `timeout M`: the manager gives up all requests that wait as the line begins, and then sends what it has queued
 unfoldable pub after_timeout_line : WorldValue → ℕ → Outcome WorldValue
 after_timeout_line w seat =
     at_seat w seat (λ s. and_then (after_giving_up w seat (outstanding s.manager)) (λ now. after_send now seat))
@@ -108,15 +84,15 @@ after_take w seat packet =
     after_ask quiet w seat (λ m. (manager.after_packet m packet.bytes (Some packet.slid)).fault)
     (λ m. (manager.after_packet m packet.bytes (Some packet.slid)).manager)
 
--- and sends what it has queued
+-- the manager of a seat takes in a packet, or refuses it, and then sends what it has queued
 unfoldable pub after_take_and_send : WorldValue → ℕ → Packet → Outcome WorldValue
 after_take_and_send w seat packet = and_then (after_take w seat packet) (λ now. after_send now seat)
 
--- the seat at a port, where a manager sits by now
+-- the seat at a port, if a manager sits there by now
 abbrev pub seat_at : WorldValue → NodePort → Option ℕ
 seat_at w p = if is_seat_at w.fabric p then position (λ s. is_same_port s.at p) w.managers else None
 
--- a packet that comes to a port goes to the manager there; where none sits it is dropped
+-- a packet that comes to a port goes to the manager there; if none sits there it is dropped
 unfoldable pub after_hand_up : WorldValue → NodePort → Packet → Outcome WorldValue
 after_hand_up w p packet = option_map_or (λ seat. after_take_and_send w seat packet) (seat_at w p) (quiet w)
 
@@ -127,35 +103,35 @@ after_arrival w (Ok (delivered_is.Answered serial)) = quiet w
 after_arrival w (Ok (delivered_is.Discarded reason)) = quiet w
 after_arrival w (Err fault) = quiet w
 
--- the packet of a serial number takes one step
+-- the packet with this serial number takes one step
 unfoldable pub after_step : WorldValue → ℕ → Outcome WorldValue
 after_step w serial = let called =
     after_deliver w.fabric serial in and_then (after_fabric_call w called) (λ now. after_arrival now called.result)
 
--- the packet of a serial number meets its fate, by `deliver`, `lose` or `repeat`
+-- the packet with this serial number meets its fate, by `deliver`, `lose` or `repeat`
 abbrev pub after_fate : WorldValue → Fate → ℕ → Outcome WorldValue
 after_fate w Deliver serial = after_step w serial
 after_fate w Lose serial = after_fabric_call w (after_lose w.fabric serial)
 after_fate w Repeat serial = after_fabric_call w (after_repeat w.fabric serial)
 
--- such a line: the packet that is meant does; there is no last one where none is in flight
+-- `deliver`, `lose` or `repeat`: the packet that is meant meets its fate; there is no last one if none is in flight
 unfoldable pub after_packet_line : WorldValue → Which → Fate → Outcome WorldValue
 after_packet_line w which fate =
     option_map_or (after_fate w fate) (serial_of w.fabric.flights which)
     (shows (refusal_line (fabric_fault_name NoSuchPacket)) w)
 
--- `drain N`: the packet of the least serial number takes one step, at most so many times
+-- `drain N`: the packet with the least serial number takes one step, at most N times
 abbrev pub after_drain_line : WorldValue → ℕ → Outcome WorldValue
 after_drain_line w zero = quiet w
 after_drain_line w (suc most) =
     option_map_or (λ flight. and_then (after_step w flight.serial) (λ now. after_drain_line now most))
     (slice_get w.fabric.flights 0) (quiet w)
 
--- `flight`: a packet, and where it waits
+-- a packet in flight, and where it waits
 abbrev pub flight_shown : List Node → Flight → List ℕ
 flight_shown nodes flight = flight_line nodes flight.serial (port_of flight.whereabouts).node
 
--- all of them
+-- `flight`: all packets in flight
 abbrev pub flights_text : List Node → List Flight → List ℕ
 flights_text nodes flights = flat_map (flight_shown nodes) flights
 
@@ -169,7 +145,7 @@ after_cut_line w p = after_fabric_call w (after_cut w.fabric p)
 unfoldable pub after_plug_line : WorldValue → NodePort → NodePort → Outcome WorldValue
 after_plug_line w p q = after_fabric_call w (after_plug w.fabric p q)
 
--- `ping "n"[p] L`: where the packet comes to, or why it cannot be sent
+-- `ping "n"[p] L`: where the packet ends, or why it cannot be sent
 abbrev pub ping_text : List Node → Simulation → NodePort → ℕ → Option FabricFault → List ℕ
 ping_text nodes fabric source lid None = ping_line nodes source lid (ping (fabric_of fabric) lid source)
 ping_text nodes fabric source lid (Some fault) = refusal_line (fabric_fault_name fault)
@@ -179,29 +155,17 @@ ping_shown nodes w source lid = ping_text nodes w.fabric source lid (ping_fault 
 
 -- what managers know -----------------------------------------------------------------------------------
 
--- the plan, or why there is none
-abbrev pub plan_or_refusal : Planning → Cells → Option ManagerFault → List ℕ
-plan_or_refusal planning cells None = plan_text (plan_of planning.rule planning.lmc cells)
-plan_or_refusal planning cells (Some fault) = manager_line fault
-
 -- what `facts`, `plan`, `progress`, `silent`, `written` or `state` show of a manager
-abbrev pub text_of : Shown → SeatedValue → List ℕ
-text_of Facts s = facts_text s.manager.store
-text_of Plan s =
-    plan_or_refusal s.manager.planning (cells_of s.manager.store)
-    (plan_fault s.manager.planning.lmc (cells_of s.manager.store))
-text_of Progress s = progress_line s.name (progress_of s.manager.sweep)
-text_of Silent s = silent_line s.name (silent_in s.manager.sweep)
-text_of Written s = written_line s.name (is_written s.manager)
-text_of State s = state_line s.name s.manager.standing.state
+abbrev pub shown_at : Shown → SeatedValue → List ℕ
+shown_at what s = text_of what (Some s.name) s.manager
 
--- of the manager of a seat
+-- what is shown of the manager of a seat
 unfoldable pub shown_of : WorldValue → ℕ → Shown → List ℕ
-shown_of w seat what = option_map_or (text_of what) (slice_get w.managers seat) []
+shown_of w seat what = option_map_or (shown_at what) (slice_get w.managers seat) []
 
--- all of them ------------------------------------------------------------------------------------------
+-- all commands -----------------------------------------------------------------------------------------
 
--- a line, in the fabric of these nodes
+-- what a line does and prints, in a fabric with `nodes`
 abbrev pub after_command : List Node → WorldValue → SeatCommand → Outcome WorldValue
 after_command nodes w (command.Manager seat) = after_manager_line w seat
 after_command nodes w (command.Ask seat what) = after_ask_line w seat what
@@ -217,13 +181,13 @@ after_command nodes w (command.Ping p lid) = shows (ping_shown nodes w p lid) w
 after_command nodes w command.Tables = shows (tables_text w.fabric) w
 after_command nodes w command.Flight = shows (flights_text nodes w.fabric.flights) w
 
--- line by line
+-- what lines do and print, one after the other
 abbrev pub after_commands : List Node → WorldValue → List SeatCommand → Outcome WorldValue
 after_commands nodes w [] = quiet w
 after_commands nodes w (command ∷ later) =
     and_then (after_command nodes w command) (λ now. after_commands nodes now later)
 
--- the manager of a seat, and how it plans: an adapter's port has the GUID that lies so far above its node's
+-- the manager of a seat, and how it plans: an adapter's port has its node's GUID plus the port's number
 abbrev pub new_seated : Planning → List Node → Seat → SeatedValue
 new_seated planning nodes seat =
     let guid = option_map_or (λ node. node.guid + seat.at.port) (slice_get nodes seat.at.node) 0 in
@@ -234,7 +198,7 @@ abbrev pub world_of : Planning → Layout → List Seat → WorldValue
 world_of planning topology seats =
     record { fabric = simulation_of topology 1; managers = map (new_seated planning topology.nodes) seats }
 
--- what the run of a schedule prints, and how its managers plan
+-- what the run of a schedule prints, with managers that plan by `planning`
 unfoldable pub script_text : Planning → Layout → Script → List ℕ
 script_text planning topology script =
     (after_commands topology.nodes (world_of planning topology script.seats) script.commands).text
@@ -247,6 +211,6 @@ abbrev pub topology_text : Planning → Result Layout TopoFault → List ℕ →
 topology_text planning (Ok topology) schedule = schedule_text planning topology (schedule_of topology.nodes schedule)
 topology_text planning (Err fault) schedule = []
 
--- what a run of these two texts prints, by how managers plan; nothing where one of them is refused
+-- what a run of the two texts prints, with managers that plan by `planning`; nothing if one of the texts is refused
 abbrev pub run_text : Planning → List ℕ → List ℕ → List ℕ
 run_text planning topology schedule = topology_text planning (topology_of topology) schedule

@@ -9,17 +9,17 @@ use Rattle.fabric_sim.specs.declared.flight.Flight.{Flight}
 use Rattle.schedule_file.specs.declared.command.Which.{Which}
 use Rattle.schedule_file.specs.declared.command.Which.TheVariants.{Last, Serial}
 
--- the serial number of the last packet in flight, or the one that is told
+-- the serial number of the last packet in flight, or the one that is given
 abbrev pub serial_of : List Flight → Which → Option ℕ
 serial_of flights Last = option_map (λ flight. flight.serial) (slice_get flights (length flights - 1))
 serial_of flights (Serial serial) = Some serial
 
--- a packet as it goes out: to a LID, or on a directed route, where the LIDs of both ends are the permissive one
+-- the packet that goes out: to a LID, or on a directed route, with the permissive LID at both ends
 abbrev pub packet_out : Outgoing → Packet
 packet_out outgoing =
     record { bytes = outgoing.packet; slid = 0xFFFF; dlid = option_map_or (λ lid. lid) outgoing.to 0xFFFF }
 
--- the fabric with the packet of this serial number lost; there may be none that is meant
+-- the fabric with the packet with this serial number lost, if there is one
 abbrev pub without : Simulation → Option ℕ → Simulation
 without fabric None = fabric
 without fabric (Some serial) = (after_lose fabric serial).fabric

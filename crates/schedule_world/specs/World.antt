@@ -1,4 +1,4 @@
--- A world: a simulated fabric and the managers that sit in it; what calls on them leave, and which lines tell of them.
+-- A world: a simulated fabric and the managers that sit in it; what calls on them leave, and which lines they print.
 use Rattle.std.specs.Prelude.{◌≡◌, ℕ, Bool, List, [], ◌∷◌, ◌++◌, length, map, slice_get, slice_set, Option, None, Some}
 use Rattle.std.specs.Prelude.{Result, Ok, Err, OnOk}
 use Rattle.std.specs.Option.{option_map_or}
@@ -10,8 +10,8 @@ use Rattle.fabric_sim.specs.Called.{Called}
 use Rattle.fabric_sim.specs.Simulation.{Simulation}
 use Rattle.sm_manager.specs.declared.fault.ManagerFault.{ManagerFault}
 use Rattle.sm_manager.specs.declared.outgoing.Outgoing.{Outgoing}
-use Rattle.sm_manager.specs.Fault.{manager_fault_name}
 use Rattle.sm_manager.specs.Manager.{Manager}
+use Rattle.schedule_lines.specs.Asked.{emptied, manager_line}
 use Rattle.schedule_lines.specs.Outcome.{Outcome, and_then, quiet, shows}
 use Rattle.schedule_lines.specs.Prints.{PrintsUnless}
 use Rattle.schedule_lines.specs.Refusals.{refusal_line}
@@ -20,7 +20,7 @@ use Rattle.schedule_world.specs.Flights.{packet_out}
 use Rattle.schedule_world.specs.declared.world.Seated.{Seated}
 use Rattle.schedule_world.specs.declared.world.World.{World}
 
--- a manager of this name, at its seat
+-- a manager with its name and its seat
 pub record SeatedValue : Type 0 where
   pub name : List ℕ
   pub at : NodePort
@@ -39,16 +39,16 @@ value_of w = record { fabric = w.fabric; managers = map seated_value w.managers.
 
 -- the fabric ---------------------------------------------------------------------------------------
 
--- a refusal is told by its line
+-- the line of a refusal by the fabric, empty if there is none
 abbrev pub fabric_line : {R : Type 0} → Result R FabricFault → List ℕ
 fabric_line (Ok value) = []
 fabric_line (Err fault) = refusal_line (fabric_fault_name fault)
 
--- a call of the fabric
+-- what a call of the fabric leaves and prints
 abbrev pub after_fabric : {R : Type 0} → Called R → Outcome Simulation
 after_fabric called = record { now = called.fabric; text = fabric_line called.result }
 
--- the same in a world
+-- what an outcome of the fabric leaves and prints in a world
 abbrev pub in_fabric : WorldValue → Outcome Simulation → Outcome WorldValue
 in_fabric w outcome = record { now = record w { fabric = outcome.now }; text = outcome.text }
 
@@ -63,33 +63,25 @@ after_inject_all fabric at (out ∷ later) =
 
 -- the managers -------------------------------------------------------------------------------------
 
--- what is done with the manager of a seat; without one nothing
+-- `run` is done with the manager of a seat; nothing if there is none
 abbrev pub at_seat : WorldValue → ℕ → (SeatedValue → Outcome WorldValue) → Outcome WorldValue
 at_seat w seat run = option_map_or run (slice_get w.managers seat) (quiet w)
 
--- the manager of a seat is another one now
+-- the world with `manager` at a seat
 abbrev pub with_manager : WorldValue → ℕ → SeatedValue → Manager → WorldValue
 with_manager w seat s manager = record w { managers = slice_set w.managers seat (record s { manager = manager }) }
 
--- a refusal is told by its line
-abbrev pub manager_line : ManagerFault → List ℕ
-manager_line fault = refusal_line (manager_fault_name fault)
-
--- a call of a manager: it is refused, or leaves this manager, and then comes what is next
+-- what a call of a manager leaves and prints: it is refused, or leaves `manager`, and then `next` follows
 abbrev pub after_manager_call : (WorldValue → Outcome WorldValue) → WorldValue → ℕ → SeatedValue → Option ManagerFault
     → Manager → Outcome WorldValue
 after_manager_call next w seat s None manager = next (with_manager w seat s manager)
 after_manager_call next w seat s (Some fault) manager = shows (manager_line fault) w
 
--- the manager of a seat is asked for something, that is refused for such a fault and leaves such a manager
+-- the manager of a seat is called: the call is refused for the fault that `fault` gives, or leaves what `after` gives
 abbrev pub after_ask : (WorldValue → Outcome WorldValue) → WorldValue → ℕ → (Manager → Option ManagerFault)
     → (Manager → Manager) → Outcome WorldValue
 after_ask next w seat fault after =
     at_seat w seat (λ s. after_manager_call next w seat s (fault s.manager) (after s.manager))
-
--- nothing is left to be sent
-abbrev pub emptied : Manager → Manager
-emptied m = record m { outgoing = [] }
 
 -- all that the manager of a seat has queued goes out
 abbrev pub after_send_by : WorldValue → ℕ → SeatedValue → Outcome WorldValue
@@ -102,7 +94,7 @@ after_send w seat = at_seat w seat (after_send_by w seat)
 -- calls --------------------------------------------------------------------------------------------
 
 -- a call on a world does what an outcome says: there are as many managers as before, it leaves the outcome's world, and
--- prints its text; where it ends early it says nothing of the world, and prints a beginning, or the output has failed
+-- prints its text; if it ends early, nothing is said of the world, and it prints a beginning, or the output has failed
 pub record Does {W : Type 0} (written : W → Option (List ℕ)) (has_failed : W → Bool) (old new : World)
     (result : Result (Unit {0}) RunFault) (sink sink' : W) (outcome : Outcome WorldValue) : Type 0 where
   pub managers : length new.managers.items ≡ length old.managers.items

@@ -1,22 +1,18 @@
 //! The commands to managers.
-ghost use Rattle.std.specs.Prelude.{◌≡◌, ◌<◌, length, IfOk, OnErr, OnOk};
-ghost use Rattle.sm_manager.specs.Manager.{outstanding};
-ghost use Rattle.schedule_world.specs.Commands.{after_ask_line, after_asked, after_floor_line, after_give_up};
-ghost use Rattle.schedule_world.specs.Commands.{after_manager_line, after_timeout_line, asked_fault};
+ghost use Rattle.std.specs.Prelude.{◌≡◌, ◌<◌, length};
+ghost use Rattle.schedule_world.specs.Commands.{after_ask_line, after_floor_line, after_give_up};
+ghost use Rattle.schedule_world.specs.Commands.{after_manager_line, after_timeout_line};
 ghost use Rattle.schedule_world.specs.World.{Does, value_of};
-ghost use Rattle.smp_bytes.specs.Judges.{JudgesButFor};
-ghost use Rattle.sm_manager.specs.Fault.{is_memory};
 
 use crate::world::World;
 use byte_io::Sink;
 use schedule_file::Ask;
-use schedule_lines::{RunFault, refuse_fabric, refuse_manager};
-use sm_manager::{Manager, ManagerFault};
+use schedule_lines::{RunFault, ask_manager, refuse_fabric, refuse_manager, waiting};
 use smp_bytes::Generation;
-use std::alloc::{AllocError, Global};
+use std::alloc::Global;
 
 impl World<'_> {
-    /// A manager comes to sit at its port.
+    /// Seats a manager at its port.
     pub(crate) fn seat<W: Sink>(&mut self, seat: usize, sink: &mut W) -> Result<(), RunFault>
         requires { seat < length self.old.managers.items }
         ensures does { Does W.written W.has_failed self.old self.new result sink.old sink.new
@@ -28,7 +24,7 @@ impl World<'_> {
         }
     }
 
-    /// A manager is asked for something. What it queues then goes out.
+    /// Asks a manager for `what`, and sends the packets that it then has queued.
     pub(crate) fn ask<W: Sink>(
         &mut self,
         seat: usize,
@@ -45,7 +41,7 @@ impl World<'_> {
         self.send(seat, sink)
     }
 
-    /// A manager forgets what is older than a generation.
+    /// Lets a manager forget what is older than `floor`.
     pub(crate) fn raise_floor(&mut self, seat: usize, floor: Generation)
         requires { seat < length self.old.managers.items }
         ensures managers { length self.new.managers.items ≡ length self.old.managers.items }
@@ -54,7 +50,8 @@ impl World<'_> {
         self.managers[seat].manager.raise_floor(floor);
     }
 
-    /// A manager waits no more for the answers that it waits for now. What that brings up goes out.
+    /// Times out all answers that a manager waits for when the call begins, and sends the packets that it then has
+    /// queued.
     pub(crate) fn time_out<W: Sink>(
         &mut self,
         alloc: Global,
@@ -72,7 +69,7 @@ impl World<'_> {
         self.send(seat, sink)
     }
 
-    /// A manager waits no more for an answer.
+    /// Times out one answer that a manager waits for.
     fn give_up<W: Sink>(
         &mut self,
         seat: usize,
@@ -88,29 +85,4 @@ impl World<'_> {
             Err(fault) => refuse_manager(sink, fault),
         }
     }
-}
-
-/// Asks a manager for something.
-fn ask_manager(manager: &mut Manager, what: Ask) -> Result<(), ManagerFault>
-    ensures judged { JudgesButFor is_memory result (asked_fault what manager.old) }
-    ensures ok { OnOk result (manager.new ≡ after_asked what manager.old) }
-    ensures err { OnErr result (manager.new ≡ manager.old) }
-{
-    match what {
-        Ask::Sweep => manager.begin_sweep(),
-        Ask::Write => manager.write_steps(),
-        Ask::Handover => manager.handover(),
-        Ask::Poll(lid) => manager.poll(lid),
-    }
-}
-
-/// The TransactionIDs of the requests for whose answers a manager waits, rising.
-fn waiting(alloc: Global, manager: &Manager) -> Result<Vec<u64>, AllocError>
-    ensures { IfOk result (λ waiting. waiting.items ≡ outstanding manager.now) }
-{
-    let mut waiting = Vec::new(alloc);
-    while let Some(transaction) = manager.outstanding(waiting.len()) {
-        waiting.push(transaction)?;
-    }
-    Ok(waiting)
 }

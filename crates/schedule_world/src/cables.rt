@@ -8,7 +8,7 @@ use fabric_model::NodePort;
 use schedule_lines::{RunFault, refuse_fabric};
 
 impl World<'_> {
-    /// The cable in a port is cut.
+    /// Cuts the cable in a port.
     #[tactic(auto, unfolding(crate::specs::Commands::after_cut_line))]
     pub(crate) fn cut<W: Sink>(&mut self, port: NodePort, sink: &mut W) -> Result<(), RunFault>
         ensures does { Does W.written W.has_failed self.old self.new result sink.old sink.new
@@ -20,7 +20,7 @@ impl World<'_> {
         }
     }
 
-    /// A cable is plugged into two ports.
+    /// Plugs a cable into two ports.
     pub(crate) fn plug<W: Sink>(
         &mut self,
         one: NodePort,

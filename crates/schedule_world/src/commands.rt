@@ -13,10 +13,13 @@ use schedule_lines::{RunFault, show_tables};
 use std::alloc::Global;
 use topo_file::Topology;
 
-/// Runs the commands of a schedule in the fabric of its topology, with managers that plan so, and flushes.
+/// Runs the commands of a schedule in the fabric of its topology, with managers that plan by `planning`, and flushes.
 ///
-/// A call that the fabric or a manager refuses is told by a line, and the run goes on. It ends where memory is refused,
-/// and has printed a beginning of its text then, or where the output fails.
+/// If the fabric or a manager refuses a call, prints a line and goes on.
+///
+/// # Errors
+///
+/// `Memory`: a beginning of the text was printed. `Write`: the output failed.
 pub fn run_commands<W: Sink>(
     alloc: Global,
     topology: &Topology,
@@ -39,7 +42,7 @@ pub fn run_commands<W: Sink>(
 }
 
 impl World<'_> {
-    /// Does what a command says.
+    /// Performs a command.
     fn execute<W: Sink>(
         &mut self,
         alloc: Global,

@@ -13,7 +13,7 @@ use schedule_file::{Fate, Which};
 use schedule_lines::{RunFault, refuse_fabric, refuse_manager};
 
 impl World<'_> {
-    /// A packet in flight meets its fate.
+    /// Lets a packet in flight meet its fate.
     #[tactic(auto, unfolding(crate::specs::Commands::after_packet_line))]
     pub(crate) fn handle_packet<W: Sink>(
         &mut self,
@@ -34,7 +34,7 @@ impl World<'_> {
         }
     }
 
-    /// A packet in flight is lost.
+    /// Loses a packet in flight.
     fn lose<W: Sink>(&mut self, serial: u64, sink: &mut W) -> Result<(), RunFault>
         ensures does { Does W.written W.has_failed self.old self.new result sink.old sink.new
             (after_fate (value_of self.old) Fate.Lose serial) }
@@ -45,7 +45,7 @@ impl World<'_> {
         }
     }
 
-    /// A packet in flight is there once more.
+    /// Copies a packet in flight.
     fn repeat<W: Sink>(&mut self, serial: u64, sink: &mut W) -> Result<(), RunFault>
         ensures does { Does W.written W.has_failed self.old self.new result sink.old sink.new
             (after_fate (value_of self.old) Fate.Repeat serial) }
@@ -56,7 +56,7 @@ impl World<'_> {
         }
     }
 
-    /// The packet of the least serial number takes a step, at most so many times.
+    /// Performs a step of the packet with the least serial number, at most `most` times.
     pub(crate) fn drain<W: Sink>(&mut self, most: u32, sink: &mut W) -> Result<(), RunFault>
         ensures does { Does W.written W.has_failed self.old self.new result sink.old sink.new
             (after_drain_line (value_of self.old) most) }
@@ -71,8 +71,8 @@ impl World<'_> {
         Ok(())
     }
 
-    /// The packet with a serial number takes one step. What comes to a manager is taken in by it, and what it
-    /// queues then goes out.
+    /// Performs one step of the packet with this serial number. If it comes to a manager, the manager takes it in, and
+    /// what it then has queued is sent.
     #[tactic(auto, using(schedule_lines::proofs::Printing::prints_then), unfolding(crate::specs::Commands::after_step))]
     fn deliver<W: Sink>(&mut self, serial: u64, sink: &mut W) -> Result<(), RunFault>
         ensures does { Does W.written W.has_failed self.old self.new result sink.old sink.new
@@ -85,8 +85,8 @@ impl World<'_> {
         }
     }
 
-    /// The manager at a port takes a packet in, and what it queues then goes out. Where none sits
-    /// the packet is dropped.
+    /// Hands a packet to the manager at `port`, and sends what the manager then has queued. Drops the packet if no
+    /// manager sits there.
     #[tactic(auto, unfolding(crate::specs::Commands::after_hand_up))]
     fn hand_up<W: Sink>(
         &mut self,
@@ -104,7 +104,7 @@ impl World<'_> {
         self.send(seat, sink)
     }
 
-    /// A manager takes a packet in.
+    /// Hands a packet to a manager.
     fn take_in<W: Sink>(
         &mut self,
         seat: usize,
@@ -123,8 +123,7 @@ impl World<'_> {
     }
 }
 
-/// The serial number of the packet that a command is about; there is no last one where none is in
-/// flight.
+/// Returns the serial number of the packet that a command is about. There is no last packet if none is in flight.
 fn serial(fabric: &Fabric, which: Which) -> Option<u64>
     ensures { result ≡ serial_of fabric.now.flights which }
 {

@@ -1,21 +1,13 @@
 ghost use Rattle.std.specs.Prelude.{◌<◌, length};
-ghost use Rattle.fact_store.specs.View.{cells_of};
-ghost use Rattle.sm_manager.specs.Plans.{plan_fault};
-ghost use Rattle.schedule_world.specs.Commands.{flights_text, ping_shown, plan_or_refusal, shown_of, text_of};
+ghost use Rattle.schedule_world.specs.Commands.{flights_text, ping_shown, shown_of};
 ghost use Rattle.schedule_lines.specs.Prints.{PrintsUnless};
-ghost use Rattle.schedule_world.specs.World.{seated_value, value_of};
+ghost use Rattle.schedule_world.specs.World.{value_of};
 
-use crate::world::{Seated, World};
+use crate::world::World;
 use byte_io::Sink;
 use fabric_model::NodePort;
-use lft_blocks::write_plan;
-use record_file::write_facts;
 use schedule_file::Shown;
-use schedule_lines::{
-    RunFault, refuse_fabric, refuse_manager, write_flight, write_ping, write_progress,
-    write_silent, write_state, write_written,
-};
-use sm_manager::Manager;
+use schedule_lines::{RunFault, refuse_fabric, show_manager, write_flight, write_ping};
 use smp_bytes::Lid;
 use topo_file::Topology;
 
@@ -31,10 +23,11 @@ impl World<'_> {
         ensures prints { PrintsUnless W.written W.has_failed result sink.old sink.new
             (shown_of (value_of self.now) seat what) }
     {
-        self.managers[seat].show(what, sink)
+        let seated = &self.managers[seat];
+        show_manager(sink, Some(seated.seat.name.as_str()), &seated.manager, what)
     }
 
-    /// Prints where a packet comes to that is sent from a port to a LID.
+    /// Prints where a packet ends that is sent from the port `from` to `lid`.
     #[tactic(auto, using(schedule_lines::proofs::Printing::wrote), unfolding(crate::specs::Commands::ping_shown))]
     pub(crate) fn show_ping<W: Sink>(
         &self,
@@ -74,48 +67,5 @@ impl World<'_> {
             )?;
         }
         Ok(())
-    }
-}
-
-impl Seated<'_> {
-    /// Prints something of the manager.
-    #[tactic(auto, using(schedule_lines::proofs::Printing::wrote))]
-    fn show<W: Sink>(&self, what: Shown, sink: &mut W) -> Result<(), RunFault>
-        ensures prints { PrintsUnless W.written W.has_failed result sink.old sink.new
-            (text_of what (seated_value self.now)) }
-    {
-        match what {
-            Shown::Facts => write_facts(sink, self.manager.store())?,
-            Shown::Plan => return show_plan(sink, &self.manager),
-            Shown::Progress => {
-                write_progress(sink, self.seat.name.as_str(), self.manager.progress())?
-            }
-            Shown::Silent => write_silent(
-                sink,
-                self.seat.name.as_str(),
-                self.manager.silent_managers(),
-            )?,
-            Shown::Written => {
-                write_written(sink, self.seat.name.as_str(), self.manager.written())?
-            }
-            Shown::State => write_state(sink, self.seat.name.as_str(), self.manager.state())?,
-        }
-        Ok(())
-    }
-}
-
-/// Prints a manager's plan, or why there is none.
-#[tactic(auto, using(schedule_lines::proofs::Printing::wrote))]
-fn show_plan<W: Sink>(sink: &mut W, manager: &Manager) -> Result<(), RunFault>
-    ensures prints { PrintsUnless W.written W.has_failed result sink.old sink.new
-        (plan_or_refusal manager.now.planning (cells_of manager.now.store)
-        (plan_fault manager.now.planning.lmc (cells_of manager.now.store))) }
-{
-    match manager.plan() {
-        Ok(plan) => {
-            write_plan(sink, &plan)?;
-            Ok(())
-        }
-        Err(fault) => refuse_manager(sink, fault),
     }
 }

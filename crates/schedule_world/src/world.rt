@@ -6,7 +6,8 @@ ghost use Rattle.fabric_sim.specs.Changes.{after_inject};
 ghost use Rattle.schedule_world.specs.Commands.{seat_at, world_of};
 ghost use Rattle.schedule_world.specs.Flights.{packet_out};
 ghost use Rattle.schedule_lines.specs.Prints.{PrintsUnless};
-ghost use Rattle.schedule_world.specs.World.{after_fabric, emptied, after_send, after_inject_all, value_of, Does};
+ghost use Rattle.schedule_lines.specs.Asked.{emptied};
+ghost use Rattle.schedule_world.specs.World.{after_fabric, after_send, after_inject_all, value_of, Does};
 
 use byte_io::Sink;
 use fabric_model::NodePort;
@@ -19,7 +20,7 @@ use smp_bytes::{Guid, Lid};
 use std::alloc::{AllocError, Global};
 use topo_file::Topology;
 
-/// The serial number of the packet that is sent first.
+/// The serial number of the first packet that is sent.
 const FIRST_SERIAL: u64 = 1;
 
 /// The LID of both ends of a directed packet.
@@ -36,13 +37,13 @@ pub(crate) struct Seated<'s> {
 #[derive(Drop)]
 pub(crate) struct World<'s> {
     pub(crate) fabric: Fabric,
-    /// In the order of their seats. Before its line is run a manager does nothing, and its port is
-    /// no seat of the fabric.
+    /// The managers, in the order of their seats. Before its line is run a manager does nothing, and its port is no
+    /// seat of the fabric.
     pub(crate) managers: Vec<Seated<'s>>,
 }
 
 impl<'s> World<'s> {
-    /// The fabric of a topology, and a manager for each seat, which plans by an LMC.
+    /// Builds the fabric of a topology, and a manager for each seat, which plans by `planning`.
     pub(crate) fn of(
         alloc: Global,
         topology: &Topology,
@@ -63,7 +64,7 @@ impl<'s> World<'s> {
         Ok(World { fabric, managers })
     }
 
-    /// All that a manager has queued goes out.
+    /// Sends all that a manager has queued.
     #[tactic(auto, using(crate::proofs::Seats::sits), unfolding(crate::specs::World::after_send))]
     pub(crate) fn send<W: Sink>(&mut self, seat: usize, sink: &mut W) -> Result<(), RunFault>
         requires { seat < length self.old.managers.items }
@@ -74,7 +75,7 @@ impl<'s> World<'s> {
         send_outgoing(&mut self.fabric, &seat.at, manager, sink)
     }
 
-    /// The manager that sits at a port.
+    /// Returns the manager that sits at a port.
     pub(crate) fn manager_at(&self, port: &NodePort) -> Option<usize>
         ensures seat { result ≡ seat_at (value_of self.now) port.now }
         ensures within { IfSome result (λ seat. seat < length self.now.managers.items) }
@@ -91,7 +92,7 @@ impl<'s> World<'s> {
     }
 }
 
-/// All that a manager at a port has queued goes out, in its order.
+/// Sends all that a manager at the port `from` has queued, in order.
 fn send_outgoing<W: Sink>(
     fabric: &mut Fabric,
     from: &NodePort,
@@ -109,7 +110,7 @@ fn send_outgoing<W: Sink>(
     Ok(())
 }
 
-/// A packet goes out from a port.
+/// Sends a packet from a port.
 fn send_one<W: Sink>(
     fabric: &mut Fabric,
     from: &NodePort,
@@ -127,7 +128,7 @@ fn send_one<W: Sink>(
     }
 }
 
-/// The packet that a manager sends.
+/// Returns the packet that a manager sends.
 fn packet(outgoing: &Outgoing) -> Packet
     ensures { result ≡ packet_out outgoing.now }
 {
@@ -139,7 +140,7 @@ fn packet(outgoing: &Outgoing) -> Packet
     }
 }
 
-/// The GUID of an adapter's port.
+/// Returns the GUID of an adapter's port.
 #[tactic(auto, using(crate::proofs::Ports::guid_fits))]
 fn port_guid(topology: &Topology, port: &NodePort) -> Guid
     requires { is_seat topology.now.nodes port.now ≡ true }

@@ -1,18 +1,19 @@
--- What a run over files is asked for: by which rule of routing, and how many texts are read for it before all others.
+-- What is asked for in a run over files: the rule of routing, and the number of texts that are read for it first.
 use Rattle.std.specs.Prelude.{ℕ}
 use Rattle.sm_cli.specs.declared.asked.RuleAsked.{RuleAsked}
-use Rattle.sm_cli.specs.declared.asked.RuleAsked.TheVariants.{UpDown, Spread, SpreadFromRoots, SpreadInOrder}
+use Rattle.sm_cli.specs.declared.asked.RuleAsked.TheVariants.{UpDown, Spread, SpreadFromRoots, SpreadInOrder, Balance}
 use Rattle.sm_cli.specs.declared.asked.Output.{Output}
 use Rattle.sm_cli.specs.declared.asked.Output.TheVariants.{Facts, Join, Plan, Order}
 
--- the text of roots or of an order, where one names them
+-- the number of texts that a rule takes: 1 if a text names its roots or its order
 abbrev pub texts_for : RuleAsked → ℕ
 texts_for UpDown = 0
 texts_for Spread = 0
 texts_for SpreadFromRoots = 1
 texts_for SpreadInOrder = 1
+texts_for Balance = 0
 
--- the rule of a plan or of an order; of what goes by none, one that takes no text
+-- the rule of a plan or of an order; if the output needs none, one that takes no text
 abbrev pub rule_for : Output → RuleAsked
 rule_for Facts = UpDown
 rule_for Join = UpDown

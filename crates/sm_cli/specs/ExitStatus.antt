@@ -17,7 +17,7 @@ code_of Refused = 3
 code_of InputOutput = 4
 code_of Memory = 5
 
--- a file that is not as it must be is refused
+-- the exit status for the fault of a file: a file that is not as it must be is refused
 abbrev pub file_status : FileFault → ExitStatus
 file_status Magic = Refused
 file_status (Truncated offset) = Refused
@@ -29,7 +29,7 @@ file_status NoMemoryForFile = Memory
 file_status TooLong = Refused
 file_status BadFloor = Refused
 
--- what a fault ends the program with
+-- the exit status for a fault
 abbrev pub status_of : Fault → ExitStatus
 status_of (Open input) = InputOutput
 status_of (File input fault) = file_status fault

@@ -1,4 +1,4 @@
--- What is said of a fault.
+-- What the program says of a fault.
 use Rattle.std.specs.Prelude.{ℕ, List, [], ◌++◌, Option, None, Some, codes, decimal, if◌then◌else◌}
 use Rattle.reply_facts.specs.declared.report_fault.ReportFault.{ReportFault}
 use Rattle.reply_facts.specs.ReportFault.{report_fault_name}
@@ -10,7 +10,7 @@ use Rattle.sm_cli.specs.declared.fault.Fault.TheVariants.{Open, File, Text, NoRo
 use Rattle.sm_cli.specs.declared.text_fault.TextFault.{TextFault}
 use Rattle.sm_cli.specs.TextFault.{is_of_text, said_of_text}
 
--- the name of a file, before what is said of it
+-- the name of a file, in front of what is said of it
 abbrev pub name_text : List ℕ → List ℕ
 name_text name = name ++ codes ": "
 
@@ -23,32 +23,32 @@ abbrev pub number_text : Option ℕ → List ℕ
 number_text None = []
 number_text (Some number) = decimal number
 
--- the name of what is wrong with a report, if that is what is wrong
+-- the name of the report's fault, if there is one
 abbrev pub cause_text : Option ReportFault → List ℕ
 cause_text None = []
 cause_text (Some fault) = codes ": " ++ report_fault_name fault
 
--- what is said of a fault, apart from whose it is
+-- what is said of a fault, without the file's name
 abbrev pub words_of : FileFault → List ℕ
 words_of fault = fault_words fault ++ number_text (fault_number fault) ++ cause_text (fault_of_report fault)
 
--- what is said of the file with this name; out of memory is not the file's
+-- what is said of the file `name`; lack of memory is not the file's fault
 abbrev pub file_fault_text : List ℕ → FileFault → List ℕ
 file_fault_text name fault = if is_of_file fault then named_text name (words_of fault) else words_of fault
 
--- the same of the text with this name
+-- what is said of the text `name`; lack of memory is not the text's fault
 abbrev pub text_fault_text : List ℕ → TextFault → List ℕ
 text_fault_text name fault = if is_of_text fault then named_text name (said_of_text fault) else said_of_text fault
 
--- how many end ports there are
+-- the number of end ports
 abbrev pub count_text : ℕ → List ℕ
 count_text endports = decimal endports ++ codes " end ports"
 
--- how many end ports there are, and how much room for them
+-- the number of end ports, and the room for their LIDs
 abbrev pub no_room_text : Lack → List ℕ
 no_room_text why = codes "no room: " ++ count_text why.endports ++ codes ", room " ++ decimal why.room
 
--- what is said of a run that ends with the fault, where that is the name of the file that it speaks of
+-- what is said of a run that ends with the fault; `name` is that of the file that it concerns
 abbrev pub fault_text : List ℕ → Fault → List ℕ
 fault_text name (Open input) = named_text name (codes "cannot open")
 fault_text name (File input fault) = file_fault_text name fault
@@ -57,6 +57,6 @@ fault_text name (NoRoom why) = no_room_text why
 fault_text name Write = codes "write failed"
 fault_text name Memory = codes "out of memory"
 
--- a line of the program's own
+-- a line that begins with the program's name
 abbrev pub program_line : List ℕ → List ℕ
 program_line text = codes "ibsm: " ++ text ++ codes "\n"

@@ -12,28 +12,28 @@ use Rattle.record_file.specs.declared.file_fault.FileFault.TheVariants.{Read, Me
 use Rattle.sm_cli.specs.declared.fault.Fault.{Fault}
 use Rattle.sm_cli.specs.declared.fault.Fault.TheVariants.{File}
 
--- the greatest of a floor and those that the files tell
+-- the greatest of `floor` and the floors of the files
 abbrev pub floor_among : ℕ → List (List ℕ) → ℕ
 floor_among floor files = fold max floor (map floor_in files)
 
--- what all records of all files say together at the greatest of a floor and theirs
+-- what all records of all files say together, at the greatest of `floor` and their floors
 abbrev pub facts_of : ℕ → List (List ℕ) → Facts
 facts_of floor files = view_at (floor_among floor files) (flat_map kept files)
 
--- the source was read to its end: this was its file, which is accepted
+-- the source was read to its end: its bytes are `file`, which is accepted
 pub record IsReadAs {S : Type 0} (state : S → SourceState) (old new : S) (file : List ℕ) : Type 0 where
   pub consumed : Consumes (state old).left (state new).left file
   pub at_end : IsAtEnd (state new).left
   pub accepted : outcome file ≡ Ok tt
   pub works : (state new).has_failed ≡ false
 
--- a source was read to its end, and what its file says was merged into the facts
+-- the source was read to its end, and what its file says was merged into the facts
 pub record ReadsInto {S : Type 0} (state : S → SourceState) (old new : S) (facts facts' : Facts) : Type 0 where
   pub file : List ℕ
   pub read : IsReadAs state old new file
   pub merged : facts' ≡ merge facts (facts_in file)
 
--- the one of the sources at an input was read
+-- the source at `input` was read as `file`
 pub record IsReadAt {S : Type 0} (state : S → SourceState) (olds news : List S) (input : ℕ)
     (file : List ℕ) : Type 0 where
   pub old : S
@@ -42,12 +42,12 @@ pub record IsReadAt {S : Type 0} (state : S → SourceState) (olds news : List S
   pub there_after : slice_get news input ≡ Some new
   pub read : IsReadAs state old new file
 
--- so were the first of the sources, one for each of the files
+-- the first sources were read, one for each of `files`
 abbrev pub AreReadAs : {S : Type 0} → (S → SourceState) → List S → List S → List (List ℕ) → Type 0
 AreReadAs state olds news files =
     (input : ℕ) (file : List ℕ) → slice_get files input ≡ Some file → IsReadAt state olds news input file
 
--- all sources were read, and this is what their files say
+-- all sources were read, and `facts` is what their files say
 pub record HasRead {S : Type 0} (state : S → SourceState) (floor : ℕ) (olds news : List S)
     (facts : Facts) : Type 0 where
   pub files : List (List ℕ)
@@ -55,8 +55,8 @@ pub record HasRead {S : Type 0} (state : S → SourceState) (floor : ℕ) (olds 
   pub read : AreReadAs state olds news files
   pub told : facts ≡ facts_of floor files
 
--- reading the source ended with this fault: it is that of the bytes that were taken, or a read or a growth failed
--- before any
+-- reading the source ended with `fault`: it is the fault of the bytes taken, or a read or an allocation failed before
+-- any
 pub record Refuses {S : Type 0} (state : S → SourceState) (old new : S) (fault : FileFault) : Type 0 where
   pub taken : List ℕ
   pub consumed : Consumes (state old).left (state new).left taken
@@ -68,7 +68,7 @@ pub record Refuses {S : Type 0} (state : S → SourceState) (old new : S) (fault
   pub read : (fault ≡ Read) ↔ IsTrue (state new).has_failed
   pub known : AnswersKnown state (Err fault) old new
 
--- the sources before an input were read, and reading the one there ends with this fault
+-- the sources before `input` were read, and reading the one there ends with `fault`
 pub record RefusesFile {S : Type 0} (state : S → SourceState) (olds news : List S) (input : ℕ)
     (fault : FileFault) : Type 0 where
   pub files : List (List ℕ)
@@ -80,7 +80,7 @@ pub record RefusesFile {S : Type 0} (state : S → SourceState) (olds news : Lis
   pub there_after : slice_get news input ≡ Some new
   pub refuses : Refuses state old new fault
 
--- a file is refused, and the fault is that of its input: so many come before the files
+-- a file is refused; `fault` is that of `input`, if `before` inputs precede the files
 pub record IsRefusedAt {S : Type 0} (state : S → SourceState) (before : ℕ) (olds news : List S)
     (input : ℕ) (fault : FileFault) : Type 0 where
   pub index : ℕ

@@ -1,4 +1,4 @@
--- What reads the inputs of a run: files, or a text of tables and files behind it.
+-- Readers of the inputs of a run: of files, or of a text of tables and the files behind it.
 use Rattle.std.specs.Prelude.{ℕ}
 use Rattle.byte_io.specs.Source.{SourceState}
 use Rattle.fact_store.specs.View.{Facts, cells_of}
@@ -8,7 +8,7 @@ use Rattle.sm_cli.specs.InputTables.{AreNoTablesAndFiles, AreTablesAndFiles}
 use Rattle.sm_cli.specs.Inputs.{Reader}
 use Rattle.sm_cli.specs.declared.input_tables.TablesAndFacts.{TablesAndFacts}
 
--- files, from a floor on
+-- a reader of files, from `floor` on
 abbrev pub files_reader : {S : Type 0} → (S → SourceState) → ℕ → Reader S Facts
 files_reader state floor = record {
   reads = HasRead state floor;
@@ -16,7 +16,7 @@ files_reader state floor = record {
   has_switch = λ facts. is_usable (cells_of facts);
 }
 
--- a text of tables and then files, from a floor on
+-- a reader of a text of tables and then files, from `floor` on
 abbrev pub tables_reader : {S : Type 0} → (S → SourceState) → ℕ → Reader S TablesAndFacts
 tables_reader state floor = record {
   reads = AreTablesAndFiles state floor;

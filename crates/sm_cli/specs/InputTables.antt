@@ -1,4 +1,4 @@
--- The text of tables that switches hold: it is read whole, and then judged; and files behind it.
+-- The text of tables that switches hold, which is read whole and then judged, and the files behind it.
 use Rattle.std.specs.Prelude.{◌≡◌, ◌⊎◌, ◌+◌, ℕ, List, None, Some}
 use Rattle.byte_io.specs.Source.{SourceState}
 use Rattle.record_file.specs.Whole.{IsReadWhole, FailsToRead}
@@ -14,18 +14,18 @@ use Rattle.sm_cli.specs.declared.input_tables.TablesAndFacts.{TablesAndFacts}
 use Rattle.sm_cli.specs.InputFiles.{HasRead, IsRefusedFile}
 use Rattle.sm_cli.specs.Sources.{IsOneRead, Parts}
 
--- the source was read to its end, and its text has no fault and says these tables
+-- the source was read to its end, and its text has no fault and says `held`
 pub record IsTables {S : Type 0} (state : S → SourceState) (old new : S) (held : HeldPlan) : Type 0 where
   pub text : List ℕ
   pub read : IsReadWhole state old new text
   pub sound : first_fault text ≡ None
   pub told : held ≡ held_of text
 
--- the one of these sources was read so
+-- there is one source, and it was read as `held`
 abbrev pub AreTables : {S : Type 0} → (S → SourceState) → List S → List S → HeldPlan → Type 0
 AreTables state olds news held = IsOneRead olds news (λ old new. IsTables state old new held)
 
--- the text's first fault; or it has none, and memory was refused
+-- the fault is the text's first one; or the text has none, and memory was refused
 abbrev pub IsFaultOfText : List ℕ → TablesFault → Type 0
 IsFaultOfText text (wrong.Line fault) = first_fault text ≡ Some fault
 IsFaultOfText text wrong.Memory = first_fault text ≡ None
@@ -40,7 +40,7 @@ abbrev pub IsTextRefused : {S : Type 0} → (S → SourceState) → S → S → 
 IsTextRefused state old new (texts.Tables fault) = RefusesTables state old new fault
 IsTextRefused state old new fault = ⊥
 
--- why the tables are not read, which are at this input
+-- why the tables in the input `at` are not read
 abbrev pub IsTablesFault : {S : Type 0} → (S → SourceState) → ℕ → S → S → Fault → Type 0
 IsTablesFault state at old new (File input fault) =
     (input ≡ at) × FailsToRead state old new fault
@@ -48,7 +48,7 @@ IsTablesFault state at old new (Text input fault) =
     (input ≡ at) × IsTextRefused state old new fault
 IsTablesFault state at old new fault = ⊥
 
--- the one of these sources is not read so
+-- there is one source, and its tables are not read
 abbrev pub AreNoTables : {S : Type 0} → (S → SourceState) → ℕ → List S → List S → Fault
     → Type 0
 AreNoTables state at olds news fault =
@@ -56,7 +56,7 @@ AreNoTables state at olds news fault =
 
 -- files ------------------------------------------------------------------------------------------
 
--- the tables and then the files were read, and say this
+-- the tables and then the files were read, and say `told`
 pub record AreTablesAndFiles {S : Type 0} (state : S → SourceState) (floor : ℕ) (olds news : List S)
     (told : TablesAndFacts) : Type 0 where
   pub were : Parts olds
@@ -64,7 +64,7 @@ pub record AreTablesAndFiles {S : Type 0} (state : S → SourceState) (floor : �
   pub tables_read : AreTables state were.first are.first told.held
   pub files_read : HasRead state floor were.others are.others told.store
 
--- the tables are refused, at an input, and no file was touched
+-- the tables, the input `at`, are refused, and no file was touched
 pub record StopsAtTables {S : Type 0} (state : S → SourceState) (at : ℕ) (olds news : List S) (fault : Fault) :
     Type 0 where
   pub were : Parts olds
@@ -72,7 +72,7 @@ pub record StopsAtTables {S : Type 0} (state : S → SourceState) (at : ℕ) (ol
   pub why : AreNoTables state at were.first are.first fault
   pub untouched : are.others ≡ were.others
 
--- they were read, and a file behind them is refused
+-- the tables were read, and a file behind them is refused
 pub record StopsAtFiles {S : Type 0} (state : S → SourceState) (at : ℕ) (olds news : List S) (fault : Fault) :
     Type 0 where
   pub were : Parts olds
@@ -81,7 +81,7 @@ pub record StopsAtFiles {S : Type 0} (state : S → SourceState) (at : ℕ) (old
   pub tables_read : AreTables state were.first are.first held
   pub why : IsRefusedFile state (at + 1) were.others are.others fault
 
--- why tables at an input and the files behind them are not read
+-- why the tables in the input `at`, or the files behind them, are not read
 abbrev pub AreNoTablesAndFiles : {S : Type 0} → (S → SourceState) → ℕ → List S → List S → Fault → Type 0
 AreNoTablesAndFiles state at olds news fault =
     StopsAtTables state at olds news fault ⊎ StopsAtFiles state at olds news fault

@@ -1,5 +1,5 @@
--- The inputs of a run: the text of roots or of an order is read where a rule is asked for with one, then what stands
--- behind it, and the roots are judged once the switches are known.
+-- The inputs of a run: the text of roots or of an order is read if the rule takes one, then the inputs behind it; the
+-- roots are judged once the switches are known.
 use Rattle.std.specs.Prelude.{◌≡◌, ◌⊎◌, ℕ, Bool, List, [], ◌∷◌, Option, None, Some, Ok, Err, find, not, option_map}
 use Rattle.byte_io.specs.Source.{SourceState}
 use Rattle.record_file.specs.Whole.{IsReadWhole, FailsToRead}
@@ -7,11 +7,11 @@ use Rattle.roots_file.specs.Reading.{roots_of}
 use Rattle.roots_file.specs.RootsTextFault.{RootsTextFault as RootsFault}
 use Rattle.text_words.specs.declared.fault.LinesFault.TheVariants as wrong
 use Rattle.lft_blocks.specs.Rules.{RuleValue, spread_in, up_and_down}
-use Rattle.spread_routes.specs.SwitchOrders.{OrderValue, as_named, from_roots}
+use Rattle.spread_routes.specs.SwitchOrders.{OrderValue, as_named, from_roots, least_loaded}
 use Rattle.sm_cli.specs.Asked.{texts_for}
 use Rattle.sm_cli.specs.Sources.{IsOneRead, Parts}
 use Rattle.sm_cli.specs.declared.asked.RuleAsked.{RuleAsked}
-use Rattle.sm_cli.specs.declared.asked.RuleAsked.TheVariants.{UpDown, Spread, SpreadFromRoots, SpreadInOrder}
+use Rattle.sm_cli.specs.declared.asked.RuleAsked.TheVariants.{UpDown, Spread, SpreadFromRoots, SpreadInOrder, Balance}
 use Rattle.sm_cli.specs.declared.fault.Fault.{Fault}
 use Rattle.sm_cli.specs.declared.fault.Fault.TheVariants.{File, Text}
 use Rattle.sm_cli.specs.declared.text_fault.TextFault.{TextFault}
@@ -19,42 +19,43 @@ use Rattle.sm_cli.specs.declared.text_fault.TextFault.TheVariants as texts
 
 -- judging ---------------------------------------------------------------------------------------
 
--- the first root that is no usable switch, by what says which GUIDs are some
+-- the first root that is not a usable switch; `usable` says which GUIDs are
 abbrev pub first_unusable : (ℕ → Bool) → List ℕ → Option ℕ
 first_unusable usable roots = find (λ root. not (usable root)) roots
 
--- why no plan goes by roots of which this is the first that is no usable switch, if so: there is no root, or there is
--- that one
+-- why no plan can be made from the roots, if so: there is none, or `unusable` is the first that is not a usable switch
 abbrev pub fault_of_first : List ℕ → Option ℕ → Option TextFault
 fault_of_first [] unusable = Some texts.NoRoot
 fault_of_first (root ∷ roots) unusable = option_map texts.NoSwitch unusable
 
--- why no plan goes by some roots, if so: there is none, or one is no usable switch
+-- why no plan can be made from the roots, if so: there is none, or one is not a usable switch
 abbrev pub roots_fault : (ℕ → Bool) → List ℕ → Option TextFault
 roots_fault usable roots = fault_of_first roots (first_unusable usable roots)
 
--- why no plan goes by an order: its roots; one in which switches are named goes whatever they are
+-- why no plan can be made by an order, if so: only its roots can be at fault
 abbrev pub order_fault : (ℕ → Bool) → OrderValue → Option TextFault
 order_fault usable (from_roots roots) = roots_fault usable roots
 order_fault usable (as_named switches) = None
+order_fault usable least_loaded = None
 
--- why no plan goes by the rule that was asked for: its roots, where a text names them
+-- why no plan can be made by the rule that was asked for, if so: only roots that a text names can be at fault
 abbrev pub rule_fault : (ℕ → Bool) → RuleAsked → RuleValue → Option TextFault
 rule_fault usable UpDown rule = None
 rule_fault usable Spread rule = None
 rule_fault usable SpreadFromRoots up_and_down = None
 rule_fault usable SpreadFromRoots (spread_in order) = order_fault usable order
 rule_fault usable SpreadInOrder rule = None
+rule_fault usable Balance rule = None
 
 -- rules ------------------------------------------------------------------------------------------
 
--- the source was read to its end, and its text has no fault and names these switches
+-- the source was read to its end, and its text has no fault and names the switches `roots`
 pub record IsRoots {S : Type 0} (state : S → SourceState) (old new : S) (roots : List ℕ) : Type 0 where
   pub text : List ℕ
   pub read : IsReadWhole state old new text
   pub told : roots_of text ≡ Ok roots
 
--- the text's first fault; or it has none, and memory was refused
+-- the fault is the text's first one; or the text has none, and memory was refused
 abbrev pub IsFaultOfText : List ℕ → RootsFault → Type 0
 IsFaultOfText text (wrong.Line fault) = roots_of text ≡ Err fault
 IsFaultOfText text wrong.Memory = (roots : List ℕ) × (roots_of text ≡ Ok roots)
@@ -69,7 +70,7 @@ abbrev pub IsTextRefused : {S : Type 0} → (S → SourceState) → S → S → 
 IsTextRefused state old new (texts.Roots fault) = RefusesRootsText state old new fault
 IsTextRefused state old new fault = ⊥
 
--- why they are not read: of the first of the files that are named
+-- why the text of roots or of an order, input 0, is not read
 abbrev pub IsRootsFault : {S : Type 0} → (S → SourceState) → S → S → Fault → Type 0
 IsRootsFault state old new (File input fault) =
     (input ≡ 0) × FailsToRead state old new fault
@@ -77,22 +78,23 @@ IsRootsFault state old new (Text input fault) =
     (input ≡ 0) × IsTextRefused state old new fault
 IsRootsFault state old new fault = ⊥
 
--- the text that a rule is asked for by was read, and the order grows by the GUIDs that it names
+-- the text that the rule takes was read, and the order grows by the GUIDs that it names
 pub record IsOrderRead {S : Type 0} (state : S → SourceState) (grows : List ℕ → OrderValue) (olds news : List S)
     (rule : RuleValue) : Type 0 where
   pub guids : List ℕ
   pub read : IsOneRead olds news (λ old new. IsRoots state old new guids)
   pub is : rule ≡ spread_in (grows guids)
 
--- this is the rule, and what it takes was read: a text where roots or an order are named, else nothing
+-- `rule` is the rule, and what it takes was read: a text if roots or an order are named, else nothing
 abbrev pub IsRuleRead : {S : Type 0} → (S → SourceState) → RuleAsked → List S → List S → RuleValue
     → Type 0
 IsRuleRead state UpDown olds news rule = (news ≡ olds) × (rule ≡ up_and_down)
 IsRuleRead state Spread olds news rule = (news ≡ olds) × (rule ≡ spread_in (from_roots []))
 IsRuleRead state SpreadFromRoots olds news rule = IsOrderRead state from_roots olds news rule
 IsRuleRead state SpreadInOrder olds news rule = IsOrderRead state as_named olds news rule
+IsRuleRead state Balance olds news rule = (news ≡ olds) × (rule ≡ spread_in least_loaded)
 
--- why there is no such rule: the text is not read
+-- why the rule is not read: its text is not
 abbrev pub IsRuleFault : {S : Type 0} → (S → SourceState) → RuleAsked → List S → List S
     → Fault → Type 0
 IsRuleFault state UpDown olds news fault = ⊥
@@ -101,30 +103,31 @@ IsRuleFault state SpreadFromRoots olds news fault =
     IsOneRead olds news (λ old new. IsRootsFault state old new fault)
 IsRuleFault state SpreadInOrder olds news fault =
     IsOneRead olds news (λ old new. IsRootsFault state old new fault)
+IsRuleFault state Balance olds news fault = ⊥
 
 -- inputs ----------------------------------------------------------------------------------------
 
--- how inputs behind the text that a rule takes are read: to what they tell, or to a fault, where so many inputs come
--- before them; and which GUIDs are those of usable switches, by what they tell
+-- how the inputs behind the text that a rule takes are read: to what they say, or to a fault if some number of inputs
+-- precedes them; and which GUIDs, by what they say, are those of usable switches
 pub record Reader (S T : Type 0) : Type 1 where
   pub reads : List S → List S → T → Type 0
   pub refuses : ℕ → List S → List S → Fault → Type 0
   pub has_switch : T → ℕ → Bool
 
 module _ {S T : Type 0} (state : S → SourceState) (reader : Reader S T) (asked : RuleAsked) (olds news : List S) where
-  -- the inputs were read, the text that the rule takes first: this is the rule, and this is what the others tell
+  -- the inputs were read, the text that the rule takes first: `rule` is the rule, and `told` what the others say
   pub record AreRead (rule : RuleValue) (told : T) : Type 0 where
     pub were : Parts olds
     pub are : Parts news
     pub rule_read : IsRuleRead state asked were.first are.first rule
     pub others_read : reader.reads were.others are.others told
 
-  -- so they were, and each root that was asked for is a usable switch
+  -- the inputs were read, and each root that was asked for is a usable switch
   pub record AreInputs (rule : RuleValue) (told : T) : Type 0 where
     pub read : AreRead rule told
     pub sound : rule_fault (reader.has_switch told) asked rule ≡ None
 
-  -- and this holds of the rule and of what they tell
+  -- the inputs were read, each root is a usable switch, and `holds` holds of the rule and of what the inputs say
   pub record WithInputs (holds : RuleValue → T → Type 0) : Type 0 where
     pub rule : RuleValue
     pub told : T
@@ -138,7 +141,7 @@ module _ {S T : Type 0} (state : S → SourceState) (reader : Reader S T) (asked
     pub why : IsRuleFault state asked were.first are.first fault
     pub untouched : are.others ≡ were.others
 
-  -- it was read, and what stands behind it is refused
+  -- the text that the rule takes was read, and an input behind it is refused
   pub record RefusesOthers (fault : Fault) : Type 0 where
     pub were : Parts olds
     pub are : Parts news
@@ -146,7 +149,7 @@ module _ {S T : Type 0} (state : S → SourceState) (reader : Reader S T) (asked
     pub rule_read : IsRuleRead state asked were.first are.first rule
     pub why : reader.refuses (texts_for asked) were.others are.others fault
 
-  -- all were read, and no plan goes by the roots
+  -- all inputs were read, and no plan can be made from the roots
   pub record RefusesRoots (fault : Fault) : Type 0 where
     pub rule : RuleValue
     pub told : T
@@ -155,6 +158,6 @@ module _ {S T : Type 0} (state : S → SourceState) (reader : Reader S T) (asked
     pub is : fault ≡ Text 0 why
     pub refused : rule_fault (reader.has_switch told) asked rule ≡ Some why
 
-  -- why the inputs are not read, or no plan goes by the roots
+  -- why the inputs are not read, or no plan can be made from the roots
   abbrev pub IsInputFault : Fault → Type 0
   IsInputFault fault = RefusesRule fault ⊎ (RefusesOthers fault ⊎ RefusesRoots fault)

@@ -1,5 +1,4 @@
--- What a run over files does: it reads its inputs in order, and writes what the files say together, or says why it
--- can't.
+-- A run over files: it reads its inputs in order, and writes what the files say together, or says why it can't.
 use Rattle.std.specs.Prelude.{◌≡◌, ◌⊎◌, ⊤, ℕ, Bool, List, [], Option, None, Some, IsTrue}
 use Rattle.byte_io.specs.Source.{SourceState}
 use Rattle.fact_store.specs.View.{Facts, cells_of, AreInRange}
@@ -23,33 +22,33 @@ use Rattle.sm_cli.specs.OrderText.{order_text}
 
 -- answers ---------------------------------------------------------------------------------------
 
--- the usable switches in the order by which a rule goes; up and down goes by none
+-- the usable switches in the order by which a rule plans; none for up and down
 abbrev pub order_by : RuleValue → Cells → List ℕ
 order_by up_and_down cells = []
 order_by (spread_in order) cells = order_of order cells
 
--- what is written of the facts; a plan or an order is by a rule
+-- what is written of the facts, a plan or an order by `rule`
 abbrev pub answer_to : Output → RuleValue → Facts → List ℕ
 answer_to output.Facts rule facts = facts_text facts
 answer_to output.Join rule facts = store_bytes facts.floor (cells_of facts)
 answer_to (output.Plan lmc asked) rule facts = plan_text (plan_of rule lmc (cells_of facts))
 answer_to (output.Order asked) rule facts = order_text (order_by rule (cells_of facts))
 
--- what is so of facts that are answered: they are in range, and a plan has room for their LIDs
+-- the facts can be answered: they are in range, or a plan has room for their LIDs
 abbrev pub IsAnswered : Output → Facts → Type 0
 IsAnswered output.Facts facts = AreInRange facts
 IsAnswered output.Join facts = AreInRange facts
 IsAnswered (output.Plan lmc asked) facts = no_room lmc (cells_of facts) ≡ None
 IsAnswered (output.Order asked) facts = ⊤
 
--- a plan is asked for, and this is why there is no room for it, if anything is; or an order, which needs none
+-- a plan is asked for, and `why` is why there is no room for it, if so; or an order, which needs no room
 abbrev pub IsPlanned : Output → Facts → Option LacksRoom → Type 0
 IsPlanned output.Facts facts why = ⊥
 IsPlanned output.Join facts why = ⊥
 IsPlanned (output.Plan lmc asked) facts why = no_room lmc (cells_of facts) ≡ why
 IsPlanned (output.Order asked) facts why = why ≡ None
 
--- why a plan of facts is not written
+-- why the plan of facts is not written
 abbrev pub IsWritingFault : ℕ → Facts → Bool → Fault → Type 0
 IsWritingFault lmc facts sink_failed (NoRoom why) = no_room lmc (cells_of facts) ≡ Some why
 IsWritingFault lmc facts sink_failed Write = IsTrue sink_failed
@@ -69,7 +68,7 @@ IsAnswerFault what facts sink_failed Write = IsTrue sink_failed
 IsAnswerFault what facts sink_failed Memory = IsPlanned what facts None
 IsAnswerFault what facts sink_failed fault = ⊥
 
--- this holds of what was written: what is asked for of the facts, a plan by the rule; and they can be answered
+-- `prints` holds of what was asked for of the facts, a plan or an order by `rule`; and the facts can be answered
 pub record IsAnswer (output : Output) (rule : RuleValue) (facts : Facts) (prints : List ℕ → Type 0) : Type 0 where
   pub can_be : IsAnswered output facts
   pub answered : prints (answer_to output rule facts)

@@ -20,12 +20,12 @@ use Rattle.sm_cli.specs.declared.asked.RuleAsked.{RuleAsked}
 use Rattle.sm_cli.specs.InputFiles.{facts_of, floor_among}
 use Rattle.sm_cli.specs.Run.{answer_to}
 
--- two lists of files keep the same sightings, in whatever order and however often, and their greatest floor is the same
+-- two lists of files keep the same sightings, in whatever order and however often, and have the same greatest floor
 pub record SayTheSame (floor : ℕ) (files others : List (List ℕ)) : Type 0 where
   pub sightings : HaveSameMembers (flat_map kept files) (flat_map kept others)
   pub floors : floor_among floor files ≡ floor_among floor others
 
--- that decides the answer
+-- the sightings that files keep and their greatest floor decide the answer
 abbrev pub SightingsDecideAnswer : Type 0
 SightingsDecideAnswer = (request : Invocation) (rule : RuleValue) (files others : List (List ℕ))
     → SayTheSame request.floor files others → answer_to request.output rule (facts_of request.floor files)
@@ -36,7 +36,7 @@ pub record AreSameFiles (files others : List (List ℕ)) : Type 0 where
   pub there : (file : List ℕ) → Contains files file → Contains others file
   pub here : (file : List ℕ) → Contains others file → Contains files file
 
--- so the files may be named in any order, and again
+-- the answer does not depend on the order of the files, nor on how often each is named
 abbrev pub FilesDecideAnswer : Type 0
 FilesDecideAnswer = (request : Invocation) (rule : RuleValue) (files others : List (List ℕ)) → AreSameFiles files others
     → answer_to request.output rule (facts_of request.floor files)
@@ -51,7 +51,7 @@ JoinedFileStands =
     × (answer_to request.output rule (facts_of request.floor (joined ∷ others))
     ≡ answer_to request.output rule (facts_of (max request.floor floor) (files ++ others)))
 
--- two files are accepted, and stand for a whole one, alone or among others
+-- the files `front` and `back` are accepted, and stand for `whole`, alone or among others
 pub record StandFor (request : Invocation) (rule : RuleValue) (whole front back : List ℕ) (others : List (List ℕ)) :
     Type 0 where
   pub front_accepted : outcome front ≡ Ok tt
@@ -59,14 +59,14 @@ pub record StandFor (request : Invocation) (rule : RuleValue) (whole front back 
   pub same : answer_to request.output rule (facts_of request.floor (whole ∷ others))
       ≡ answer_to request.output rule (facts_of request.floor (front ∷ back ∷ others))
 
--- so do the parts of a report file that is split between its records
+-- the parts of a report file that is split between its records stand for it
 abbrev pub SplitFileStands : Type 0
 SplitFileStands =
     (request : Invocation) (rule : RuleValue) (whole front back : List ℕ) (first second : List (List ℕ))
     (others : List (List ℕ)) → IsReportFile whole (first ++ second) → front ≡ report_file first → back
     ≡ report_file second → StandFor request rule whole front back others
 
--- and the parts of a store file, each with the whole one's floor
+-- the parts of a store file, each with the floor of the whole, stand for it
 abbrev pub SplitStoreStands : Type 0
 SplitStoreStands =
     (request : Invocation) (rule : RuleValue) (told : Option ℕ) (whole front back : List ℕ) (facts : Facts)
@@ -74,7 +74,8 @@ SplitStoreStands =
     → cells_of facts ≡ first ++ second → front ≡ cells_file told first → back ≡ cells_file told second
     → StandFor request rule whole front back others
 
--- an order that was printed is read as switches in whose order it is printed again, and by which each plan is the same
+-- a printed order is read as switches, and an order that grows as these are named is printed the same and gives the
+-- same plans
 pub record OrderStands (order : OrderValue) (asked again : RuleAsked) (facts : Facts) : Type 0 where
   pub named : List ℕ
   pub is_read : roots_of (answer_to (Order asked) (spread_in order) facts) ≡ Ok named
@@ -83,7 +84,7 @@ pub record OrderStands (order : OrderValue) (asked again : RuleAsked) (facts : F
   pub same_plan : (lmc : ℕ) → answer_to (Plan lmc again) (spread_in (as_named named)) facts
       ≡ answer_to (Plan lmc asked) (spread_in order) facts
 
--- so is each, unless a switch has the GUID 0, which no text names
+-- each printed order stands, unless a switch has the GUID 0, which no text names
 abbrev pub PrintedOrdersStand : Type 0
 PrintedOrdersStand = (order : OrderValue) (asked again : RuleAsked) (facts : Facts) → AreInRange facts
     → ¬ (Contains (switches (cells_of facts)) 0) → OrderStands order asked again facts

@@ -1,4 +1,4 @@
--- What is said of a text that is refused: the line that has the fault, where one has, and a word.
+-- What is said of a text that is refused: the faulty line, if there is one, and a word.
 use Rattle.std.specs.Prelude.{ℕ, Bool, true, false, List, [], ◌++◌, Option, None, Some, codes, decimal}
 use Rattle.topo_file.specs.declared.fault.TopoFault.TheVariants as topology
 use Rattle.topo_file.specs.TopoFault as topologies
@@ -32,17 +32,17 @@ text_fault_word NoRoot = codes "no root"
 text_fault_word (NoSwitch guid) = codes "no usable switch"
 text_fault_word (Moves lid) = codes "moves"
 
--- the GUID that the fault speaks of
+-- the GUID that the fault concerns
 abbrev pub text_fault_guid : TextFault → Option ℕ
 text_fault_guid (NoSwitch guid) = Some guid
 text_fault_guid _ = None
 
--- the LID that the fault speaks of
+-- the LID that the fault concerns
 abbrev pub text_fault_lid : TextFault → Option ℕ
 text_fault_lid (Moves lid) = Some lid
 text_fault_lid _ = None
 
--- out of memory is not the text's
+-- a fault is the text's, unless it is lack of memory
 abbrev pub is_of_text : TextFault → Bool
 is_of_text (Topology topology.Memory) = false
 is_of_text (Schedule schedule.Memory) = false
@@ -50,17 +50,17 @@ is_of_text (Tables line.Memory) = false
 is_of_text (Roots line.Memory) = false
 is_of_text _ = true
 
--- the line, before what is said of it
+-- the number of the line, in front of what is said of it
 abbrev pub line_text : Option ℕ → List ℕ
 line_text None = []
 line_text (Some line) = codes "line " ++ decimal line ++ codes ": "
 
--- the LID, before that
+-- the LID, in front of what is said of it
 abbrev pub lid_before : Option ℕ → List ℕ
 lid_before None = []
 lid_before (Some lid) = codes "lid " ++ decimal lid ++ codes " "
 
--- the GUID, behind it
+-- the GUID, behind what is said of it
 abbrev pub guid_behind : Option ℕ → List ℕ
 guid_behind None = []
 guid_behind (Some guid) = codes " " ++ guid_text guid

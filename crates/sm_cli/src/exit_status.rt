@@ -3,11 +3,11 @@ ghost use Rattle.std.specs.Prelude.{◌≡◌};
 use crate::fault::Fault;
 use record_file::FileFault;
 
-/// What a run of the program ends with.
+/// How a run of the program ends.
 #[derive(Clone, Copy, Debug, PartialEq, Eq)]
 pub enum ExitStatus {
     Done = 0,
-    /// What was audited does not pass.
+    /// What was judged does not pass.
     Failed = 1,
     Usage = 2,
     Refused = 3,
@@ -18,7 +18,7 @@ pub enum ExitStatus {
 impl ExitStatus {
     ghost use Rattle.sm_cli.specs.ExitStatus.{code_of};
 
-    /// The exit status of the process.
+    /// Returns the exit status of the process.
     pub fn code(self) -> u8
         ensures { result ≡ code_of self }
     {
@@ -29,7 +29,7 @@ impl ExitStatus {
 impl Fault {
     ghost use Rattle.sm_cli.specs.ExitStatus.{status_of};
 
-    /// What the program ends with.
+    /// Returns the exit status with which the fault ends the program.
     pub fn status(&self) -> ExitStatus
         ensures { result ≡ status_of self.now }
     {

@@ -7,25 +7,25 @@ use lid_assign::{LidFault, NoRoom};
 use record_file::FileFault;
 use thiserror::Error;
 
-/// Why a run ended early. An input is a file by its index among those that were named, from 0.
+/// Why a run ended early. `input` is the index of a file among those that were named, from 0.
 #[derive(Clone, Copy, Debug, PartialEq, Eq, Error)]
 pub enum Fault {
     /// The file cannot be opened.
     #[error("cannot open")]
     Open { input: usize },
-    /// What is wrong with the file, or that memory was refused as it was taken in.
+    /// The file has a fault, or memory was refused as it was taken in.
     #[error("{fault}")]
     File { input: usize, fault: FileFault },
-    /// What is wrong with the text of a topology or a schedule, or that memory was refused as it was judged.
+    /// The text has a fault, or memory was refused as it was judged.
     #[error("{fault}")]
     Text { input: usize, fault: TextFault },
-    /// There are end ports, and no fewer of them than the smallest forwarding table has room for LIDs, 0 among them.
+    /// The smallest forwarding table lacks room for the LIDs of all end ports and LID 0.
     #[error("no room: {} end ports, room {}", .0.endports, .0.room)]
     NoRoom(NoRoom),
-    /// The output took no more.
+    /// A write to the output failed.
     #[error("write failed")]
     Write,
-    /// A growth was refused, of no file.
+    /// Memory was refused, but not for a file or a text.
     #[error("out of memory")]
     Memory,
 }

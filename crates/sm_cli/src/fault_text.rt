@@ -1,4 +1,4 @@
-//! What the program says of a fault, one line that begins with its own name.
+//! What the program says of a fault: one line that begins with the program's name.
 ghost use Rattle.byte_io.specs.Writes.{Writes};
 ghost use Rattle.sm_cli.specs.FaultText.{name_text, number_text, cause_text, words_of, file_fault_text};
 ghost use Rattle.sm_cli.specs.FaultText.{text_fault_text, count_text, no_room_text, fault_text, program_line};
@@ -12,7 +12,7 @@ use lid_assign::NoRoom;
 use record_file::FileFault;
 use smp_bytes::{Guid, Lid};
 
-/// Writes the line of a fault; `name` is that of the file that it speaks of.
+/// Writes the line of `fault`. `name` is the name of the file that it concerns.
 pub fn write_fault<W: Sink>(sink: &mut W, fault: &Fault, name: &str) -> Result<(), WriteFault>
     ensures writes { Writes W.written W.has_failed result sink.old sink.new
         (program_line (fault_text name.now fault.now)) }
@@ -39,7 +39,7 @@ fn write_fault_text<W: Sink>(sink: &mut W, fault: &Fault, name: &[u8]) -> Result
     }
 }
 
-/// Writes how many end ports there are, and how much room for them.
+/// Writes the number of end ports, and the room for their LIDs.
 fn write_no_room<W: Sink>(sink: &mut W, why: NoRoom) -> Result<(), WriteFault>
     ensures writes { Writes W.written W.has_failed result sink.old sink.new (no_room_text why) }
 {
@@ -49,7 +49,7 @@ fn write_no_room<W: Sink>(sink: &mut W, why: NoRoom) -> Result<(), WriteFault>
     write_number(sink, u64::from(why.room))
 }
 
-/// Writes how many end ports there are.
+/// Writes the number of end ports.
 fn write_count<W: Sink>(sink: &mut W, endports: usize) -> Result<(), WriteFault>
     ensures writes { Writes W.written W.has_failed result sink.old sink.new (count_text endports) }
 {
@@ -67,7 +67,7 @@ fn write_file_fault<W: Sink>(sink: &mut W, fault: &FileFault, name: &[u8]) -> Re
     write_words(sink, fault)
 }
 
-/// Writes what is said of a fault, apart from whose it is.
+/// Writes what `fault` says, without the file's name.
 fn write_words<W: Sink>(sink: &mut W, fault: &FileFault) -> Result<(), WriteFault>
     ensures writes { Writes W.written W.has_failed result sink.old sink.new (words_of fault.now) }
 {
@@ -76,7 +76,7 @@ fn write_words<W: Sink>(sink: &mut W, fault: &FileFault) -> Result<(), WriteFaul
     write_cause(sink, fault.report_fault())
 }
 
-/// Writes the number that the words end with.
+/// Writes the number that the words end with, if there is one.
 fn write_number_if_any<W: Sink>(sink: &mut W, number: Option<u64>) -> Result<(), WriteFault>
     ensures writes { Writes W.written W.has_failed result sink.old sink.new (number_text number) }
 {
@@ -86,7 +86,7 @@ fn write_number_if_any<W: Sink>(sink: &mut W, number: Option<u64>) -> Result<(),
     }
 }
 
-/// Writes the name of what is wrong with a report.
+/// Writes the name of the report's fault, if there is one.
 fn write_cause<W: Sink>(sink: &mut W, fault: Option<ReportFault>) -> Result<(), WriteFault>
     ensures writes { Writes W.written W.has_failed result sink.old sink.new (cause_text fault) }
 {
@@ -109,7 +109,7 @@ fn write_text_fault<W: Sink>(sink: &mut W, fault: &TextFault, name: &[u8]) -> Re
     write_said(sink, fault)
 }
 
-/// Writes what is said of a text, apart from whose it is.
+/// Writes what `fault` says, without the text's name.
 fn write_said<W: Sink>(sink: &mut W, fault: &TextFault) -> Result<(), WriteFault>
     ensures writes { Writes W.written W.has_failed result sink.old sink.new (said_of_text fault.now) }
 {
@@ -119,7 +119,7 @@ fn write_said<W: Sink>(sink: &mut W, fault: &TextFault) -> Result<(), WriteFault
     write_guid_if_any(sink, fault.guid())
 }
 
-/// Writes the line that has a fault.
+/// Writes the number of the faulty line, if there is one.
 fn write_line_if_any<W: Sink>(sink: &mut W, line: Option<usize>) -> Result<(), WriteFault>
     ensures writes { Writes W.written W.has_failed result sink.old sink.new (line_text line) }
 {
@@ -133,7 +133,7 @@ fn write_line_if_any<W: Sink>(sink: &mut W, line: Option<usize>) -> Result<(), W
     }
 }
 
-/// Writes the LID that a fault speaks of.
+/// Writes the LID that a fault concerns, if there is one.
 fn write_lid_if_any<W: Sink>(sink: &mut W, lid: Option<Lid>) -> Result<(), WriteFault>
     ensures writes { Writes W.written W.has_failed result sink.old sink.new (lid_before lid) }
 {
@@ -147,7 +147,7 @@ fn write_lid_if_any<W: Sink>(sink: &mut W, lid: Option<Lid>) -> Result<(), Write
     }
 }
 
-/// Writes the GUID that a fault speaks of.
+/// Writes the GUID that a fault concerns, if there is one.
 fn write_guid_if_any<W: Sink>(sink: &mut W, guid: Option<Guid>) -> Result<(), WriteFault>
     ensures writes { Writes W.written W.has_failed result sink.old sink.new (guid_behind guid) }
 {
@@ -160,7 +160,7 @@ fn write_guid_if_any<W: Sink>(sink: &mut W, guid: Option<Guid>) -> Result<(), Wr
     }
 }
 
-/// Writes the name of a file, and what stands between it and what is said of it.
+/// Writes the name of a file, and the colon and space behind it.
 fn write_name<W: Sink>(sink: &mut W, name: &[u8]) -> Result<(), WriteFault>
     ensures writes { Writes W.written W.has_failed result sink.old sink.new (name_text name.now) }
 {

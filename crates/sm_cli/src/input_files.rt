@@ -1,4 +1,4 @@
-//! The files of a run: they are read in order, and what they say together is kept.
+//! The files of a run. They are read in order, and what they say is merged.
 ghost use Rattle.std.specs.Prelude.{◌+◌, ◌≤◌, length, IfErr, IfOk, OnOk};
 ghost use Rattle.sm_cli.specs.InputFiles.{HasRead, IsRefusedFile, ReadsInto, Refuses};
 
@@ -11,10 +11,10 @@ use smp_bytes::{Generation, Guid};
 use std::alloc::Global;
 use subnet_view::is_usable;
 
-/// What reads files, and knows the switches of their facts.
+/// The reader of files, which knows the switches of their facts.
 #[derive(Clone, Copy, Debug, PartialEq, Eq)]
 pub struct FilesFrom {
-    /// What is older than this generation does not count.
+    /// The generation below which facts are ignored.
     pub floor: Generation,
 }
 
@@ -36,7 +36,11 @@ impl<S: Source> InputReader<S> for FilesFrom {
     }
 }
 
-/// All that the files say from a floor on, or the fault of the first that is refused. So many inputs come before them.
+/// Reads all `files` and returns what they say together, from `floor` on. `before` inputs precede them.
+///
+/// # Errors
+///
+/// Returns the fault of the first file that is refused.
 pub(crate) fn read_files<S: Source>(
     alloc: Global,
     before: usize,
@@ -61,7 +65,7 @@ pub(crate) fn read_files<S: Source>(
     Ok(all)
 }
 
-/// Reads one file into a store of its own, and merges that into the store of all.
+/// Reads one file into a store of its own, and merges that into `all`.
 fn read_into<S: Source>(all: &mut Store, alloc: Global, source: &mut S) -> Result<(), FileFault>
     ensures read { OnOk result (ReadsInto S.state
         source.old source.new all.old all.new) }

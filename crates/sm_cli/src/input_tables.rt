@@ -1,4 +1,4 @@
-//! The text of tables: it is read, and then judged; and files behind it.
+//! The text of tables, which is read and then judged, and the files behind it.
 ghost use Rattle.std.specs.Prelude.{◌≡◌, ◌+◌, ◌≤◌, length, IfErr, IfOk};
 ghost use Rattle.sm_cli.specs.InputTables.{AreNoTables, AreNoTablesAndFiles, AreTables, AreTablesAndFiles};
 ghost use Rattle.sm_cli.specs.InputTables.{IsTables, IsTablesFault};
@@ -15,7 +15,7 @@ use smp_bytes::{Generation, Guid};
 use std::alloc::Global;
 use subnet_view::is_usable;
 
-/// What a text of tables and files say.
+/// What a text of tables and the files behind it say.
 #[derive(Drop)]
 pub struct TablesAndFacts {
     /// The tables that switches hold, and the LIDs of end ports.
@@ -24,10 +24,10 @@ pub struct TablesAndFacts {
     pub store: Store,
 }
 
-/// What reads a text of tables and then files, and knows the switches of their facts.
+/// The reader of a text of tables and the files behind it, which knows the switches of the files' facts.
 #[derive(Clone, Copy, Debug, PartialEq, Eq)]
 pub struct TablesAndFiles {
-    /// What is older than this generation does not count.
+    /// The generation below which facts are ignored.
     pub floor: Generation,
 }
 
@@ -55,8 +55,8 @@ impl<S: Source> InputReader<S> for TablesAndFiles {
     }
 }
 
-/// What the text of tables says, which is the first of these inputs, and what the files behind it say from a floor on.
-/// So many inputs come before them.
+/// Reads the text of tables, the first of `inputs`, and the files behind it, from `floor` on. `before` inputs precede
+/// them.
 pub fn read_tables_and_files<S: Source>(
     alloc: Global,
     before: usize,
@@ -79,7 +79,7 @@ pub fn read_tables_and_files<S: Source>(
     }
 }
 
-/// What the text of tables says, the one of these sources, at this input of a run. It is read to its end.
+/// Reads the tables from the only source of `texts`, to its end. `input` is its number in the run.
 fn read_tables<S: Source>(alloc: Global, input: usize, texts: &mut [S]) -> Result<Held, Fault>
     requires { length texts.old ≡ 1 }
     ensures read { IfOk result (AreTables S.state texts.old texts.new) }
@@ -92,7 +92,7 @@ fn read_tables<S: Source>(alloc: Global, input: usize, texts: &mut [S]) -> Resul
     }
 }
 
-/// The same of one source.
+/// Reads the tables from `source`, to its end. `input` is its number in the run.
 fn read_text<S: Source>(alloc: Global, input: usize, source: &mut S) -> Result<Held, Fault>
     ensures read { IfOk result (IsTables S.state source.old source.new) }
     ensures refused { IfErr result

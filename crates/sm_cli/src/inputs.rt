@@ -1,4 +1,4 @@
-//! The inputs of a run: the text of the roots or of the order that a rule takes, if any, and what stands behind it.
+//! The inputs of a run: the text of roots or of the order that its rule takes, if any, and the inputs behind it.
 ghost use Rattle.std.specs.Prelude.{◌≡◌, ◌+◌, ◌-◌, ◌≤◌, ℕ, length, IfErr, IfOk};
 ghost use Rattle.lft_blocks.specs.Rules.{value_of};
 ghost use Rattle.sm_cli.specs.Asked.{texts_for};
@@ -16,34 +16,38 @@ use roots_file::parse;
 use smp_bytes::Guid;
 use std::alloc::Global;
 
-/// What a run reads behind the text that its rule takes.
+/// A reader of the inputs behind the text that the rule takes.
 pub trait InputReader<S: Source> {
     ghost use Rattle.sm_cli.specs.Inputs.{Reader};
 
-    /// What its inputs tell.
+    /// What the inputs say.
     type Told: Drop;
 
-    // How it reads them, and which switches it knows then.
+    // How inputs are read, and which switches are known from what they say.
     ghost reader: { Self → Reader S Self.Told };
 
-    // So many inputs it takes.
+    // Which numbers of inputs can be read.
     ghost takes: { Self → ℕ → Type 0 };
 
-    /// Reads these inputs; so many come before them.
+    /// Reads `inputs`. `before` others precede them.
     fn read(&self, alloc: Global, before: usize, inputs: &mut [S]) -> Result<Self::Told, Fault>
         requires enough { takes self.now (length inputs.old) }
         requires counted { before + length inputs.old ≤ usize.MAX }
         ensures read { IfOk result ((reader self.now).reads inputs.old inputs.new) }
         ensures refused { IfErr result ((reader self.now).refuses before inputs.old inputs.new) };
 
-    /// Whether a usable switch has this GUID, by what the inputs tell.
+    /// Returns whether `guid` is the GUID of a usable switch, by what the inputs say.
     fn has_switch(&self, told: &Self::Told, guid: Guid) -> bool
         ensures { result ≡ (reader self.now).has_switch told.now guid };
 }
 
-/// The rule that is asked for, and what the inputs behind its text tell. They are read in their order, each to its end.
-/// The first fault counts; then that of the roots, of which there has to be one, where a text names them, each a usable
-/// switch.
+/// Returns the rule that is asked for, and what the inputs behind its text say. Reads the inputs in order, each to its
+/// end.
+///
+/// # Errors
+///
+/// Returns the first fault of an input. If a text names roots, there must be at least one, and each must be a usable
+/// switch; this is checked last.
 pub fn read_inputs<S: Source, R: InputReader<S>>(
     alloc: Global,
     asked: RuleAsked,
@@ -71,7 +75,7 @@ pub fn read_inputs<S: Source, R: InputReader<S>>(
     }
 }
 
-/// The rule that is asked for. The text of its roots or of its order, where one names them, is the first input, and is
+/// Reads the rule that is asked for. If a text names its roots or its order, that is the only one of `texts`, and is
 /// read to its end.
 fn read_rule<S: Source>(alloc: Global, asked: RuleAsked, texts: &mut [S]) -> Result<Rule, Fault>
     requires { length texts.old ≡ texts_for asked }
@@ -86,6 +90,9 @@ fn read_rule<S: Source>(alloc: Global, asked: RuleAsked, texts: &mut [S]) -> Res
             order: SwitchOrder::FromRoots {
                 roots: Vec::new(alloc),
             },
+        }),
+        RuleAsked::Balance => Ok(Rule::Spread {
+            order: SwitchOrder::LeastLoaded,
         }),
         RuleAsked::SpreadFromRoots => match read_roots(alloc, &mut texts[0]) {
             Ok(roots) => Ok(Rule::Spread {
@@ -102,7 +109,7 @@ fn read_rule<S: Source>(alloc: Global, asked: RuleAsked, texts: &mut [S]) -> Res
     }
 }
 
-/// The roots, or the switches of an order, that a text names, which is read to its end.
+/// Reads the roots, or the switches of an order, from a text, to its end.
 fn read_roots<S: Source>(alloc: Global, roots: &mut S) -> Result<Vec<Guid>, Fault>
     ensures read { IfOk result (λ found.
         IsRoots S.state roots.old roots.new found.items) }
@@ -122,8 +129,8 @@ fn read_roots<S: Source>(alloc: Global, roots: &mut S) -> Result<Vec<Guid>, Faul
     }
 }
 
-/// Why no plan goes by the rule that was asked for, if so: it has no root though a text names them, or one is no usable
-/// switch.
+/// Returns why no plan can be made by the rule: a text names roots for it but there is none, or one is not a usable
+/// switch. Returns `None` if a plan can be made.
 fn rule_fault<S: Source, R: InputReader<S>>(
     asked: RuleAsked,
     rule: &Rule,
@@ -138,7 +145,8 @@ fn rule_fault<S: Source, R: InputReader<S>>(
     }
 }
 
-/// Why no plan goes by an order, if so: it has no root, or one is no usable switch.
+/// Returns why no plan can be made by the order: it grows from roots but there is none, or one is not a usable switch.
+/// Returns `None` if a plan can be made.
 fn order_fault<S: Source, R: InputReader<S>>(
     order: &SwitchOrder,
     reader: &R,
@@ -150,12 +158,12 @@ fn order_fault<S: Source, R: InputReader<S>>(
         SwitchOrder::FromRoots { roots } => {
             fault_of_first(roots, first_unusable(roots, reader, told))
         }
-        SwitchOrder::AsNamed { .. } => None,
+        SwitchOrder::AsNamed { .. } | SwitchOrder::LeastLoaded => None,
     }
 }
 
-/// Why no plan goes by some roots, if so, by the first of them that is no usable switch: there is no root, or there is
-/// that one.
+/// Returns the fault of `roots`: there is none, or `unusable` is the first that is not a usable switch. Returns `None`
+/// if all are usable.
 fn fault_of_first(roots: &[Guid], unusable: Option<Guid>) -> Option<TextFault>
     ensures { result ≡ fault_of_first roots.now unusable }
 {
@@ -166,7 +174,7 @@ fn fault_of_first(roots: &[Guid], unusable: Option<Guid>) -> Option<TextFault>
     }
 }
 
-/// The first of some roots that is no usable switch.
+/// Returns the first of `roots` that is not a usable switch.
 fn first_unusable<S: Source, R: InputReader<S>>(
     roots: &[Guid],
     reader: &R,

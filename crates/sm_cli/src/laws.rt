@@ -2,13 +2,13 @@
 ghost use Rattle.sm_cli.specs.RunLaws.{FilesDecideAnswer, JoinedFileStands, SightingsDecideAnswer};
 ghost use Rattle.sm_cli.specs.RunLaws.{PrintedOrdersStand, SplitFileStands, SplitStoreStands};
 
-/// Files that keep the same sightings, in whatever order and however often, and have the same greatest floor give equal
-/// answers.
+/// The answers for two lists of files are equal if the files keep the same sightings, in whatever order and however
+/// often, and have the same greatest floor.
 pub fn sightings_decide_answer()
     ensures { SightingsDecideAnswer }
 {}
 
-/// Files that are named in another order, or again, give equal answers.
+/// The answers for two lists of files are equal if the lists have the same files, in whatever order and however often.
 pub fn files_decide_answer()
     ensures { FilesDecideAnswer }
 {}
@@ -18,19 +18,20 @@ pub fn joined_file_stands()
     ensures { JoinedFileStands }
 {}
 
-/// A report file may be split between its records: the parts are accepted, and give the same answer, alone or among
-/// other files.
+/// The parts of a report file that is split between its records are accepted, and give the answer of the whole file,
+/// alone or among other files.
 pub fn split_file_stands()
     ensures { SplitFileStands }
 {}
 
-/// So may a store file.
+/// The parts of a store file that is split between its records are accepted, and give the answer of the whole file,
+/// alone or among other files.
 pub fn split_store_stands()
     ensures { SplitStoreStands }
 {}
 
-/// An order that was printed, given back, is printed again, and gives the plan, byte for byte, that is printed without
-/// it.
+/// A printed order, given back as the order of a plan, is printed the same again and gives the same plan, byte for
+/// byte, if no switch has the GUID 0.
 pub fn printed_orders_stand()
     ensures { PrintedOrdersStand }
 {}

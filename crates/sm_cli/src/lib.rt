@@ -1,4 +1,4 @@
-//! What the program does with files of records: it reads them, and writes what they say as text.
+//! A run over files of records: it reads them, and writes what they say as text.
 #![tactic(auto)]
 
 mod asked;
@@ -20,5 +20,6 @@ pub use fault_text::write_fault;
 pub use input_files::FilesFrom;
 pub use input_tables::{TablesAndFacts, TablesAndFiles, read_tables_and_files};
 pub use inputs::{InputReader, read_inputs};
+pub use order_text::write_order;
 pub use run::run_files;
 pub use text_fault::TextFault;

@@ -1,4 +1,4 @@
-//! An order of switches as text: a line for each.
+//! An order of switches as text, one line a switch.
 ghost use Rattle.std.specs.Prelude.{IsTrue, OnOk};
 ghost use Rattle.std.specs.List.{flat_map};
 ghost use Rattle.byte_io.specs.Writes.{Writes};
@@ -8,8 +8,8 @@ ghost use Rattle.sm_cli.specs.OrderText.{order_line, order_text};
 use byte_io::{Sink, WriteFault, write_guid};
 use smp_bytes::Guid;
 
-/// Writes a line for each switch, its GUID behind `0x`, and flushes.
-pub(crate) fn write_order<W: Sink>(sink: &mut W, switches: &[Guid]) -> Result<(), WriteFault>
+/// Writes the GUID of each switch behind `0x`, one a line, and flushes.
+pub fn write_order<W: Sink>(sink: &mut W, switches: &[Guid]) -> Result<(), WriteFault>
     ensures writes { Writes W.written W.has_failed result sink.old sink.new (order_text switches.now) }
     ensures flushed { OnOk result (IsTrue (W.is_flushed sink.new)) }
 {
@@ -28,7 +28,7 @@ fn write_lines<W: Sink>(sink: &mut W, switches: &[Guid]) -> Result<(), WriteFaul
     Ok(())
 }
 
-/// Writes the line of a switch.
+/// Writes the line of `switch`.
 fn write_line<W: Sink>(sink: &mut W, switch: Guid) -> Result<(), WriteFault>
     ensures { Writes W.written W.has_failed result sink.old sink.new (order_line switch) }
 {

@@ -24,9 +24,9 @@ use record_file::{write_facts, write_store};
 use smp_bytes::Guid;
 use std::alloc::Global;
 
-/// Reads the inputs in order, the text that a rule takes and then the files (`read_inputs`), and writes what is asked
-/// for of all that the files say. Where an input is refused, or there is no room for a plan, nothing is written; how
-/// much went out before a write failed is not said.
+/// Reads the inputs in order, the text that the rule takes and then the files (`read_inputs`), and writes what is asked
+/// for of all that the files say. If an input is refused, or a plan has no room, writes nothing. If a write fails, how
+/// much was written is unspecified.
 pub fn run_files<S: Source, W: Sink>(
     alloc: Global,
     inputs: &mut [S],
@@ -51,7 +51,7 @@ pub fn run_files<S: Source, W: Sink>(
     }
 }
 
-/// Writes what is asked for of the facts that a store holds, a plan or an order by this rule, and flushes.
+/// Writes what is asked for of the facts in `store`, a plan or an order by `rule`, and flushes.
 fn write_answer<W: Sink>(
     alloc: Global,
     sink: &mut W,
@@ -75,7 +75,7 @@ fn write_answer<W: Sink>(
     Ok(())
 }
 
-/// Writes the plan of the facts that a store holds, under an LMC and by a rule, and flushes.
+/// Writes the plan of the facts in `store`, under `lmc` and by `rule`, and flushes.
 #[tactic(auto, using(crate::proofs::Plans::has_room, crate::proofs::Plans::plan_fault))]
 fn write_plan_by<W: Sink>(
     alloc: Global,
@@ -97,7 +97,7 @@ fn write_plan_by<W: Sink>(
     Ok(())
 }
 
-/// Writes the usable switches of the facts that a store holds in the order by which a rule goes, and flushes.
+/// Writes the usable switches of the facts in `store` in the order by which `rule` plans, and flushes.
 fn write_order_by<W: Sink>(
     alloc: Global,
     sink: &mut W,
@@ -116,7 +116,7 @@ fn write_order_by<W: Sink>(
     Ok(())
 }
 
-/// The usable switches in the order by which a rule goes; of up and down none.
+/// Returns the usable switches in the order by which `rule` plans; none for up and down.
 fn order_by(alloc: Global, store: &Store, rule: &Rule) -> Result<Vec<Guid>, Refused>
     ensures { IfOk result (λ found. found.items ≡ order_by (value_of rule.now) (cells_of store.now)) }
 {

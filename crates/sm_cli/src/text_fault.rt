@@ -5,31 +5,31 @@ use smp_bytes::{Guid, Lid};
 use thiserror::Error;
 use topo_file::TopoFault;
 
-/// Why the text of a topology, of a schedule, of tables, of roots or of an order is refused.
+/// Why a text is refused: that of a topology, a schedule, tables, roots or an order.
 #[derive(Clone, Copy, Debug, PartialEq, Eq, Error)]
 pub enum TextFault {
-    /// It is not UTF-8.
+    /// The text is not UTF-8.
     #[error("not UTF-8")]
     NotUtf8,
-    /// What is wrong with a topology, or that memory was refused as it was judged.
+    /// The topology has a fault, or memory was refused as it was judged.
     #[error("{0}")]
     Topology(TopoFault),
-    /// What is wrong with a schedule, or that memory was refused as it was judged.
+    /// The schedule has a fault, or memory was refused as it was judged.
     #[error("{0}")]
     Schedule(ScheduleFault),
-    /// What is wrong with the text of tables, or that memory was refused as it was judged.
+    /// The text of tables has a fault, or memory was refused as it was judged.
     #[error("{0}")]
     Tables(plan_file::PlanTextFault),
-    /// What is wrong with the text of roots or of an order, or that memory was refused as it was judged.
+    /// The text of roots or of an order has a fault, or memory was refused as it was judged.
     #[error("{0}")]
     Roots(roots_file::RootsTextFault),
-    /// It names no root.
+    /// The text names no root.
     #[error("no root")]
     NoRoot,
-    /// It names a root that is no usable switch of the facts, or no switch of the topology.
+    /// The text names a root that is not a usable switch of the facts, or not a switch of the topology.
     #[error("no usable switch {0}")]
     NoSwitch(Guid),
-    /// It names tables that give this LID to another end port than the plan does.
+    /// The tables give this LID to another end port than the plan does.
     #[error("lid {} moves", .0.number())]
     Moves(Lid),
 }
@@ -38,7 +38,7 @@ impl TextFault {
     ghost use Rattle.sm_cli.specs.TextFault.{text_fault_guid, text_fault_lid, text_fault_line, text_fault_word};
     ghost use Rattle.sm_cli.specs.TextFault.{is_of_text};
 
-    /// The line that has the fault, from 1.
+    /// Returns the number of the faulty line, from 1, if the fault is one of a line.
     pub fn line(&self) -> Option<usize>
         ensures { result ≡ text_fault_line self.now }
     {
@@ -52,7 +52,7 @@ impl TextFault {
         }
     }
 
-    /// What is said of the line, or of the text where no line has the fault.
+    /// Returns what is said of the line, or of the text if no line has the fault.
     pub fn word(&self) -> &'static str
         ensures { result.now ≡ text_fault_word self.now }
     {
@@ -68,7 +68,7 @@ impl TextFault {
         }
     }
 
-    /// The GUID that the fault speaks of.
+    /// Returns the GUID that the fault concerns, if any.
     pub fn guid(&self) -> Option<Guid>
         ensures { result ≡ text_fault_guid self.now }
     {
@@ -78,7 +78,7 @@ impl TextFault {
         }
     }
 
-    /// The LID that the fault speaks of.
+    /// Returns the LID that the fault concerns, if any.
     pub fn lid(&self) -> Option<Lid>
         ensures { result ≡ text_fault_lid self.now }
     {
@@ -88,7 +88,7 @@ impl TextFault {
         }
     }
 
-    /// Whether the text has the fault; out of memory is not the text's.
+    /// Returns whether the fault is one of the text; lack of memory is not.
     pub fn is_of_text(&self) -> bool
         ensures { result ≡ is_of_text self.now }
     {

@@ -2,6 +2,7 @@ pub mod Lives
 pub mod Numbers
 pub mod Over
 pub mod Newest
+pub mod Refusals
 pub mod Replies
 pub mod Sending
 pub mod StepsSent

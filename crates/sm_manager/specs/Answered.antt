@@ -1,4 +1,4 @@
--- The steps of a writing that were answered, and as done, call by call.
+-- The steps of a writing that were answered as done, call by call.
 use Rattle.std.specs.Prelude.{◌≡◌, ◌≢◌, ◌↔◌, ℕ, ◌+◌, Bool, true, false, ◌&&◌, List, [], ◌∷◌, length, ◌==◌, if◌then◌else◌, Option, Some, None, is_none}
 use Rattle.smp_bytes.specs.Header.{done}
 use Rattle.smp_bytes.specs.Packet.{fault_of, status}
@@ -13,7 +13,7 @@ use Rattle.sm_manager.specs.Plans.{writing_fault}
 use Rattle.sm_manager.specs.ManagerRequests.{counts}
 use Rattle.sm_manager.specs.Writing.{is_written, phases_by, after_write_steps}
 
--- the request that a packet answers is a step that counts, the answer's status is 0, and the answer is taken
+-- the request that the packet answers is a step that counts, the answer's status is 0, and the answer is taken
 abbrev pub does_request : Manager → List ℕ → Option Pending → Bool
 does_request m packet None = false
 does_request m packet (Some p) =
@@ -26,7 +26,7 @@ does_by_packet m packet None =
     else if is_for_sweep packet then false
     else does_request m packet (pending_for m packet)
 
--- by the call a step that counts was answered, and as done
+-- by the call a step that counts was answered as done
 abbrev pub does_step : Manager → Call → Bool
 does_step m BeginSweep = false
 does_step m WriteSteps = false
@@ -42,7 +42,7 @@ abbrev pub one_if : Bool → ℕ
 one_if true = 1
 one_if false = 0
 
--- how many were by these calls
+-- the number of steps that were answered as done by these calls
 abbrev pub steps_done : List Call → Manager → ℕ
 steps_done [] m = 0
 steps_done (call ∷ calls) m = one_if (does_step m call) + steps_done calls (after_call m call)
@@ -51,18 +51,18 @@ abbrev pub BeginsNone : Manager → Call → Type 0
 BeginsNone m WriteSteps = writing_fault m ≢ None
 BeginsNone m call = Unit {0}
 
--- none of these calls begins a writing
+-- no call of the list begins a writing
 abbrev pub BeginNone : List Call → Manager → Type 0
 BeginNone [] m = Unit {0}
 BeginNone (call ∷ calls) m = BeginsNone m call × BeginNone calls (after_call m call)
 
--- how many steps the phases have that count: LIDs, blocks and tops
+-- the number of steps of phases that count: LIDs, blocks and tops
 abbrev pub counting_in : List Phase → ℕ
 counting_in [] = 0
 counting_in (p ∷ phases) = (if p.counts then length p.steps else 0) + counting_in phases
 
--- where a writing begins after any calls and no other one follows, it is written exactly where each of its steps that
--- count was answered, and as done
+-- if a writing begins after any calls and no other one follows, it is written exactly if each of its steps that count
+-- was answered as done
 abbrev pub WrittenIsEachStepDone : Type 0
 WrittenIsEachStepDone =
     (port_guid port priority : ℕ) (planning : Planning) (before after : List Call)

@@ -1,4 +1,4 @@
--- A manager's life: one call after the other.
+-- A manager's life: a list of calls.
 use Rattle.std.specs.Prelude.{◌≡◌, ℕ, List, [], ◌∷◌, ◌++◌, Option, Some, None, Result, Ok, Err, if◌then◌else◌, is_none, max}
 use Rattle.reply_facts.specs.Report.{Sightings}
 use Rattle.fact_store.specs.Seen.{HaveSameMembers}
@@ -19,7 +19,7 @@ use Rattle.lft_blocks.specs.Planning.{Planning}
 use Rattle.sm_manager.specs.Plans.{writing_fault}
 use Rattle.sm_manager.specs.Writing.{after_write_steps}
 
--- what may change a manager; a store that is merged is told by its floor, and by sightings that it is the view of there
+-- what may change a manager; a merged store is given by its floor and by sightings that it is the view of at that floor
 pub data Call : Type 0 where
   BeginSweep : Call
   WriteSteps : Call
@@ -31,7 +31,7 @@ pub data Call : Type 0 where
   Poll : (lid : ℕ) → Call
   Handover : Call
 
--- a refused call leaves the manager, and so does one that is refused memory: that is a life without this call
+-- a refused call leaves the manager as it is, and so does one that is refused memory, which is like a life without it
 abbrev pub after_call : Manager → Call → Manager
 after_call m BeginSweep = if is_none (begin_fault m) then after_begin_sweep m else m
 after_call m WriteSteps = if is_none (writing_fault m) then after_write_steps m else m
@@ -47,7 +47,7 @@ abbrev pub after_calls : List Call → Manager → Manager
 after_calls [] m = m
 after_calls (call ∷ calls) m = after_calls calls (after_call m call)
 
--- what it takes in ------------------------------------------------------------------------------
+-- what a call takes in --------------------------------------------------------------------------
 
 abbrev pub sightings_if : Result Answer SweepFault → Sightings
 sightings_if (Ok answer) = sightings_by answer
@@ -93,19 +93,19 @@ floor_in (Merge floor sightings) = floor
 floor_in (Poll lid) = 1
 floor_in Handover = 1
 
--- the greatest of these
+-- the greatest floor of the calls
 abbrev pub greatest_floor : List Call → ℕ
 greatest_floor [] = 1
 greatest_floor (call ∷ calls) = max (floor_in call) (greatest_floor calls)
 
--- a manager knows the view of all that it took in at the greatest floor, whatever else was asked of it
+-- a manager knows the view of all that it took in, at the greatest floor, whatever else was asked of it
 abbrev pub KnowsWhatItTookIn : Type 0
 KnowsWhatItTookIn = (port_guid port priority : ℕ) (planning : Planning) (calls : List Call) →
     (after_calls calls (new_manager port_guid port priority planning)).store
     ≡ view_at (greatest_floor calls) (taken_in calls (new_manager port_guid port priority planning))
 
--- two managers that took in the same, in whatever order and however often, and have one greatest floor, one LMC and one
--- rule of routing know the same and plan the same; and where that plan has room and is in force in what an end port is
+-- two managers know the same and plan the same if they took in the same, in whatever order and however often, and have
+-- one greatest floor, one LMC and one rule of routing; and if that plan has room and is in force in what an end port is
 -- joined to, each packet from each end port there for each of its LIDs arrives
 pub record KnowTheSame (one other : Manager) : Type 0 where
   pub facts : one.store ≡ other.store

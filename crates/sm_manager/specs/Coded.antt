@@ -1,4 +1,4 @@
--- How a manager is stored as numbers, so that it can be a struct's value.
+-- The coding of a manager as numbers, by which it can be a struct's value.
 use Rattle.std.specs.Prelude.{ℕ, Bool, List, Option, refl}
 use Rattle.std.specs.Coded.{Coded, code_by, coded×, coded_ℕ, coded_bool, coded_list, coded_option}
 use Rattle.fact_store.specs.View.{Facts}
@@ -18,7 +18,7 @@ use Rattle.plan_steps.specs.contracts.phase.Phase as phase
 use Rattle.sm_manager.specs.Manager.{Manager, Writing}
 use Rattle.lft_blocks.specs.Planning.{Planning, planning_code}
 
--- by the codes of its parts
+-- the code of a writing, made of the codes of its parts
 abbrev pub writing_code : Coded Writing
 writing_code =
     code_by (List Phase × Bool)

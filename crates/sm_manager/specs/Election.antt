@@ -31,16 +31,16 @@ use Rattle.sm_state.specs.Standing.{info_of, is_in, moved_to}
 
 -- requests for SMInfo ---------------------------------------------------------------------------
 
--- one by LIDs as the request of a number
+-- a request by LIDs that waits for its answer, with its number
 abbrev pub info_pending : ℕ → Purpose → ℕ → Pending
 info_pending number purpose modifier =
     record { number = number; purpose = purpose; attribute = sm_info; modifier = modifier; path = None }
 
--- a poll goes out as a Get with no data
+-- a poll: a Get with no data
 abbrev pub poll_out : ℕ → ℕ → Outgoing
 poll_out number lid = record { packet = lid_routed get sm_info 0 number (replicate 64 0); to = Some lid }
 
--- a control as a Set with what its sender tells of itself
+-- a control: a Set with the SMInfo of its sender
 abbrev pub control_out : Standing → ℕ → ℕ → Control → Outgoing
 control_out s number lid control =
     record {
@@ -62,20 +62,20 @@ control_sent m lid control =
     asked m (info_pending m.counter purpose.Control (modifier_of_control control))
     (control_out m.standing m.counter lid control)
 
--- how many requests a message comes to; there may be none, or nobody to send it to
+-- the number of requests for a message: 1, or 0 if there is no message, or nobody to send it to
 abbrev pub message_count : Option ℕ → Option Message → ℕ
 message_count None message = 0
 message_count (Some lid) None = 0
 message_count (Some lid) (Some message) = 1
 
--- its request, which waits for its answer
+-- the request of a message, which waits for its answer
 abbrev pub message_pending : ℕ → Option ℕ → Option Message → List Pending
 message_pending counter None message = []
 message_pending counter (Some lid) None = []
 message_pending counter (Some lid) (Some message) =
     info_pending counter purpose.Control (modifier_of_control (control_of_message message)) ∷ []
 
--- and its packet
+-- the packet of a message
 abbrev pub message_out : Standing → ℕ → Option ℕ → Option Message → List Outgoing
 message_out s counter None message = []
 message_out s counter (Some lid) None = []
@@ -89,49 +89,49 @@ after_message m (Some lid) (Some message) = control_sent m lid (control_of_messa
 
 -- polls -----------------------------------------------------------------------------------------
 
--- why no poll is sent, out of memory aside
+-- why no poll is sent, except for lack of memory
 abbrev pub poll_fault : Manager → Option ManagerFault
 poll_fault m = if is_in Standby m.standing then number_fault (m.counter + 1) else Some fault.NotStandby
 
 -- handing over ----------------------------------------------------------------------------------
 
--- what the table of states has it do where another one is to be master
+-- the move of the table of states if another manager is to be master
 abbrev pub handover_move : Manager → Transition
 handover_move m = stepped m.standing.state HandoverWanted
 
--- of the managers that the last sweep saw
+-- the one of the managers seen by the last sweep that is to take over
 abbrev pub successor : Manager → Option SeenManager
 successor m = successor_of (info_of m.standing) m.seen
 
--- the port where a manager was seen, as far as it is known to be an end port
+-- the port where a manager was seen, if it is known to be an end port
 abbrev pub port_seen : Cells → SeenManager → Option EndPort
 port_seen cells s = if is_end_port cells s.guid s.port then Some (record { node = s.guid; port = s.port }) else None
 
 abbrev pub successor_port : Manager → Option EndPort
 successor_port m = option_and_then (port_seen (cells_of m.store)) (successor m)
 
--- the LID that the plan gives it
+-- the LID that the plan gives to the successor's port
 abbrev pub successor_lid : Manager → Option ℕ
 successor_lid m = option_and_then (lid_of (lids m.planning.lmc (cells_of m.store))) (successor_port m)
 
--- there is no LID to send to
+-- a fault if there is no LID to send to
 abbrev pub unless_lid : Option ℕ → Option ManagerFault
 unless_lid None = Some fault.Nobody
 unless_lid (Some lid) = None
 
--- why a master hands nothing over, out of memory aside: none of those that were seen is to take over, there is no plan,
--- the plan gives that one's port no LID, or no number is left
+-- why a master hands nothing over, except for lack of memory: there is no successor, there is no plan, the plan gives
+-- the successor's port no LID, or no number is left
 abbrev pub successor_fault : Manager → Option ManagerFault
 successor_fault m =
     if is_none (successor m) then Some fault.Nobody
     else or_else (plan_fault m.planning.lmc (cells_of m.store))
     (or_else (unless_lid (successor_lid m)) (number_fault (m.counter + 1)))
 
--- where the table of states has nothing to say to the successor, it is no master
+-- why a manager hands nothing over: it is not master if the table of states has no message for a successor
 abbrev pub handover_fault : Manager → Option ManagerFault
 handover_fault m = if is_none (handover_move m).message then Some fault.NotMaster else successor_fault m
 
--- the state moves, and the successor is told to take over; it moves again once the successor has acknowledged
+-- the state moves, and the successor is told to take over; the state moves again once the successor has acknowledged
 abbrev pub handed_to : Manager → Option ℕ → Manager
 handed_to m lid =
     after_message (record m { standing = moved_to (handover_move m).state m.standing }) lid (handover_move m).message

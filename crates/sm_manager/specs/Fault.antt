@@ -1,4 +1,4 @@
--- The names of a manager's faults, and which of them is out of memory.
+-- The names of a manager's faults, and which of them is lack of memory.
 use Rattle.std.specs.Prelude.{ℕ, Bool, true, false, List, codes}
 use Rattle.sweep.specs.declared.fault.SweepFault.{SweepFault}
 use Rattle.sweep.specs.declared.fault.SweepFault.TheVariants as sweep
@@ -6,7 +6,7 @@ use Rattle.sweep.specs.Fault.{sweep_fault_name}
 use Rattle.sm_manager.specs.declared.fault.ManagerFault.{ManagerFault}
 use Rattle.sm_manager.specs.declared.fault.ManagerFault.TheVariants as manager
 
--- that of the sweep's fault where there is one
+-- the name of a fault; for a fault of the sweep, the sweep's name of it
 abbrev pub manager_fault_name : ManagerFault → List ℕ
 manager_fault_name manager.GenerationsSpent = codes "GenerationsSpent"
 manager_fault_name manager.SweepRunning = codes "SweepRunning"

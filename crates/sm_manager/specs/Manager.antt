@@ -1,4 +1,4 @@
--- A subnet manager: what it knows, its last sweep, and what it is about to send; and what it is asked to do.
+-- A subnet manager: what it knows, its last sweep, what it is about to send, and what it can be asked for.
 -- InfiniBand Architecture Specification, Volume 1: subnet management, subnet manager; topology discovery.
 use Rattle.std.specs.Prelude.{◌≡◌, ℕ, ◌+◌, ◌-◌, ◌^◌, max, Bool, false, not, List, [], ◌∷◌, ◌++◌, map, ◌==◌, if◌then◌else◌, Option, Some, None}
 use Rattle.fact_store.specs.Seen.{newest_of}
@@ -25,8 +25,8 @@ pub record Writing : Type 0 where
   pub later : List Phase
   pub has_failed : Bool
 
--- What it is among the managers of its subnet, the number of the port that it sits at, how it plans, all facts that it
--- took in, the last sweep that it began, the managers that this sweep saw, in the order in which it did, the last
+-- A manager: its standing among the managers of its subnet, the number of its port, how it plans, all facts that it
+-- took in, the last sweep that it began, the managers that this sweep saw, in the order in which it saw them, the last
 -- writing that it began, the number of its next request outside sweeps, the requests outside sweeps that wait for their
 -- answers, by rising numbers, and the packets that it is about to send, first in, first out.
 pub record Manager : Type 0 where
@@ -41,7 +41,7 @@ pub record Manager : Type 0 where
   pub pending : List Pending
   pub outgoing : List Outgoing
 
--- one that knows nothing and has done nothing
+-- a manager that knows nothing and has done nothing
 abbrev pub new_manager : ℕ → ℕ → ℕ → Planning → Manager
 new_manager port_guid port priority planning =
     record {
@@ -57,17 +57,17 @@ new_manager port_guid port priority planning =
       outgoing = [];
     }
 
--- what a sweep asks goes out -----------------------------------------------------------------
+-- what a sweep asks for goes out --------------------------------------------------------------
 
 -- requests go out by their paths
 abbrev pub requests_out : ℕ → List Request → List Outgoing
 requests_out generation requests = map (λ r. record { packet = packet_of generation r; to = None }) requests
 
--- all that is queued waits for its replies
+-- all requests that are queued go out, and wait for their replies
 abbrev pub with_all_sent : Sweep → Sweep
 with_all_sent s = record s { queued = []; outstanding = s.outstanding ++ s.queued }
 
--- all that the sweep has queued is sent at once
+-- all requests that the sweep has queued go out at once
 abbrev pub with_sweep : Manager → Sweep → Manager
 with_sweep m s =
     record m {
@@ -92,19 +92,20 @@ abbrev pub is_over : Option Sweep → Bool
 is_over None = false
 is_over (Some s) = is_done s
 
--- what the end of a sweep that saw these means for the state
+-- the state after a sweep that saw the managers `seen`
 abbrev pub after_verdict : List SeenManager → Standing → Standing
 after_verdict seen s = moved_by (sweep_verdict (info_of s) seen) s
 
--- replies come and requests are given up only while a sweep runs: where it is done then, it ended by that
+-- the manager once the sweep has changed: if the sweep is done, it ended by this change, since replies and timeouts
+-- come only while it runs
 abbrev pub after_sweep : Manager → Manager
 after_sweep m = record m { standing = if is_over m.sweep then after_verdict m.seen m.standing else m.standing }
 
--- the greatest generation of a fact, 0 where there is none
+-- the greatest generation of a fact, 0 if there is none
 abbrev pub newest_held : Facts → ℕ
 newest_held facts = newest_of (map (λ e. e.1) (cells_of facts))
 
--- the generation of the next sweep: after all that it knows, and not below the floor
+-- the generation of the next sweep: greater than all that the facts have, and not below the floor
 abbrev pub next_generation : Facts → ℕ
 next_generation facts = max (newest_held facts + 1) facts.floor
 
@@ -113,7 +114,7 @@ abbrev pub begin_fault : Manager → Option ManagerFault
 begin_fault m = if is_running m.sweep then Some SweepRunning else
     (if newest_held m.store == 2 ^ 32 - 1 then Some GenerationsSpent else None)
 
--- a sweep by the manager's own port, of the next generation; it has seen no manager yet
+-- a sweep begins at the manager's own port, in the next generation; it has seen no manager yet
 abbrev pub after_begin_sweep : Manager → Manager
 after_begin_sweep m =
     with_sweep (record m {
@@ -124,11 +125,11 @@ after_begin_sweep m =
 
 -- other calls ------------------------------------------------------------------------------------
 
--- the facts of another store are merged with its own
+-- the facts of another store are merged with the manager's own
 abbrev pub after_merge : Manager → Facts → Manager
 after_merge m facts = record m { store = merge m.store facts }
 
--- it forgets what is below a floor
+-- the manager forgets what is below `floor`
 abbrev pub after_raise_floor : Manager → ℕ → Manager
 after_raise_floor m floor = record m { store = raised m.store floor }
 
@@ -149,16 +150,16 @@ abbrev pub transactions_of : Option Sweep → List ℕ
 transactions_of None = []
 transactions_of (Some s) = map (λ r. transaction_of s.generation r.number) s.outstanding
 
--- the TransactionIDs that it waits for, rising: a generation stands in the high half of a sweep's, and 0 in others'
+-- the TransactionIDs that a manager waits for, rising: those of a sweep have the generation in the high half, others 0
 abbrev pub outstanding : Manager → List ℕ
 outstanding m = map (λ p. p.number) m.pending ++ transactions_of m.sweep
 
--- how many of its unanswered requests were for SMInfo
+-- the number of a sweep's unanswered requests that were for SMInfo
 abbrev pub silent_in : Option Sweep → Option ℕ
 silent_in None = None
 silent_in (Some s) = Some s.silent_managers
 
--- how its last sweep goes
+-- how far the last sweep is
 abbrev pub progress_of : Option Sweep → Progress
 progress_of None = Never
 progress_of (Some s) = if is_done s then Done s.unanswered s.too_far else Running s.unanswered s.too_far

@@ -5,25 +5,25 @@ use Rattle.sm_manager.specs.declared.pending.Pending.{Pending}
 use Rattle.sm_manager.specs.declared.pending.Purpose.{Purpose}
 use Rattle.sm_manager.specs.declared.pending.Purpose.TheVariants as purpose
 
--- the number of the next one, those that wait for their answers, and for how many more there is memory
+-- the number of the next request, those that wait for their answers, and for how many more there is memory
 pub record ManagerRequests : Type 0 where
   pub counter : ℕ
   pub pending : List Pending
   pub room : ℕ
 
--- 32 bits hold each number, and they rise
+-- each number fits 32 bits, and they rise
 abbrev pub AreNumbered : ℕ → List Pending → Type 0
 AreNumbered counter pending = numbers.AreNumbered (λ (p : Pending). p.number) pending counter
 
--- the request of a number
+-- the request with the number `number`
 abbrev pub with_number : ℕ → List Pending → Option Pending
 with_number number pending = numbers.with_number (λ (p : Pending). p.number) number pending
 
--- without the request of a number
+-- the requests without the one with the number `number`
 abbrev pub without_number : ℕ → List Pending → List Pending
 without_number number pending = numbers.without_number (λ (p : Pending). p.number) number pending
 
--- what they are for ------------------------------------------------------------------------------
+-- what requests are for --------------------------------------------------------------------------
 
 abbrev pub is_for_step : Purpose → Bool
 is_for_step purpose.Poll = false
@@ -39,11 +39,11 @@ counts_as purpose.Poll = false
 counts_as purpose.Control = false
 counts_as (purpose.Step counts) = counts
 
--- a step without which the plan is not written
+-- a step that has to be done for the plan to be written
 abbrev pub counts : Pending → Bool
 counts p = counts_as p.purpose
 
--- how many pass a test
+-- the number of requests that pass a test
 abbrev pub how_many : (Pending → Bool) → List Pending → ℕ
 how_many test pending = length (filter test pending)
 
@@ -51,11 +51,11 @@ how_many test pending = length (filter test pending)
 abbrev pub no_step_waits : List Pending → Bool
 no_step_waits pending = how_many is_step pending == 0
 
--- nor one without which the plan is not written
+-- no step waits that has to be done for the plan to be written
 abbrev pub none_counts : List Pending → Bool
 none_counts pending = how_many counts pending == 0
 
--- so many are steps, and so many count
+-- `steps` of the requests are steps, and `counting` of them count
 pub record AreCounted (pending : List Pending) (steps counting : ℕ) : Type 0 where
   pub steps_are : steps ≡ how_many is_step pending
   pub counting_are : counting ≡ how_many counts pending

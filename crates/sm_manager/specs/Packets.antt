@@ -28,7 +28,7 @@ use Rattle.sm_manager.specs.Served.{served}
 use Rattle.sm_state.specs.Standing.{poll_answered, poll_lost}
 use Rattle.sm_manager.specs.Writing.{is_done_by, is_spent, after_step, without}
 
--- a call's outcome: the manager afterwards, and why it was refused, if it was
+-- a call's outcome: the manager afterwards, and why the call was refused, if it was
 pub record Called : Type 0 where
   pub manager : Manager
   pub fault : Option ManagerFault
@@ -42,8 +42,7 @@ done m = record { manager = m; fault = None }
 
 -- packets -------------------------------------------------------------------------------------
 
--- the facts of an answer are merged with what is known, a manager that it shows is noted, and what it brings up goes
--- out
+-- the facts of an answer are merged, a manager that it shows is noted, and the requests that it brings up go out
 abbrev pub with_answer : Manager → Sweep → List ℕ → Answer → Manager
 with_answer m s packet answer =
     after_sweep (with_sweep (record m {
@@ -56,7 +55,7 @@ abbrev pub answered_by : Manager → Sweep → List ℕ → Result Answer SweepF
 answered_by m s packet (Ok answer) = done (with_answer m s packet answer)
 answered_by m s packet (Err why) = refused m (fault.Sweep why)
 
--- a reply to a sweep; where none ever was, nobody asked
+-- a reply to a sweep; if no sweep was ever begun, nobody asked
 abbrev pub sweep_answered : Manager → List ℕ → Option Sweep → Called
 sweep_answered m packet None = refused m fault.Unasked
 sweep_answered m packet (Some s) = answered_by m s packet (judged s packet)
@@ -66,11 +65,11 @@ abbrev pub is_for_sweep : List ℕ → Bool
 is_for_sweep packet =
     number_in method packet == get_resp && (is_directed packet && nat_le (2 ^ 32) (number_in transaction_id packet))
 
--- an answer to this request
+-- the packet is an answer to the request `p`
 abbrev pub answers : List ℕ → Pending → Bool
 answers packet p = number_in method packet == get_resp && smp.answers packet p.number p.attribute p.modifier p.path
 
--- the request that waits for this answer
+-- the request that waits for the answer `packet`
 abbrev pub pending_for : Manager → List ℕ → Option Pending
 pending_for m packet = find (answers packet) m.pending
 
@@ -87,8 +86,8 @@ after_poll_end false s = poll_lost s
 abbrev pub status_number : Option Status → Option ℕ
 status_number status = option_map (λ s. s.0) status
 
--- a request waits no more: it was answered with this status, or nothing answered it; a step was done where its answer
--- says so, and the next phase may go out
+-- a request waits no more: `answer` is the status of its answer, or none if it timed out; if it was a step, the next
+-- phase may go out
 abbrev pub after_request : Manager → Pending → Option ℕ → Purpose → Called
 after_request m p answer Poll = done (record (without m p) { standing = after_poll_end (is_some answer) m.standing })
 after_request m p answer Control = done (without m p)
@@ -100,7 +99,7 @@ request_answered m packet (Some p) = after_request m p (Some (status packet)) p.
 
 -- requests of other managers --------------------------------------------------------------------
 
--- of a packet that came by LIDs the sender's LID is known
+-- the sender's LID is known for a packet that came by LIDs
 abbrev pub HasSender : List ℕ → Option ℕ → Type 0
 HasSender packet from = fault_of packet ≡ None → is_lid_routed packet ≡ true → IsSome from
 
@@ -108,7 +107,7 @@ HasSender packet from = fault_of packet ≡ None → is_lid_routed packet ≡ tr
 abbrev pub is_info_request : List ℕ → Bool
 is_info_request packet = not (is_response packet) && number_in attribute_id packet == sm_info
 
--- bytes that are no packet are refused by what is wrong with them, and what answers nothing as not asked for
+-- bytes that are not a packet are refused with their fault, and a packet that answers nothing as not asked for
 abbrev pub packet_taken : Manager → List ℕ → Option ℕ → Option SmpFault → Called
 packet_taken m packet from (Some why) = refused m (fault.Sweep (Bad (Smp why)))
 packet_taken m packet from None =
@@ -116,7 +115,7 @@ packet_taken m packet from None =
     else if is_for_sweep packet then sweep_answered m packet m.sweep
     else request_answered m packet (pending_for m packet)
 
--- a packet that comes to the manager's port, from this LID
+-- a packet comes to the manager's port, from the LID `from`
 abbrev pub after_packet : Manager → List ℕ → Option ℕ → Called
 after_packet m packet from = packet_taken m packet from (fault_of packet)
 
@@ -135,14 +134,13 @@ abbrev pub request_gave_up : Manager → Option Pending → Called
 request_gave_up m None = refused m fault.Unasked
 request_gave_up m (Some p) = after_request m p None p.purpose
 
--- nothing answered a request in time: one of the sweep, whose TransactionID has its generation in the high half, or
--- another
+-- a request timed out: one of the sweep, whose TransactionID has its generation in the high half, or another
 abbrev pub after_timeout : Manager → ℕ → Called
 after_timeout m transaction =
     if nat_le (2 ^ 32) transaction then sweep_gave_up m transaction m.sweep
     else request_gave_up m (with_number transaction m.pending)
 
--- where there is no room for what a reply may bring up, it is refused as it would be, or else memory is wanting
+-- if there is no room for what a reply may bring up, the fault is the sweep's refusal, or lack of memory if it has none
 abbrev pub IsFaultWithoutRoom : Result Answer SweepFault → ManagerFault → Type 0
 IsFaultWithoutRoom (Ok answer) given = given ≡ fault.Memory
 IsFaultWithoutRoom (Err why) given = given ≡ fault.Sweep why

@@ -22,16 +22,16 @@ abbrev pub or_else : Option ManagerFault → Option ManagerFault → Option Mana
 or_else None other = other
 or_else (Some why) other = Some why
 
--- a number is needed that 32 bits do not hold
+-- the fault if a number is needed that does not fit 32 bits
 abbrev pub number_fault : ℕ → Option ManagerFault
 number_fault counter = if nat_lt (2 ^ 32) counter then Some fault.SequenceSpent else None
 
--- numbers are wanting
+-- the fault if numbers are lacking
 abbrev pub unless_numbers : Bool → Option ManagerFault
 unless_numbers are_numbers = if are_numbers then None else Some fault.SequenceSpent
 
--- why no writing begins, out of memory aside: what goes on forbids it, there is no plan, or a phase could need a number
--- that 32 bits do not hold
+-- why no writing begins, except for lack of memory: a sweep or a writing runs, or the manager is not master; there is
+-- no plan; or a phase could need a number that does not fit 32 bits
 abbrev pub writing_fault : Manager → Option ManagerFault
 writing_fault m =
     or_else (write_fault m)

@@ -1,4 +1,4 @@
--- What a manager answers where another one asks for its SMInfo or would control it.
+-- What a manager answers if another one asks for its SMInfo or wants to control it.
 -- InfiniBand Architecture Specification, Volume 1: subnet management, SMInfo; management methods and status.
 use Rattle.std.specs.Prelude.{ℕ, Bool, ◌&&◌, not, List, [], ◌∷◌, ◌++◌, ◌==◌, if◌then◌else◌, Option, None}
 use Rattle.smp_bytes.specs.Field.{bytes_in, number_in}
@@ -17,11 +17,11 @@ use Rattle.sm_state.specs.Standing.{info_of, moved_to}
 
 -- answers ---------------------------------------------------------------------------------------
 
--- an answer carries what the manager tells of itself, and a refusal what the request carried
+-- the data of an answer: the manager's SMInfo, and in a refusal the data of the request
 abbrev pub answer_data : Standing → List ℕ → ℕ → List ℕ
 answer_data s packet status = if status == done then sm_info_bytes (info_of s) else bytes_in attribute_data packet
 
--- a directed request is answered by its path, and another one by the LID of its sender
+-- a directed request is answered by its path, another one by the LID of its sender
 abbrev pub answer_out : Standing → List ℕ → Option ℕ → ℕ → Outgoing
 answer_out s packet from status =
     record {
@@ -39,20 +39,20 @@ answering m packet from status = record m { outgoing = m.outgoing ++ answer_out 
 abbrev pub is_control : List ℕ → Bool
 is_control packet = number_in method packet == set && not (is_directed packet)
 
--- the state moves, the answer goes out, and then what the sender is told
+-- the state moves, the answer goes out, and then the message to the sender, if any
 abbrev pub moved_on : Manager → List ℕ → Option ℕ → Transition → Manager
 moved_on m packet from move =
     after_message (answering (record m { standing = moved_to move.state m.standing }) packet from (status_of move)) from
     move.message
 
--- as the table of states says
+-- the state moves by the table of states
 abbrev pub controlled : Manager → List ℕ → Option ℕ → Manager
 controlled m packet from =
     moved_on m packet from (stepped m.standing.state (event.Control (number_in attribute_modifier packet)))
 
 -- any request for SMInfo --------------------------------------------------------------------------
 
--- the status of the answer to what is no control: a Get is answered
+-- the status of the answer to a request that is not a control: a Get is answered
 abbrev pub status_for : List ℕ → ℕ
 status_for packet =
     if number_in method packet == get then done

@@ -21,7 +21,7 @@ use Rattle.sm_manager.specs.ManagerRequests.{counts, how_many, is_step, no_step_
 
 -- a phase goes out --------------------------------------------------------------------------------
 
--- a step as the request of a number
+-- a step as a request with the number `number`
 abbrev pub pending_step : ℕ → Bool → Step → Pending
 pending_step number counts s =
     record {
@@ -33,7 +33,7 @@ pending_step number counts s =
           Some s.path;
     }
 
--- the steps of a phase as requests, by rising numbers
+-- the steps of a phase as requests, with rising numbers from `number` on
 abbrev pub numbered : Bool → ℕ → List Step → List Pending
 numbered counts number [] = []
 numbered counts number (s ∷ steps) = pending_step number counts s ∷ numbered counts (suc number) steps
@@ -43,17 +43,17 @@ abbrev pub steps_out : ℕ → List Step → List Outgoing
 steps_out number [] = []
 steps_out number (s ∷ steps) = record { packet = set_packet number s; to = None } ∷ steps_out (suc number) steps
 
--- phases without steps that come first are passed over
+-- the phases without those in front that have no steps
 abbrev pub without_empty_phases : List Phase → List Phase
 without_empty_phases [] = []
 without_empty_phases (p ∷ phases) = if length p.steps == 0 then without_empty_phases phases else p ∷ phases
 
--- the phase that comes first, and one without steps where there is none
+-- the first phase, or one without steps if there is none
 abbrev pub next_phase : List Phase → Phase
 next_phase [] = record { counts = false; steps = [] }
 next_phase (p ∷ phases) = p
 
--- the steps of the next phase, as they go out from this number on
+-- the steps of the next phase as requests, with numbers from `number` on
 abbrev pub next_pending : ℕ → List Phase → List Pending
 next_pending number phases = numbered (next_phase phases).counts number (next_phase phases).steps
 
@@ -67,7 +67,7 @@ phase_sent m w =
       outgoing = m.outgoing ++ steps_out m.counter (next_phase w.later).steps;
     }
 
--- it goes out where no step of the one before waits
+-- the next phase goes out if no step of the one before waits
 abbrev pub went_on_with : Manager → Option Writing → Manager
 went_on_with m None = m
 went_on_with m (Some w) = if no_step_waits m.pending then phase_sent m w else m
@@ -75,7 +75,7 @@ went_on_with m (Some w) = if no_step_waits m.pending then phase_sent m w else m
 abbrev pub went_on : Manager → Manager
 went_on m = went_on_with m m.writing
 
--- a number was needed that 32 bits do not hold
+-- a number was needed that does not fit 32 bits
 abbrev pub is_spent : Manager → Bool
 is_spent m = nat_lt (2 ^ 32) m.counter
 
@@ -89,24 +89,24 @@ write_fault_with m (Some s) =
     else if not (no_step_waits m.pending) then Some WritingRunning
     else None
 
--- a master writes where neither a sweep nor a writing of it goes on; who never began a sweep is no master
+-- why a manager does not write: it is not master, or a sweep or a writing of it runs; without a sweep it is not master
 abbrev pub write_fault : Manager → Option ManagerFault
 write_fault m = write_fault_with m m.sweep
 
--- the phases of the plan of what it knows, over the paths of its last sweep
+-- the phases of the plan of what the manager knows, over the paths of its last sweep
 abbrev pub phases_by : Manager → Option Sweep → List Phase
 phases_by m None = []
 phases_by m (Some s) =
     phases_of (plan_of m.planning.rule m.planning.lmc (cells_of m.store)) (cells_of m.store) s m.standing.guid m.port
 
--- the first of these phases is sent
+-- the first of the phases goes out
 abbrev pub begun_with : Manager → List Phase → Manager
 begun_with m phases = phase_sent m (record { later = without_empty_phases phases; has_failed = false })
 
 abbrev pub after_write_steps : Manager → Manager
 after_write_steps m = begun_with m (phases_by m m.sweep)
 
--- whether it is written -----------------------------------------------------------------------------
+-- a plan is written ----------------------------------------------------------------------------------
 
 abbrev pub is_written_by : List Pending → Option Writing → Bool
 is_written_by pending None = false
@@ -119,7 +119,7 @@ is_written m = is_written_by m.pending m.writing
 
 -- a step is over --------------------------------------------------------------------------------------
 
--- a step was done, or was not
+-- whether a step was done is noted
 abbrev pub noted : Bool → Bool → Option Writing → Option Writing
 noted counts was_done None = None
 noted counts was_done (Some w) = Some (record w { has_failed = w.has_failed || (counts && not was_done) })
@@ -128,17 +128,17 @@ noted counts was_done (Some w) = Some (record w { has_failed = w.has_failed || (
 abbrev pub without : Manager → Pending → Manager
 without m p = record m { pending = without_number p.number m.pending }
 
--- a step was done where its answer says so
+-- a step was done if its answer says so
 abbrev pub is_done_by : Option ℕ → Bool
 is_done_by None = false
 is_done_by (Some status) = status == done
 
--- a step waits no more, and what comes next goes out
+-- a step waits no more, and the next phase goes out if it was the last one
 abbrev pub after_step : Manager → Pending → Bool → Manager
 after_step m p was_done =
     went_on (record m { pending = without_number p.number m.pending; writing = noted (counts p) was_done m.writing })
 
--- so many steps go out where one of those that wait ends: the next phase, where it is the last of its own
+-- the number of steps that go out if one that waits ends: the next phase, if it is the last of its own
 abbrev pub count_with : List Pending → Option Writing → ℕ
 count_with pending None = 0
 count_with pending (Some w) = if nat_lt 1 (how_many is_step pending) then 0 else length (next_phase w.later).steps

@@ -1,4 +1,4 @@
-//! What becomes of a manager that has seen others, and what it sends to them.
+//! What a manager does about other managers: what its sweep saw decides its state, and it polls and hands over.
 ghost use Rattle.std.specs.Prelude.{◌≡◌, ◌<◌, ◌+◌, ◌≤◌, ◌^◌, ◌∷◌, ◌++◌, [], None, Some, true, IfOk, OnOk, OnErr};
 ghost use Rattle.std.specs.VecDeque.{deque_capacity, deque_len};
 ghost use Rattle.fact_store.specs.View.{cells_of};
@@ -31,7 +31,7 @@ use smp_bytes::{Lid, Method};
 use std::collections::VecDeque;
 use subnet_view::{EndPort, is_end_port};
 
-/// A sweep that saw these has got done.
+/// Ends a sweep that saw the managers `seen`.
 pub(crate) fn end_sweep(standing: &mut Standing, seen: &[SeenManager])
     ensures { standing.new ≡ after_verdict seen.now standing.old }
 {
@@ -40,7 +40,7 @@ pub(crate) fn end_sweep(standing: &mut Standing, seen: &[SeenManager])
 }
 
 impl Manager {
-    /// Asks the manager at a LID, the master, whether it is there. The answer or its absence counts once it comes.
+    /// Sends a poll to the master at `lid`. The answer, or its timeout, counts once it comes.
     ///
     /// # Errors
     ///
@@ -58,15 +58,15 @@ impl Manager {
         Ok(())
     }
 
-    /// Tells the greatest of the managers that the last sweep saw in Standby or Master, and that win over this one, to
-    /// take over; of equals the first that was seen. It goes to the LID of the port where it was seen. The state moves
-    /// as the table of states says: it stays Master, until that manager acknowledges. Plans LIDs, and walks what the
-    /// sweep saw.
+    /// Tells the successor to take over: the greatest of the managers that the last sweep saw in Standby or Master and
+    /// that win over this one, of equals the first that was seen. Sends the control to the LID that the plan gives the
+    /// port where the successor was seen. The state moves by the table of states: it stays Master until the successor
+    /// acknowledges. Plans LIDs, and walks what the sweep saw.
     ///
     /// # Errors
     ///
-    /// `NotMaster`; `Nobody`, where there is no such manager; `NoRoom`; `Nobody`, where the plan gives its port no LID,
-    /// since that is not known to be an end port; `SequenceSpent`; `Memory`, in this order.
+    /// `NotMaster`; `Nobody` if there is no successor; `NoRoom`; `Nobody` if the successor's port is not known to be an
+    /// end port, so that the plan gives it no LID; `SequenceSpent`; `Memory`, in this order.
     pub fn handover(&mut self) -> Result<(), ManagerFault>
         ensures judged { JudgesButFor is_memory result (handover_fault self.old) }
         ensures ok { OnOk result (self.new ≡ after_handover self.old) }
@@ -89,7 +89,7 @@ impl Manager {
         Ok(())
     }
 
-    /// The LID of the manager that is to take over, where there is a number for telling it.
+    /// Returns the LID of the successor, if a number is left for the request.
     fn successor_lid(&self) -> Result<Lid, ManagerFault>
         ensures judged { JudgesButFor is_memory result (successor_fault self.now) }
         ensures lid { IfOk result (λ lid. successor_lid self.now ≡ Some lid) }
@@ -104,7 +104,8 @@ impl Manager {
         where_numbered(self.planned_lid(port), self.requests.has_numbers(1))
     }
 
-    /// Why nothing goes to a port that is no end port: there is no plan, or none has a LID for it. Takes no memory.
+    /// Returns why nothing can be sent to a port that is not a known end port: there is no plan, or it has no LID for
+    /// the port. Takes no memory.
     fn lidless_fault(&self) -> ManagerFault
         ensures { Some result
             ≡ or_else (plan_fault self.now.planning.lmc (cells_of self.now.store)) (Some ManagerFault.Nobody) }
@@ -115,7 +116,7 @@ impl Manager {
         }
     }
 
-    /// The LID that the plan gives to an end port.
+    /// Returns the LID that the plan gives to `port`.
     fn planned_lid(&self, port: EndPort) -> Result<Lid, ManagerFault>
         requires { is_end_port (cells_of self.now.store) port.node port.port ≡ true }
         ensures judged { JudgesButFor is_memory result (plan_fault self.now.planning.lmc (cells_of self.now.store)) }
@@ -126,7 +127,7 @@ impl Manager {
         Ok(lids.lid_of(port).unwrap())
     }
 
-    /// The LIDs of the plan.
+    /// Returns the LIDs of the plan.
     fn plan_lids(&self) -> Result<LidMap, ManagerFault>
         ensures judged { JudgesButFor is_memory result (plan_fault self.now.planning.lmc (cells_of self.now.store)) }
         ensures lids { IfOk result (λ map. map ≡ lids self.now.planning.lmc (cells_of self.now.store)) }
@@ -139,7 +140,7 @@ impl Manager {
     }
 }
 
-/// The port where a manager was seen, as far as it is known to be an end port.
+/// Returns the port where the manager was seen, or `None` if it is not a known end port.
 fn port_seen(store: &Store, seen: &SeenManager) -> Option<EndPort>
     ensures { result ≡ port_seen (cells_of store.now) seen.now }
 {
@@ -152,7 +153,7 @@ fn port_seen(store: &Store, seen: &SeenManager) -> Option<EndPort>
     })
 }
 
-/// A poll goes out to a LID. Takes no memory.
+/// Queues a poll to the LID `to`. Takes no memory.
 fn send_poll(to: Lid, requests: &mut ManagerRequests, outgoing: &mut VecDeque<Outgoing>)
     requires number { requests.old.counter < 2 ^ 32 }
     requires room { 0 < requests.old.room }
@@ -170,7 +171,7 @@ fn send_poll(to: Lid, requests: &mut ManagerRequests, outgoing: &mut VecDeque<Ou
     });
 }
 
-/// A message goes out as a control to a LID, where there are both. Takes no memory.
+/// Queues `message` as a control to the LID `to`, if there are both. Takes no memory.
 pub(crate) fn send_message(
     to: &Option<Lid>,
     message: &Option<Message>,
@@ -196,7 +197,7 @@ pub(crate) fn send_message(
     }
 }
 
-/// A control goes out to a LID. Takes no memory.
+/// Queues a control to the LID `to`. Takes no memory.
 fn send_control(
     to: Lid,
     control: Control,

@@ -1,4 +1,4 @@
-//! How requests outside sweeps end.
+//! The end of requests outside sweeps.
 ghost use Rattle.std.specs.Prelude.{◌≡◌, ◌<◌, OnOk, OnErr, length, slice_get, option_map, is_some};
 ghost use Rattle.smp_bytes.specs.Judges.{JudgesButFor};
 ghost use Rattle.sm_manager.specs.declared.pending.Pending.{Pending};
@@ -28,7 +28,7 @@ impl Manager {
         }
     }
 
-    /// A request outside sweeps waits no more: it was answered with a status, or was not answered in time.
+    /// Ends the request at `index`. `answer` is the status of its answer, or `None` if it timed out.
     pub(crate) fn end_request(
         &mut self,
         index: usize,
@@ -58,7 +58,7 @@ impl Manager {
     }
 }
 
-/// Whether a step was done: its answer says so.
+/// Returns whether the answer says that a step was done.
 fn is_done_by(answer: Option<Status>) -> bool
     ensures { result ≡ is_done_by (status_number answer) }
 {
@@ -68,7 +68,7 @@ fn is_done_by(answer: Option<Status>) -> bool
     }
 }
 
-/// A poll was answered, or was not.
+/// Counts a poll as answered or as lost.
 fn end_poll(standing: &mut Standing, was_answered: bool)
     ensures { standing.new ≡ after_poll_end was_answered standing.old }
 {

@@ -5,7 +5,7 @@ use std::alloc::AllocError;
 use sweep::SweepFault;
 use thiserror::Error;
 
-/// Why a manager refuses a call. It is then as it was.
+/// Why a manager refuses a call. A refused call leaves it as it was.
 #[derive(Clone, Copy, Debug, PartialEq, Eq, Error)]
 pub enum ManagerFault {
     /// The newest generation held is the greatest that there is.
@@ -23,19 +23,20 @@ pub enum ManagerFault {
     /// The manager is not in the state Standby.
     #[error("NotStandby")]
     NotStandby,
-    /// No manager that the last sweep saw can take over, or the plan gives the one that would no LID where it was seen.
+    /// No manager seen by the last sweep can take over, or the plan has no LID for the port where the successor was
+    /// seen.
     #[error("Nobody")]
     Nobody,
-    /// A request that is to go out needs a number that 32 bits do not hold.
+    /// A request that is to go out needs a number of more than 32 bits.
     #[error("SequenceSpent")]
     SequenceSpent,
-    /// There is no room for the LIDs.
+    /// There is no room for the LIDs of the plan.
     #[error("NoRoom")]
     NoRoom(NoRoom),
-    /// The sweep refuses the reply, for another reason than out of memory.
+    /// The sweep refuses the reply, for another reason than lack of memory.
     #[error("{0}")]
     Sweep(SweepFault),
-    /// The packet answers nothing that was asked, or the request that is to time out does not wait.
+    /// The packet answers no request, or the request that timed out does not wait.
     #[error("Unasked")]
     Unasked,
     /// The memory that the call needs was refused.
@@ -46,7 +47,7 @@ pub enum ManagerFault {
 impl ManagerFault {
     ghost use Rattle.sm_manager.specs.Fault.{manager_fault_name};
 
-    /// The name that `{}` writes; that of the sweep's fault where there is one.
+    /// Returns the name that `{}` writes; for a fault of the sweep, the sweep's name of it.
     pub fn name(self) -> &'static str
         ensures { result.now ≡ manager_fault_name self }
     {

@@ -5,7 +5,7 @@ use crate::manager::Manager;
 use smp_bytes::Generation;
 
 impl Manager {
-    /// The newest generation that is held, 0 where there is none.
+    /// Returns the newest generation of a fact in the store, 0 if there is no fact.
     fn newest_held(&self) -> u32
         ensures { result ≡ newest_held self.now.store }
     {
@@ -15,7 +15,8 @@ impl Manager {
         }
     }
 
-    /// The generation after the newest that is held, or the floor where that is greater; none comes after the greatest.
+    /// Returns the generation after the newest in the store, or the floor if that is greater. Returns `None` if the
+    /// newest is the greatest generation.
     pub(crate) fn next_generation(&self) -> Option<Generation>
         ensures some { IfSome result (λ next. next ≡ next_generation self.now.store) }
         ensures none { IsNone result → newest_held self.now.store ≡ 2 ^ 32 - 1 }

@@ -3,25 +3,25 @@ ghost use Rattle.sm_manager.specs.Answered.{WrittenIsEachStepDone};
 ghost use Rattle.sm_manager.specs.Calls.{KnowsWhatItTookIn, SameTakenInSamePlan};
 
 /// After any calls, in whatever order, a manager knows the view of all sightings that it took in, at the greatest
-/// floor: those of the reports that it accepted, and those behind the stores that it merged; the floors that were
-/// raised, and those of these stores.
+/// floor: the sightings of the reports that it accepted, and those behind the stores that it merged; the floors that
+/// were raised, and those of the merged stores.
 #[tactic(auto, using(crate::proofs::Lives::knows_what_it_took_in))]
 pub fn knows_what_it_took_in()
     ensures { KnowsWhatItTookIn }
 {}
 
-/// So two managers that took in the same sightings and have the same greatest floor hold equal facts and plan equal
-/// LIDs and forwarding blocks, whatever else befell them; and if these facts describe exactly what an end port is
-/// joined to, and that holds the plan, each packet from each end port there for each LID of the plan arrives at the end
-/// port that owns it.
+/// Two managers that took in the same sightings and have the same greatest floor hold equal facts and plan equal LIDs
+/// and forwarding blocks, whatever else happened to them; and if these facts describe exactly what an end port is
+/// joined to, and that part holds the plan, each packet from each end port there for each LID of the plan arrives at
+/// the end port that owns it.
 #[tactic(auto, using(crate::proofs::Lives::same_taken_in_same_plan))]
 pub fn same_taken_in_same_plan()
     ensures { SameTakenInSamePlan }
 {}
 
-/// Where a writing begins after any calls and no other one follows, the plan is written exactly where as many of its
-/// steps that count were answered, and as done, as there are: those of its first three phases. An answer to a step ends
-/// it, so none is counted twice.
+/// If a writing begins after any calls and no other one follows, the plan is written exactly if as many of its steps
+/// that count were answered as done as there are: those of its first three phases. An answer to a step ends it, so none
+/// is counted twice.
 pub fn written_is_each_step_done()
     ensures { WrittenIsEachStepDone }
 {}

@@ -25,8 +25,8 @@ use std::collections::VecDeque;
 use std::marker::Model;
 use sweep::Sweep;
 
-/// A subnet manager at an adapter's port: its state, what it knows of the subnet, the last sweep that it began, and
-/// what it is about to send. Contracts see each part.
+/// A subnet manager at an adapter's port: its state, what it knows of the subnet, its last sweep, and the packets that
+/// it has queued. Contracts see each part.
 #[derive(Drop)]
 pub struct Manager {
     pub(crate) alloc: Global,
@@ -36,7 +36,7 @@ pub struct Manager {
     pub(crate) planning: Planning,
     pub(crate) store: Store,
     pub(crate) sweep: Option<Sweep>,
-    /// The managers that this sweep saw.
+    /// The managers that the last sweep saw.
     pub(crate) seen: Vec<SeenManager>,
     pub(crate) writing: Option<Writing>,
     pub(crate) requests: ManagerRequests,
@@ -68,8 +68,8 @@ impl Model for Manager {
 }
 
 impl Manager {
-    /// A manager that knows nothing, at the port of a GUID and a number, and how it plans; its state is Discovering.
-    /// Takes no memory yet.
+    /// Creates a manager without facts at the port `port`, whose GUID is `port_guid`. Its state is Discovering. Takes
+    /// no memory yet.
     pub fn new(
         alloc: Global,
         port_guid: Guid,
@@ -93,8 +93,8 @@ impl Manager {
         }
     }
 
-    /// Begins a sweep, of the generation after the newest that is held, or of the floor where that is greater; what it
-    /// asks first goes out. The managers that the sweep before it saw are forgotten. Walks the store once.
+    /// Begins a sweep, and queues its first request. Its generation is the one after the newest in the store, or the
+    /// floor if that is greater. Forgets the managers that the sweep before saw. Walks the store once.
     ///
     /// # Errors
     ///
@@ -119,7 +119,7 @@ impl Manager {
         Ok(())
     }
 
-    /// Takes the first packet that is to be sent. Takes no memory.
+    /// Takes the first packet that is queued. Takes no memory.
     pub fn take_outgoing(&mut self) -> Option<Outgoing>
         ensures packet { result ≡ (after_take_outgoing self.old).packet }
         ensures manager { self.new ≡ (after_take_outgoing self.old).manager }
@@ -127,20 +127,20 @@ impl Manager {
         self.outgoing.pop_front()
     }
 
-    /// Forgets what is older than a generation, now and whenever it comes again. A sweep that runs goes on, and its
-    /// replies are taken, but tell nothing where it is older; the next one is not. Takes no memory. Walks the store
-    /// where this floor is greater than the one held.
+    /// Forgets facts older than `floor`, and ignores them whenever they come again. A running sweep goes on: its
+    /// replies are accepted, but their facts are ignored if its generation is below `floor`; the generation of the next
+    /// sweep is not. Takes no memory. Walks the store if `floor` is greater than its floor.
     pub fn raise_floor(&mut self, floor: Generation)
         ensures { self.new ≡ after_raise_floor self.old floor }
     {
         self.store.raise_floor(floor);
     }
 
-    /// Takes in what another store holds, and the greater floor. Walks both stores.
+    /// Merges the facts and the floor of another store. Walks both stores.
     ///
     /// # Errors
     ///
-    /// `Memory` alone.
+    /// Only `Memory`.
     pub fn merge_from(&mut self, other: &Store) -> Result<(), ManagerFault>
         ensures ok { OnOk result (self.new ≡ after_merge self.old other.now) }
         ensures err { OnErr result (self.new ≡ self.old) }
@@ -152,11 +152,11 @@ impl Manager {
         }
     }
 
-    /// The plan of what is known: the LID of each end port, and the forwarding blocks of each usable switch.
+    /// Returns the plan of what is known: the LID of each end port, and the forwarding blocks of each usable switch.
     ///
     /// # Errors
     ///
-    /// `NoRoom`, and `Memory` where there is room.
+    /// `NoRoom`; `Memory` if there is room.
     pub fn plan(&self) -> Result<Plan, ManagerFault>
         ensures judged { JudgesButFor is_memory result (plan_fault self.now.planning.lmc (cells_of self.now.store)) }
         ensures plan { IfOk result (λ plan.
@@ -171,7 +171,7 @@ impl Manager {
         }
     }
 
-    /// The TransactionID of the `i`-th request that waits for its answer, by rising TransactionIDs from 0 on.
+    /// Returns the TransactionID of the `i`-th request that waits for its answer, in rising order, from 0 on.
     pub fn outstanding(&self, i: usize) -> Option<u64>
         ensures { result ≡ slice_get (outstanding self.now) i }
     {
@@ -187,21 +187,21 @@ impl Manager {
         }
     }
 
-    /// All facts that were taken in.
+    /// Returns all facts that were taken in.
     pub fn store(&self) -> &Store
         ensures { result.now ≡ self.now.store }
     {
         &self.store
     }
 
-    /// The state among the managers of the subnet.
+    /// Returns the manager's state among the managers of the subnet.
     pub fn state(&self) -> SmState
         ensures { result ≡ self.now.standing.state }
     {
         self.standing.state
     }
 
-    /// How the last sweep goes.
+    /// Returns how far the last sweep is.
     pub fn progress(&self) -> Progress
         ensures { result ≡ progress_of self.now.sweep }
     {
@@ -225,8 +225,8 @@ impl Manager {
         }
     }
 
-    /// How many of the unanswered requests of the last sweep were for SMInfo: of managers that are there, as their
-    /// ports say, and silent. None before any sweep.
+    /// Returns how many of the unanswered requests of the last sweep were for SMInfo, that is, the number of managers
+    /// that their ports report but that are silent. Returns `None` if no sweep was begun.
     pub fn silent_managers(&self) -> Option<u64>
         ensures { result ≡ silent_in self.now.sweep }
     {
@@ -236,7 +236,14 @@ impl Manager {
         }
     }
 
-    /// Whether a sweep was begun and is not done.
+    /// Returns the managers that the last sweep saw, in the order in which it saw them.
+    pub fn seen_managers(&self) -> &[SeenManager]
+        ensures { result.now ≡ self.now.seen }
+    {
+        &self.seen
+    }
+
+    /// Returns whether a sweep was begun and is not done.
     pub(crate) fn is_running(&self) -> bool
         ensures { result ≡ is_running self.now.sweep }
     {

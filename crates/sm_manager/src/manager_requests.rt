@@ -26,13 +26,13 @@ use std::collections::VecDeque;
 use std::marker::Model;
 
 /// The requests of a manager outside its sweeps that wait for their answers. Contracts see them, the number of the next
-/// one, and for how many more there is memory.
+/// request, and for how many more there is memory.
 #[derive(Drop)]
 pub(crate) struct ManagerRequests {
     table: RequestTable<Pending>,
-    /// How many of them are steps of the last writing.
+    /// The number of waiting requests that are steps of the last writing.
     steps: usize,
-    /// How many of these the plan is not written without.
+    /// The number of waiting steps that have to be done for the plan to be written.
     counting: usize,
 }
 
@@ -47,7 +47,7 @@ impl Model for ManagerRequests {
 }
 
 impl ManagerRequests {
-    /// None yet. Takes no memory.
+    /// Creates an empty table. Takes no memory.
     pub(crate) fn new(alloc: Global) -> Self
         ensures counter { result.counter ≡ 1 }
         ensures pending { result.pending ≡ [] }
@@ -59,28 +59,28 @@ impl ManagerRequests {
         }
     }
 
-    /// How many wait.
+    /// Returns the number of requests that wait.
     pub(crate) fn len(&self) -> usize
         ensures { result ≡ length self.now.pending }
     {
         self.table.len()
     }
 
-    /// How many steps of the last writing wait.
+    /// Returns the number of steps of the last writing that wait.
     pub(crate) fn step_count(&self) -> usize
         ensures { result ≡ how_many is_step self.now.pending }
     {
         self.steps
     }
 
-    /// Whether no step of the last writing waits.
+    /// Returns whether no step of the last writing waits.
     pub(crate) fn has_no_step(&self) -> bool
         ensures { result ≡ no_step_waits self.now.pending }
     {
         self.steps == 0
     }
 
-    /// Whether there are numbers for so many more.
+    /// Returns whether numbers are left for `count` more requests.
     pub(crate) fn has_numbers(&self, count: usize) -> bool
         ensures enough { result ≡ nat_le (self.now.counter + count) (2 ^ 32) }
         ensures numbered { AreNumbered self.now.counter self.now.pending }
@@ -88,7 +88,7 @@ impl ManagerRequests {
         self.table.has_numbers(count)
     }
 
-    /// Memory for so many more.
+    /// Reserves memory for `count` more requests.
     pub(crate) fn reserve(&mut self, count: usize) -> Result<(), AllocError>
         ensures counter { self.new.counter ≡ self.old.counter }
         ensures pending { self.new.pending ≡ self.old.pending }
@@ -97,7 +97,8 @@ impl ManagerRequests {
         self.table.reserve(count)
     }
 
-    /// A step goes out under the next number. Takes no memory.
+    /// Adds a request for `step` under the next number, and returns its packet. `counts` says whether the plan is
+    /// written only if the step is done. Takes no memory.
     pub(crate) fn send(&mut self, counts: bool, step: Step) -> Smp
         requires room { 0 < self.old.room }
         requires number { self.old.counter < 2 ^ 32 }
@@ -123,7 +124,7 @@ impl ManagerRequests {
         packet
     }
 
-    /// A request for SMInfo goes out by LIDs under the next number. Takes no memory.
+    /// Adds a request for SMInfo by LIDs under the next number, and returns its packet. Takes no memory.
     pub(crate) fn send_info(
         &mut self,
         purpose: Purpose,
@@ -151,14 +152,14 @@ impl ManagerRequests {
         Smp::lid_routed(method, AttributeId::SM_INFO, modifier, number, payload)
     }
 
-    /// One that waits, by its index in the order of their numbers.
+    /// Returns the request at `index`, in the order of numbers.
     pub(crate) fn get(&self, index: usize) -> Option<&Pending>
         ensures { option_copied result ≡ slice_get self.now.pending index }
     {
         self.table.get(index)
     }
 
-    /// What one that waits is for.
+    /// Returns the purpose of the request at `index`.
     pub(crate) fn purpose(&self, index: usize) -> Purpose
         requires { index < length self.now.pending }
         ensures { Some result
@@ -167,21 +168,21 @@ impl ManagerRequests {
         self.table.get(index).unwrap().purpose
     }
 
-    /// Whether no step that counts waits.
+    /// Returns whether no step that counts waits.
     pub(crate) fn none_counts(&self) -> bool
         ensures { result ≡ none_counts self.now.pending }
     {
         self.counting == 0
     }
 
-    /// The index of the one under a TransactionID. Takes a search.
+    /// Returns the index of the request with this TransactionID. Takes a search.
     pub(crate) fn index_of(&self, transaction: u64) -> Option<usize>
         ensures { IsIndexFor (with_number transaction self.now.pending) self.now.pending result }
     {
         self.table.index_of(transaction)
     }
 
-    /// The index of the one that a packet answers. Takes a search.
+    /// Returns the index of the request that the packet answers. Takes a search.
     pub(crate) fn index_for(&self, smp: &Smp) -> Option<usize>
         ensures { IsIndexFor (find (answers smp.now) self.now.pending) self.now.pending result }
     {
@@ -194,7 +195,7 @@ impl ManagerRequests {
         }
     }
 
-    /// One that waits has ended. Moves the requests on one side of it.
+    /// Removes the request at `index`. Moves the requests on one side of it.
     pub(crate) fn end(&mut self, index: usize) -> Pending
         requires { index < length self.old.pending }
         ensures request { Some result ≡ slice_get self.old.pending index }
@@ -213,7 +214,8 @@ impl ManagerRequests {
     }
 }
 
-/// Numbers and memory for so many requests more, and memory for so many packets.
+/// Reserves memory for `count` more requests and for `packets` more packets. Returns `SequenceSpent` if numbers for the
+/// requests are not left.
 pub(crate) fn make_room(
     count: usize,
     packets: usize,
@@ -236,7 +238,7 @@ pub(crate) fn make_room(
     Ok(())
 }
 
-/// Memory for so many requests more, and for so many packets.
+/// Reserves memory for `count` more requests and for `packets` more packets.
 pub(crate) fn reserve(
     count: usize,
     packets: usize,

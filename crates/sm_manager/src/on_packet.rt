@@ -14,22 +14,25 @@ use fact_store::ReportFault;
 use smp_bytes::{AttributeId, Lid, Method, Smp, SmpClass};
 use sweep::{Sweep, SweepFault};
 
-/// How many requests a reply brings up at most: one for a switch's table and one for each of its 255 ports.
+/// The most requests that a reply brings up: one for a switch's table and one for each of its 255 ports.
 const REQUESTS_PER_REPLY: usize = 256;
 
 impl Manager {
-    /// Takes a packet that came to the manager's port, and the LID of its sender, which a packet by LIDs has. A reply
-    /// that its sweep waits for tells facts, which are taken in, or shows another manager, which is noted, and what it
-    /// brings up goes out; where the sweep is done then, the state moves by what it saw. An answer to a poll or a
-    /// control ends it; one to a step of a writing does too, and the last of a phase brings up the next phase. A
-    /// request for SMInfo is answered, and a control obeyed where the state has a move for it. The work does not grow
-    /// with what is known, but for the searches, and for the managers that a sweep saw at its end.
+    /// Handles a packet that came to the manager's port. `from` is the LID of its sender, which a packet by LIDs has.
+    ///
+    /// A reply to the sweep adds its facts, or notes another manager, and queues the next requests. If that ends the
+    /// sweep, the state changes by what the sweep saw. An answer to a poll, a control or a step of a writing ends that
+    /// request; the last one of a phase queues the next phase. A request for SMInfo is answered, and a control is
+    /// obeyed if the table of states has a move for it.
+    ///
+    /// The work does not grow with what is known, except for searches and, at the end of a sweep, for the managers that
+    /// it saw.
     ///
     /// # Errors
     ///
-    /// `Sweep` with what is wrong with bytes that are no packet; `Unasked` for what answers nothing, requests other
-    /// than those for SMInfo among them; `Sweep` for a reply that the sweep refuses; `SequenceSpent` where there are no
-    /// numbers for what goes out; `Memory`.
+    /// `Sweep` with the fault of bytes that are not a packet; `Unasked` if the packet answers no request and is not a
+    /// request for SMInfo; `Sweep` if the sweep refuses the reply; `SequenceSpent` if no numbers are left for what goes
+    /// out; `Memory`.
     pub fn on_packet(&mut self, bytes: &[u8; 256], from: Option<Lid>) -> Result<(), ManagerFault>
         requires { HasSender bytes.now from }
         ensures judged { JudgesButFor is_memory result (after_packet self.old bytes.now from).fault }
@@ -79,7 +82,7 @@ impl Manager {
     }
 }
 
-/// The refusal of a sweep as the manager's own.
+/// Returns the refusal of a sweep as the manager's own.
 fn refusal_of(fault: SweepFault) -> ManagerFault
     ensures { result ≡ refusal_of fault }
 {
@@ -91,8 +94,8 @@ fn refusal_of(fault: SweepFault) -> ManagerFault
     }
 }
 
-/// Why a reply is not taken where there is no room for what it may bring up: memory is wanting only if it is not
-/// refused.
+/// Returns why a reply is not taken if there is no room for what it may bring up: the sweep's refusal, or `Memory` if
+/// the sweep accepts it.
 fn fault_without_room(sweep: &Sweep, smp: &Smp) -> ManagerFault
     ensures { IsFaultWithoutRoom (judged sweep.now smp.now) result }
 {
@@ -102,14 +105,15 @@ fn fault_without_room(sweep: &Sweep, smp: &Smp) -> ManagerFault
     }
 }
 
-/// Whether a packet is a request for SMInfo.
+/// Returns whether a packet is a request for SMInfo.
 fn is_info_request(smp: &Smp) -> bool
     ensures { result ≡ is_info_request smp.now }
 {
     !smp.is_response() && smp.attribute_id() == AttributeId::SM_INFO
 }
 
-/// Whether a packet answers a request of a sweep: over a directed route, with a generation in its TransactionID.
+/// Returns whether a packet answers a request of a sweep: it came over a directed route, and the high half of its
+/// TransactionID is not 0.
 fn is_for_sweep(smp: &Smp) -> bool
     ensures { result ≡ is_for_sweep smp.now }
 {

@@ -9,12 +9,12 @@ use crate::fault::ManagerFault;
 use crate::manager::Manager;
 
 impl Manager {
-    /// A request was not answered in time, and waits no more. Three polls in a row move the state; where a sweep is
-    /// done by it, the state moves by what it saw. Takes memory only where a phase of a writing ends by it.
+    /// Handles the timeout of a request, which waits no longer. The third lost poll in a row changes the state. If this
+    /// ends the sweep, the state changes by what the sweep saw. Takes memory only if this ends a phase of a writing.
     ///
     /// # Errors
     ///
-    /// `Unasked`: no request of this TransactionID waits. `SequenceSpent` and `Memory`, where the next phase would go
+    /// `Unasked` if no request with this TransactionID waits. `SequenceSpent` and `Memory` if the next phase would go
     /// out.
     pub fn on_timeout(&mut self, transaction: u64) -> Result<(), ManagerFault>
         ensures judged { JudgesButFor is_memory result (after_timeout self.old transaction).fault }
@@ -30,7 +30,7 @@ impl Manager {
         }
     }
 
-    /// A request of the sweep was not answered in time.
+    /// Handles the timeout of a request of the sweep.
     fn give_up(&mut self, transaction: u64) -> Result<(), ManagerFault>
         ensures judged { JudgesButFor is_memory result
             (sweep_gave_up self.old transaction self.old.sweep).fault }

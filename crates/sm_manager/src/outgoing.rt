@@ -13,7 +13,7 @@ pub struct Outgoing {
     pub to: Option<Lid>,
 }
 
-/// All that a sweep has queued goes out, and waits for its replies. Takes no memory.
+/// Moves all requests that the sweep has queued to `outgoing`; they then wait for their replies. Takes no memory.
 pub(crate) fn send_queued(sweep: &mut Sweep, outgoing: &mut VecDeque<Outgoing>)
     requires { deque_len outgoing.old + length sweep.old.queued ≤ deque_capacity outgoing.old }
     ensures sweep { sweep.new ≡ with_all_sent sweep.old }

@@ -3,21 +3,21 @@ ghost use Rattle.std.specs.Prelude.{◌≡◌};
 use request_table::Numbered;
 use smp_bytes::{AttributeId, Method, Path, Smp};
 
-/// What a request outside sweeps is for.
+/// The purpose of a request outside sweeps.
 #[derive(Clone, Copy, Debug, PartialEq, Eq)]
 pub enum Purpose {
-    /// It asks the master whether it is still there.
+    /// A poll, which asks whether the master is still there.
     Poll,
-    /// It tells another manager to take over, or that this one has.
+    /// A control, which tells another manager to take over, or that this one has.
     Control,
-    /// It is a step of the last writing.
+    /// A step of the last writing.
     Step {
-        /// Whether the plan counts as written only where it was done.
+        /// Whether the plan counts as written only if the step was done.
         counts: bool,
     },
 }
 
-/// A request outside sweeps that was sent, and waits for its answer.
+/// A request outside sweeps that was sent and waits for its answer.
 #[derive(Debug, Drop)]
 pub struct Pending {
     /// The low half of its TransactionID, whose high half is 0.
@@ -26,7 +26,7 @@ pub struct Pending {
     /// The number of the attribute.
     pub attribute: u16,
     pub modifier: u32,
-    /// The ports that lead to the agent; none where it went by LIDs.
+    /// The ports that lead to the agent, or `None` if it went by LIDs.
     pub path: Option<Path<63>>,
 }
 
@@ -42,7 +42,7 @@ impl Pending {
     ghost use Rattle.sm_manager.specs.ManagerRequests.{counts, is_step};
     ghost use Rattle.sm_manager.specs.Packets.{answers};
 
-    /// Whether it is a step of a writing.
+    /// Returns whether the request is a step of a writing.
     pub(crate) fn is_step(&self) -> bool
         ensures { result ≡ is_step self.now }
     {
@@ -52,7 +52,7 @@ impl Pending {
         }
     }
 
-    /// Whether it is a step without which the plan is not written.
+    /// Returns whether the request is a step that has to be done for the plan to be written.
     pub(crate) fn counts(&self) -> bool
         ensures { result ≡ counts self.now }
     {
@@ -62,7 +62,7 @@ impl Pending {
         }
     }
 
-    /// Whether a packet is the answer to it.
+    /// Returns whether the packet is the answer to the request.
     pub(crate) fn is_answered_by(&self, smp: &Smp) -> bool
         ensures { result ≡ answers smp.now self.now }
     {

@@ -1,12 +1,12 @@
-/// How the last sweep goes.
+/// How far the last sweep is.
 #[derive(Clone, Copy, Debug, PartialEq, Eq)]
 pub enum Progress {
-    /// None was begun.
+    /// No sweep was begun.
     Never,
     Running {
-        /// How many of its requests were not answered.
+        /// The number of requests that were not answered.
         unanswered: u64,
-        /// How many ports lead to a node that is more than 63 hops away.
+        /// The number of ports that lead to a node more than 63 hops away.
         too_far: u64,
     },
     Done {

@@ -1,4 +1,4 @@
-//! What a manager answers other managers.
+//! The answers to requests of other managers.
 ghost use Rattle.std.specs.Prelude.{◌≡◌, ◌<◌, ◌^◌, OnOk, OnErr};
 ghost use Rattle.smp_bytes.specs.Judges.{JudgesButFor};
 ghost use Rattle.sm_manager.specs.Election.{message_count};
@@ -21,7 +21,7 @@ use std::alloc::AllocError;
 use std::collections::VecDeque;
 
 impl Manager {
-    /// Answers a request for SMInfo: by its path where it came directed, and to the LID of its sender otherwise.
+    /// Answers a request for SMInfo: by its path if it came over a directed route, else to the LID of its sender.
     pub(crate) fn serve(&mut self, smp: &Smp, from: Option<Lid>) -> Result<(), ManagerFault>
         ensures judged { JudgesButFor is_memory result
             (unless_spent self.old (served self.old smp.now from)).fault }
@@ -36,7 +36,7 @@ impl Manager {
         }
     }
 
-    /// Answers a request that is no control.
+    /// Answers a request that is not a control.
     fn reply(&mut self, smp: &Smp, from: Option<Lid>) -> Result<(), ManagerFault>
         ensures judged { JudgesButFor is_memory result
             (unless_spent self.old (replying self.old smp.now from)).fault }
@@ -50,7 +50,7 @@ impl Manager {
         Ok(())
     }
 
-    /// The state moves as the table of states says, the control is answered, and then its sender may be told more.
+    /// Moves the state by the table of states, answers the control, and queues the message to its sender, if any.
     fn answer_control(&mut self, smp: &Smp, from: Option<Lid>) -> Result<(), ManagerFault>
         ensures judged { JudgesButFor is_memory result
             (unless_spent self.old (controlled self.old smp.now from)).fault }
@@ -78,7 +78,7 @@ impl Manager {
     }
 }
 
-/// The state moves, and the answer to the control tells of it.
+/// Moves the state, and returns the answer to the control, which has the new state.
 fn move_on(
     transition: &Transition,
     smp: &Smp,
@@ -93,7 +93,7 @@ fn move_on(
     answer(smp, from, transition.status(), standing)
 }
 
-/// The answer to a request: by its path where it came directed, and to the LID of its sender otherwise.
+/// Builds the answer to a request: by its path if it came over a directed route, else to the LID of its sender.
 fn answer(smp: &Smp, from: &Option<Lid>, status: Status, standing: &Standing) -> Outgoing
     requires { status.0 < 2 ^ 15 }
     ensures { result ≡ answer_out standing.now smp.now from.now status.0 }
@@ -106,7 +106,7 @@ fn answer(smp: &Smp, from: &Option<Lid>, status: Status, standing: &Standing) ->
     Outgoing { packet, to }
 }
 
-/// What an answer carries: what the manager tells of itself, and in a refusal what the request carried.
+/// Returns the data of an answer: the manager's SMInfo, or in a refusal the data of the request.
 fn answer_data(smp: &Smp, status: Status, standing: &Standing) -> [u8; 64]
     ensures { result ≡ answer_data standing.now smp.now status.0 }
 {
@@ -117,14 +117,14 @@ fn answer_data(smp: &Smp, status: Status, standing: &Standing) -> [u8; 64]
     }
 }
 
-/// Whether a request may be a control to be obeyed: a Set by LIDs.
+/// Returns whether a request may be a control to be obeyed: a Set by LIDs.
 fn is_control(smp: &Smp) -> bool
     ensures { result ≡ is_control smp.now }
 {
     smp.method() == Method::SET && smp.class() == SmpClass::LidRouted
 }
 
-/// The status of the answer to a request that is no control.
+/// Returns the status of the answer to a request that is not a control.
 fn status_for(smp: &Smp) -> Status
     ensures status { result.0 ≡ status_for smp.now }
     ensures small { result.0 < 2 ^ 15 }
@@ -139,7 +139,7 @@ fn status_for(smp: &Smp) -> Status
     }
 }
 
-/// How many requests go out for a message: none where there is none, or nobody to send it to.
+/// Returns the number of requests that go out for a message: 1 if there are both a message and a LID to send it to.
 fn message_count(to: &Option<Lid>, message: &Option<Message>) -> usize
     ensures { result ≡ message_count to.now message.now }
 {

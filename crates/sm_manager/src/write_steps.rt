@@ -19,14 +19,14 @@ use sm_state::SmState;
 use sweep::Sweep;
 
 impl Manager {
-    /// Begins to write the plan of what is known: each end port's LID, each switch's forwarding blocks and their top,
-    /// and then the states of ports on wires, over the paths of the last sweep. A phase goes out as a whole, and the
-    /// next one once each of its steps was answered or timed out.
+    /// Begins to write the plan of what is known, over the paths of the last sweep: the LID of each end port, the
+    /// forwarding blocks of each switch and their top, and then the states of ports on wires. A phase goes out as a
+    /// whole, and the next one once each of its steps was answered or timed out.
     ///
     /// # Errors
     ///
-    /// `NotMaster`, `SweepRunning`, `WritingRunning`, `NoRoom`, `SequenceSpent`, where there are fewer numbers than a
-    /// phase could need, and `Memory`, in this order.
+    /// `NotMaster`, `SweepRunning`, `WritingRunning`, `NoRoom`, `SequenceSpent` if fewer numbers are left than a phase
+    /// could need, and `Memory`, in this order.
     pub fn write_steps(&mut self) -> Result<(), ManagerFault>
         ensures judged { JudgesButFor is_memory result (writing_fault self.old) }
         ensures ok { OnOk result (self.new ≡ after_write_steps self.old) }
@@ -40,7 +40,7 @@ impl Manager {
         Ok(())
     }
 
-    /// The writing of the plan of what is known, of which no step was sent.
+    /// Returns the writing of the plan of what is known, of which no step was sent.
     fn planned(&self) -> Result<Writing, ManagerFault>
         ensures judged { JudgesButFor is_memory result (writing_fault self.now) }
         ensures writing { IfOk result (λ w. w
@@ -60,7 +60,11 @@ impl Manager {
         Ok(Writing::new(phases))
     }
 
-    /// The last sweep, where it is done and no writing goes on.
+    /// Returns the last sweep.
+    ///
+    /// # Errors
+    ///
+    /// `NotMaster`, `SweepRunning` if the sweep is not done, and `WritingRunning`, in this order.
     fn last_sweep(&self) -> Result<&Sweep, ManagerFault>
         ensures judged { Judges result (write_fault self.now) }
         ensures sweep { IfOk result (λ s. self.now.sweep ≡ Some s.now) }
@@ -80,7 +84,7 @@ impl Manager {
         Ok(sweep)
     }
 
-    /// A step waits no more, and the next phase goes out where it was the last of its own.
+    /// Ends the step at `index`. If it was the last of its phase, queues the next phase.
     pub(crate) fn end_step(&mut self, index: usize, was_done: bool) -> Result<(), ManagerFault>
         requires within { index < length self.old.pending }
         requires step { (p : Pending) → slice_get self.old.pending index ≡ Some p
@@ -104,7 +108,7 @@ impl Manager {
         Ok(())
     }
 
-    /// How many steps go out where one that waits ends.
+    /// Returns the number of steps that go out when one that waits ends.
     fn count_after(&self) -> usize
         ensures { result ≡ count_after self.now }
     {
@@ -118,7 +122,8 @@ impl Manager {
     }
 }
 
-/// What was found, where there are numbers for what follows. Another refusal comes first, and out of memory last.
+/// Returns `found`, or `SequenceSpent` if no numbers are left. Another fault of `found` comes first, lack of memory
+/// last.
 pub(crate) fn where_numbered<T: Drop>(
     found: Result<T, ManagerFault>,
     are_numbers: bool,

@@ -29,7 +29,7 @@ impl Model for Writing {
 }
 
 impl Writing {
-    /// No step of these phases was sent yet.
+    /// Creates the writing of `phases`, of which no step was sent yet.
     pub(crate) fn new(phases: VecDeque<Phase>) -> Self
         ensures { result ≡ record { later = without_empty_phases phases.items; has_failed = false } }
     {
@@ -41,7 +41,7 @@ impl Writing {
         }
     }
 
-    /// How many steps the phase that comes first has.
+    /// Returns the number of steps of the next phase.
     pub(crate) fn next_count(&self) -> usize
         ensures { result ≡ length (next_phase self.now.later).steps }
     {
@@ -51,7 +51,7 @@ impl Writing {
         }
     }
 
-    /// A step was done, or was not.
+    /// Notes whether a step was done. `counts` says whether the plan is written only if it was.
     pub(crate) fn note(&mut self, counts: bool, was_done: bool)
         ensures later { self.new.later ≡ self.old.later }
         ensures failed { self.new.has_failed ≡ self.old.has_failed || (counts && not was_done) }
@@ -59,7 +59,7 @@ impl Writing {
         self.has_failed = self.has_failed || (counts && !was_done);
     }
 
-    /// The phase that comes first goes out. Takes no memory.
+    /// Sends the next phase. Takes no memory.
     pub(crate) fn send_next(
         &mut self,
         requests: &mut ManagerRequests,
@@ -84,14 +84,14 @@ impl Writing {
         }
     }
 
-    /// Whether no step that counts failed or has not been sent.
+    /// Returns whether every step that counts was sent, and none of them failed.
     pub(crate) fn is_sent(&self) -> bool
         ensures { result ≡ not self.now.has_failed && not (list_any (λ p. p.counts) self.now.later) }
     {
         !self.has_failed && !self.any_counts()
     }
 
-    /// Whether a phase that counts has not been sent.
+    /// Returns whether a phase that counts has not been sent.
     fn any_counts(&self) -> bool
         ensures { result ≡ list_any (λ p. p.counts) self.now.later }
     {
@@ -99,7 +99,7 @@ impl Writing {
     }
 }
 
-/// Phases without steps that come first are passed over.
+/// Removes phases without steps from the front.
 fn pass(later: &mut VecDeque<Phase>)
     ensures { later.new.items ≡ without_empty_phases later.old.items }
 {
@@ -111,7 +111,7 @@ fn pass(later: &mut VecDeque<Phase>)
     }
 }
 
-/// The steps of a phase go out, and wait for their answers. Takes no memory.
+/// Sends the steps of a phase, which then wait for their answers. Takes no memory.
 fn send_steps(
     counts: bool,
     steps: Vec<Step>,
@@ -134,7 +134,8 @@ fn send_steps(
 }
 
 impl Manager {
-    /// Whether a writing was begun, and each step of it that sets a LID, a block or a top was answered, and as done.
+    /// Returns whether a writing was begun, and each of its steps that sets a LID, a block or a top was answered as
+    /// done.
     pub fn written(&self) -> bool
         ensures { result ≡ is_written self.now }
     {

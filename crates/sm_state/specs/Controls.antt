@@ -16,11 +16,11 @@ modifier_of_control Discover = 5
 abbrev pub controls : List Control
 controls = Handover ∷ Acknowledge ∷ Disable ∷ Standby ∷ Discover ∷ []
 
--- the one of this modifier
+-- the control with this modifier
 abbrev pub control_of_modifier : ℕ → Option Control
 control_of_modifier modifier = find (λ control. modifier == modifier_of_control control) controls
 
--- what a manager sends as it moves is one of them
+-- the control that a message is sent as
 abbrev pub control_of_message : Message → Control
 control_of_message message.Handover = Handover
 control_of_message message.Acknowledge = Acknowledge

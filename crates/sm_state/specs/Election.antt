@@ -11,26 +11,26 @@ use Rattle.sm_state.specs.Ranks.{wins}
 use Rattle.sm_state.specs.States.{number_of_state}
 use Rattle.sm_state.specs.declared.election.SeenManager.{SeenManager}
 
--- it says that it is in this state; a reserved number is none
+-- the manager says that it is in `state`; a reserved number is none of the states
 abbrev pub says : SmState → SmInfo → Bool
 says state info = info.state == number_of_state state
 
 -- after a sweep ------------------------------------------------------------------------------------
 
--- a master, or one that wins and is not inactive
+-- `other` is a master, or wins over `own` and is not inactive
 abbrev pub outranks : SmInfo → SmInfo → Bool
 outranks own other = says Master other || (not (says NotActive other) && wins other own)
 
 abbrev pub any_outranks : SmInfo → List SeenManager → Bool
 any_outranks own seen = list_any (λ s. outranks own s.info) seen
 
--- what the end of a sweep that saw these means for a manager
+-- what the end of a sweep that saw the managers `seen` means for a manager
 abbrev pub sweep_verdict : SmInfo → List SeenManager → Event
 sweep_verdict own seen = if any_outranks own seen then Outranked else Unrivalled
 
 -- whom to hand over to -----------------------------------------------------------------------------
 
--- standby or master, and it wins
+-- the manager `s` is in standby or master, and wins over `own`
 abbrev pub is_candidate : SmInfo → SeenManager → Bool
 is_candidate own s = (says Standby s.info || says Master s.info) && wins s.info own
 
@@ -49,7 +49,7 @@ best_with own (s ∷ seen) best = best_with own seen (next_best own best s)
 abbrev pub successor_of : SmInfo → List SeenManager → Option SeenManager
 successor_of own seen = best_with own seen None
 
--- in words: it wins over each that was seen before it, and none that was seen after it wins over it
+-- in words: the successor wins over each manager before it, and none after it wins over it
 pub record IsFirstGreatest (managers : List SeenManager) (successor : SeenManager) : Type 0 where
   pub before : List SeenManager
   pub after : List SeenManager
@@ -57,7 +57,7 @@ pub record IsFirstGreatest (managers : List SeenManager) (successor : SeenManage
   pub greater : AllByRecursion (λ s. wins successor.info s.info ≡ true) before
   pub unbeaten : AllByRecursion (λ s. wins s.info successor.info ≡ false) after
 
--- there is none only where there is no manager
+-- there is no successor only if there is no manager
 abbrev pub IsSuccessorOrNone : List SeenManager → Option SeenManager → Type 0
 IsSuccessorOrNone managers None = managers ≡ []
 IsSuccessorOrNone managers (Some successor) = IsFirstGreatest managers successor

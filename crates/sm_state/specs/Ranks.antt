@@ -3,14 +3,14 @@
 use Rattle.std.specs.Prelude.{◌≡◌, ◌⊎◌, ℕ, Bool, true, false, ◌&&◌, ◌||◌, ◌==◌, nat_lt}
 use Rattle.attr_codec.specs.declared.sm_info.SmInfo.{SmInfo}
 
--- the greater priority, and at equal priority the lesser GUID
+-- `a` has the greater priority or, at equal priority, the lesser GUID
 abbrev pub wins : SmInfo → SmInfo → Bool
 wins a b = nat_lt b.priority a.priority || (a.priority == b.priority && nat_lt a.guid b.guid)
 
 abbrev pub HasSameRank : SmInfo → SmInfo → Type 0
 HasSameRank a b = (a.priority ≡ b.priority) × (a.guid ≡ b.guid)
 
--- a strict order, and total on priorities and GUIDs
+-- `wins` is a strict order, and total on priorities and GUIDs
 pub record WinsIsAnOrder : Type 0 where
   pub not_itself : (a : SmInfo) → wins a a ≡ false
   pub in_turn : (a b c : SmInfo) → wins a b ≡ true → wins b c ≡ true → wins a c ≡ true

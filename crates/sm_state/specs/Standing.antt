@@ -10,12 +10,12 @@ use Rattle.sm_state.specs.States.{number_of_state}
 use Rattle.sm_state.specs.Steps.{stepped}
 use Rattle.sm_state.specs.declared.standing.Standing.{Standing}
 
--- one at the port of this GUID, which has done nothing
+-- a manager at the port with this GUID, which has done nothing
 abbrev pub new_standing : ℕ → ℕ → Standing
 new_standing guid priority =
     record { guid = guid; priority = priority; state = Discovering; act_count = 0; polls_lost = 0 }
 
--- what it tells of itself; its SM_Key is 0
+-- the SMInfo that the manager answers with; its SM_Key is 0
 abbrev pub info_of : Standing → SmInfo
 info_of s = record {
   guid = s.guid;
@@ -29,7 +29,7 @@ info_of s = record {
 abbrev pub is_in : SmState → Standing → Bool
 is_in state s = number_of_state s.state == number_of_state state
 
--- one more, as far as 32 bits count
+-- `n` + 1, as far as 32 bits count
 abbrev pub one_more : ℕ → ℕ
 one_more n = min (n + 1) (2 ^ 32 - 1)
 
@@ -39,11 +39,11 @@ active_once_more s = record s { act_count = one_more s.act_count }
 
 -- how the state moves --------------------------------------------------------------------------
 
--- with a change of state the polls are counted anew
+-- a change of state resets the count of lost polls
 abbrev pub moved_to : SmState → Standing → Standing
 moved_to state s = if is_in state s then s else record s { state = state; polls_lost = 0 }
 
--- by the table of states
+-- the state moves by the table of states
 abbrev pub moved_by : Event → Standing → Standing
 moved_by e s = moved_to (stepped s.state e).state s
 
@@ -52,7 +52,7 @@ moved_by e s = moved_to (stepped s.state e).state s
 abbrev pub poll_answered : Standing → Standing
 poll_answered s = record s { polls_lost = 0 }
 
--- three in a row, or more
+-- three polls in a row, or more, were lost
 abbrev pub three_lost : Standing → Standing
 three_lost s = if nat_le 3 s.polls_lost then moved_by PollsUnanswered s else s
 

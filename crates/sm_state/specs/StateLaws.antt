@@ -1,4 +1,4 @@
--- What the moves of managers come to, in words.
+-- What is so of the moves of managers, in words.
 use Rattle.std.specs.Prelude.{◌≡◌, ◌↔◌, ◌⊎◌, ℕ, Bool, true, false, Option, Some, None}
 use Rattle.sm_state.specs.declared.control.Control.{Control}
 use Rattle.sm_state.specs.declared.control.Control.TheVariants as control
@@ -11,7 +11,7 @@ use Rattle.sm_state.specs.Controls.{control_of_modifier}
 use Rattle.sm_state.specs.States.{number_of_state, state_of_number}
 use Rattle.sm_state.specs.Steps.{stepped}
 
--- the event is this control
+-- the event `e` is the control `which`
 abbrev pub Is : Control → Event → Type 0
 Is which e = (modifier : ℕ) × (e ≡ event.Control modifier) × (control_of_modifier modifier ≡ Some which)
 
@@ -30,14 +30,14 @@ NothingElseMoves =
     (state : SmState) (e : Event) → (IsNamed state e → ⊥)
     → ((stepped state e).state ≡ state) × ((stepped state e).message ≡ None)
 
--- a master steps down for an acknowledgement and for the control to discover alone
+-- a master steps down only for an acknowledgement and for the control to discover
 abbrev pub MastersStay : Type 0
 MastersStay =
     (e : Event) → ((stepped Master e).state ≡ Master → ⊥)
     → (Is control.Acknowledge e × ((stepped Master e).state ≡ Standby))
     ⊎ (Is control.Discover e × ((stepped Master e).state ≡ Discovering))
 
--- an acknowledgement goes out only for a handover, and who sends it is master then
+-- an acknowledgement goes out only for a handover, and its sender is master then
 abbrev pub OthersAreTold : Type 0
 OthersAreTold =
     (state : SmState) (e : Event) → (stepped state e).message ≡ Some message.Acknowledge

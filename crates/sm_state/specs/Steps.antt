@@ -13,15 +13,15 @@ use Rattle.sm_state.specs.declared.state.SmState.TheVariants.{NotActive, Discove
 use Rattle.sm_state.specs.declared.transition.Transition.{Transition}
 use Rattle.sm_state.specs.Controls.{control_of_modifier}
 
--- the manager goes to a state, and sends this
+-- the move to `state` that sends `sends`
 abbrev pub to : SmState → Option Message → Transition
 to state sends = record { state = state; message = sends; is_refused = false }
 
--- a control for which the state has no move changes nothing
+-- a control without a move from the state changes nothing, and is refused
 abbrev pub refused : SmState → Transition
 refused state = record { state = state; message = None; is_refused = true }
 
--- what a manager does about a control
+-- what a manager in the state does about a control
 abbrev pub after_control : SmState → Option Control → Transition
 after_control Standby (Some control.Handover) = to Master (Some message.Acknowledge)
 after_control Standby (Some control.Disable) = to NotActive None
@@ -32,7 +32,7 @@ after_control Master (Some control.Handover) = to Master (Some message.Acknowled
 after_control Master (Some control.Discover) = to Discovering None
 after_control state other = refused state
 
--- and about any event
+-- what a manager in the state does about an event
 abbrev pub stepped : SmState → Event → Transition
 stepped state (event.Control modifier) = after_control state (control_of_modifier modifier)
 stepped Discovering event.Outranked = to Standby None

@@ -1,12 +1,12 @@
 ghost use Rattle.std.specs.Prelude.{◌≡◌};
 ghost use Rattle.sm_state.specs.Controls.{control_of_modifier, modifier_of_control};
 
-/// What one subnet manager tells another to do, by a Set(SMInfo) (subnet management, SMInfo: controls).
+/// A command of one subnet manager to another, by a Set(SMInfo) (subnet management, SMInfo: controls).
 #[derive(Clone, Copy, Debug, PartialEq, Eq)]
 pub enum Control {
-    /// Be master instead of the sender.
+    /// The receiver is to be master instead of the sender.
     Handover,
-    /// The sender is master instead of you.
+    /// The sender is master instead of the receiver.
     Acknowledge,
     Disable,
     Standby,
@@ -23,7 +23,7 @@ const CONTROLS: [Control; 5] = [
 ];
 
 impl Control {
-    /// The control of an attribute modifier, or None for 0 and for 6 and above.
+    /// Returns the control of an attribute modifier, or `None` for 0 and for 6 and above.
     pub fn from_modifier(modifier: u32) -> Option<Self>
         ensures { result ≡ control_of_modifier modifier }
     {
@@ -33,7 +33,7 @@ impl Control {
             .find(|control| modifier == control.modifier())
     }
 
-    /// The attribute modifier, 1 to 5.
+    /// Returns the attribute modifier, 1 to 5.
     pub fn modifier(self) -> u32
         ensures { result ≡ modifier_of_control self }
     {

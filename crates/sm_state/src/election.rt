@@ -1,4 +1,4 @@
-//! The managers that a sweep saw.
+//! The choice among the managers that a sweep saw.
 ghost use Rattle.std.specs.Prelude.{◌≡◌, Some, if◌then◌else◌};
 ghost use Rattle.sm_state.specs.Election.{any_outranks, better, next_best, successor_of, is_candidate};
 ghost use Rattle.sm_state.specs.Election.{outranks, says, sweep_verdict};
@@ -14,11 +14,11 @@ pub struct SeenManager {
     pub guid: Guid,
     /// The port of the node, as the sweep asked for it.
     pub port: PortNum,
-    /// What it told of itself.
+    /// The SMInfo that it answered.
     pub info: SmInfo,
 }
 
-/// What the end of a sweep that saw these means for a manager that tells this of itself.
+/// Returns what the end of a sweep that saw the managers `seen` means for the manager whose SMInfo is `own`.
 pub fn sweep_verdict(own: &SmInfo, seen: &[SeenManager]) -> Event
     ensures { result ≡ sweep_verdict own.now seen.now }
 {
@@ -35,8 +35,8 @@ fn any_outranks(own: &SmInfo, seen: &[SeenManager]) -> bool
     seen.iter().any(|other| outranks(own, &other.info))
 }
 
-/// The one to hand over to: of those in Standby or Master that win over this one the greatest, and of equals the first.
-/// Walks all of them.
+/// Returns the manager to hand over to: of those in Standby or Master that win over `own` the greatest, of equals the
+/// first. Walks all of them.
 pub fn successor(own: &SmInfo, seen: &[SeenManager]) -> Option<SeenManager>
     ensures { result ≡ successor_of own.now seen.now }
 {
@@ -47,7 +47,7 @@ pub fn successor(own: &SmInfo, seen: &[SeenManager]) -> Option<SeenManager>
     best
 }
 
-/// The best so far, with one more.
+/// Returns the best candidate so far, given one more manager.
 fn next_best(own: &SmInfo, best: Option<SeenManager>, other: SeenManager) -> Option<SeenManager>
     ensures { result ≡ next_best own.now best other }
 {
@@ -58,7 +58,7 @@ fn next_best(own: &SmInfo, best: Option<SeenManager>, other: SeenManager) -> Opt
     }
 }
 
-/// The one that wins, and the former where neither does.
+/// Returns the one that wins, or the former if neither does.
 fn better(best: Option<SeenManager>, other: SeenManager) -> SeenManager
     ensures { result ≡ better best other }
 {
@@ -74,7 +74,7 @@ fn better(best: Option<SeenManager>, other: SeenManager) -> SeenManager
     }
 }
 
-/// Whether a manager that tells this of itself may be handed over to.
+/// Returns whether the manager whose SMInfo is `own` may hand over to `other`.
 fn is_candidate(own: &SmInfo, other: &SeenManager) -> bool
     ensures { result ≡ is_candidate own.now other.now }
 {
@@ -82,14 +82,14 @@ fn is_candidate(own: &SmInfo, other: &SeenManager) -> bool
     is_ready && wins(&other.info, own)
 }
 
-/// Whether it is a master, or wins and is not inactive.
+/// Returns whether `other` is a master, or wins over `own` and is not inactive.
 fn outranks(own: &SmInfo, other: &SmInfo) -> bool
     ensures { result ≡ outranks own.now other.now }
 {
     says(SmState::Master, other) || (!says(SmState::NotActive, other) && wins(other, own))
 }
 
-/// Whether a manager says that it is in this state; a reserved number is none.
+/// Returns whether a manager says that it is in `state`. A reserved number is none of the states.
 fn says(state: SmState, info: &SmInfo) -> bool
     ensures { result ≡ says state info.now }
 {

@@ -3,14 +3,14 @@ ghost use Rattle.sm_state.specs.Controls.{control_of_message};
 
 use crate::control::Control;
 
-/// What may move a subnet manager from one state to another: a control that came, by its attribute
-/// modifier, or its own affairs.
+/// What may move a subnet manager from one state to another: a control that came, given by its attribute modifier, or
+/// the manager's own affairs.
 #[derive(Clone, Copy, Debug, PartialEq, Eq)]
 pub enum Event {
     Control(u32),
-    /// A sweep is done, and saw a master, or a manager that is not inactive and wins.
+    /// A sweep is done, and saw a master, or a manager that wins and is not inactive.
     Outranked,
-    /// A sweep is done, and saw no such manager.
+    /// A sweep is done, and saw neither a master nor a manager that wins and is not inactive.
     Unrivalled,
     /// Three polls in a row were not answered.
     PollsUnanswered,
@@ -26,7 +26,7 @@ pub enum Message {
 }
 
 impl Message {
-    /// The control that it is.
+    /// Returns the message as a control.
     pub fn control(self) -> Control
         ensures { result ≡ control_of_message self }
     {

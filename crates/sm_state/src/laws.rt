@@ -3,8 +3,8 @@ ghost use Rattle.sm_state.specs.Ranks.{WinsIsAnOrder};
 ghost use Rattle.sm_state.specs.Election.{SuccessorLaw};
 ghost use Rattle.sm_state.specs.StateLaws.{MastersStay, NothingElseMoves, OthersAreTold, StatesAreNumbered};
 
-/// Of two managers with different priorities or GUIDs one wins; none wins over itself; and who wins over
-/// another wins over all over whom that one does.
+/// One of two managers wins if their priorities or GUIDs differ. No manager wins over itself. A manager that wins over
+/// another also wins over all that the other wins over.
 pub fn wins_is_an_order()
     ensures { WinsIsAnOrder }
 {}
@@ -14,13 +14,13 @@ pub fn nothing_else_moves()
     ensures { NothingElseMoves }
 {}
 
-/// A master stays master, but for an acknowledgement that another is master, and for the control to
-/// discover anew.
+/// A master stays master, unless it gets an acknowledgement that another manager is master, or the control to discover
+/// anew.
 pub fn masters_stay()
     ensures { MastersStay }
 {}
 
-/// An acknowledgement is sent by none but who is master then because another handed over to it.
+/// A manager that sends an acknowledgement is master then, since another one handed over to it.
 pub fn others_are_told()
     ensures { OthersAreTold }
 {}
@@ -30,8 +30,8 @@ pub fn states_are_numbered()
     ensures { StatesAreNumbered }
 {}
 
-/// Whom a master hands over to wins over each candidate that was seen before it, and none that was seen after it wins
-/// over it; where there is nobody, there is no candidate.
+/// The successor of a master wins over each candidate that was seen before it, and no candidate that was seen after it
+/// wins over it. If there is no successor, there is no candidate.
 #[tactic(auto, using(crate::proofs::Successors::successor_law))]
 pub fn successor_is_the_first_of_the_greatest()
     ensures { SuccessorLaw }

@@ -3,8 +3,8 @@ ghost use Rattle.sm_state.specs.Ranks.{wins};
 
 use attr_codec::SmInfo;
 
-/// Whether one manager wins over another: by the greater priority, and at equal priority by the lesser
-/// GUID of its port (subnet management, subnet manager: priorities).
+/// Returns whether `one` wins over `other`: it has the greater priority or, at equal priority, the lesser port GUID
+/// (subnet management, subnet manager: priorities).
 pub fn wins(one: &SmInfo, other: &SmInfo) -> bool
     ensures { result ≡ wins one.now other.now }
 {

@@ -6,16 +6,16 @@ use crate::{Event, SmState, step};
 use attr_codec::{Priority, SmInfo};
 use smp_bytes::Guid;
 
-/// What a manager is among the managers of its subnet.
+/// The identity and the state of a manager among the managers of its subnet.
 #[derive(Clone, Copy, Debug)]
 pub struct Standing {
     /// The GUID of the port that it sits at.
     pub guid: Guid,
     pub priority: Priority,
     pub state: SmState,
-    /// How many sweeps it began; it stays at its greatest value.
+    /// The number of sweeps that it began; stays at its greatest value.
     pub act_count: u32,
-    /// How many polls in a row were not answered, as long as it has been in its state.
+    /// The number of polls in a row that were not answered, since it entered its state.
     pub polls_lost: u32,
 }
 
@@ -32,7 +32,7 @@ impl Standing {
         }
     }
 
-    /// What it tells of itself.
+    /// Returns the SMInfo that it answers with.
     pub fn info(&self) -> SmInfo
         ensures { result ≡ info_of self.now }
     {
@@ -51,14 +51,14 @@ impl Standing {
         self.state.number() == state.number()
     }
 
-    /// A sweep begins.
+    /// Counts a sweep that begins.
     pub fn count_sweep(&mut self)
         ensures { self.new ≡ active_once_more self.old }
     {
         self.act_count = self.act_count.saturating_add(1);
     }
 
-    /// With a change of state the polls are counted anew.
+    /// Enters `state`. A change of state resets the count of lost polls.
     pub fn move_to(&mut self, state: SmState)
         ensures { self.new ≡ moved_to state self.old }
     {
@@ -68,21 +68,21 @@ impl Standing {
         }
     }
 
-    /// The state moves as the table of states says.
+    /// Moves by the table of states.
     pub fn move_by(&mut self, event: Event)
         ensures { self.new ≡ moved_by event self.old }
     {
         self.move_to(step(self.state, event).state);
     }
 
-    /// A poll was answered.
+    /// Notes that a poll was answered.
     pub fn hear_poll(&mut self)
         ensures { self.new ≡ poll_answered self.old }
     {
         self.polls_lost = 0;
     }
 
-    /// A poll was not answered in time.
+    /// Notes that a poll timed out. The third lost poll in a row changes the state.
     pub fn lose_poll(&mut self)
         ensures { self.new ≡ poll_lost self.old }
     {

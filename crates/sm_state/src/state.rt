@@ -21,7 +21,7 @@ const STATES: [SmState; 4] = [
 ];
 
 impl SmState {
-    /// The state of a number, or None for the reserved numbers, 4 and above.
+    /// Returns the state with this number, or `None` for the reserved numbers, 4 and above.
     pub fn from_number(number: SmStateNumber) -> Option<Self>
         ensures { result ≡ state_of_number number }
     {
@@ -29,14 +29,14 @@ impl SmState {
         STATES.iter().copied().find(|state| number == state.code())
     }
 
-    /// The number as SMInfo spells it.
+    /// Returns the number as in SMInfo.
     pub fn number(self) -> SmStateNumber
         ensures { result ≡ number_of_state self }
     {
         SmStateNumber::new(self.code()).unwrap()
     }
 
-    /// The same as a number below 4.
+    /// Returns the number as a `u8` below 4.
     fn code(self) -> u8
         ensures { result ≡ number_of_state self }
     {
@@ -48,7 +48,7 @@ impl SmState {
         }
     }
 
-    /// `not-active`, `discovering`, `standby` or `master`.
+    /// Returns `not-active`, `discovering`, `standby` or `master`.
     pub fn word(self) -> &'static str
         ensures { result.now ≡ state_word self }
     {

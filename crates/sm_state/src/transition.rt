@@ -8,16 +8,16 @@ use smp_bytes::Status;
 /// What a manager does about an event.
 #[derive(Clone, Copy, Debug, PartialEq, Eq)]
 pub struct Transition {
-    /// Its state afterwards.
+    /// The state afterwards.
     pub state: SmState,
-    /// What it sends to the other manager.
+    /// The message to the other manager, if any.
     pub message: Option<Message>,
-    /// Whether it refuses a control.
+    /// Whether a control is refused.
     pub is_refused: bool,
 }
 
 impl Transition {
-    /// The status of the answer, where the event was a request.
+    /// Returns the status of the answer, if the event was a request.
     pub fn status(self) -> Status
         ensures { result.0 ≡ status_of self }
     {

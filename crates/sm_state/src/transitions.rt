@@ -6,7 +6,7 @@ use crate::event::{Event, Message};
 use crate::state::SmState;
 use crate::transition::Transition;
 
-/// The manager goes to a state, and sends this.
+/// Returns the move to `state` that sends `message`.
 fn goes_to(state: SmState, message: Option<Message>) -> Transition
     ensures { result ≡ to state message }
 {
@@ -17,8 +17,8 @@ fn goes_to(state: SmState, message: Option<Message>) -> Transition
     }
 }
 
-/// What a manager in a state does about an event (subnet management, SMInfo states). What the state has no
-/// move for changes nothing, and where it is a control it is refused.
+/// Returns what a manager in `state` does about `event` (subnet management, SMInfo states). An event without a move
+/// from the state changes nothing; if it is a control, it is refused.
 pub fn step(state: SmState, event: Event) -> Transition
     ensures { result ≡ stepped state event }
 {
@@ -34,7 +34,7 @@ pub fn step(state: SmState, event: Event) -> Transition
     }
 }
 
-/// What it does about a control, where the modifier is one.
+/// Returns what a manager in `state` does about `control`, which is `None` if the modifier is not a control's.
 fn after_control(state: SmState, control: Option<Control>) -> Transition
     ensures { result ≡ after_control state control }
 {

@@ -17,7 +17,7 @@ pub record Bits : Type 0 where
 abbrev pub number_in : Field → List ℕ → ℕ
 number_in field bytes = big_number field.len (drop field.at bytes)
 
--- the number that the bits stand for
+-- the number in the bits
 abbrev pub bits_in : Bits → List ℕ → ℕ
 bits_in bits bytes = slice_index bytes bits.at / 2 ^ bits.shift % 2 ^ bits.width
 
@@ -25,19 +25,19 @@ bits_in bits bytes = slice_index bytes bits.at / 2 ^ bits.shift % 2 ^ bits.width
 abbrev pub bytes_in : Field → List ℕ → List ℕ
 bytes_in field bytes = take field.len (drop field.at bytes)
 
--- the bytes with others written over those from an offset on
+-- `bytes`, overwritten by `written` from `at` on
 unfoldable pub with_bytes : ℕ → List ℕ → List ℕ → List ℕ
 with_bytes at written bytes = take at bytes ++ (written ++ drop (at + length written) bytes)
 
--- the bytes with a number written into a field
+-- `bytes`, with `number` written into the field
 abbrev pub with_number : Field → ℕ → List ℕ → List ℕ
 with_number field number bytes = with_bytes field.at (big_bytes field.len number) bytes
 
--- the first of the two ends before the other begins, or the other way round
+-- one field ends before the other begins
 abbrev pub are_apart : Field → Field → Bool
 are_apart a b = nat_le (a.at + a.len) b.at || nat_le (b.at + b.len) a.at
 
--- the field ends within so many bytes
+-- the field ends within the first `count` bytes
 abbrev pub ends_within : ℕ → Field → Bool
 ends_within count field = nat_le (field.at + field.len) count
 
@@ -46,21 +46,21 @@ pub record Entry : Type 0 where
   pub field : Field
   pub number : ℕ
 
--- the bytes with each of these written, one after the other
+-- `bytes`, with each entry written, one after the other
 abbrev pub with_numbers : List Entry → List ℕ → List ℕ
 with_numbers [] bytes = bytes
 with_numbers (e ∷ entries) bytes = with_numbers entries (with_number e.field e.number bytes)
 
--- a byte with some of its bits replaced: what is above them, they themselves, and what is below them
+-- a byte with `number` in place of some bits; those above and below stay
 abbrev pub replaced : Bits → ℕ → ℕ → ℕ
 replaced bits number byte =
     (byte / 2 ^ (bits.shift + bits.width) * 2 ^ bits.width + number) * 2 ^ bits.shift + byte % 2 ^ bits.shift
 
--- the bytes with a number written into some bits of one
+-- `bytes`, with `number` written into some bits of one byte
 abbrev pub with_bits : Bits → ℕ → List ℕ → List ℕ
 with_bits bits number bytes =
     with_number (record { at = bits.at; len = 1 }) (replaced bits number (slice_index bytes bits.at)) bytes
 
--- the bits stand in different bytes, or the ones above the others
+-- the bits are in different bytes, or some lie above the others
 abbrev pub are_bits_apart : Bits → Bits → Bool
 are_bits_apart a b = not (a.at == b.at) || (nat_le (a.shift + a.width) b.shift || nat_le (b.shift + b.width) a.shift)

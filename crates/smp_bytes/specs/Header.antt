@@ -3,7 +3,7 @@
 -- status, attributes.
 use Rattle.std.specs.Prelude.{ℕ}
 
--- classes: a packet that switches forward by the LIDs of its way, and one that carries the ports of its path
+-- classes: a packet that switches forward by LID, and one that carries the ports of its path
 
 abbrev pub lid_routed_class : ℕ
 lid_routed_class = 0x01
@@ -11,7 +11,7 @@ lid_routed_class = 0x01
 abbrev pub directed_class : ℕ
 directed_class = 0x81
 
--- methods: the two requests, and the answer to both
+-- methods: the two requests, and the answer to either
 
 abbrev pub get : ℕ
 get = 0x01
@@ -22,7 +22,7 @@ set = 0x02
 abbrev pub get_resp : ℕ
 get_resp = 0x81
 
--- statuses: the request was done; why it was not
+-- statuses: the request was done, or why it was not
 
 abbrev pub done : ℕ
 done = 0x0000

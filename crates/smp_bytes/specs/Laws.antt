@@ -13,37 +13,37 @@ abbrev pub NumberIsRead : Type 0
 NumberIsRead = (field : Field) (number : ℕ) (bytes : List ℕ) → LiesIn field bytes → number < 256 ^ field.len
     → number_in field (with_number field number bytes) ≡ number
 
--- a field apart from it keeps its number
+-- a field apart from the written one keeps its number
 abbrev pub FieldApartStays : Type 0
 FieldApartStays =
     (other field : Field) (number : ℕ) (bytes : List ℕ) → LiesIn field bytes → are_apart other field ≡ true
     → number_in other (with_number field number bytes) ≡ number_in other bytes
 
--- there are as many bytes as before, and each that is not of the field stays
+-- there are as many bytes as before, and each outside the field stays
 pub record KeepsBytesOutside (field : Field) (old new : List ℕ) : Type 0 where
   pub count : length new ≡ length old
   pub outside : (offset : ℕ) → (offset < field.at) ⊎ (field.at + field.len ≤ offset) → slice_index new offset
       ≡ slice_index old offset
 
--- so does a write into a field
+-- a write into a field keeps the bytes outside it
 abbrev pub BytesOutsideStay : Type 0
 BytesOutsideStay = (field : Field) (number : ℕ) (bytes : List ℕ) → LiesIn field bytes
     → KeepsBytesOutside field bytes (with_number field number bytes)
 
--- no other bytes hold the number and are for the rest as they were
+-- only `with_number` gives bytes that hold the number and are otherwise as they were
 abbrev pub WriteIsUnique : Type 0
 WriteIsUnique =
     (field : Field) (number : ℕ) (old new : List ℕ) → LiesIn field old → All (λ byte. byte < 256) new
     → KeepsBytesOutside field old new → number_in field new ≡ number → new ≡ with_number field number old
 
--- of two writes into a field the last one stands
+-- of two writes into one field the last one stands
 abbrev pub LastWriteStands : Type 0
 LastWriteStands = (field : Field) (number before : ℕ) (bytes : List ℕ) → LiesIn field bytes
     → with_number field number (with_number field before bytes) ≡ with_number field number bytes
 
 -- some bits of a byte ------------------------------------------------------------------
 
--- the bits lie within a byte, which is one of these
+-- the bits lie within one byte of `bytes`
 pub record AreBitsIn (bits : Bits) (bytes : List ℕ) : Type 0 where
   pub offset : bits.at < length bytes
   pub byte : slice_index bytes bits.at < 256
@@ -54,7 +54,7 @@ abbrev pub BitsAreRead : Type 0
 BitsAreRead = (bits : Bits) (number : ℕ) (bytes : List ℕ) → AreBitsIn bits bytes → number < 2 ^ bits.width
     → bits_in bits (with_bits bits number bytes) ≡ number
 
--- bits apart from them keep their number
+-- bits apart from the written ones keep their number
 abbrev pub BitsApartStay : Type 0
 BitsApartStay = (other bits : Bits) (number : ℕ) (bytes : List ℕ) → AreBitsIn bits bytes → number < 2 ^ bits.width
     → are_bits_apart other bits ≡ true
@@ -66,7 +66,7 @@ pub record KeepsOtherBytes (bits : Bits) (old new : List ℕ) : Type 0 where
   pub byte : slice_index new bits.at < 256
   pub others : (offset : ℕ) → offset ≢ bits.at → slice_index new offset ≡ slice_index old offset
 
--- so does a write into some bits
+-- a write into some bits keeps the other bytes
 abbrev pub OtherBytesStay : Type 0
 OtherBytesStay = (bits : Bits) (number : ℕ) (bytes : List ℕ) → AreBitsIn bits bytes → number < 2 ^ bits.width
     → KeepsOtherBytes bits bytes (with_bits bits number bytes)

@@ -1,4 +1,4 @@
--- A subnet management packet (SMP) is a list of 256 bytes: its fields, and what is wrong with bytes that are no packet.
+-- A subnet management packet (SMP) is a list of 256 bytes: its fields, and the faults of bytes that are no packet.
 -- InfiniBand Architecture Specification, Volume 1: management datagram header, and SMP formats, LID routed and directed
 -- route.
 use Rattle.std.specs.Prelude.{ℕ, ◌+◌, ◌%◌, ◌^◌, Bool, ◌&&◌, ◌||◌, not, List, nat_lt, ◌==◌, if◌then◌else◌, Option, Some, None}
@@ -50,7 +50,7 @@ m_key = record { at = 24; len = 8 }
 abbrev pub attribute_data : Field
 attribute_data = record { at = 64; len = 64 }
 
--- in the directed class alone
+-- only in the directed class
 
 abbrev pub hop_pointer : Field
 hop_pointer = record { at = 6; len = 1 }
@@ -68,7 +68,7 @@ dr_dlid = record { at = 34; len = 2 }
 abbrev pub initial_path : ℕ → Field
 initial_path i = record { at = 128 + i; len = 1 }
 
--- the port by which the answer leaves at that step
+-- the port by which the answer leaves at its i-th step
 abbrev pub return_path : ℕ → Field
 return_path i = record { at = 192 + i; len = 1 }
 
@@ -80,7 +80,7 @@ is_lid_routed packet = number_in mgmt_class packet == lid_routed_class
 abbrev pub is_directed : List ℕ → Bool
 is_directed packet = number_in mgmt_class packet == directed_class
 
--- an answer, or another packet that asks for no answer
+-- the R bit: the packet is an answer, or another one that asks for no answer
 abbrev pub is_response : List ℕ → Bool
 is_response packet = bits_in response_bit packet == 1
 
@@ -88,7 +88,7 @@ is_response packet = bits_in response_bit packet == 1
 abbrev pub is_returning : List ℕ → Bool
 is_returning packet = bits_in direction_bit packet == 1
 
--- the low 15 bits where the highest is the direction
+-- the status, without the D bit in the directed class
 abbrev pub status : List ℕ → ℕ
 status packet = if is_directed packet then number_in status_word packet % 2 ^ 15 else number_in status_word packet
 
@@ -100,7 +100,7 @@ permissive_lid = 0xFFFF
 abbrev pub max_hops : ℕ
 max_hops = 63
 
--- the first fault of the fields that the directed class has
+-- the first fault of the fields that only the directed class has
 abbrev pub directed_fault_of : List ℕ → Option SmpFault
 directed_fault_of packet =
     if nat_lt max_hops (number_in hop_count packet) then Some HopCount

@@ -1,5 +1,5 @@
--- What stands in packets that are made: all that was given, and 0 wherever nothing was.
--- InfiniBand Architecture Specification, Volume 1: SMP formats; management methods; directed route SMPs.
+-- What packets that are made contain: all that was given, and 0 elsewhere. InfiniBand Architecture Specification,
+-- Volume 1: SMP formats; management methods; directed route SMPs.
 use Rattle.std.specs.Prelude.{◌≡◌, ℕ, ◌+◌, ◌^◌, ◌<◌, ◌≤◌, ◌⊎◌, List, All, length, slice_index, None, true}
 use Rattle.smp_bytes.specs.Field.{Field, number_in, bytes_in, with_number}
 use Rattle.smp_bytes.specs.Packet.{base_version, mgmt_class, class_version, method, status_word, transaction_id, attribute_id, attribute_modifier, m_key, attribute_data, hop_pointer, hop_count, dr_slid, dr_dlid, initial_path, return_path, permissive_lid, max_hops, is_directed, is_response, is_returning, status, fault_of}
@@ -10,7 +10,7 @@ use Rattle.smp_bytes.specs.Requests.{directed, lid_routed, answer_packet, word_w
 abbrev pub reserved_after_attribute_id : Field
 reserved_after_attribute_id = record { at = 18; len = 2 }
 
--- what both requests hold
+-- what requests of both classes hold
 pub record HoldsRequest (packet : List ℕ) (method_number attribute modifier tid : ℕ) (payload : List ℕ) : Type 0 where
   pub count : length packet ≡ 256
   pub parses : fault_of packet ≡ None
@@ -25,7 +25,7 @@ pub record HoldsRequest (packet : List ℕ) (method_number attribute modifier ti
   pub m_key : number_in m_key packet ≡ 0
   pub attribute_data : bytes_in attribute_data packet ≡ payload
 
--- what a directed request holds besides: no hop is made, and all ports of InitialPath but those of the path are 0
+-- what else a directed request holds: no hop is made, and InitialPath is 0 except for the ports of the path
 pub record HoldsPath (packet path : List ℕ) : Type 0 where
   pub class : number_in mgmt_class packet ≡ directed_class
   pub hop_pointer : number_in hop_pointer packet ≡ 0
@@ -38,14 +38,14 @@ pub record HoldsPath (packet path : List ℕ) : Type 0 where
   pub behind : (i : ℕ) → length path < i → i < 64 → number_in (initial_path i) packet ≡ 0
   pub return_path : (i : ℕ) → i < 64 → number_in (return_path i) packet ≡ 0
 
--- what a LID-routed request holds besides
+-- what else a LID-routed request holds
 pub record HoldsNoPath (packet : List ℕ) : Type 0 where
   pub class : number_in mgmt_class packet ≡ lid_routed_class
   pub no_hops : number_in (record { at = 6; len = 2 }) packet ≡ 0
   pub reserved_before : number_in (record { at = 32; len = 32 }) packet ≡ 0
   pub reserved_behind : number_in (record { at = 128; len = 128 }) packet ≡ 0
 
--- each number that is given fits its field, and the attribute has 64 bytes
+-- each given number fits its field, and the attribute has 64 bytes
 pub record FitsRequest (method_number attribute modifier tid : ℕ) (payload : List ℕ) : Type 0 where
   pub method : method_number < 2 ^ 8
   pub attribute_id : attribute < 2 ^ 16
@@ -71,11 +71,11 @@ LidRoutedReadsBack =
     payload
     × HoldsNoPath (lid_routed method_number attribute modifier tid payload)
 
--- neither method nor status nor attribute
+-- the byte at `offset` is of neither method, status nor attribute
 abbrev pub IsKeptInAnswer : ℕ → Type 0
 IsKeptInAnswer offset = (offset < 3) ⊎ (((6 ≤ offset) × (offset < 64)) ⊎ (128 ≤ offset))
 
--- what an answer holds: all else is as it was in the request
+-- what an answer holds: method, status and attribute as given, and all else as in the request
 pub record HoldsAnswer (request answer : List ℕ) (given : ℕ) (payload : List ℕ) : Type 0 where
   pub count : length answer ≡ 256
   pub parses : fault_of answer ≡ None
@@ -87,7 +87,7 @@ pub record HoldsAnswer (request answer : List ℕ) (given : ℕ) (payload : List
   pub attribute_data : bytes_in attribute_data answer ≡ payload
   pub kept : (offset : ℕ) → IsKeptInAnswer offset → slice_index answer offset ≡ slice_index request offset
 
--- an answer holds what was given; in the directed class the status leaves its highest bit to the direction
+-- an answer holds what was given; in the directed class the status must leave its highest bit to the direction
 abbrev pub AnswerReadsBack : Type 0
 AnswerReadsBack =
     (request : List ℕ) (given : ℕ) (payload : List ℕ) → length request ≡ 256 → fault_of request ≡ None → length payload
@@ -95,7 +95,7 @@ AnswerReadsBack =
     → given < 2 ^ 16 → (is_directed request ≡ true → given < 2 ^ 15)
     → HoldsAnswer request (answer_packet request given payload) given payload
 
--- what a packet holds once its status is written: the class is as it was, and so is the direction of a directed packet
+-- what a packet holds once its status is written: its class stays, and so does the direction of a directed packet
 pub record HoldsStatus (old new : List ℕ) (given : ℕ) : Type 0 where
   pub class : is_directed new ≡ is_directed old
   pub status : status new ≡ given

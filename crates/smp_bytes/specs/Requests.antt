@@ -13,7 +13,7 @@ request_entries class method_number attribute modifier tid =
     ∷ record { field = transaction_id; number = tid } ∷ record { field = attribute_id; number = attribute }
     ∷ record { field = attribute_modifier; number = modifier } ∷ []
 
--- the fields that a directed request has besides: no hop is made yet, and it has no LID-routed part
+-- the further fields of a directed request: no hop is made yet, and it has no LID-routed part
 abbrev pub path_entries : ℕ → List Entry
 path_entries hops =
     record { field = hop_count; number = hops } ∷ record { field = dr_slid; number = permissive_lid }
@@ -24,12 +24,12 @@ abbrev pub request : ℕ → ℕ → ℕ → ℕ → ℕ → List ℕ
 request class method_number attribute modifier tid =
     with_numbers (request_entries class method_number attribute modifier tid) (replicate 256 0)
 
--- a request that switches forward by the LIDs of its way
+-- a request that switches forward by LID
 abbrev pub lid_routed : ℕ → ℕ → ℕ → ℕ → List ℕ → List ℕ
 lid_routed method_number attribute modifier tid payload =
     with_bytes attribute_data.at payload (request lid_routed_class method_number attribute modifier tid)
 
--- a request that leaves by the ports of a path, one after the other
+-- a request that leaves by the ports of `path`, one after the other
 abbrev pub directed : ℕ → ℕ → ℕ → ℕ → List ℕ → List ℕ → List ℕ
 directed method_number attribute modifier tid path payload =
     with_bytes (initial_path 1).at path (with_bytes attribute_data.at payload
@@ -39,13 +39,13 @@ directed method_number attribute modifier tid path payload =
 abbrev pub answer_status : List ℕ → ℕ → ℕ
 answer_status packet status = if is_directed packet then 2 ^ 15 + status else status
 
--- the answer to a request: another method, status and attribute, and all else as it was
+-- the answer to a request: method, status and attribute are replaced, and all else stays
 abbrev pub answer_packet : List ℕ → ℕ → List ℕ → List ℕ
 answer_packet packet status payload =
     with_bytes attribute_data.at payload
     (with_number status_word (answer_status packet status) (with_number method get_resp packet))
 
--- the status word with another status; in the directed class its highest bit, the direction, stays
+-- the status word with `status`; in the directed class the highest bit, the direction, stays
 abbrev pub word_with_status : List ℕ → ℕ → ℕ
 word_with_status packet status =
     if is_directed packet then number_in status_word packet / 2 ^ 15 * 2 ^ 15 + status else status

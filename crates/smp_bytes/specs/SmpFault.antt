@@ -1,4 +1,4 @@
--- The names of what is wrong with a packet.
+-- The names of a packet's faults.
 use Rattle.std.specs.Prelude.{ℕ, List, codes}
 use Rattle.smp_bytes.specs.declared.smp_fault.SmpFault.{SmpFault}
 use Rattle.smp_bytes.specs.declared.smp_fault.SmpFault.TheVariants.{BaseVersion, Class, ClassVersion, HopCount, HopPointer, DrLid}

@@ -10,10 +10,10 @@ pub const METHOD: usize = 3;
 
 pub const STATUS: usize = 4;
 
-/// The bit of the method's byte that is the R bit.
+/// The R bit in the byte of the method.
 pub const RESPONSE_BIT: u32 = 7;
 
-/// The bit of the status's first byte that is the D bit of a directed packet.
+/// The D bit of a directed packet, in the first byte of the status.
 pub const DIRECTION_BIT: u32 = 7;
 
 pub const HOP_POINTER: usize = 6;

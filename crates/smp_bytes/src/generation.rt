@@ -20,7 +20,7 @@ impl Model for Generation {
 }
 
 impl Generation {
-    /// None for 0.
+    /// Returns `None` for 0.
     pub fn new(number: u32) -> Option<Self>
         ensures none { IsNone result ↔ (number ≡ 0) }
         ensures some { IfSome result (λ g. g ≡ number) }
@@ -40,7 +40,7 @@ impl Generation {
     }
 }
 
-/// The number in decimal.
+/// Writes the number in decimal.
 impl fmt::Display for Generation {
     ghost output = { λ number. Some (decimal number) };
 

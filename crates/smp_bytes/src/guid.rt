@@ -32,7 +32,7 @@ impl Guid {
         self.0
     }
 
-    /// The sixteen digits that `{}` writes, as ASCII.
+    /// Returns the sixteen digits that `{}` writes, as ASCII.
     pub fn hex_digits(self) -> [u8; 16]
         ensures { result ≡ hex_text 16 self }
     {
@@ -46,7 +46,7 @@ impl Guid {
     }
 }
 
-/// The lower-case hex digit of a number below 16, as ASCII.
+/// Returns the lower-case hex digit of a number below 16, as ASCII.
 fn hex_digit(number: u8) -> u8
     requires { number < 16 }
     ensures { result ≡ digit_glyph false number }
@@ -58,7 +58,7 @@ fn hex_digit(number: u8) -> u8
     }
 }
 
-/// Sixteen lower-case hex digits.
+/// Writes sixteen lower-case hex digits.
 impl fmt::Display for Guid {
     ghost output = { λ number. Some (hex_text 16 number) };
 

@@ -1,11 +1,11 @@
-/// How a packet finds its way: by a LID and the switches' tables, or by the ports of a path that it carries.
+/// How a packet is routed: by a LID and the switches' tables, or by the ports of a path that it carries.
 #[derive(Clone, Copy, Debug, PartialEq, Eq)]
 pub enum SmpClass {
     LidRouted,
     DirectedRoute,
 }
 
-/// What a packet asks or is: its R bit and the seven bits of the method.
+/// What a packet asks for or is: its R bit and the seven bits of the method.
 #[derive(Clone, Copy, Debug, PartialEq, Eq)]
 pub struct Method(pub u8);
 
@@ -14,11 +14,11 @@ impl Method {
 
     pub const SET: Method = Method(0x02);
 
-    /// The answer to both.
+    /// The answer to a Get or a Set.
     pub const GET_RESP: Method = Method(0x81);
 }
 
-/// How a request was met; in a directed packet at most 0x7FFF.
+/// The outcome of a request; in a directed packet at most 0x7FFF.
 #[derive(Clone, Copy, Debug, PartialEq, Eq)]
 pub struct Status(pub u16);
 
@@ -29,11 +29,11 @@ impl Status {
 
     pub const METHOD_AND_ATTRIBUTE_NOT_SUPPORTED: Status = Status(0x000C);
 
-    /// A field of the attribute or of its modifier.
+    /// A field of the attribute or of its modifier is invalid.
     pub const INVALID_FIELD: Status = Status(0x001C);
 }
 
-/// Which attribute a packet carries.
+/// The number of the attribute that a packet carries.
 #[derive(Clone, Copy, Debug, PartialEq, Eq)]
 pub struct AttributeId(pub u16);
 

@@ -1,4 +1,4 @@
-//! The laws of packets: what a write into a field or into some bits does, and what stands in the packets that are made.
+//! The laws of packets: what a write into a field or into bits does, and what the packets that are made contain.
 ghost use Rattle.std.specs.Prelude.{◌≡◌};
 ghost use Rattle.smp_bytes.specs.Header.{get, set, get_resp, done, method_not_supported};
 ghost use Rattle.smp_bytes.specs.Header.{method_and_attribute_not_supported, invalid_field, node_description};
@@ -14,22 +14,22 @@ pub fn written_number_is_read()
     ensures { NumberIsRead }
 {}
 
-/// A field that shares no byte with the one that is written keeps its number.
+/// A field keeps its number if it shares no byte with the field that is written.
 pub fn field_apart_stays()
     ensures { FieldApartStays }
 {}
 
-/// Whatever is written into a field, every byte outside it stays.
+/// A write into a field keeps every byte outside the field.
 pub fn bytes_outside_field_stay()
     ensures { BytesOutsideStay }
 {}
 
-/// No other bytes hold the number in that field and are for the rest as they were.
+/// A write into a field gives the only bytes that hold the number there and are otherwise as they were.
 pub fn write_is_unique()
     ensures { WriteIsUnique }
 {}
 
-/// Of two numbers that are written into a field, one after the other, the last one stands.
+/// If two numbers are written into a field, one after the other, the last one stands.
 pub fn last_write_stands()
     ensures { LastWriteStands }
 {}
@@ -39,30 +39,31 @@ pub fn written_bits_are_read()
     ensures { BitsAreRead }
 {}
 
-/// Bits that share none with those that are written keep their number, in the same byte too.
+/// Bits keep their number if they share none with the bits that are written, in the same byte too.
 pub fn bits_apart_stay()
     ensures { BitsApartStay }
 {}
 
-/// Whatever is written into some bits of a byte, every other byte stays.
+/// A write into some bits of a byte keeps every other byte.
 pub fn other_bytes_stay()
     ensures { OtherBytesStay }
 {}
 
 /// A directed request holds the method, attribute, modifier, transaction ID, path and data that were given; HopPointer
-/// is 0, HopCount the path's length, both LIDs are the permissive one, and all else is 0.
+/// is 0, HopCount the path's length, both LIDs are the permissive one, and all else except the versions and the class
+/// is 0.
 pub fn directed_request_reads_back()
     ensures { DirectedReadsBack }
 {}
 
 /// A LID-routed request holds the method, attribute, modifier, transaction ID and data that were given, and all else
-/// but the versions is 0.
+/// except the versions and the class is 0.
 pub fn lid_routed_request_reads_back()
     ensures { LidRoutedReadsBack }
 {}
 
-/// An answer holds the status and the data that were given, and is on its way back if it is directed; all else but the
-/// method stands as in the request.
+/// An answer holds the status and the data that were given, and is on its way back if it is directed; all else except
+/// the method is as in the request.
 pub fn answer_reads_back()
     ensures { AnswerReadsBack }
 {}
@@ -72,14 +73,14 @@ pub fn status_reads_back()
     ensures { StatusReadsBack }
 {}
 
-/// The numbers of the methods.
+/// The constants of `Method` have the standard's numbers.
 pub fn method_numbers()
     ensures get { Method.GET.0 ≡ get }
     ensures set { Method.SET.0 ≡ set }
     ensures get_resp { Method.GET_RESP.0 ≡ get_resp }
 {}
 
-/// The numbers of the statuses.
+/// The constants of `Status` have the standard's numbers.
 pub fn status_numbers()
     ensures done { Status.DONE.0 ≡ done }
     ensures method { Status.METHOD_NOT_SUPPORTED.0 ≡ method_not_supported }
@@ -88,7 +89,7 @@ pub fn status_numbers()
     ensures field { Status.INVALID_FIELD.0 ≡ invalid_field }
 {}
 
-/// The numbers of the attributes.
+/// The constants of `AttributeId` have the standard's numbers.
 pub fn attribute_numbers()
     ensures node_description { AttributeId.NODE_DESCRIPTION.0 ≡ node_description }
     ensures node_info { AttributeId.NODE_INFO.0 ≡ node_info }

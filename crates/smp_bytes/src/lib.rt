@@ -1,4 +1,4 @@
-//! Subnet management packets and the numbers that they carry, each as a type of its own.
+//! Subnet management packets and the numbers that they carry, each with a type of its own.
 #![tactic(auto)]
 
 mod field;

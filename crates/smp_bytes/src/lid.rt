@@ -18,10 +18,10 @@ impl Model for Lid {
 }
 
 impl Lid {
-    /// The number that is no LID: what a port holds that was given none.
+    /// The LID of a port that was given none.
     pub const NONE: Self = Lid(0);
 
-    /// The number behind the last unicast LID, 0xBFFF (addressing).
+    /// The first number past the unicast LIDs, which end at 0xBFFF (addressing).
     pub const UNICAST_END: u16 = 0xC000;
 
     pub const fn new(number: u16) -> Self
@@ -36,14 +36,14 @@ impl Lid {
         self.0
     }
 
-    /// The number of the block of a forwarding table that has its entry (LinearForwardingTable).
+    /// Returns the number of the forwarding table block that contains the LID's entry (LinearForwardingTable).
     pub const fn block(self) -> u16
         ensures { result ≡ self / 64 }
     {
         self.0 / 64
     }
 
-    /// The index of its entry in that block.
+    /// Returns the index of the LID's entry in its block.
     pub const fn in_block(self) -> usize
         ensures { result ≡ self % 64 }
     {
@@ -51,7 +51,7 @@ impl Lid {
     }
 }
 
-/// The number in decimal.
+/// Writes the number in decimal.
 impl fmt::Display for Lid {
     ghost output = { λ number. Some (decimal number) };
 

@@ -4,7 +4,7 @@ ghost use Rattle.smp_bytes.specs.Text.{type_word};
 
 use std::fmt;
 
-/// What kind of node it is (subnet management chapter, NodeInfo). A router counts as an adapter here.
+/// The type of a node (subnet management chapter, NodeInfo). A router counts as an adapter here.
 #[derive(Clone, Copy, Debug, PartialEq, Eq, PartialOrd, Ord)]
 pub enum NodeType {
     ChannelAdapter,
@@ -19,7 +19,7 @@ impl NodeType {
         matches!(self, NodeType::Switch)
     }
 
-    /// `ca`, `switch` or `router`.
+    /// Returns `ca`, `switch` or `router`.
     pub fn word(self) -> &'static str
         ensures { result.now ≡ type_word self }
     {
@@ -31,7 +31,7 @@ impl NodeType {
     }
 }
 
-/// Its word.
+/// Writes the type's word.
 impl fmt::Display for NodeType {
     ghost use Rattle.std.specs.Prelude.{Some};
 

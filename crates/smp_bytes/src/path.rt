@@ -19,7 +19,7 @@ impl<const MAX: usize> Model for Path<MAX> {
 }
 
 impl<const MAX: usize> Path<MAX> {
-    /// The empty path.
+    /// Creates an empty path.
     pub fn new() -> Self
         ensures { result ≡ [] }
     {
@@ -28,7 +28,7 @@ impl<const MAX: usize> Path<MAX> {
         }
     }
 
-    /// A path of its own with the same ports.
+    /// Returns a copy of the path.
     pub fn copy(&self) -> Self
         ensures { result ≡ self.now }
     {
@@ -39,7 +39,7 @@ impl<const MAX: usize> Path<MAX> {
         }
     }
 
-    /// Adds a port at the end.
+    /// Appends a port.
     pub fn push(&mut self, port: PortNum)
         requires { length self.old < MAX }
         ensures { self.new ≡ self.old ++ port ∷ [] }
@@ -60,14 +60,14 @@ impl<const MAX: usize> Path<MAX> {
         self.ports.is_empty()
     }
 
-    /// Whether there is no room for another port.
+    /// Returns whether there is no room for another port.
     pub fn is_full(&self) -> bool
         ensures { IsTrue result ↔ (length self.now ≡ MAX) }
     {
         self.len() == MAX
     }
 
-    /// The port at index `i`, from 0 on.
+    /// Returns the port at index `i`, counted from 0.
     pub fn get(&self, i: usize) -> Option<PortNum>
         ensures { result ≡ slice_get self.now i }
     {

@@ -34,7 +34,7 @@ impl PortNum {
         self.0
     }
 
-    /// Whether it is one from 1 to a count: the ports of a node but for the management port of a switch.
+    /// Returns whether the port is from 1 to `count`. Port 0 of a switch never is.
     pub const fn is_within(self, count: u8) -> bool
         ensures { result ≡ is_within self count }
     {
@@ -42,7 +42,7 @@ impl PortNum {
     }
 }
 
-/// The number in decimal.
+/// Writes the number in decimal.
 impl fmt::Display for PortNum {
     ghost output = { λ number. Some (decimal number) };
 

@@ -38,7 +38,7 @@ impl Model for Smp {
     ghost inverse = { λ bytes. record { bytes = bytes } };
 }
 
-/// The base version and the class version.
+/// The value of BaseVersion and of ClassVersion.
 const VERSION: u8 = 1;
 
 const LID_ROUTED: u8 = 0x01;
@@ -50,8 +50,12 @@ const PERMISSIVE_LID: u16 = 0xFFFF;
 const MAX_HOPS: u8 = 63;
 
 impl Smp {
-    /// Takes 256 bytes that are a packet of this version (base version and class version 1) and of one of the two
-    /// classes; the bytes stay as they are.
+    /// Parses 256 bytes as a packet: base version and class version 1, and one of the two classes. Keeps the bytes as
+    /// they are.
+    ///
+    /// # Errors
+    ///
+    /// Returns the first fault, in the order of `SmpFault`.
     pub fn parse(bytes: &[u8; 256]) -> Result<Smp, SmpFault>
         ensures judged { Judges result (fault_of bytes.now) }
         ensures kept { IfOk result (λ smp. smp ≡ bytes.now) }
@@ -62,7 +66,7 @@ impl Smp {
         }
     }
 
-    /// The packet's bytes.
+    /// Returns the packet's bytes.
     pub fn bytes(&self) -> &[u8; 256]
         ensures bytes { result.now ≡ self.now }
         ensures parses { fault_of self.now ≡ None }
@@ -70,14 +74,14 @@ impl Smp {
         &self.bytes
     }
 
-    /// BaseVersion, which is 1.
+    /// Returns BaseVersion, which is 1.
     pub fn base_version(&self) -> u8
         ensures { result ≡ number_in base_version self.now }
     {
         u8_at(&self.bytes, field::BASE_VERSION)
     }
 
-    /// MgmtClass.
+    /// Returns MgmtClass.
     pub fn class(&self) -> SmpClass
         ensures { result ≡ (if is_directed self.now then DirectedRoute else LidRouted) }
     {
@@ -88,35 +92,35 @@ impl Smp {
         }
     }
 
-    /// ClassVersion, which is 1.
+    /// Returns ClassVersion, which is 1.
     pub fn class_version(&self) -> u8
         ensures { result ≡ number_in class_version self.now }
     {
         u8_at(&self.bytes, field::CLASS_VERSION)
     }
 
-    /// The R bit and the method.
+    /// Returns the R bit and the method.
     pub fn method(&self) -> Method
         ensures { result.0 ≡ number_in method self.now }
     {
         Method(u8_at(&self.bytes, field::METHOD))
     }
 
-    /// The R bit.
+    /// Returns the R bit.
     pub fn is_response(&self) -> bool
         ensures { IsTrue result ↔ IsTrue (is_response self.now) }
     {
         bits_at(&self.bytes, field::METHOD, field::RESPONSE_BIT, 1) == 1
     }
 
-    /// The D bit of a directed packet: it is on its way back.
+    /// Returns the D bit: whether a directed packet is on its way back.
     pub fn is_returning(&self) -> bool
         ensures { IsTrue result ↔ IsTrue (is_returning self.now) }
     {
         bits_at(&self.bytes, field::STATUS, field::DIRECTION_BIT, 1) == 1
     }
 
-    /// The status, without the D bit in a directed packet.
+    /// Returns the status, without the D bit in a directed packet.
     pub fn status(&self) -> Status
         ensures { result.0 ≡ status self.now }
     {
@@ -127,7 +131,7 @@ impl Smp {
         }
     }
 
-    /// HopPointer of a directed packet, at most HopCount + 1.
+    /// Returns HopPointer. In a directed packet it is at most HopCount + 1.
     pub fn hop_pointer(&self) -> u8
         ensures value { result ≡ number_in hop_pointer self.now }
         ensures most { is_directed self.now ≡ true → result ≤ number_in hop_count self.now + 1 }
@@ -135,7 +139,7 @@ impl Smp {
         u8_at(&self.bytes, field::HOP_POINTER)
     }
 
-    /// HopCount of a directed packet, at most 63.
+    /// Returns HopCount. In a directed packet it is at most 63.
     pub fn hop_count(&self) -> u8
         ensures value { result ≡ number_in hop_count self.now }
         ensures most { is_directed self.now ≡ true → result ≤ max_hops }
@@ -167,21 +171,21 @@ impl Smp {
         u64_at(&self.bytes, field::M_KEY)
     }
 
-    /// DrSLID of a directed packet, the permissive LID.
+    /// Returns DrSLID. In a directed packet it is the permissive LID.
     pub fn dr_slid(&self) -> Lid
         ensures { result ≡ number_in dr_slid self.now }
     {
         Lid::new(u16_at(&self.bytes, field::DR_SLID))
     }
 
-    /// DrDLID of a directed packet, the permissive LID.
+    /// Returns DrDLID. In a directed packet it is the permissive LID.
     pub fn dr_dlid(&self) -> Lid
         ensures { result ≡ number_in dr_dlid self.now }
     {
         Lid::new(u16_at(&self.bytes, field::DR_DLID))
     }
 
-    /// InitialPath of a directed packet: the port by which it leaves at step `i`. Index 0 is not used.
+    /// Returns entry `i` of InitialPath: the port by which a directed packet leaves at step `i`. Index 0 is not used.
     pub fn initial_path(&self, i: usize) -> PortNum
         requires { i < 64 }
         ensures { result ≡ number_in (initial_path i) self.now }
@@ -189,7 +193,8 @@ impl Smp {
         PortNum::new(u8_at(&self.bytes, field::INITIAL_PATH + i))
     }
 
-    /// ReturnPath of a directed packet: the port by which the answer leaves at step `i`. Index 0 is not used.
+    /// Returns entry `i` of ReturnPath: the port by which the answer to a directed packet leaves at step `i`. Index 0
+    /// is not used.
     pub fn return_path(&self, i: usize) -> PortNum
         requires { i < 64 }
         ensures { result ≡ number_in (return_path i) self.now }
@@ -197,7 +202,7 @@ impl Smp {
         PortNum::new(u8_at(&self.bytes, field::RETURN_PATH + i))
     }
 
-    /// The 64 bytes of the attribute.
+    /// Returns the 64 bytes of the attribute.
     pub fn attribute_data(&self) -> [u8; 64]
         ensures { result ≡ bytes_in attribute_data self.now }
     {
@@ -207,7 +212,7 @@ impl Smp {
     }
 }
 
-/// The first fault of 256 bytes, if they are no packet.
+/// Returns the first fault of 256 bytes, or `None` if they are a packet.
 fn fault_of(bytes: &[u8; 256]) -> Option<SmpFault>
     ensures { result ≡ fault_of bytes.now }
 {
@@ -225,7 +230,7 @@ fn fault_of(bytes: &[u8; 256]) -> Option<SmpFault>
     }
 }
 
-/// The first fault of the fields that the directed class has.
+/// Returns the first fault of the fields that only the directed class has.
 fn directed_fault_of(bytes: &[u8; 256]) -> Option<SmpFault>
     ensures { result ≡ directed_fault_of bytes.now }
 {

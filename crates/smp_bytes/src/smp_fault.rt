@@ -2,7 +2,7 @@ ghost use Rattle.std.specs.Prelude.{◌≡◌};
 
 use thiserror::Error;
 
-/// Why 256 bytes are no subnet management packet, in the order in which it is judged.
+/// Why 256 bytes are not a subnet management packet. The first fault in this order is reported.
 #[derive(Clone, Copy, Debug, PartialEq, Eq, Error)]
 pub enum SmpFault {
     /// BaseVersion is not 1.
@@ -28,7 +28,7 @@ pub enum SmpFault {
 impl SmpFault {
     ghost use Rattle.smp_bytes.specs.SmpFault.{smp_fault_name};
 
-    /// The name that `{}` writes.
+    /// Returns the name that `{}` writes.
     pub fn name(self) -> &'static str
         ensures { result.now ≡ smp_fault_name self }
     {

@@ -1,11 +1,11 @@
-//! Packets typed byte for byte from the format, and what is printed.
+//! Tests with packets typed byte for byte from the format, and of what is printed.
 use crate::{
     AttributeId, Generation, Guid, Lid, Method, NodeType, Path, PortNum, Smp, SmpFault, Status,
 };
 use std::process::Abort;
 use std::test::Fail;
 
-/// The answer to a directed Get(NodeInfo) without hops, of an adapter with one port; all behind it is 0.
+/// The answer of an adapter with one port to a directed Get(NodeInfo) without hops. All later bytes are 0.
 const REPLY: [u8; 101] = [
     0x01, 0x81, 0x01, 0x81, 0x80, 0x00, 0x00, 0x00, 0, 0, 0, 1, 0, 0, 0, 1, // up to TransactionID
     0x00, 0x11, 0, 0, 0, 0, 0, 0, 0, 0, 0, 0, 0, 0, 0, 0, // up to M_Key
@@ -16,7 +16,7 @@ const REPLY: [u8; 101] = [
     0, 0, 0, 0, 1,
 ];
 
-/// A directed Get(NodeInfo) over one hop, through port 1; all behind it is 0.
+/// A directed Get(NodeInfo) over one hop, through port 1. All later bytes are 0.
 const REQUEST: [u8; 130] = [
     0x01, 0x81, 0x01, 0x01, 0x00, 0x00, 0x00, 0x01, 0, 0, 0, 1, 0, 0, 0, 1, // up to TransactionID
     0x00, 0x11, 0, 0, 0, 0, 0, 0, 0, 0, 0, 0, 0, 0, 0, 0, // up to M_Key
@@ -29,7 +29,7 @@ const REQUEST: [u8; 130] = [
     0, 1, // InitialPath
 ];
 
-/// The bytes that a packet begins with, and 0 behind them.
+/// Returns a packet's bytes: `begin`, and 0 behind it.
 fn packet(begin: &[u8]) -> [u8; 256] {
     let mut bytes = [0; 256];
     for (slot, byte) in bytes.iter_mut().zip(begin) {
@@ -38,7 +38,7 @@ fn packet(begin: &[u8]) -> [u8; 256] {
     bytes
 }
 
-/// The bytes from an offset on are these.
+/// Asserts that the packet has the bytes `wanted` from `offset` on.
 fn assert_at(rt: &impl Abort, smp: &Smp, offset: usize, wanted: &[u8]) {
     let is_there = match smp.bytes().get(offset..) {
         Some(rest) => rest.starts_with(wanted),
@@ -47,7 +47,7 @@ fn assert_at(rt: &impl Abort, smp: &Smp, offset: usize, wanted: &[u8]) {
     assert!(rt; is_there, "from {offset} on");
 }
 
-/// What the readers tell of a packet, as numbers in the order of the fields.
+/// Returns what the readers read from a packet, as numbers in the order of the fields.
 fn numbers(smp: &Smp) -> [u64; 14] {
     [
         u64::from(smp.base_version()),
@@ -90,7 +90,7 @@ fn reads_each_field(rt: HostRuntime) -> Result<(), Fail> {
     Ok(())
 }
 
-/// A byte of the reply to be changed, what it becomes, the fault, and its name.
+/// The offset of a byte of the reply, its new value, the fault, and the fault's name.
 const CHANGES: [(usize, u8, SmpFault, &str); 7] = [
     (0, 2, SmpFault::BaseVersion, "BaseVersion"),
     (1, 0x82, SmpFault::Class, "Class"),
@@ -101,7 +101,7 @@ const CHANGES: [(usize, u8, SmpFault, &str); 7] = [
     (35, 0, SmpFault::DrLid, "DrLid"),
 ];
 
-/// The reply with one byte changed is refused, and `{}` of the fault is its name.
+/// Checks that the reply with one byte changed is refused, and that `{}` of the fault is its name.
 #[test]
 fn names_each_fault(rt: HostRuntime) -> Result<(), Fail> {
     for (offset, byte, fault, name) in CHANGES {

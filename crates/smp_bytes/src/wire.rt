@@ -1,10 +1,10 @@
-//! Numbers as they stand in packets and attributes: the most significant byte first.
+//! Numbers as packets and attributes spell them: the most significant byte first.
 ghost use Rattle.std.specs.Prelude.{◌≡◌, ℕ, ◌+◌, ◌≤◌, ◌<◌, ◌^◌, length};
 ghost use Rattle.smp_bytes.specs.Field.{bits_in, number_in, replaced, with_bits, with_bytes, with_number};
 
 use byteorder::{BigEndian, ByteOrder};
 
-/// The byte at an offset.
+/// Returns the byte at offset `at`.
 pub fn u8_at(bytes: &[u8], at: usize) -> u8
     requires { at < length bytes.now }
     ensures { result ≡ number_in (record { at = at; len = 1 }) bytes.now }
@@ -12,7 +12,7 @@ pub fn u8_at(bytes: &[u8], at: usize) -> u8
     bytes[at]
 }
 
-/// The number in the two bytes from an offset on.
+/// Returns the number in the two bytes from `at` on.
 pub fn u16_at(bytes: &[u8], at: usize) -> u16
     requires { at + 2 ≤ length bytes.now }
     ensures { result ≡ number_in (record { at = at; len = 2 }) bytes.now }
@@ -20,7 +20,7 @@ pub fn u16_at(bytes: &[u8], at: usize) -> u16
     BigEndian::read_u16(&bytes[at..])
 }
 
-/// The number in the three bytes from an offset on.
+/// Returns the number in the three bytes from `at` on.
 pub fn u24_at(bytes: &[u8], at: usize) -> u32
     requires { at + 3 ≤ length bytes.now }
     ensures number { result ≡ number_in (record { at = at; len = 3 }) bytes.now }
@@ -29,7 +29,7 @@ pub fn u24_at(bytes: &[u8], at: usize) -> u32
     BigEndian::read_u24(&bytes[at..])
 }
 
-/// The number in the four bytes from an offset on.
+/// Returns the number in the four bytes from `at` on.
 pub fn u32_at(bytes: &[u8], at: usize) -> u32
     requires { at + 4 ≤ length bytes.now }
     ensures { result ≡ number_in (record { at = at; len = 4 }) bytes.now }
@@ -37,7 +37,7 @@ pub fn u32_at(bytes: &[u8], at: usize) -> u32
     BigEndian::read_u32(&bytes[at..])
 }
 
-/// The number in the eight bytes from an offset on.
+/// Returns the number in the eight bytes from `at` on.
 pub fn u64_at(bytes: &[u8], at: usize) -> u64
     requires { at + 8 ≤ length bytes.now }
     ensures { result ≡ number_in (record { at = at; len = 8 }) bytes.now }
@@ -45,7 +45,7 @@ pub fn u64_at(bytes: &[u8], at: usize) -> u64
     BigEndian::read_u64(&bytes[at..])
 }
 
-/// Writes the byte at an offset; all others stay.
+/// Writes `number` into the byte at `at`.
 pub fn put_u8(bytes: &mut [u8], at: usize, number: u8)
     requires { at < length bytes.old }
     ensures { bytes.new ≡ with_number (record { at = at; len = 1 }) number bytes.old }
@@ -53,7 +53,7 @@ pub fn put_u8(bytes: &mut [u8], at: usize, number: u8)
     bytes[at] = number;
 }
 
-/// Writes the two bytes from an offset on; all others stay.
+/// Writes `number` into the two bytes from `at` on.
 pub fn put_u16(bytes: &mut [u8], at: usize, number: u16)
     requires { at + 2 ≤ length bytes.old }
     ensures { bytes.new ≡ with_number (record { at = at; len = 2 }) number bytes.old }
@@ -61,7 +61,7 @@ pub fn put_u16(bytes: &mut [u8], at: usize, number: u16)
     BigEndian::write_u16(&mut bytes[at..], number);
 }
 
-/// Writes the low 24 bits of a number into the three bytes from an offset on; all others stay.
+/// Writes `number`, which has at most 24 bits, into the three bytes from `at` on.
 pub fn put_u24(bytes: &mut [u8], at: usize, number: u32)
     requires offset { at + 3 ≤ length bytes.old }
     requires fits { number < 2 ^ 24 }
@@ -70,7 +70,7 @@ pub fn put_u24(bytes: &mut [u8], at: usize, number: u32)
     BigEndian::write_u24(&mut bytes[at..], number);
 }
 
-/// Writes the four bytes from an offset on; all others stay.
+/// Writes `number` into the four bytes from `at` on.
 pub fn put_u32(bytes: &mut [u8], at: usize, number: u32)
     requires { at + 4 ≤ length bytes.old }
     ensures { bytes.new ≡ with_number (record { at = at; len = 4 }) number bytes.old }
@@ -78,7 +78,7 @@ pub fn put_u32(bytes: &mut [u8], at: usize, number: u32)
     BigEndian::write_u32(&mut bytes[at..], number);
 }
 
-/// Writes the eight bytes from an offset on; all others stay.
+/// Writes `number` into the eight bytes from `at` on.
 pub fn put_u64(bytes: &mut [u8], at: usize, number: u64)
     requires { at + 8 ≤ length bytes.old }
     ensures { bytes.new ≡ with_number (record { at = at; len = 8 }) number bytes.old }
@@ -86,7 +86,7 @@ pub fn put_u64(bytes: &mut [u8], at: usize, number: u64)
     BigEndian::write_u64(&mut bytes[at..], number);
 }
 
-/// Writes bytes over those from an offset on; all others stay.
+/// Overwrites the bytes from `at` on with `written`.
 pub fn put_bytes(bytes: &mut [u8], at: usize, written: &[u8])
     requires { at + length written.now ≤ length bytes.old }
     ensures { bytes.new ≡ with_bytes at written.now bytes.old }
@@ -94,7 +94,7 @@ pub fn put_bytes(bytes: &mut [u8], at: usize, written: &[u8])
     bytes[at..at + written.len()].copy_from_slice(written);
 }
 
-/// The number that `width` bits of the byte at an offset stand for, of which the lowest is bit `shift`.
+/// Returns the number in `width` bits of the byte at `at`. The lowest of them is bit `shift`.
 pub fn bits_at(bytes: &[u8], at: usize, shift: u32, width: u32) -> u8
     requires offset { at < length bytes.now }
     requires some { 1 ≤ width }
@@ -107,7 +107,7 @@ pub fn bits_at(bytes: &[u8], at: usize, shift: u32, width: u32) -> u8
     number as u8
 }
 
-/// Writes a number into `width` bits of the byte at an offset, of which the lowest is bit `shift`; all others stay.
+/// Writes `number` into `width` bits of the byte at `at`, the lowest of which is bit `shift`. All other bits stay.
 pub fn put_bits(bytes: &mut [u8], at: usize, shift: u32, width: u32, number: u8)
     requires offset { at < length bytes.old }
     requires some { 1 ≤ width }
@@ -121,7 +121,7 @@ pub fn put_bits(bytes: &mut [u8], at: usize, shift: u32, width: u32, number: u8)
     put_u8(bytes, at, replaced);
 }
 
-/// A byte with some of its bits replaced.
+/// Returns `byte` with `number` in `width` of its bits, the lowest of which is bit `shift`.
 fn replaced(byte: u32, shift: u32, width: u32, number: u32) -> u8
     requires byte { byte < 256 }
     requires within { shift + width ≤ 8 }

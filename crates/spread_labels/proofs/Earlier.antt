@@ -23,7 +23,7 @@ earliest_then : (before : ℕ → ℕ → Bool) (x : ℕ) (xs : List ℕ) (y : �
 earliest_then before x [] y = refl
 earliest_then before x (z ∷ xs) y = earliest_then before (cond (before z x) z x) xs y
 
-earliest_more : (before : ℕ → ℕ → Bool) (xs : List ℕ) (y : ℕ) → earliest_of before (xs ++ y ∷ []) ≡ Some (earlier_of before (earliest_of before xs) y)
+pub earliest_more : (before : ℕ → ℕ → Bool) (xs : List ℕ) (y : ℕ) → earliest_of before (xs ++ y ∷ []) ≡ Some (earlier_of before (earliest_of before xs) y)
 earliest_more before [] y = refl
 earliest_more before (x ∷ xs) y = ap Some (earliest_then before x xs y)
 

@@ -25,3 +25,4 @@ pub mod EveryPair
 pub mod TargetBits
 pub mod SetRounds
 pub mod PortLists
+pub mod Found

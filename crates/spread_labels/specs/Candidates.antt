@@ -7,7 +7,7 @@ use Rattle.spread_labels.specs.declared.label.Mark.{Mark}
 use Rattle.spread_labels.specs.Labels.{candidates, is_down}
 use Rattle.spread_labels.specs.RoundMarks.{AreMarksAfter}
 
--- whether an edge leads up, or to one marked Down, and to a cost one less
+-- whether an edge leads up, or to a vertex marked Down, and to a cost one less
 abbrev pub is_nearer_by : ℕ → Edge → Option Mark → Option Mark → Bool
 is_nearer_by s e (Some m) (Some to) = (suc to.cost == m.cost) && (nat_lt e.to s || is_down to.label)
 is_nearer_by s e _ _ = false
@@ -15,12 +15,12 @@ is_nearer_by s e _ _ = false
 abbrev pub is_nearer : ℕ → List (Option Mark) → Edge → Bool
 is_nearer s marks e = is_nearer_by s e (slice_index_or marks s None) (slice_index_or marks e.to None)
 
--- the one with this number, counted round
+-- the edge with this number, counted round
 abbrev pub chosen : List Edge → ℕ → Option Edge
 chosen [] choice = None
 chosen (e ∷ es) choice = slice_get (e ∷ es) (choice % length (e ∷ es))
 
--- by the marks of all vertices these edges are the candidates
+-- given every vertex's mark, the candidates of a vertex are its edges that pass `is_nearer`
 abbrev pub CandidatesAreNearer : Type 0
 CandidatesAreNearer =
     (edges : List (List Edge)) (t : ℕ) (marks : List (Option Mark)) → LeadToVertices edges → t < length edges

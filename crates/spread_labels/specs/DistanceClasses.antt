@@ -7,38 +7,38 @@ use Rattle.port_graph.specs.Slopes.{lesser}
 use Rattle.spread_labels.specs.declared.distance_class.DistanceSum.{DistanceSum}
 use Rattle.spread_labels.specs.Orders.{numbers_from}
 
--- the fewest edges from one vertex to another; none between components
+-- the fewest edges from one vertex to another; None between components
 abbrev pub distance : List (List Edge) → ℕ → ℕ → Option ℕ
 distance edges a b = shortest (heads edges) (length edges) a b
 
--- of no distance
+-- the sum of no distances
 abbrev pub no_distances : DistanceSum
 no_distances = record { near = None; sum = 0; count = 0 }
 
--- with a distance more: the least, the sum and how many
+-- the sum with one more distance: the least, the sum and the count
 abbrev pub with_distance : DistanceSum → Option ℕ → DistanceSum
 with_distance t None = t
 with_distance t (Some d) = record { near = Some (lesser d t.near); sum = t.sum + d; count = t.count + 1 }
 
--- with the distances of a vertex from each of these
+-- the sum, with the distances of vertex s from each vertex of the list
 abbrev pub with_distances : List (List Edge) → ℕ → DistanceSum → List ℕ → DistanceSum
 with_distances edges s t [] = t
 with_distances edges s t (a ∷ some) = with_distances edges s (with_distance t (distance edges a s)) some
 
--- the distances of a vertex from these, summed
+-- the distances of vertex s from the vertices `some`, summed up
 abbrev pub distance_sum : List (List Edge) → List ℕ → ℕ → DistanceSum
 distance_sum edges some s = with_distances edges s no_distances some
 
--- four times the mean, cut off; 0 of none
+-- four times the mean, rounded down; 0 if there are none
 abbrev pub quarters_of : ℕ → ℕ → ℕ
 quarters_of sum zero = 0
 quarters_of sum (suc count) = 4 * sum / suc count
 
--- the distance from the nearest root, where there is one, else the mean distance from the leaf vertices, in quarters
+-- the distance from the nearest root if there is one, else the mean distance from the leaf vertices, in quarters
 abbrev pub distance_class_by : DistanceSum → DistanceSum → ℕ
 distance_class_by roots leaves = unwrap_or roots.near (quarters_of leaves.sum leaves.count)
 
--- by the distance sums of all vertices
+-- the distance class of vertex s, by the distance sums of all vertices
 abbrev pub distance_class_at : List DistanceSum → List DistanceSum → ℕ → ℕ
 distance_class_at roots leaves s =
     distance_class_by (slice_index_or roots s no_distances) (slice_index_or leaves s no_distances)
@@ -51,26 +51,26 @@ distance_class_of edges leaves roots s = distance_class_by (distance_sum edges r
 abbrev pub distance_classes_of : List (List Edge) → List ℕ → List ℕ → List ℕ
 distance_classes_of edges leaves roots = map (distance_class_of edges leaves roots) (numbers_from 0 (length edges))
 
--- distances below 2^64
+-- the distances are below 2^64
 abbrev pub IsDistanceSum : DistanceSum → Type 0
 IsDistanceSum t = t.sum ≤ t.count * 2 ^ 64
 
--- so many of them at most
+-- the distances are below 2^64, and at most n
 pub record IsDistanceSumOf (n : ℕ) (t : DistanceSum) : Type 0 where
   pub sum : IsDistanceSum t
   pub count : t.count ≤ n
 
--- one more can be added
+-- one more distance can be added
 pub record HasRoom (t : DistanceSum) : Type 0 where
   pub sum : t.sum + 2 ^ 64 ≤ 2 ^ 128
   pub count : t.count + 1 < 2 ^ 64
 
--- these are the distance sums of the vertices
+-- these are the distance sums of the vertices, from the vertices `some`
 pub record AreDistanceSums (edges : List (List Edge)) (some : List ℕ) (distance_sums : List DistanceSum) : Type 0 where
   pub all : length distance_sums ≡ length edges
   pub each : (s : ℕ) → s < length edges → slice_index_or distance_sums s no_distances ≡ distance_sum edges some s
 
--- each with the distance at its index
+-- each distance sum with the distance at its index
 pub record AreWithDistances (old new : List DistanceSum) (distances : List (Option ℕ)) : Type 0 where
   pub all : length new ≡ length old
   pub each : (s : ℕ) → s < length old → slice_index_or new s no_distances

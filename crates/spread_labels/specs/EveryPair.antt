@@ -1,4 +1,4 @@
--- The whole rule: in the grown order each two vertices of a component have a way, whatever is picked.
+-- The whole rule: in the grown order each vertex has a way to each other one of its component, whatever is picked.
 use Rattle.std.specs.Prelude.{◌≡◌, ◌<◌, ℕ, Bool, List, length, Some}
 use Rattle.port_graph.specs.declared.edge.Edge.{Edge}
 use Rattle.port_graph.specs.Walks.{Walk}
@@ -9,14 +9,14 @@ use Rattle.spread_labels.specs.LabelLaws.{IsSymmetric}
 use Rattle.spread_labels.specs.Ways.{Way, PicksCandidates}
 use Rattle.spread_labels.specs.Orders.{order, position_of, by_position}
 
--- a label at a cost less than the number of vertices, and a way over as many edges
+-- vertex s has a label at a cost less than the number of vertices, and a way over as many edges
 pub record HasWay (edges : List (List Edge)) (pick : ℕ → Edge) (t s : ℕ) : Type 0 where
   pub mark : Mark
   pub labelled : marks edges t s ≡ Some mark
   pub bounded : mark.cost < length edges
   pub way : Way edges pick t s mark.cost
 
--- vertices by their positions in the grown order
+-- the graph with its vertices numbered by their positions in the grown order
 abbrev pub grown : List (List Edge) → (ℕ → ℕ → Bool) → List (List Edge)
 grown edges before = by_position edges (order edges before)
 

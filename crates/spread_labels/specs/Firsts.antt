@@ -8,11 +8,11 @@ use Rattle.spread_labels.specs.Keys.{before_by}
 use Rattle.spread_labels.specs.Orders.{numbers_from}
 use Rattle.spread_labels.specs.Stages.{earliest_of}
 
--- the distances from a vertex to each
+-- the distances from vertex s to each vertex
 abbrev pub distances_from : List (List Edge) → ℕ → List (Option ℕ)
 distances_from edges s = map (distance edges s) (numbers_from 0 (length edges))
 
--- keys by the distance class alone
+-- keys with only the distance class
 abbrev pub by_distance_class : List ℕ → List VertexKey
 by_distance_class distance_classes = map (λ c. record { distance_class = c; distance = 0 }) distance_classes
 
@@ -22,28 +22,29 @@ first_among keys distances =
     earliest_of (before_by keys)
     (filter (λ a. is_some (slice_index_or distances a None)) (numbers_from 0 (length keys)))
 
--- how far it is
+-- the distance of the earliest of the vertices that have one
 abbrev pub from_first : List VertexKey → List (Option ℕ) → ℕ
 from_first keys distances =
     unwrap_or (option_and_then (λ a. slice_index_or distances a None) (first_among keys distances)) 0
 
--- the first of a vertex's component
+-- the first of the component of vertex s
 abbrev pub first_at : List (List Edge) → List VertexKey → ℕ → ℕ
 first_at edges keys s = unwrap_or (first_among keys (distances_from edges s)) s
 
--- how far vertices are from the first of their component, of the first so many each
+-- each distance in `far` is the vertex's from the first of its component, and each of the first `count` vertices has
+-- one
 pub record AreFar (edges : List (List Edge)) (keys : List VertexKey) (count : ℕ) (far : List (Option ℕ)) : Type 0 where
   pub all : length far ≡ length edges
   pub right : (s d : ℕ) → s < length edges → slice_index_or far s None ≡ Some d
       → from_first keys (distances_from edges s) ≡ d
   pub known : (s : ℕ) → s < count → is_some (slice_index_or far s None) ≡ true
 
--- where there is no distance yet, the one that was found
+-- each vertex without a distance gets the one that was found; the other distances stay
 abbrev pub FillsIn : List (Option ℕ) → List (Option ℕ) → List (Option ℕ) → Type 0
 FillsIn far found new =
     EachIndex new (λ k. slice_index_or new k None ≡ option_or (slice_index_or far k None) (slice_index_or found k None))
 
--- the key of a vertex: its distance class, and the distance from the first of its component, by distance class and then
+-- the key of a vertex: its distance class, and its distance from the first of its component, by distance class and then
 -- by number
 abbrev pub key_of : List (List Edge) → List ℕ → ℕ → VertexKey
 key_of edges distance_classes s =

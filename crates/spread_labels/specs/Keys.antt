@@ -3,7 +3,7 @@ use Rattle.std.specs.Prelude.{ℕ, Bool, not, ◌&&◌, ◌||◌, ◌==◌, nat_
 use Rattle.spread_labels.specs.declared.vertex_key.VertexKey.{VertexKey}
 use Rattle.spread_labels.specs.Orders.{AreKeys}
 
--- the distance class first, and then the distance
+-- by distance class first, and then by distance
 abbrev pub key_less : VertexKey → VertexKey → Bool
 key_less k l = nat_lt k.distance_class l.distance_class
     || ((k.distance_class == l.distance_class) && nat_lt k.distance l.distance)
@@ -11,11 +11,11 @@ key_less k l = nat_lt k.distance_class l.distance_class
 abbrev pub key_at : List VertexKey → ℕ → VertexKey
 key_at keys a = slice_index_or keys a (record { distance_class = 0; distance = 0 })
 
--- of equal keys the lesser vertex's is earlier
+-- vertex a's key is earlier than b's; of equal keys the lesser vertex's is
 abbrev pub before_by : List VertexKey → ℕ → ℕ → Bool
 before_by keys a b =
     key_less (key_at keys a) (key_at keys b) || (not (key_less (key_at keys b) (key_at keys a)) && nat_lt a b)
 
--- they tell any two vertices apart
+-- keys distinguish any two vertices
 abbrev pub KeysTellApart : Type 0
 KeysTellApart = (keys : List VertexKey) → AreKeys (before_by keys)

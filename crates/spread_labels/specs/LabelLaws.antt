@@ -8,14 +8,15 @@ use Rattle.spread_labels.specs.declared.label.Label.TheVariants.{Up, Down}
 use Rattle.spread_labels.specs.declared.label.Mark.{Mark}
 use Rattle.spread_labels.specs.Labels.{Marks, marks, candidates}
 
--- an edge of s to a vertex of this cost, up, or down to one labelled Down
+-- an edge of s that leads to a vertex of this cost: up, or down to one labelled Down
 pub record Gives (edges : List (List Edge)) (marks : Marks) (s : ℕ) (e : Edge) (cost : ℕ) : Type 0 where
   pub edge : Contains (edges_at edges s) e
   pub label : Label
   pub labelled : marks e.to ≡ Some (record { cost = cost; label = label })
   pub up_or_down : (e.to < s) ⊎ (label ≡ Down)
 
--- no edge gives from a lesser cost, and the label is Up where one of those that give from this cost leads up
+-- an edge gives s a label from cost `round`, and none from a lesser cost; the label is Up exactly if one that gives
+-- from this cost leads up
 pub record IsGiven (edges : List (List Edge)) (marks : Marks) (s round : ℕ) (label : Label) : Type 0 where
   pub edge : Edge
   pub given : Gives edges marks s edge round
@@ -23,20 +24,20 @@ pub record IsGiven (edges : List (List Edge)) (marks : Marks) (s round : ℕ) (l
   pub when_up : label ≡ Up → edge.to < s
   pub when_down : label ≡ Down → (e : Edge) → Gives edges marks s e round → s ≤ e.to
 
--- the labels and costs towards a target: the target is Down at no cost; each other vertex with a label has it from its
--- edges, at one more than their least cost; from one without no edge gives
+-- the labels and costs towards target t: t is Down at cost 0; each other vertex with a label has it from its edges, at
+-- one more than their least cost; no edge gives a label to a vertex without one
 pub record AreMarks (edges : List (List Edge)) (t : ℕ) (marks : Marks) : Type 0 where
   pub target : marks t ≡ Some (record { cost = 0; label = Down })
   pub other : (s : ℕ) (m : Mark) → s ≢ t → marks s ≡ Some m → (round : ℕ) × (m.cost ≡ suc round)
       × IsGiven edges marks s round m.label
   pub without : (s : ℕ) → marks s ≡ None → (e : Edge) (cost : ℕ) → Gives edges marks s e cost → ⊥
 
--- what the rounds compute is that
+-- the labels that the rounds compute satisfy `AreMarks`
 abbrev pub LabelledLaw : Type 0
 LabelledLaw = (edges : List (List Edge)) (t : ℕ) → LeadToVertices edges → t < length edges
     → AreMarks edges t (marks edges t)
 
--- and nothing else is that
+-- no other labels do
 abbrev pub UniqueLaw : Type 0
 UniqueLaw = (edges : List (List Edge)) (t : ℕ) (one other : Marks) → AreMarks edges t one → AreMarks edges t other
     → (s : ℕ) → one s ≡ other s
@@ -45,7 +46,7 @@ UniqueLaw = (edges : List (List Edge)) (t : ℕ) (one other : Marks) → AreMark
 abbrev pub IsSymmetric : List (List Edge) → Type 0
 IsSymmetric edges = (a b : ℕ) → Contains (heads edges a) b → Contains (heads edges b) a
 
--- each vertex but the first of its component has an edge to a lesser one
+-- each vertex except the first of its component has an edge to a lesser one
 abbrev pub IsGrown : List (List Edge) → Type 0
 IsGrown edges = (a b n : ℕ) → Walk (heads edges) a b n → b < a → (e : Edge) × Contains (edges_at edges a) e × (e.to < a)
 
@@ -55,8 +56,8 @@ pub record IsGrownGraph (edges : List (List Edge)) : Type 0 where
   pub symmetric : IsSymmetric edges
   pub grown : IsGrown edges
 
--- the vertices of the target's component have labels and no others have, and each cost is that of a walk and less than
--- the number of vertices
+-- exactly the vertices of the target's component have labels, and each cost is the length of a walk and less than the
+-- number of vertices
 pub record AreReached (edges : List (List Edge)) (t : ℕ) : Type 0 where
   pub component : (s n : ℕ) → Walk (heads edges) s t n → (m : Mark) × (marks edges t s ≡ Some m)
   pub no_other : (s : ℕ) (m : Mark) → marks edges t s ≡ Some m → Walk (heads edges) s t m.cost
@@ -65,8 +66,8 @@ pub record AreReached (edges : List (List Edge)) (t : ℕ) : Type 0 where
 abbrev pub ReachedLaw : Type 0
 ReachedLaw = (edges : List (List Edge)) (t : ℕ) → IsGrownGraph edges → t < length edges → AreReached edges t
 
--- an edge from a vertex with this label to one of a cost one less: up, or down to one labelled Down, and from Down only
--- the latter
+-- an edge from a vertex with mark m to one of a cost one less: up, or down to one labelled Down; from one labelled Down
+-- only the latter
 pub record IsStep (edges : List (List Edge)) (t s : ℕ) (m : Mark) (e : Edge) : Type 0 where
   pub edge : Contains (edges_at edges s) e
   pub to : Mark
@@ -75,7 +76,7 @@ pub record IsStep (edges : List (List Edge)) (t s : ℕ) (m : Mark) (e : Edge) :
   pub up_or_down : (e.to < s) ⊎ ((s < e.to) × (to.label ≡ Down))
   pub from_down : m.label ≡ Down → (s < e.to) × (to.label ≡ Down)
 
--- each labelled vertex but the target has candidates; they are steps, and all edges that give from a cost one less
+-- each labelled vertex except the target has candidates; they are steps, and all edges that give from a cost one less
 pub record AreCandidates (edges : List (List Edge)) (t s : ℕ) (m : Mark) : Type 0 where
   pub some : s ≢ t → (e : Edge) × Contains (candidates edges t s) e
   pub steps : (e : Edge) → Contains (candidates edges t s) e → IsStep edges t s m e

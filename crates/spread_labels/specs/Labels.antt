@@ -13,11 +13,11 @@ abbrev pub is_down : Label → Bool
 is_down Up = false
 is_down Down = true
 
--- what is known of each vertex
+-- the mark of each vertex
 abbrev pub Marks : Type 0
 Marks = ℕ → Option Mark
 
--- an edge gives a label: up to a vertex that has one, or down to one labelled Down
+-- an edge gives s a label: up to a vertex with mark m, or down to one labelled Down
 abbrev pub gives_from : ℕ → Edge → Option Mark → Bool
 gives_from s e None = false
 gives_from s e (Some m) = nat_lt e.to s || is_down m.label
@@ -33,18 +33,18 @@ givers edges marks s = filter (gives marks s) (edges_at edges s)
 abbrev pub leads_up : ℕ → List Edge → Bool
 leads_up s es = list_any (λ e. nat_lt e.to s) es
 
--- Up where one of these edges leads up, else Down
+-- the mark that the edges give: Up if one of them leads up, else Down
 abbrev pub mark_by : ℕ → ℕ → List Edge → Option Mark
 mark_by round s [] = None
 mark_by round s (e ∷ es) = Some (record { cost = round; label = if leads_up s (e ∷ es) then Up else Down })
 
--- a label stays
+-- the first mark, if there is one, else the other
 abbrev pub mark_or : Option Mark → Option Mark → Option Mark
 mark_or None other = other
 mark_or (Some m) other = Some m
 
--- the labels after so many rounds: at first the target alone is Down; at each round a vertex without a label gets one
--- from the edges that give, by the labels of the round before
+-- the label of s after this many rounds: at first only the target has one, Down; in each round a vertex without a label
+-- gets one from the edges that give, by the labels of the round before
 abbrev pub marks_after : List (List Edge) → ℕ → ℕ → ℕ → Option Mark
 marks_after edges t zero s = if s == t then Some (record { cost = 0; label = Down }) else None
 marks_after edges t (suc round) s =

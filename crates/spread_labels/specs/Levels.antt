@@ -5,7 +5,7 @@ use Rattle.port_graph.specs.Heads.{edges_at}
 use Rattle.spread_labels.specs.DistanceClasses.{distance_sum}
 use Rattle.spread_labels.specs.Orders.{numbers_from}
 
--- the distance from the nearest leaf vertex, and 0 where there is none
+-- the distance from the nearest leaf vertex, 0 if there is none
 abbrev pub level_of : List (List Edge) → List ℕ → ℕ → ℕ
 level_of edges leaves s = unwrap_or (distance_sum edges leaves s).near 0
 
@@ -17,22 +17,21 @@ levels_of edges leaves = map (level_of edges leaves) (numbers_from 0 (length edg
 abbrev pub is_rise : List ℕ → ℕ → Edge → Bool
 is_rise levels s e = nat_lt (slice_index levels s) (slice_index levels e.to)
 
--- how many edges of a vertex do
+-- the number of edges of a vertex that lead to higher ones
 abbrev pub rises_at : List (List Edge) → List ℕ → ℕ → ℕ
 rises_at edges levels s = length (filter (is_rise levels s) (edges_at edges s))
 
--- the greatest of n and the others
+-- the greatest of n and the numbers of the list
 abbrev pub greatest : ℕ → List ℕ → ℕ
 greatest n [] = n
 greatest n (m ∷ ms) = greatest (max n m) ms
 
--- the width of a level: the most edges to higher vertices that a vertex of it has, and at least 1
+-- the width of a level: the greatest number of edges to higher vertices that a vertex of it has, but at least 1
 abbrev pub width_of : List (List Edge) → List ℕ → ℕ → ℕ
 width_of edges levels h =
     greatest 1 (map (rises_at edges levels) (filter (λ s. slice_index levels s == h) (numbers_from 0 (length edges))))
 
--- the digit weight of a level: the product of the widths of the lesser levels, and no more than 65536, over which no
--- LID is
+-- the digit weight of a level: the product of the widths of the lesser levels, but at most 65536, over which no LID is
 abbrev pub digit_weight_of : List (List Edge) → List ℕ → ℕ → ℕ
 digit_weight_of edges levels zero = 1
 digit_weight_of edges levels (suc h) = min (digit_weight_of edges levels h * width_of edges levels h) 65536

@@ -1,5 +1,5 @@
--- Marks towards many targets side by side: of each vertex the targets towards which it has one, and those towards which
--- that is Down; of each edge of it those towards which it gave the mark.
+-- Marks towards many targets side by side. For each vertex: the targets that it has a mark for, and those for which the
+-- mark is Down. For each edge: the targets for which it gave the mark.
 use Rattle.std.specs.Prelude.{◌≡◌, ◌<◌, ℕ, zero, suc, Bool, false, not, ◌&&◌, ◌||◌, ◌==◌, nat_lt, List, [], ◌∷◌, length, replicate, Option, None, Some, is_some, slice_index, slice_index_or, if◌then◌else◌}
 use Rattle.std.specs.List.{list_any}
 use Rattle.port_graph.specs.declared.edge.Edge.{Edge}
@@ -13,26 +13,26 @@ use Rattle.spread_labels.specs.TargetSets.{EachTarget, has, no_targets}
 abbrev pub set_at : List TargetSet → ℕ → TargetSet
 set_at sets i = slice_index_or sets i no_targets
 
--- the targets towards which an edge of s gives it a mark: up to those that have one, or down to those marked Down
+-- the targets for which an edge of s gives it a mark: up to those that have one, or down to those marked Down
 abbrev pub giver_set : ℕ → List TargetSet → List TargetSet → Edge → TargetSet
 giver_set s marked downs e = if nat_lt e.to s then set_at marked e.to else set_at downs e.to
 
--- an edge in a list
+-- the edge at an index of a list
 abbrev pub edge_at : List Edge → ℕ → Edge
 edge_at es j = slice_index_or es j (record { port = 0; to = 0 })
 
--- at each edge of s, what was noted before and the new targets towards which the edge gives a mark
+-- for each edge of s, what was noted before, and the new targets for which the edge gives a mark
 abbrev pub AreNoted : ℕ → List Edge → List TargetSet → List TargetSet → TargetSet → List TargetSet → List TargetSet
     → Type 0
 AreNoted s es marked downs new old row = EachTarget (λ k. (j : ℕ) → j < length es → has (set_at row j) k
     ≡ (has (set_at old j) k || (has (giver_set s marked downs (edge_at es j)) k && has new k)))
 
--- whether a round gives s a mark towards a target
+-- whether a round gives s a mark for target k
 abbrev pub is_new : ℕ → List Edge → List TargetSet → List TargetSet → ℕ → Bool
 is_new s es marked downs k =
     list_any (λ e. has (giver_set s marked downs e) k) es && not (has (set_at marked s) k)
 
--- the sets of a vertex after a round more
+-- the sets of a vertex after one more round
 pub record IsSetStep (s : ℕ) (es : List Edge) (marked downs row : List TargetSet) (its_marked its_downs : TargetSet)
     (its_row : List TargetSet) : Type 0 where
   pub is_marked : EachTarget (λ k. has its_marked k ≡ (has (set_at marked s) k || is_new s es marked downs k))
@@ -42,7 +42,7 @@ pub record IsSetStep (s : ℕ) (es : List Edge) (marked downs row : List TargetS
   pub noted : EachTarget (λ k. (j : ℕ) → j < length es → has (set_at its_row j) k
       ≡ (has (set_at row j) k || (has (giver_set s marked downs (edge_at es j)) k && is_new s es marked downs k)))
 
--- at each of some edges no target
+-- the empty set for each edge
 abbrev pub no_sets : List Edge → List TargetSet
 no_sets es = replicate (length es) no_targets
 
@@ -50,7 +50,7 @@ no_sets es = replicate (length es) no_targets
 abbrev pub sets_at : List (List TargetSet) → ℕ → List TargetSet
 sets_at rows s = slice_index_or rows s []
 
--- the sets of the first vertices after a round more
+-- the sets of the first `count` vertices after one more round
 pub record AreSetSteps (edges : List (List Edge)) (marked downs : List TargetSet) (rows : List (List TargetSet))
     (count : ℕ) (next_marked next_downs : List TargetSet) (next_rows : List (List TargetSet)) : Type 0 where
   pub all_marked : length next_marked ≡ count
@@ -76,7 +76,7 @@ abbrev pub down_of : Option Mark → Bool
 down_of None = false
 down_of (Some m) = is_down m.label
 
--- what target k of the sets is known of, after so many rounds
+-- what the sets say of target t, at number k, after this many rounds
 pub record AreSetsTowards (edges : List (List Edge)) (t k round : ℕ) (marked downs : List TargetSet)
     (rows : List (List TargetSet)) : Type 0 where
   pub is_marked : (s : ℕ) → s < length edges → has (set_at marked s) k ≡ is_some (marks_after edges t round s)
@@ -89,7 +89,7 @@ pub record AreRowsOf (edges : List (List Edge)) (rows : List (List TargetSet)) :
   pub all : length rows ≡ length edges
   pub long : (s : ℕ) → s < length edges → length (sets_at rows s) ≡ length (edges_at edges s)
 
--- the sets after so many rounds
+-- the sets after this many rounds
 pub record AreSetsAfter (edges : List (List Edge)) (targets : List ℕ) (round : ℕ) (marked downs : List TargetSet)
     (rows : List (List TargetSet)) : Type 0 where
   pub all_marked : length marked ≡ length edges
@@ -97,23 +97,23 @@ pub record AreSetsAfter (edges : List (List Edge)) (targets : List ℕ) (round :
   pub are_rows : AreRowsOf edges rows
   pub each : (k : ℕ) → k < length targets → AreSetsTowards edges (slice_index targets k) k round marked downs rows
 
--- the edges whose set has a target
+-- the edges whose set has target k
 abbrev pub picked : ℕ → List TargetSet → List Edge → List Edge
 picked k sets [] = []
 picked k [] (e ∷ es) = []
 picked k (set ∷ sets) (e ∷ es) = if has set k then e ∷ picked k sets es else picked k sets es
 
--- at each edge of each vertex the targets towards which it is a candidate
+-- for each edge of each vertex, the targets for which it is a candidate
 pub record AreCandidateSets (edges : List (List Edge)) (targets : List ℕ) (rows : List (List TargetSet)) : Type 0 where
   pub are_rows : AreRowsOf edges rows
   pub each : (k s : ℕ) → k < length targets → s < length edges
       → picked k (sets_at rows s) (edges_at edges s) ≡ candidates edges (slice_index targets k) s
 
--- of each vertex which of the first so many targets it is
+-- for each vertex, which of the first n targets it is
 pub record AreAtTargets (count : ℕ) (targets : List ℕ) (n : ℕ) (sets : List TargetSet) : Type 0 where
   pub all : length sets ≡ count
   pub each : (k s : ℕ) → k < n → s < count → has (set_at sets s) k ≡ (s == slice_index targets k)
 
--- the sets of the first so many vertices have the same targets
+-- the sets of the first n vertices have equal targets
 abbrev pub AreSame : List TargetSet → List TargetSet → ℕ → Type 0
 AreSame old new n = EachTarget (λ k. (s : ℕ) → s < n → has (set_at old s) k ≡ has (set_at new s) k)

@@ -1,5 +1,5 @@
--- The grown order: next comes the earliest of the vertices that have an edge to one placed; where none has, the
--- earliest of all that are left.
+-- The grown order: next comes the earliest of the vertices that have an edge to a placed one; if none has, the earliest
+-- of all that are left.
 use Rattle.std.specs.Prelude.{◌≡◌, ◌≢◌, true, false, ◌<◌, ℕ, zero, suc, Bool, not}
 use Rattle.std.specs.Prelude.{◌==◌, List, [], ◌∷◌, map, filter, length, Contains, slice_index_or, if◌then◌else◌}
 use Rattle.std.specs.List.{list_any}
@@ -8,21 +8,21 @@ use Rattle.port_graph.specs.Walks.{Walk}
 use Rattle.port_graph.specs.Heads.{edges_at, heads, LeadToVertices}
 use Rattle.spread_labels.specs.LabelLaws.{IsSymmetric, IsGrownGraph}
 
--- the numbers from k on
+-- n numbers, from k on
 abbrev pub numbers_from : ℕ → ℕ → List ℕ
 numbers_from k zero = []
 numbers_from k (suc n) = k ∷ numbers_from (suc k) n
 
--- a test of keys: the earliest of x and the others
+-- the earliest of x and the others, by a test of keys
 abbrev pub earliest : (ℕ → ℕ → Bool) → ℕ → List ℕ → ℕ
 earliest before x [] = x
 earliest before x (y ∷ ys) = earliest before (if before y x then y else x) ys
 
--- whether some edge leads to one of the vertices placed
+-- whether some edge of s leads to a placed vertex
 abbrev pub is_beside : List (List Edge) → List ℕ → ℕ → Bool
 is_beside edges placed s = list_any (λ e. list_any (λ p. p == e.to) placed) (edges_at edges s)
 
--- the earliest of the front, and where it is empty of all that are left
+-- the earliest of the last list or, if it is empty, of x and `rest`
 abbrev pub choose : (ℕ → ℕ → Bool) → ℕ → List ℕ → List ℕ → ℕ
 choose before x rest [] = earliest before x rest
 choose before x rest (y ∷ ys) = earliest before y ys
@@ -33,7 +33,7 @@ next_placed edges before placed x rest = choose before x rest (filter (is_beside
 abbrev pub without : ℕ → List ℕ → List ℕ
 without s xs = filter (λ x. not (x == s)) xs
 
--- the order of those that are left, behind those that are placed
+-- the order of the vertices that are left, behind those that are placed
 abbrev pub grown_behind : List (List Edge) → (ℕ → ℕ → Bool) → ℕ → List ℕ → List ℕ → List ℕ
 grown_behind edges before zero placed rest = []
 grown_behind edges before (suc n) placed [] = []
@@ -45,7 +45,7 @@ grown_behind edges before (suc n) placed (x ∷ rest) =
 abbrev pub order : List (List Edge) → (ℕ → ℕ → Bool) → List ℕ
 order edges before = grown_behind edges before (length edges) [] (numbers_from 0 (length edges))
 
--- which vertex has a position, and which position a vertex has
+-- the vertex at position i; `position_of` the position of a vertex
 abbrev pub at_position : List ℕ → ℕ → ℕ
 at_position vertices i = slice_index_or vertices i 0
 
@@ -53,11 +53,11 @@ abbrev pub position_of : List ℕ → ℕ → ℕ
 position_of [] s = 0
 position_of (x ∷ xs) s = if x == s then 0 else suc (position_of xs s)
 
--- an edge to one of these
+-- s has an edge to a placed vertex
 abbrev pub Beside : List (List Edge) → List ℕ → ℕ → Type 0
 Beside edges placed s = (e : Edge) × Contains (edges_at edges s) e × Contains placed e.to
 
--- each vertex has one position; and each but the first of its component has an edge to one before it
+-- each vertex has one position, and each one except the first of its component has an edge to an earlier one
 pub record IsGrownOrder (edges : List (List Edge)) (vertices : List ℕ) : Type 0 where
   pub all : (s : ℕ) → s < length edges → Contains vertices s
   pub vertex : (i : ℕ) → i < length vertices → at_position vertices i < length edges
@@ -74,7 +74,7 @@ positioned_edge vertices e = record { port = e.port; to = position_of vertices e
 abbrev pub by_position : List (List Edge) → List ℕ → List (List Edge)
 by_position edges vertices = map (λ s. map (positioned_edge vertices) (edges_at edges s)) vertices
 
--- whatever the keys, the grown order is one, and the graph by its positions is grown
+-- the grown order is a grown order, and the graph by its positions is grown
 pub record Grows (edges : List (List Edge)) (before : ℕ → ℕ → Bool) : Type 0 where
   pub is_grown : IsGrownOrder edges (order edges before)
   pub graph : IsGrownGraph (by_position edges (order edges before))
@@ -83,19 +83,19 @@ abbrev pub OrderLaw : Type 0
 OrderLaw = (edges : List (List Edge)) (before : ℕ → ℕ → Bool) → LeadToVertices edges → IsSymmetric edges
     → Grows edges before
 
--- the keys tell any two vertices apart
+-- the test distinguishes any two vertices, and orders them
 pub record AreKeys (before : ℕ → ℕ → Bool) : Type 0 where
   pub not_itself : (a : ℕ) → before a a ≡ false
   pub trans : (a b c : ℕ) → before a b ≡ true → before b c ≡ true → before a c ≡ true
   pub total : (a b : ℕ) → a ≢ b → before a b ≡ false → before b a ≡ true
 
--- s is placed before y with reason: where y is beside one placed, s is too and is earlier; and where s is not, it is
+-- s may be placed before y: if y has an edge to a placed vertex, s has one too and is earlier; and if s has none, it is
 -- earlier
 pub record IsEarlier (edges : List (List Edge)) (before : ℕ → ℕ → Bool) (placed : List ℕ) (s y : ℕ) : Type 0 where
   pub front : Beside edges placed y → Beside edges placed s × (before y s ≡ false)
   pub alone : (Beside edges placed s → ⊥) → before y s ≡ false
 
--- so is each vertex before each that comes later
+-- each vertex may be placed before each later one
 abbrev pub AreEarlier : List (List Edge) → (ℕ → ℕ → Bool) → List ℕ → List ℕ → Type 0
 AreEarlier edges before placed [] = Unit {0}
 AreEarlier edges before placed (s ∷ ss) =

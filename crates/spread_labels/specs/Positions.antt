@@ -3,16 +3,16 @@ use Rattle.std.specs.Prelude.{◌≡◌, ◌<◌, ℕ, List, length, Contains, s
 use Rattle.port_graph.specs.declared.edge.Edge.{Edge}
 use Rattle.spread_labels.specs.Orders.{at_position, position_of}
 
--- each position has one of so many vertices, and none stands twice
+-- each position has one of n vertices, and none stands twice
 pub record StandOnce (n : ℕ) (vertices : List ℕ) : Type 0 where
   pub within : (i : ℕ) → i < length vertices → at_position vertices i < n
   pub once : (i j : ℕ) → i < length vertices → j < i → at_position vertices j ≡ at_position vertices i → ⊥
 
--- these are the positions of so many vertices, as far as they stand in the order
+-- the positions of n vertices, for those that stand in the order
 pub record ArePositions (n : ℕ) (vertices positions : List ℕ) : Type 0 where
   pub all : length positions ≡ n
   pub each : (s : ℕ) → Contains vertices s → slice_index positions s ≡ position_of vertices s
 
--- an edge to a vertex, by the position of the vertex
+-- an edge to a vertex, as an edge to the position of the vertex
 abbrev pub to_position : List ℕ → Edge → Edge
 to_position positions e = record { port = e.port; to = slice_index positions e.to }

@@ -7,7 +7,7 @@ use Rattle.port_graph.specs.Routes.{Climbs, Descends}
 use Rattle.spread_labels.specs.LabelLaws.{IsSymmetric}
 use Rattle.spread_labels.specs.Ways.{Climbs as ClimbsBy, Descends as DescendsBy}
 
--- of each vertex from the k-th on the edges that pass a test
+-- for each vertex from the k-th on, its edges that pass a test
 abbrev pub rows_from : (ℕ → Edge → Bool) → ℕ → List (List Edge) → List (List Edge)
 rows_from test k [] = []
 rows_from test k (es ∷ rows) = filter (test k) es ∷ rows_from test (suc k) rows
@@ -21,7 +21,7 @@ downs_of edges = rows_from (λ s e. nat_lt s e.to) 0 edges
 abbrev pub slopes_of : List (List Edge) → List Slope
 slopes_of edges = indexed (ups_of edges) (downs_of edges)
 
--- the sides are slopes, on which what climbs and descends is the same
+-- the sides are slopes, and what climbs and descends on the edges does so on the slopes
 pub record AreSides (edges : List (List Edge)) : Type 0 where
   pub slopes : AreSlopes (ups_of edges) (downs_of edges)
   pub climbs : (es : List Edge) (s u : ℕ) → ClimbsBy edges s es u → Climbs (slopes_of edges) s es u

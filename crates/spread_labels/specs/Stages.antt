@@ -1,11 +1,11 @@
--- How far each vertex has come while the order grows.
+-- How far the growth of the order has come at each vertex.
 use Rattle.std.specs.Prelude.{ℕ, Bool, true, false, List, [], ◌∷◌, filter, Option, None, Some, slice_index_or, slice_set, if◌then◌else◌}
 use Rattle.port_graph.specs.declared.edge.Edge.{Edge}
 use Rattle.spread_labels.specs.declared.growth.Stage.{Stage}
 use Rattle.spread_labels.specs.declared.growth.Stage.TheVariants.{Left, Beside, Placed}
 use Rattle.spread_labels.specs.Orders.{earliest, numbers_from}
 
--- whether a stage is this one
+-- whether two stages are equal
 abbrev pub is_stage : Stage → Stage → Bool
 is_stage Left Left = true
 is_stage Beside Beside = true
@@ -20,7 +20,7 @@ abbrev pub earliest_of : (ℕ → ℕ → Bool) → List ℕ → Option ℕ
 earliest_of before [] = None
 earliest_of before (x ∷ xs) = Some (earliest before x xs)
 
--- a vertex or one that was found, whichever is earlier
+-- the earlier of vertex y and the one found so far, if there is one
 abbrev pub earlier_of : (ℕ → ℕ → Bool) → Option ℕ → ℕ → ℕ
 earlier_of before None y = y
 earlier_of before (Some x) y = if before y x then y else x
@@ -29,7 +29,7 @@ abbrev pub earliest_at : (ℕ → ℕ → Bool) → List Stage → Stage → ℕ
 earliest_at before stages stage n =
     earliest_of before (filter (λ s. is_stage (stage_at stages s) stage) (numbers_from 0 n))
 
--- the earliest of those beside, and where there is none of all that are left
+-- the first number, if there is one, else the other
 abbrev pub first_of : Option ℕ → Option ℕ → Option ℕ
 first_of None other = other
 first_of (Some x) other = Some x
@@ -37,7 +37,7 @@ first_of (Some x) other = Some x
 abbrev pub next_at : (ℕ → ℕ → Bool) → List Stage → ℕ → Option ℕ
 next_at before stages n = first_of (earliest_at before stages Beside n) (earliest_at before stages Left n)
 
--- a vertex that is left is beside one
+-- vertex s, if it is left, is beside a placed one
 abbrev pub beside : List Stage → ℕ → List Stage
 beside stages s = if is_stage (stage_at stages s) Left then slice_set stages s Beside else stages
 
@@ -45,6 +45,6 @@ abbrev pub beside_all : List Stage → List Edge → List Stage
 beside_all stages [] = stages
 beside_all stages (e ∷ es) = beside_all (beside stages e.to) es
 
--- a vertex is placed, and those to which its edges lead are beside it
+-- vertex v is placed, and the vertices that its edges lead to and that are left are beside it
 abbrev pub after_add_vertex : ℕ → List Edge → List Stage → List Stage
 after_add_vertex v edges stages = beside_all (slice_set stages v Placed) edges

@@ -3,11 +3,11 @@ use Rattle.std.specs.Prelude.{◌<◌, ℕ, ◌==◌, Bool}
 use Rattle.std.specs.Int.{bit_at}
 use Rattle.spread_labels.specs.declared.target_set.TargetSet.{TargetSet}
 
--- for each of them
+-- P holds for each target
 abbrev pub EachTarget : (ℕ → Type 0) → Type 0
 EachTarget P = (k : ℕ) → k < 64 → P k
 
--- whether a target is in a set
+-- whether target k is in the set
 unfoldable pub has : TargetSet → ℕ → Bool
 has set k = bit_at set.bits k == 1
 

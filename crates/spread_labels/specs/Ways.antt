@@ -8,7 +8,7 @@ use Rattle.port_graph.specs.Heads.{edges_at, LeadToVertices}
 use Rattle.spread_labels.specs.declared.label.Mark.{Mark}
 use Rattle.spread_labels.specs.Labels.{marks, candidates}
 
--- edges up from s to u, and edges down
+-- edges up from s to u; `Descends` edges down
 abbrev pub Climbs : List (List Edge) → ℕ → List Edge → ℕ → Type 0
 Climbs edges s [] u = s ≡ u
 Climbs edges s (e ∷ es) u = Contains (edges_at edges s) e × (e.to < s) × Climbs edges e.to es u
@@ -17,7 +17,7 @@ abbrev pub Descends : List (List Edge) → ℕ → List Edge → ℕ → Type 0
 Descends edges s [] u = s ≡ u
 Descends edges s (e ∷ es) u = Contains (edges_at edges s) e × (s < e.to) × Descends edges e.to es u
 
--- the edge that is picked at each vertex, as far as the target
+-- the edges are those picked at each vertex from s up to the target t
 abbrev pub Follows : (ℕ → Edge) → ℕ → ℕ → List Edge → Type 0
 Follows pick t s [] = s ≡ t
 Follows pick t s (e ∷ es) = (s ≢ t) × (pick s ≡ e) × Follows pick t e.to es
@@ -25,18 +25,18 @@ Follows pick t s (e ∷ es) = (s ≢ t) × (pick s ≡ e) × Follows pick t e.to
 abbrev pub cost : List (List Edge) → ℕ → ℕ → Option ℕ
 cost edges t s = option_map (λ m. m.cost) (marks edges t s)
 
--- from cost n on, the costs of the vertices that the edges lead to fall by one
+-- from cost n on, the costs of the vertices that the edges lead to fall by one each
 abbrev pub CostsFall : List (List Edge) → ℕ → ℕ → List Edge → Type 0
 CostsFall edges t n [] = Unit {0}
 CostsFall edges t zero (e ∷ es) = ⊥
 CostsFall edges t (suc n) (e ∷ es) = (cost edges t e.to ≡ Some n) × CostsFall edges t n es
 
--- the vertices that are passed, the first and the last too
+-- the vertices that are passed, including the first and the last
 abbrev pub vertices_along : ℕ → List Edge → List ℕ
 vertices_along s [] = s ∷ []
 vertices_along s (e ∷ es) = s ∷ vertices_along e.to es
 
--- a way by what is picked: up, and then down, over as many edges as the cost, past no vertex twice
+-- a way by the picked edges: up, and then down, over as many edges as the cost, past no vertex twice
 pub record Way (edges : List (List Edge)) (pick : ℕ → Edge) (t s n : ℕ) : Type 0 where
   pub ups : List Edge
   pub downs : List Edge
@@ -48,17 +48,17 @@ pub record Way (edges : List (List Edge)) (pick : ℕ → Edge) (t s n : ℕ) : 
   pub wires : length (ups ++ downs) ≡ n
   pub none_twice : IsDistinct (λ a b. a == b) (vertices_along s (ups ++ downs))
 
--- for each LID and vertex with a label towards the LID's home some candidate is picked
+-- for each LID, a candidate is picked at each vertex with a label towards the LID's home, except the home
 abbrev pub PicksCandidates : List (List Edge) → (ℕ → ℕ) → (ℕ → ℕ → Edge) → Type 0
 PicksCandidates edges home pick = (lid s : ℕ) (m : Mark) → marks edges (home lid) s ≡ Some m → s ≢ home lid
     → Contains (candidates edges (home lid) s) (pick lid s)
 
--- whichever candidates are picked, from each vertex with a label they make such a way to the home
+-- whichever candidates are picked, they make a way to the home from each vertex with a label
 abbrev pub WaysLaw : Type 0
 WaysLaw = (edges : List (List Edge)) (home : ℕ → ℕ) (pick : ℕ → ℕ → Edge) → PicksCandidates edges home pick
     → (lid s : ℕ) (m : Mark) → marks edges (home lid) s ≡ Some m → Way edges (pick lid) (home lid) s m.cost
 
--- the number of a channel from a into b, of n vertices
+-- the number of a channel from a into b, if there are n vertices
 abbrev pub channel_number : ℕ → ℕ → ℕ → ℕ
 channel_number n a b = if nat_lt b a then n - b else n + b
 
@@ -66,7 +66,7 @@ abbrev pub channels_along : ℕ → ℕ → List Edge → List ℕ
 channels_along n s [] = []
 channels_along n s (e ∷ es) = channel_number n s e.to ∷ channels_along n e.to es
 
--- up and then down, whatever the target, the LID and what is picked, channel numbers rise
+-- channel numbers rise up and then down, whatever the target, the LID and what is picked
 abbrev pub ChannelsLaw : Type 0
 ChannelsLaw = (edges : List (List Edge)) → LeadToVertices edges → (s u t : ℕ) (ups downs : List Edge)
     → Climbs edges s ups u → Descends edges u downs t
@@ -83,12 +83,12 @@ pub record MayWait (edges : List (List Edge)) (held next : Channel) : Type 0 whe
   pub there : held.1.to ≡ next.0
   pub wants : Contains (candidates edges target next.0) next.1
 
--- so many packets, each of which may wait for the next
+-- n + 1 channels from a to b: a packet that holds one may wait for the next
 abbrev pub MayWaitInTurn : List (List Edge) → ℕ → Channel → Channel → Type 0
 MayWaitInTurn edges zero a b = a ≡ b
 MayWaitInTurn edges (suc n) a b = (c : Channel) × MayWait edges a c × MayWaitInTurn edges n c b
 
--- over all targets together, none wait in a credit loop
+-- no packets wait in a credit loop, over all targets together
 abbrev pub NoCycleLaw : Type 0
 NoCycleLaw = (edges : List (List Edge)) → LeadToVertices edges → (n : ℕ) (a : Channel) → MayWaitInTurn edges (suc n) a a
     → ⊥

@@ -10,7 +10,7 @@ use smp_bytes::PortNum;
 use std::alloc::{AllocError, Global};
 use std::marker::Model;
 
-/// For each of the targets that stand side by side the ports of the candidates of a vertex.
+/// For each of the targets that stand side by side, the ports of a vertex's candidates.
 #[derive(Drop)]
 pub struct CandidateLists {
     lists: Vec<Vec<PortNum>>,
@@ -27,7 +27,7 @@ impl Model for CandidateLists {
 }
 
 impl CandidateLists {
-    /// No port.
+    /// Creates lists without ports.
     pub fn new(alloc: Global) -> Result<Self, AllocError> {
         let mut lists = Vec::with_capacity(alloc, TARGETS)?;
         for _ in 0..TARGETS {
@@ -36,8 +36,8 @@ impl CandidateLists {
         Ok(CandidateLists { lists })
     }
 
-    /// Finds, of the edges of a vertex, the ports of those whose set has a target, in their order: they replace what
-    /// was found before. Takes a step for each edge, and one for each port that is found.
+    /// Finds the ports of the edges whose set has a target, for each target, in the order of the edges. They replace
+    /// what was found before. Takes one step for each edge, and one for each port that is found.
     pub fn find(&mut self, edges: &[Edge], sets: &[TargetSet]) -> Result<(), AllocError>
         requires { length sets.now ≡ length edges.now }
         ensures { OnOk result (EachTarget (λ k. slice_index_or self.new k []
@@ -46,7 +46,7 @@ impl CandidateLists {
         find_all(&mut self.lists, edges, sets)
     }
 
-    /// The ports towards a target.
+    /// Returns the ports towards a target.
     pub fn at(&self, target: usize) -> &[PortNum]
         requires { target < 64 }
         ensures { result.now ≡ slice_index_or self.now target [] }
@@ -55,7 +55,7 @@ impl CandidateLists {
     }
 }
 
-/// Finds the ports of the edges whose set has each target.
+/// Finds for each target the ports of the edges whose set has it.
 fn find_all(
     lists: &mut [Vec<PortNum>],
     edges: &[Edge],
@@ -70,7 +70,7 @@ fn find_all(
     add_all(lists, edges, sets)
 }
 
-/// Lets all ports go.
+/// Empties all lists.
 fn clear(lists: &mut [Vec<PortNum>])
     ensures { EachTarget (λ k. slice_index_or (map (λ list. list.items) lists.new) k [] ≡ []) }
 {
@@ -79,7 +79,7 @@ fn clear(lists: &mut [Vec<PortNum>])
     }
 }
 
-/// Adds to the list of each target the ports of the edges whose set has it.
+/// Appends to each target's list the ports of the edges whose set has the target.
 fn add_all(lists: &mut [Vec<PortNum>], edges: &[Edge], sets: &[TargetSet]) -> Result<(), AllocError>
     requires lists { length lists.old ≡ 64 }
     requires all { length sets.now ≡ length edges.now }
@@ -93,7 +93,7 @@ fn add_all(lists: &mut [Vec<PortNum>], edges: &[Edge], sets: &[TargetSet]) -> Re
     Ok(())
 }
 
-/// Adds a port to the lists of these targets.
+/// Appends a port to the list of each target in `targets`.
 fn add(lists: &mut [Vec<PortNum>], port: PortNum, targets: TargetSet) -> Result<(), AllocError>
     requires { length lists.old ≡ 64 }
     ensures { OnOk result (EachTarget (λ k. slice_index_or (map (λ list. list.items) lists.new) k []

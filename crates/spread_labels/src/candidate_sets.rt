@@ -1,4 +1,4 @@
-//! The edges that gave vertices their marks, towards many targets side by side.
+//! The candidates of vertices, towards many targets side by side.
 ghost use Rattle.std.specs.Prelude.{◌≡◌, ◌<◌, ◌≤◌, [], length, map, All, IfOk, slice_index_or};
 ghost use Rattle.port_graph.specs.Heads.{LeadToVertices};
 ghost use Rattle.spread_labels.specs.MarkSets.{AreCandidateSets, no_sets};
@@ -9,7 +9,7 @@ use port_graph::Adjacency;
 use std::alloc::{AllocError, Global};
 use std::marker::Model;
 
-/// At each edge of each vertex the targets towards which it gave the vertex its mark.
+/// For each edge of each vertex, the targets towards which it gave the vertex its mark.
 #[derive(Drop)]
 pub struct CandidateSets {
     rows: Vec<Vec<TargetSet>>,
@@ -25,8 +25,8 @@ impl Model for CandidateSets {
 }
 
 impl CandidateSets {
-    /// Of all edges, towards these targets, of which there are at most 64. Takes a step or two for each edge in each of
-    /// as many rounds as the greatest cost, and one, for all targets together.
+    /// Finds the sets of all edges towards `targets`, of which there are at most 64. Takes a step or two for each edge
+    /// in each round, for all targets together; there are as many rounds as the greatest cost, and one more.
     pub fn towards(alloc: Global, edges: &Adjacency, targets: &[usize]) -> Result<Self, AllocError>
         requires lead { LeadToVertices edges.now }
         requires few { length targets.now ≤ 64 }
@@ -37,7 +37,7 @@ impl CandidateSets {
         Ok(CandidateSets { rows })
     }
 
-    /// At each edge of a vertex, in their order.
+    /// Returns the sets of a vertex's edges, in the order of the edges.
     pub fn at(&self, vertex: usize) -> &[TargetSet]
         requires { vertex < length self.now }
         ensures { result.now ≡ slice_index_or self.now vertex [] }
@@ -46,7 +46,7 @@ impl CandidateSets {
     }
 }
 
-/// The same, row by row.
+/// Returns the sets of all edges towards `targets`, a row for each vertex.
 fn rows_towards(
     alloc: Global,
     edges: &Adjacency,
@@ -70,7 +70,7 @@ fn rows_towards(
     Ok(rows)
 }
 
-/// No target at each edge of each vertex.
+/// Returns a row of empty sets for each vertex, one for each edge.
 fn no_rows(alloc: Global, edges: &Adjacency) -> Result<Vec<Vec<TargetSet>>, AllocError>
     ensures { IfOk result (λ rows. map (λ row. row.items) rows.items ≡ map no_sets edges.now) }
 {

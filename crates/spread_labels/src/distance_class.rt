@@ -1,4 +1,4 @@
-//! How near vertices are to others, and their distance classes by that.
+//! How near vertices are to others, and their distance classes.
 ghost use Rattle.std.specs.Prelude.{◌≡◌, ◌<◌, ◌≤◌, ◌*◌, ◌^◌, length, map, All, IfOk};
 ghost use Rattle.port_graph.specs.Heads.{LeadToVertices};
 ghost use Rattle.spread_labels.specs.DistanceClasses.{AreDistanceSums, AreWithDistances, HasRoom};
@@ -12,28 +12,29 @@ use crate::level::near_or_0;
 use port_graph::{Adjacency, distances};
 use std::alloc::{AllocError, Global};
 
-/// The distances of a vertex from some others.
+/// The distances of a vertex from some others, summed up.
 #[derive(Clone, Copy, Debug, PartialEq, Eq)]
 pub(crate) struct DistanceSum {
-    /// The least of them.
+    /// The least distance.
     pub(crate) near: Option<usize>,
-    /// Their sum.
+    /// The sum of the distances.
     pub(crate) sum: u128,
-    /// How many they are.
+    /// The number of distances.
     pub(crate) count: usize,
 }
 
-/// What vertices are ordered and led by.
+/// The distance classes and levels of vertices, by which they are ordered and led.
 #[derive(Drop)]
 pub struct Grades {
-    /// The distance class of each vertex: its distance from the nearest root, where its component has one, else four
-    /// times its mean distance from the leaf vertices of its component, cut off, and 0 where there are none.
+    /// The distance class of each vertex: its distance from the nearest root, if its component has one; otherwise four
+    /// times its mean distance from the leaf vertices of its component, rounded down, or 0 if there are none.
     pub distance_classes: Vec<u128>,
-    /// The level of each vertex: its distance from the nearest leaf vertex, and 0 where its component has none.
+    /// The level of each vertex: its distance from the nearest leaf vertex, or 0 if its component has none.
     pub levels: Vec<usize>,
 }
 
-/// The distance classes and the levels of vertices. Takes a search in breadth from each root and each leaf vertex.
+/// Computes the distance classes and levels of vertices. Takes a breadth-first search from each root and each leaf
+/// vertex.
 pub fn grade(
     alloc: Global,
     edges: &Adjacency,
@@ -57,7 +58,7 @@ pub fn grade(
     })
 }
 
-/// The distance class of each vertex by its distances from roots and from leaf vertices.
+/// Returns the distance class of each vertex, given its distances from roots and from leaf vertices.
 fn distance_classes(
     alloc: Global,
     roots: &[DistanceSum],
@@ -75,7 +76,7 @@ fn distance_classes(
     Ok(distance_classes)
 }
 
-/// The distance class of a vertex by its distances from roots and from leaf vertices.
+/// Returns the distance class of a vertex, given its distances from roots and from leaf vertices.
 fn distance_class(roots: DistanceSum, leaves: DistanceSum) -> u128
     requires { IsDistanceSum leaves }
     ensures { result ≡ distance_class_by roots leaves }
@@ -86,7 +87,7 @@ fn distance_class(roots: DistanceSum, leaves: DistanceSum) -> u128
     }
 }
 
-/// Four times the mean, cut off; 0 of none.
+/// Returns four times the mean, rounded down, or 0 if `count` is 0.
 fn quarters(sum: u128, count: usize) -> u128
     requires { sum ≤ count * 2 ^ 64 }
     ensures { result ≡ quarters_of sum count }
@@ -98,7 +99,7 @@ fn quarters(sum: u128, count: usize) -> u128
     4 * (sum / count) + 4 * (sum % count) / count
 }
 
-/// The distances of each vertex from these.
+/// Returns the distance sum of each vertex from the vertices `some`.
 pub(crate) fn distance_sums(
     alloc: Global,
     edges: &Adjacency,
@@ -121,7 +122,7 @@ pub(crate) fn distance_sums(
     Ok(distance_sums)
 }
 
-/// Each with the distance at its index.
+/// Adds to each distance sum the distance at its index.
 fn add_distances(distance_sums: &mut [DistanceSum], distances: &[Option<usize>])
     requires all { length distance_sums.old ≡ length distances.now }
     requires room { All HasRoom distance_sums.old }
@@ -132,7 +133,7 @@ fn add_distances(distance_sums: &mut [DistanceSum], distances: &[Option<usize>])
     }
 }
 
-/// With a distance more.
+/// Returns the distance sum with one more distance, if there is one.
 fn with(distance_sum: DistanceSum, distance: Option<usize>) -> DistanceSum
     requires { HasRoom distance_sum }
     ensures { result ≡ with_distance distance_sum distance }

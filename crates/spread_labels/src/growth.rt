@@ -10,20 +10,20 @@ use crate::vertex_key::VertexKey;
 use port_graph::{Adjacency, Edge};
 use std::alloc::{AllocError, Global};
 
-/// How far a vertex has come.
+/// How far the growth of the order has come at a vertex.
 #[derive(Clone, Copy, Debug, PartialEq, Eq)]
 pub(crate) enum Stage {
-    /// It is not placed, and has no edge to a vertex that is.
+    /// It is not placed, and has no edge to a placed vertex.
     Left,
-    /// It is not placed, and has such an edge.
+    /// It is not placed, and has an edge to a placed vertex.
     Beside,
     /// It is placed.
     Placed,
 }
 
-/// The vertices in their grown order: next comes the one of the earliest key among those with an edge to one that is
-/// placed; where there is none, the earliest of all that are left. Of equal keys the lesser vertex's is earlier. Takes
-/// a step for each pair of vertices and for each edge.
+/// Returns the vertices in their grown order. Next comes the vertex of the earliest key among those with an edge to a
+/// placed one; if there is none, the earliest of all that are left. Of equal keys the lesser vertex's is earlier. Takes
+/// one step for each pair of vertices and for each edge.
 pub fn grown_order(
     alloc: Global,
     edges: &Adjacency,
@@ -45,7 +45,7 @@ pub fn grown_order(
     Ok(vertices)
 }
 
-/// The vertex that is placed next.
+/// Returns the vertex that is placed next.
 fn next_vertex(keys: &[VertexKey], stages: &[Stage]) -> Option<usize>
     requires { length stages.now ≡ length keys.now }
     ensures next { result ≡ next_at (before_by keys.now) stages.now (length keys.now) }
@@ -57,7 +57,7 @@ fn next_vertex(keys: &[VertexKey], stages: &[Stage]) -> Option<usize>
     }
 }
 
-/// The vertex of the earliest key among those at a stage.
+/// Returns the vertex of the earliest key among those at `stage`.
 fn earliest(keys: &[VertexKey], stages: &[Stage], stage: Stage) -> Option<usize>
     requires { length stages.now ≡ length keys.now }
     ensures earliest { result ≡ earliest_at (before_by keys.now) stages.now stage (length keys.now) }
@@ -72,14 +72,14 @@ fn earliest(keys: &[VertexKey], stages: &[Stage], stage: Stage) -> Option<usize>
     found
 }
 
-/// Whether a stage is this one.
+/// Returns whether two stages are equal.
 fn is_at(one: Stage, stage: Stage) -> bool
     ensures { result ≡ is_stage one stage }
 {
     one == stage
 }
 
-/// The earlier of a vertex that was found, if one was, and another.
+/// Returns the earlier of `vertex` and the vertex found so far, if there is one.
 pub(crate) fn earlier(keys: &[VertexKey], found: Option<usize>, vertex: usize) -> usize
     requires vertex { vertex < length keys.now }
     requires found { MatchOption found (Unit {0}) (λ other. other < length keys.now) }
@@ -91,8 +91,8 @@ pub(crate) fn earlier(keys: &[VertexKey], found: Option<usize>, vertex: usize) -
     }
 }
 
-/// Whether one vertex has the earlier key.
-fn is_before(keys: &[VertexKey], one: usize, other: usize) -> bool
+/// Returns whether `one` has an earlier key than `other`.
+pub fn is_before(keys: &[VertexKey], one: usize, other: usize) -> bool
     requires one { one < length keys.now }
     requires other { other < length keys.now }
     ensures { result ≡ before_by keys.now one other }
@@ -101,7 +101,7 @@ fn is_before(keys: &[VertexKey], one: usize, other: usize) -> bool
     one_key.is_less(&other_key) || (!other_key.is_less(&one_key) && one < other)
 }
 
-/// A vertex is placed, and those to which its edges lead are beside it.
+/// Marks a vertex as placed, and each vertex that its edges lead to, if it is left, as beside a placed one.
 fn add_vertex(edges: &[Edge], vertex: usize, stages: &mut [Stage])
     requires vertex { vertex < length stages.old }
     requires lead { All (λ edge. edge.to < length stages.old) edges.now }

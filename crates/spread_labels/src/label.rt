@@ -1,17 +1,17 @@
-/// Where the way from a vertex to the target begins.
+/// How the way from a vertex to the target begins.
 #[derive(Clone, Copy, Debug, PartialEq, Eq)]
 pub enum Label {
-    /// Some first edge of it may lead up.
+    /// A first edge of the way may lead up.
     Up,
-    /// Each edge of it leads down.
+    /// Each edge of the way leads down.
     Down,
 }
 
-/// What is known of a vertex that has a way to the target.
+/// The mark of a vertex that has a way to the target.
 #[derive(Clone, Copy, Debug, PartialEq, Eq)]
 pub struct Mark {
-    /// How many edges the way has, which is the round that gave the label.
+    /// The number of edges of the way, which is the round that gave the label.
     pub cost: usize,
-    /// Where the way begins.
+    /// How the way begins.
     pub label: Label,
 }

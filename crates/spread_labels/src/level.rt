@@ -8,10 +8,10 @@ use crate::distance_class::DistanceSum;
 use port_graph::{Adjacency, Edge};
 use std::alloc::{AllocError, Global};
 
-/// No LID is over it.
+/// The greatest digit weight. No LID is over it.
 const GREATEST_WEIGHT: usize = 65536;
 
-/// The least of the distances of each, and 0 where there are none.
+/// Returns the least distance of each sum, or 0 if it has none.
 pub(crate) fn near_or_0(
     alloc: Global,
     distance_sums: &[DistanceSum],
@@ -25,9 +25,9 @@ pub(crate) fn near_or_0(
         .collect(alloc)
 }
 
-/// The digit weight of the level of each vertex: the product of the widths of all lesser levels, and at most 65536. The
-/// width of a level is the most edges to higher vertices that a vertex of it has, and at least 1. Takes a step for each
-/// edge at each level.
+/// Computes the digit weight of the level of each vertex: the product of the widths of all lesser levels, but at most
+/// 65536. The width of a level is the greatest number of edges to higher vertices that a vertex of it has, but at least
+/// 1. Takes one step for each edge at each level.
 pub fn digit_weights(
     alloc: Global,
     edges: &Adjacency,
@@ -45,7 +45,7 @@ pub fn digit_weights(
     Ok(digit_weights)
 }
 
-/// The digit weight of each level up to the greatest.
+/// Returns the digit weight of each level up to the greatest.
 fn digit_weights_by_level(
     alloc: Global,
     edges: &Adjacency,
@@ -66,14 +66,14 @@ fn digit_weights_by_level(
     Ok(digit_weights)
 }
 
-/// The digit weight of the next level, by the digit weight and the width of one.
+/// Returns the digit weight of the next level, given the digit weight and the width of a level.
 fn next_digit_weight(digit_weight: usize, width: usize) -> usize
     ensures { result ≡ min (digit_weight * width) 65536 }
 {
     digit_weight.saturating_mul(width).min(GREATEST_WEIGHT)
 }
 
-/// The greatest level, and 0 of none.
+/// Returns the greatest level, or 0 if there is none.
 fn greatest_of(levels: &[usize]) -> usize
     ensures { result ≡ greatest 0 levels.now }
 {
@@ -84,7 +84,7 @@ fn greatest_of(levels: &[usize]) -> usize
     found
 }
 
-/// The width of a level.
+/// Returns the width of a level.
 fn width(edges: &Adjacency, levels: &[usize], level: usize) -> usize
     requires all { length levels.now ≡ length edges.now }
     requires lead { LeadToVertices edges.now }
@@ -99,7 +99,7 @@ fn width(edges: &Adjacency, levels: &[usize], level: usize) -> usize
     width
 }
 
-/// How many of the edges of a vertex lead to higher vertices.
+/// Counts the edges of a vertex that lead to higher vertices.
 fn rises(edges: &[Edge], vertex: usize, levels: &[usize]) -> usize
     requires vertex { vertex < length levels.now }
     requires lead { All (λ edge. edge.to < length levels.now) edges.now }

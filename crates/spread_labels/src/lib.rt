@@ -17,7 +17,7 @@ mod vertex_positions;
 pub use candidate_lists::CandidateLists;
 pub use candidate_sets::CandidateSets;
 pub use distance_class::{Grades, grade};
-pub use growth::grown_order;
+pub use growth::{grown_order, is_before};
 pub use label::{Label, Mark};
 pub use level::digit_weights;
 pub use target_set::{TARGETS, TargetSet};

@@ -10,28 +10,28 @@ use crate::target_set::TargetSet;
 use port_graph::{Adjacency, Edge};
 use std::alloc::{AllocError, Global};
 
-/// Of each vertex the targets towards which it has a mark, and those towards which that is `Down`.
+/// For each vertex: the targets that it has a mark for, and those for which the mark is `Down`.
 #[derive(Drop)]
 pub(crate) struct MarkSets {
     marked: Vec<TargetSet>,
     downs: Vec<TargetSet>,
 }
 
-/// The same of a vertex.
+/// The targets that a vertex has a mark for, and those for which the mark is `Down`.
 #[derive(Clone, Copy)]
 struct VertexSets {
     marked: TargetSet,
     downs: TargetSet,
 }
 
-/// The targets towards which edges give a vertex a mark, and those towards which one of them that leads up does.
+/// The targets for which edges give a vertex a mark, and those for which one that leads up does.
 #[derive(Clone, Copy)]
 struct Givers {
     targets: TargetSet,
     ups: TargetSet,
 }
 
-/// The targets towards which an edge of a vertex gives it a mark.
+/// Returns the targets for which an edge of a vertex gives it a mark.
 fn giver_set(edge: &Edge, vertex: usize, marks: &MarkSets) -> TargetSet
     requires marked { edge.now.to < length marks.now.marked.items }
     requires downs { edge.now.to < length marks.now.downs.items }
@@ -44,7 +44,7 @@ fn giver_set(edge: &Edge, vertex: usize, marks: &MarkSets) -> TargetSet
     }
 }
 
-/// Those of all its edges.
+/// Returns the targets for which any edge of a vertex gives it a mark.
 fn given_by(edges: &[Edge], vertex: usize, marks: &MarkSets) -> Givers
     requires marked { All (λ edge. edge.to < length marks.now.marked.items) edges.now }
     requires downs { All (λ edge. edge.to < length marks.now.downs.items) edges.now }
@@ -66,7 +66,7 @@ fn given_by(edges: &[Edge], vertex: usize, marks: &MarkSets) -> Givers
     Givers { targets, ups }
 }
 
-/// Notes at each edge of a vertex the new targets towards which it gave a mark.
+/// Notes for each edge of a vertex the new targets for which it gave a mark.
 fn note(row: &mut [TargetSet], edges: &[Edge], vertex: usize, marks: &MarkSets, new: TargetSet)
     requires all { length row.old ≡ length edges.now }
     requires marked { All (λ edge. edge.to < length marks.now.marked.items) edges.now }
@@ -81,7 +81,7 @@ fn note(row: &mut [TargetSet], edges: &[Edge], vertex: usize, marks: &MarkSets, 
     }
 }
 
-/// The sets of a vertex after a round more; at each edge of it the targets towards which it gave a mark are noted.
+/// Returns the sets of a vertex after one more round. Notes for each of its edges the targets for which it gave a mark.
 fn set_step(edges: &[Edge], vertex: usize, marks: &MarkSets, row: &mut [TargetSet]) -> VertexSets
     requires row { length row.old ≡ length edges.now }
     requires in_marked { vertex < length marks.now.marked.items }
@@ -100,7 +100,7 @@ fn set_step(edges: &[Edge], vertex: usize, marks: &MarkSets, row: &mut [TargetSe
     }
 }
 
-/// The sets after a round more; at each edge those towards which it gave a mark are noted.
+/// Returns the sets after one more round. Notes for each edge the targets for which it gave a mark.
 pub(crate) fn after_round(
     alloc: Global,
     edges: &Adjacency,
@@ -125,7 +125,7 @@ pub(crate) fn after_round(
     Ok(MarkSets { marked, downs })
 }
 
-/// At first each target alone is marked, and `Down`.
+/// Returns the sets before the first round: each target is marked for itself, and `Down`.
 pub(crate) fn at_first(
     alloc: Global,
     count: usize,
@@ -142,7 +142,7 @@ pub(crate) fn at_first(
     })
 }
 
-/// For each of so many vertices the targets that it is.
+/// Returns for each of `count` vertices which targets it is.
 fn at_targets(alloc: Global, count: usize, targets: &[usize]) -> Result<Vec<TargetSet>, AllocError>
     requires few { length targets.now ≤ 64 }
     requires vertices { All (λ target. target < count) targets.now }
@@ -155,7 +155,7 @@ fn at_targets(alloc: Global, count: usize, targets: &[usize]) -> Result<Vec<Targ
     Ok(sets)
 }
 
-/// Whether after a round more the same vertices are marked towards each target.
+/// Returns whether a round changed nothing: for each target the marked vertices are equal.
 pub(crate) fn are_same(old: &MarkSets, new: &MarkSets) -> bool
     requires { length old.now.marked.items ≡ length new.now.marked.items }
     ensures { result ≡ true → AreSame old.now.marked.items new.now.marked.items (length old.now.marked.items) }

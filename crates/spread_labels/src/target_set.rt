@@ -2,17 +2,17 @@
 ghost use Rattle.std.specs.Prelude.{◌≡◌, ◌<◌, ◌&&◌, ◌||◌, ◌==◌, true, false, not, MatchOption};
 ghost use Rattle.spread_labels.specs.TargetSets.{EachTarget, has, no_targets};
 
-/// As many targets stand side by side.
+/// The number of targets that stand side by side.
 pub const TARGETS: usize = 64;
 
-/// Some of the targets that stand side by side: a bit for each.
+/// A set of the targets that stand side by side, with a bit for each.
 #[derive(Clone, Copy, Debug, PartialEq, Eq)]
 pub struct TargetSet {
     bits: u64,
 }
 
 impl TargetSet {
-    /// No target.
+    /// Returns the empty set.
     pub fn none() -> Self
         ensures none { EachTarget (λ k. has result k ≡ false) }
         ensures is { result ≡ no_targets }
@@ -20,7 +20,7 @@ impl TargetSet {
         TargetSet { bits: 0 }
     }
 
-    /// With one target more.
+    /// Returns the set with one more target.
     pub(crate) fn with(self, target: usize) -> Self
         requires { target < 64 }
         ensures { EachTarget (λ k. has result k ≡ ((k == target) || has self k)) }
@@ -30,7 +30,7 @@ impl TargetSet {
         }
     }
 
-    /// The targets of both.
+    /// Returns the union of two sets.
     pub fn or(self, other: TargetSet) -> Self
         ensures { EachTarget (λ k. has result k ≡ (has self k || has other k)) }
     {
@@ -39,7 +39,7 @@ impl TargetSet {
         }
     }
 
-    /// Those that are in both.
+    /// Returns the intersection of two sets.
     pub(crate) fn and(self, other: TargetSet) -> Self
         ensures { EachTarget (λ k. has result k ≡ (has self k && has other k)) }
     {
@@ -48,7 +48,7 @@ impl TargetSet {
         }
     }
 
-    /// Those that are not in the other.
+    /// Returns the targets of this set that are not in `other`.
     pub(crate) fn without(self, other: TargetSet) -> Self
         ensures { EachTarget (λ k. has result k ≡ (has self k && not (has other k))) }
     {
@@ -57,21 +57,21 @@ impl TargetSet {
         }
     }
 
-    /// Whether there is none.
+    /// Returns whether the set is empty.
     pub(crate) fn is_empty(self) -> bool
         ensures { result ≡ true → EachTarget (λ k. has self k ≡ false) }
     {
         self.bits == 0
     }
 
-    /// Whether both have the same targets.
+    /// Returns whether two sets are equal.
     pub(crate) fn is_same(self, other: TargetSet) -> bool
         ensures { result ≡ true → EachTarget (λ k. has self k ≡ has other k) }
     {
         self.bits == other.bits
     }
 
-    /// Whether a target is among them.
+    /// Returns whether a target is in the set.
     pub fn has(self, target: usize) -> bool
         requires { target < 64 }
         ensures { result ≡ has self target }
@@ -79,7 +79,7 @@ impl TargetSet {
         (self.bits >> target) & 1 == 1
     }
 
-    /// The least target among them.
+    /// Returns the least target in the set.
     pub(crate) fn first(self) -> Option<usize>
         ensures { MatchOption result (EachTarget (λ k. has self k ≡ false))
             (λ target. (target < 64) × (has self target ≡ true)) }
@@ -91,7 +91,7 @@ impl TargetSet {
         }
     }
 
-    /// Without one of them.
+    /// Returns the set without one of its targets.
     pub(crate) fn but(self, target: usize) -> Self
         requires target { target < 64 }
         requires among { has self target ≡ true }

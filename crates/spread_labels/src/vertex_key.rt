@@ -1,7 +1,7 @@
 ghost use Rattle.std.specs.Prelude.{◌≡◌};
 ghost use Rattle.spread_labels.specs.Keys.{key_less};
 
-/// What vertices are ordered by: the distance class first, and then the distance.
+/// What vertices are ordered by: first the distance class, and then the distance.
 #[derive(Clone, Copy, Debug, PartialEq, Eq)]
 pub struct VertexKey {
     /// The distance class of the vertex.
@@ -11,7 +11,7 @@ pub struct VertexKey {
 }
 
 impl VertexKey {
-    /// Whether it is the earlier one.
+    /// Returns whether this key is earlier than `other`.
     pub(crate) fn is_less(&self, other: &VertexKey) -> bool
         ensures { result ≡ key_less self.now other.now }
     {

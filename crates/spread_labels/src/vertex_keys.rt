@@ -9,8 +9,8 @@ use crate::vertex_key::VertexKey;
 use port_graph::{Adjacency, distances};
 use std::alloc::{AllocError, Global};
 
-/// The key of each vertex: its distance class, and its distance from the first of its component, which is the one of
-/// the least distance class, and of those the least. Takes two searches in breadth for each component.
+/// Computes the key of each vertex: its distance class, and its distance from the first of its component, which is the
+/// vertex of the least distance class, and of those the least. Takes two breadth-first searches for each component.
 pub fn keys(
     alloc: Global,
     edges: &Adjacency,
@@ -33,7 +33,7 @@ pub fn keys(
     Ok(keys)
 }
 
-/// Keys by the distance class alone.
+/// Returns keys with only the distance class.
 fn by_distance_class(alloc: Global, distance_classes: &[u128]) -> Result<Vec<VertexKey>, AllocError>
     ensures { IfOk result (λ keys. keys.items ≡ by_distance_class distance_classes.now) }
 {
@@ -44,7 +44,7 @@ fn by_distance_class(alloc: Global, distance_classes: &[u128]) -> Result<Vec<Ver
     keys.collect(alloc)
 }
 
-/// How far each vertex is from the first of its component.
+/// Returns the distance of each vertex from the first of its component.
 fn far(
     alloc: Global,
     edges: &Adjacency,
@@ -65,7 +65,7 @@ fn far(
     Ok(far)
 }
 
-/// The distances of all vertices from the first of a vertex's component.
+/// Returns the distances of all vertices from the first of a vertex's component.
 fn from_first(
     alloc: Global,
     edges: &Adjacency,
@@ -82,7 +82,7 @@ fn from_first(
     distances(alloc, edges, first)
 }
 
-/// Puts the distance of each vertex where there is none yet.
+/// Sets the distance of each vertex that has none yet.
 fn fill(far: &mut [Option<usize>], found: &[Option<usize>])
     requires { length far.old ≡ length found.now }
     ensures { FillsIn far.old found.now far.new }
@@ -92,7 +92,7 @@ fn fill(far: &mut [Option<usize>], found: &[Option<usize>])
     }
 }
 
-/// The vertex of the earliest key among those that have a distance.
+/// Returns the vertex of the earliest key among those that have a distance.
 fn first(keys: &[VertexKey], distances: &[Option<usize>]) -> Option<usize>
     requires { length distances.now ≡ length keys.now }
     ensures first { result ≡ first_among keys.now distances.now }

@@ -1,4 +1,4 @@
-//! The positions of vertices in an order, and the graph by them.
+//! The positions of vertices in an order, and the graph numbered by them.
 ghost use Rattle.std.specs.Prelude.{◌≡◌, ◌<◌, ℕ, map, length, All, Contains, IfOk};
 ghost use Rattle.port_graph.specs.Heads.{LeadToVertices};
 ghost use Rattle.spread_labels.specs.Orders.{by_position};
@@ -7,7 +7,7 @@ ghost use Rattle.spread_labels.specs.Positions.{ArePositions, StandOnce, to_posi
 use port_graph::{Adjacency, Edge};
 use std::alloc::{AllocError, Global};
 
-/// The position of each of so many vertices in an order.
+/// Returns the position of each of `count` vertices in an order.
 pub fn positions(alloc: Global, vertices: &[usize], count: usize) -> Result<Vec<usize>, AllocError>
     requires { StandOnce count vertices.now }
     ensures { IfOk result (λ positions. ArePositions count vertices.now positions.items) }
@@ -19,7 +19,7 @@ pub fn positions(alloc: Global, vertices: &[usize], count: usize) -> Result<Vec<
     Ok(positions)
 }
 
-/// The edges of the vertex at each position of an order, to positions. Takes a step for each edge.
+/// Returns the edges of the vertex at each position of an order, as edges to positions. Takes one step for each edge.
 pub fn by_positions(
     alloc: Global,
     edges: &Adjacency,
@@ -39,7 +39,7 @@ pub fn by_positions(
     Ok(placed)
 }
 
-/// Edges to vertices, as edges to the positions of these.
+/// Returns edges to vertices as edges to the positions of these.
 fn to_positions(alloc: Global, edges: &[Edge], positions: &[usize]) -> Result<Vec<Edge>, AllocError>
     requires { All (λ edge. edge.to < length positions.now) edges.now }
     ensures { IfOk result (λ found. found.items ≡ map (to_position positions.now) edges.now) }

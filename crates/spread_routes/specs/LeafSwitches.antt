@@ -9,7 +9,7 @@ use Rattle.subnet_view.specs.Wires.{across}
 abbrev pub has_adapter_at : Cells → ℕ → ℕ → Bool
 has_adapter_at cells g p = option_map_or (λ q. not (is_usable cells q.0)) (across cells g p) false
 
--- whether that of some port does
+-- whether the wire in some port of a switch leads to an adapter
 abbrev pub is_leaf : Cells → ℕ → Bool
 is_leaf cells g = list_any (has_adapter_at cells g) (range_with_len 1 (port_count_of cells g))
 

@@ -1,8 +1,8 @@
--- Whose turn it is among the ports of a switch.
+-- Which port of a switch a LID takes.
 use Rattle.std.specs.Prelude.{◌≡◌, ◌<◌, ◌+◌, ◌*◌, ◌/◌, ◌%◌, ◌^◌}
 use Rattle.spread_routes.specs.declared.round_robin.RoundRobin.{RoundRobin}
 
--- LIDs from `start` on, as many as the digit counts, have one number
+-- `start` and the LIDs behind it with one digit, `weight` of them, have the turn `choice`
 pub record IsTurn (turn : RoundRobin) : Type 0 where
   pub weight : 0 < turn.weight
   pub offset : turn.offset < 2 ^ 16
@@ -10,7 +10,7 @@ pub record IsTurn (turn : RoundRobin) : Type 0 where
   pub whole : turn.start ≡ turn.start / turn.weight * turn.weight
   pub choice : turn.choice ≡ (turn.start / turn.weight + turn.offset) % turn.count
 
--- the same but for the LIDs
+-- the turns have equal weight, offset and count
 pub record IsOfSame (old new : RoundRobin) : Type 0 where
   pub weight : new.weight ≡ old.weight
   pub offset : new.offset ≡ old.offset

@@ -14,8 +14,8 @@ use Rattle.subnet_view.specs.Graph.{guids_of}
 use Rattle.subnet_view.specs.GraphLaws.{IsGraph}
 use Rattle.subnet_view.specs.Routing.{Routing, IsRouting}
 
--- what the rule is handed: the key of each switch, by rising GUID, and a number by which a packet for a LID takes one
--- of some edges of the switch at a position
+-- what the rule is given: the key of each switch, by rising GUID, and the number by which a packet for a LID takes one
+-- of some edges at a position
 pub record Spreading : Type 0 where
   pub keys : List VertexKey
   pub number : ℕ → ℕ → List Edge → ℕ
@@ -24,15 +24,15 @@ pub record Spreading : Type 0 where
 abbrev pub by_index : List SwitchEdges → List (List Edge)
 by_index graph = map (λ c. map (positioned_edge (guids_of graph)) c.edges) graph
 
--- the indices of the switches in the order that grows by these keys
+-- the indices of the switches, in the order that grows by these keys
 abbrev pub order_by_keys : List SwitchEdges → List VertexKey → List ℕ
 order_by_keys graph keys = order (by_index graph) (before_by keys)
 
--- the position of a switch there
+-- the position of switch g in that order
 abbrev pub position : List SwitchEdges → List VertexKey → ℕ → ℕ
 position graph keys g = position_of (order_by_keys graph keys) (position_of (guids_of graph) g)
 
--- the switch at a position
+-- the switch at position p
 abbrev pub switch_there : List SwitchEdges → List VertexKey → ℕ → ℕ
 switch_there graph keys p = at_position (guids_of graph) (at_position (order_by_keys graph keys) p)
 
@@ -40,11 +40,11 @@ switch_there graph keys p = at_position (guids_of graph) (at_position (order_by_
 abbrev pub by_positions : List SwitchEdges → List VertexKey → List (List Edge)
 by_positions graph keys = grown (by_index graph) (before_by keys)
 
--- of these edges the one whose number a LID has, counted round
+-- the edge that a packet for the LID takes at position p, by its number, counted round
 abbrev pub taken : Spreading → ℕ → ℕ → List Edge → Option Edge
 taken by lid p edges = chosen edges (by.number lid p edges)
 
--- the edge by which a packet for a LID leaves the switch at a position for the one at another
+-- the edge by which a packet for the LID leaves the switch at position p for the one at position q
 abbrev pub edge_to : List SwitchEdges → Spreading → ℕ → ℕ → ℕ → Option Edge
 edge_to graph by lid p q = taken by lid p (candidates (by_positions graph by.keys) q p)
 
@@ -58,6 +58,6 @@ spread graph by = record {
       channel_number (length (by_positions graph by.keys)) (position graph by.keys a) (position graph by.keys b);
 }
 
--- that is a rule of routing, whatever the keys, and whatever edges the LIDs take
+-- the rule is a rule of routing, whatever the keys, and whatever edges the LIDs take
 abbrev pub SpreadIsRouting : Type 0
 SpreadIsRouting = (graph : List SwitchEdges) (by : Spreading) → IsGraph graph → IsRouting graph (spread graph by)

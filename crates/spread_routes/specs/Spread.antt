@@ -1,6 +1,6 @@
--- The rule by the wires, the leaf switches and what the order grows by alone: the keys, and which of its edges a LID
+-- The rule, given only the wires, the leaf switches and what the order grows by: the keys, and which of its edges a LID
 -- takes.
-use Rattle.std.specs.Prelude.{◌≡◌, ℕ, Bool, List, map, filter, length, nat_lt, ◌+◌, ◌/◌, ◌%◌, slice_index, if◌then◌else◌}
+use Rattle.std.specs.Prelude.{◌≡◌, ℕ, Bool, List, [], map, filter, length, nat_lt, ◌+◌, ◌/◌, ◌%◌, slice_index, if◌then◌else◌}
 use Rattle.std.specs.List.{list_any}
 use Rattle.port_graph.specs.declared.edge.Edge.{Edge}
 use Rattle.spread_labels.specs.declared.vertex_key.VertexKey.{VertexKey}
@@ -12,21 +12,22 @@ use Rattle.subnet_view.specs.SwitchEdges.{SwitchEdges}
 use Rattle.subnet_view.specs.Graph.{guids_of}
 use Rattle.subnet_view.specs.GraphLaws.{IsGraph}
 use Rattle.subnet_view.specs.Routing.{Routing, IsRouting}
+use Rattle.trial_loads.specs.LeastLoaded.{least_loaded_keys}
 use Rattle.spread_routes.specs.declared.lid_digit.LidDigit.{LidDigit}
 use Rattle.spread_routes.specs.Rule.{by_index, order_by_keys, spread}
-use Rattle.spread_routes.specs.SwitchOrders.{OrderValue, as_named, from_roots, keys_as_named, switches_by_keys}
+use Rattle.spread_routes.specs.SwitchOrders.{OrderValue, as_named, from_roots, least_loaded, keys_as_named, switches_by_keys}
 
--- what the rule goes by: the wires, and of each switch, by rising GUID, its key and its level
+-- what the rule goes by: the wires, and each switch's key and level, by rising GUID
 pub record Grading : Type 0 where
   pub graph : List SwitchEdges
   pub keys : List VertexKey
   pub levels : List ℕ
 
--- the level of the switch at a position
+-- the level of the switch at position p
 abbrev pub level_there : Grading → ℕ → ℕ
 level_there by p = slice_index by.levels (at_position (order_by_keys by.graph by.keys) p)
 
--- what a switch goes by, by its index: its level, the digit weight of that level, and the rest of its GUID by 31
+-- the LID digit of the switch at index i: its level, the digit weight of that level, and its GUID modulo 31
 abbrev pub lid_digit_at : List SwitchEdges → List ℕ → ℕ → LidDigit
 lid_digit_at graph levels i = record {
   level = slice_index levels i;
@@ -34,42 +35,48 @@ lid_digit_at graph levels i = record {
   offset = at_position (guids_of graph) i % 31;
 }
 
--- the switch at a position
+-- the LID digit of the switch at position p
 abbrev pub lid_digit_there : Grading → ℕ → LidDigit
 lid_digit_there by p = lid_digit_at by.graph by.levels (at_position (order_by_keys by.graph by.keys) p)
 
--- whether one of some edges leads from the switch at a position to a higher one
+-- whether one of the edges leads from the switch at position p to a higher one
 abbrev pub goes_higher : Grading → ℕ → List Edge → Bool
 goes_higher by p edges = list_any (λ e. nat_lt (level_there by p) (level_there by e.to)) edges
 
--- the number of a LID at a switch: where it can go higher a digit of the LID, by the digit weight of the level, else
--- the LID; moved by the offset
+-- the number of a LID at a switch: a digit of the LID, by the digit weight of the level, if the packet can go higher,
+-- else the LID; plus the offset
 abbrev pub number_by : LidDigit → Bool → ℕ → ℕ
 number_by lid_digit higher lid = (if higher then lid / lid_digit.digit_weight else lid) + lid_digit.offset
 
--- the same at the switch at a position, where these edges can be taken
+-- the number of a LID at position p, if these edges can be taken
 abbrev pub number_there : Grading → ℕ → ℕ → List Edge → ℕ
 number_there by lid p edges = number_by (lid_digit_there by p) (goes_higher by p edges) lid
 
--- the rule by that
+-- the rule by a grading
 abbrev pub spread_at : Grading → Routing
 spread_at by = spread by.graph (record { keys = by.keys; number = number_there by })
 
--- those of some switches that the graph has, by their indices
+-- the indices of the GUIDs that are switches of the graph
 abbrev pub indices_of : List SwitchEdges → List ℕ → List ℕ
 indices_of graph guids = filter (λ i. nat_lt i (length graph)) (map (position_of (guids_of graph)) guids)
 
--- the keys of switches by the distance classes that the leaf switches and the roots give
+-- the keys of switches, by the distance classes that the leaf switches and the roots give
 abbrev pub keys_from_roots : List SwitchEdges → List ℕ → List ℕ → List VertexKey
 keys_from_roots graph leaves roots =
     keys_of (by_index graph) (distance_classes_of (by_index graph) (indices_of graph leaves) (indices_of graph roots))
 
--- the keys by what the order grows by
+-- the keys whose order has the least trial load between the leaf switches, among those from no roots and those by depth
+abbrev pub keys_least_loaded : List SwitchEdges → List ℕ → List VertexKey
+keys_least_loaded graph leaves =
+    least_loaded_keys (by_index graph) (indices_of graph leaves) (keys_from_roots graph leaves [])
+
+-- the keys, by what the order grows by
 abbrev pub keys_by : List SwitchEdges → List ℕ → OrderValue → List VertexKey
 keys_by graph leaves (from_roots roots) = keys_from_roots graph leaves roots
 keys_by graph leaves (as_named switches) = keys_as_named graph switches
+keys_by graph leaves least_loaded = keys_least_loaded graph leaves
 
--- what the leaf switches and the order give
+-- what the rule goes by, given the leaf switches and the order
 abbrev pub grading_of : List SwitchEdges → List ℕ → OrderValue → Grading
 grading_of graph leaves order =
     record {
@@ -83,7 +90,7 @@ grading_of graph leaves order =
 unfoldable pub spread_by : List SwitchEdges → List ℕ → OrderValue → Routing
 spread_by graph leaves order = spread_at (grading_of graph leaves order)
 
--- it is a rule of routing
+-- the whole rule is a rule of routing
 abbrev pub SpreadByIsRouting : Type 0
 SpreadByIsRouting = (graph : List SwitchEdges) (leaves : List ℕ) (order : OrderValue) → IsGraph graph
     → IsRouting graph (spread_by graph leaves order)
@@ -92,7 +99,7 @@ SpreadByIsRouting = (graph : List SwitchEdges) (leaves : List ℕ) (order : Orde
 unfoldable pub switches_in_order : List SwitchEdges → List ℕ → OrderValue → List ℕ
 switches_in_order graph leaves order = switches_by_keys graph (keys_by graph leaves order)
 
--- named as they stand there, they stand so again, and lead packets alike
+-- named in the order by which the rule goes, the switches are in that order again, and packets are routed as before
 pub record OrderStands (graph : List SwitchEdges) (leaves : List ℕ) (by : OrderValue) : Type 0 where
   pub order : switches_in_order graph leaves (as_named (switches_in_order graph leaves by)) ≡ switches_in_order graph leaves by
   pub routing : spread_by graph leaves (as_named (switches_in_order graph leaves by)) ≡ spread_by graph leaves by

@@ -1,4 +1,4 @@
--- What is held of the rule, and the ports that it gives.
+-- The tables of the rule, and the ports that it gives.
 use Rattle.std.specs.Prelude.{◌≡◌, ◌<◌, ◌≤◌, ◌+◌, ◌%◌, ℕ, List, [], ◌∷◌, length, Option, None, slice_get, slice_index, slice_index_or, slice_set}
 use Rattle.port_graph.specs.declared.edge.Edge.{Edge}
 use Rattle.port_graph.specs.Heads.{edges_at}
@@ -17,7 +17,7 @@ use Rattle.spread_routes.specs.Spread.{Grading, number_by, lid_digit_there, spre
 abbrev pub no_lid_digit : LidDigit
 no_lid_digit = record { level = 0; digit_weight = 1; offset = 0 }
 
--- the edges by positions, the position of each switch, and the LID digit at each position
+-- the edges by positions, each switch's position, and the LID digit at each position
 pub record IsByPositions (by : Grading) (edges : List (List Edge)) (positions : List ℕ) (lid_digits : List LidDigit) :
     Type 0 where
   pub is_graph : IsGraph by.graph
@@ -28,8 +28,8 @@ pub record IsByPositions (by : Grading) (edges : List (List Edge)) (positions : 
   pub all_lid_digits : length lid_digits ≡ length edges
   pub lid_digit : (p : ℕ) → p < length edges → slice_index_or lid_digits p no_lid_digit ≡ lid_digit_there by p
 
--- the candidates of all vertices towards the switches at the indices from one up to another: of each edge those of them
--- towards which it is one
+-- the candidates of all vertices towards the switches at the indices from `first` up to, but not including, `end`: for
+-- each edge the targets for which it is a candidate
 pub record TowardsValue : Type 0 where
   pub first : ℕ
   pub end : ℕ
@@ -43,33 +43,33 @@ pub record AreTowards (by : Grading) (towards : TowardsValue) : Type 0 where
       → picked k (sets_at towards.sets p) (edges_at (by_positions by.graph by.keys) p)
       ≡ candidates (by_positions by.graph by.keys) (position_of (order_by_keys by.graph by.keys) (towards.first + k)) p
 
--- how packets leave a switch: the ports of its candidates towards each target, the targets towards which one of them
--- leads to a higher switch, and what the switch goes by
+-- how packets leave a switch: the ports of its candidates towards each target, the targets for which one of them leads
+-- to a higher switch, and the switch's LID digit
 pub record ExitsValue : Type 0 where
   pub ports : List (List ℕ)
   pub higher : TargetSet
   pub lid_digit : LidDigit
 
--- of these ports the one with a number, counted round
+-- the port with this number, counted round
 abbrev pub port_chosen : List ℕ → ℕ → Option ℕ
 port_chosen [] choice = None
 port_chosen (port ∷ ports) choice = slice_get (port ∷ ports) (choice % length (port ∷ ports))
 
--- the same where there are some
+-- the port with this number, counted round, if there are ports
 abbrev pub port_turn : List ℕ → ℕ → ℕ
 port_turn ports choice = slice_index ports (choice % length ports)
 
--- the port that a LID takes towards a target
+-- the port that a LID takes towards target k
 abbrev pub port_by : ExitsValue → ℕ → ℕ → Option ℕ
 port_by exits k lid =
     port_chosen (slice_index_or exits.ports k []) (number_by exits.lid_digit (has exits.higher k) lid)
 
--- by these ports packets for LIDs leave the switch at an index towards each of those
+-- these exits give, for each LID and each target, the port by which the rule leaves the switch at index `own`
 abbrev pub AreExits : Grading → TowardsValue → ℕ → ExitsValue → Type 0
 AreExits by towards own exits = (k lid : ℕ) → towards.first + k < towards.end → port_by exits k lid
     ≡ (spread_at by).next lid (switch_at by.graph own) (switch_at by.graph (towards.first + k))
 
--- entries with those of a function at these LIDs
+-- `entries`, with `f lid` at each of these LIDs
 abbrev pub with_entries : (ℕ → ℕ) → List ℕ → List ℕ → List ℕ
 with_entries f entries [] = entries
 with_entries f entries (lid ∷ lids) = with_entries f (slice_set entries lid (f lid)) lids

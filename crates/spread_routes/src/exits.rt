@@ -12,11 +12,11 @@ use spread_labels::{CandidateLists, TargetSet};
 use std::alloc::{AllocError, Global};
 use std::marker::Model;
 
-/// The ports by which packets may leave a switch towards each of some others, and which of them a LID takes.
+/// The ports by which packets may leave a switch towards each of some targets, and which of them a LID takes.
 #[derive(Drop)]
 pub struct Exits {
     lists: CandidateLists,
-    /// The targets towards which one of the edges leads to a higher switch.
+    /// The targets for which one of the edges leads to a higher switch.
     higher: TargetSet,
     lid_digit: LidDigit,
 }
@@ -33,7 +33,7 @@ impl Model for Exits {
 }
 
 impl Exits {
-    /// None are known yet.
+    /// Creates exits without ports.
     pub fn new(alloc: Global) -> Result<Self, AllocError> {
         Ok(Exits {
             lists: CandidateLists::new(alloc)?,
@@ -46,7 +46,7 @@ impl Exits {
         })
     }
 
-    /// Those of a switch, of whose edges each is a candidate towards the targets of its set.
+    /// Sets the exits of a switch: `edges[i]` is a candidate towards each target in `sets[i]`.
     pub(crate) fn find(
         &mut self,
         lid_digit: LidDigit,
@@ -66,8 +66,8 @@ impl Exits {
         self.lists.find(edges, sets)
     }
 
-    /// Writes at each of some LIDs the number of the port that it takes towards a target, and `none` where no way leads
-    /// there. Takes a step for each LID, and some more where LIDs do not follow one another.
+    /// Writes for each LID the number of the port that it takes towards a target, or `none` if no way leads there.
+    /// Takes one step for each LID, and some more if LIDs are not consecutive.
     pub fn write(&self, target: usize, lids: &[Lid], none: u8, entries: &mut [u8])
         requires target { target < 64 }
         requires lids { All (λ lid. lid < length entries.old) lids.now }
@@ -89,7 +89,7 @@ impl Exits {
     }
 }
 
-/// Writes the same at each of these LIDs.
+/// Writes `none` for each LID.
 fn write_none(entries: &mut [u8], lids: &[Lid], none: u8)
     requires { All (λ lid. lid < length entries.old) lids.now }
     ensures { entries.new ≡ with_entries (λ lid. none) entries.old lids.now }
@@ -99,7 +99,7 @@ fn write_none(entries: &mut [u8], lids: &[Lid], none: u8)
     }
 }
 
-/// Writes the ports that LIDs take, of these.
+/// Writes for each LID the port of `ports` that it takes.
 fn write_ports(
     entries: &mut [u8],
     lids: &[Lid],

@@ -7,7 +7,7 @@ use smp_bytes::Guid;
 use std::alloc::{AllocError, Global};
 use subnet_view::SwitchGraph;
 
-/// The indices of those of some GUIDs that are switches of the graph. Takes a search for each.
+/// Returns the indices of the GUIDs that are switches of the graph. Takes a search for each GUID.
 pub(crate) fn indices(
     alloc: Global,
     graph: &SwitchGraph,

@@ -8,7 +8,7 @@ use smp_bytes::{Guid, PortNum};
 use std::alloc::{AllocError, Global};
 use subnet_view::{Wires, is_usable, port_count};
 
-/// Of the usable switches those that an adapter port is wired to, by rising GUID. Takes two searches for each port of a
+/// Returns the usable switches that an adapter port is wired to, by rising GUID. Takes two searches for each port of a
 /// switch.
 pub fn leaf_switches(alloc: Global, wires: &Wires, guids: &[Guid]) -> Result<Vec<Guid>, AllocError>
     requires { guids.now ≡ switches (cells_of wires.now) }
@@ -21,7 +21,7 @@ pub fn leaf_switches(alloc: Global, wires: &Wires, guids: &[Guid]) -> Result<Vec
         .collect(alloc)
 }
 
-/// Whether the wire in some port of a switch leads to an adapter.
+/// Returns whether the wire in some port of a switch leads to an adapter.
 fn is_leaf(wires: &Wires, switch: Guid) -> bool
     ensures { result ≡ is_leaf (cells_of wires.now) switch }
 {
@@ -33,7 +33,7 @@ fn is_leaf(wires: &Wires, switch: Guid) -> bool
     false
 }
 
-/// Whether the wire in a port does.
+/// Returns whether the wire in a port leads to an adapter.
 fn has_adapter_at(wires: &Wires, switch: Guid, port: PortNum) -> bool
     ensures { result ≡ has_adapter_at (cells_of wires.now) switch port }
 {

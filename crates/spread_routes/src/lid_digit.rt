@@ -1,4 +1,4 @@
-//! What switches go by when they choose among edges.
+//! What switches choose among edges by.
 ghost use Rattle.std.specs.Prelude.{◌≡◌, ◌<◌, All, IfOk, length, map, nat_lt, slice_index_or, if◌then◌else◌};
 ghost use Rattle.std.specs.List.{list_any};
 ghost use Rattle.port_graph.specs.Heads.{LeadToVertices};
@@ -15,19 +15,19 @@ use spread_labels::{TargetSet, digit_weights};
 use std::alloc::{AllocError, Global};
 use subnet_view::SwitchGraph;
 
-/// What a switch goes by.
+/// What a switch chooses among its edges by.
 #[derive(Clone, Copy, Debug, PartialEq, Eq)]
 pub(crate) struct LidDigit {
-    /// How far the nearest leaf switch is.
+    /// The distance of the nearest leaf switch.
     pub(crate) level: usize,
-    /// What a digit of a LID counts at that level.
+    /// The weight of a LID's digit at that level.
     pub(crate) digit_weight: usize,
-    /// The rest of its GUID by 31.
+    /// The switch's GUID modulo 31.
     pub(crate) offset: u8,
 }
 
 impl LidDigit {
-    /// The turns of LIDs among so many ports, where one of them leads to a higher switch, or where none does.
+    /// Returns the turns of LIDs among `count` ports. `is_higher` says whether one of them leads to a higher switch.
     pub(crate) fn turn(&self, is_higher: bool, count: usize) -> RoundRobin
         requires weight { 0 < self.now.digit_weight }
         requires count { 0 < count }
@@ -41,7 +41,7 @@ impl LidDigit {
     }
 }
 
-/// The LID digit of the switch at each position of an order.
+/// Returns the LID digit of the switch at each position of an order.
 pub(crate) fn lid_digits(
     alloc: Global,
     graph: &SwitchGraph,
@@ -69,7 +69,7 @@ pub(crate) fn lid_digits(
     Ok(lid_digits)
 }
 
-/// The targets towards which one of the edges whose set has them leads to a switch higher than this one.
+/// Returns the targets for which an edge whose set has them leads to a higher switch than this one.
 pub(crate) fn higher_targets(
     lid_digits: &[LidDigit],
     lid_digit: &LidDigit,
@@ -91,7 +91,7 @@ pub(crate) fn higher_targets(
     higher
 }
 
-/// The level at a position.
+/// Returns the level at a position.
 fn level_at(lid_digits: &[LidDigit], position: usize) -> usize
     requires { position < length lid_digits.now }
     ensures { result ≡ (slice_index_or lid_digits.now position no_lid_digit).level }

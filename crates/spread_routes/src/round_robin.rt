@@ -1,24 +1,25 @@
-//! Whose turn it is among the ports of a switch, as LIDs rise.
+//! Which port of a switch a LID takes, as LIDs rise.
 ghost use Rattle.std.specs.Prelude.{◌≡◌, ◌<◌, ◌+◌, ◌/◌, ◌%◌, ◌^◌};
 ghost use Rattle.spread_routes.specs.RoundRobins.{IsTurn, IsOfSame};
 
-/// Numbers by a digit of a LID, counted round: the one of a LID near the last is found without a division.
+/// The turns of ports by a digit of a LID, counted round. The port of a LID near the last one is found without a
+/// division.
 #[derive(Clone, Copy)]
 pub(crate) struct RoundRobin {
-    /// What the digit counts.
+    /// The weight of the digit.
     weight: usize,
-    /// What is added to it.
+    /// The number that is added to the digit.
     offset: usize,
-    /// How many ports there are.
+    /// The number of ports.
     count: usize,
     /// The least LID with the digit of the last one.
     start: usize,
-    /// The number of these LIDs, counted round.
+    /// The turn of the LIDs with that digit, counted round.
     choice: usize,
 }
 
 impl RoundRobin {
-    /// That of a LID.
+    /// Returns the turn of `lid`.
     pub(crate) fn at(weight: usize, offset: usize, count: usize, lid: usize) -> Self
         requires weight { 0 < weight }
         requires offset { offset < 2 ^ 16 }
@@ -40,7 +41,7 @@ impl RoundRobin {
         }
     }
 
-    /// That of another LID.
+    /// Goes to the turn of another LID.
     pub(crate) fn go_to(&mut self, lid: usize)
         requires turn { IsTurn self.old }
         requires lid { lid < 2 ^ 16 }
@@ -64,7 +65,7 @@ impl RoundRobin {
         }
     }
 
-    /// The number, counted round.
+    /// Returns the turn: the index of the port.
     pub(crate) fn choice(&self) -> usize
         ensures { result ≡ self.now.choice }
     {
@@ -72,7 +73,7 @@ impl RoundRobin {
     }
 }
 
-/// The number behind one, counted round.
+/// Returns the number after `choice`, counted round.
 fn next_round(choice: usize, count: usize) -> usize
     requires { choice < count }
     ensures { result ≡ (choice + 1) % count }

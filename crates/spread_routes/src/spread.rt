@@ -14,12 +14,12 @@ use std::alloc::{AllocError, Global};
 use std::marker::Model;
 use subnet_view::SwitchGraph;
 
-/// The candidates of all switches towards some of them.
+/// The candidates of all switches towards some of them, the targets.
 #[derive(Drop)]
 pub struct Towards {
-    /// The index of the first of these.
+    /// The index of the first target.
     first: usize,
-    /// That behind the last.
+    /// The index after the last target.
     end: usize,
     sets: CandidateSets,
 }
@@ -33,14 +33,14 @@ impl Model for Towards {
 }
 
 impl Towards {
-    /// The index of the first.
+    /// Returns the index of the first target.
     pub fn first(&self) -> usize
         ensures { result ≡ self.now.first }
     {
         self.first
     }
 
-    /// The index behind the last.
+    /// Returns the index after the last target.
     pub fn end(&self) -> usize
         ensures { result ≡ self.now.end }
     {
@@ -54,11 +54,11 @@ pub struct Spread<'g> {
     graph: &'g SwitchGraph,
     /// The key of each switch, by rising GUID.
     keys: Vec<VertexKey>,
-    /// The level of each, by rising GUID.
+    /// The level of each switch, by rising GUID.
     levels: Vec<usize>,
-    /// The position of each, by rising GUID.
+    /// The position of each switch, by rising GUID.
     positions: Vec<usize>,
-    /// The edges of the switch at each position, to positions.
+    /// The edges of the switch at each position. They lead to positions.
     edges: Adjacency,
     /// The LID digit of the switch at each position.
     lid_digits: Vec<LidDigit>,
@@ -82,9 +82,9 @@ impl<'g> Model for Spread<'g> {
 }
 
 impl<'g> Spread<'g> {
-    /// The routes by the leaf switches, and by what the order of switches grows by. GUIDs that are no switch of the graph
-    /// count for nothing. Takes a search in breadth from each leaf switch and each root, and where the order grows from
-    /// roots two for each component; and a search for each switch that is named.
+    /// Computes the routes, given the leaf switches and what the order of switches grows by. Ignores GUIDs that are no
+    /// switch of the graph. Takes a breadth-first search from each leaf switch and each root, two for each component if
+    /// the order grows from roots, and a search for each switch that is named.
     pub fn of(
         alloc: Global,
         graph: &'g SwitchGraph,
@@ -98,7 +98,7 @@ impl<'g> Spread<'g> {
         Spread::by_keys(alloc, graph, keys, levels)
     }
 
-    /// The routes by the keys and the levels of switches.
+    /// Computes the routes, given the keys and the levels of switches.
     fn by_keys(
         alloc: Global,
         graph: &'g SwitchGraph,
@@ -125,8 +125,9 @@ impl<'g> Spread<'g> {
         })
     }
 
-    /// The candidates of all switches towards the 64 from an index on, or as many as there are. Takes a step or two for
-    /// each edge in each of as many rounds as the greatest cost, and one, for all of these together.
+    /// Finds the candidates of all switches towards the 64 switches from index `first` on, or as many as there are.
+    /// Takes a step or two for each edge in each round, for all these targets together; there are as many rounds as the
+    /// greatest cost, and one more.
     pub fn towards(&self, alloc: Global, first: usize) -> Result<Towards, AllocError>
         requires { first < length self.now.graph }
         ensures are { IfOk result (λ towards. AreTowards self.now towards) }
@@ -138,8 +139,8 @@ impl<'g> Spread<'g> {
         Ok(Towards { first, end, sets })
     }
 
-    /// Finds how packets leave the switch at an index towards each of some: that replaces what was found before. Takes
-    /// a step or two for each edge, and one for each candidate.
+    /// Finds how packets leave the switch at index `own` towards each target. Replaces what `exits` had before. Takes a
+    /// step or two for each edge, and one for each candidate.
     pub fn exits_from(
         &self,
         own: usize,

@@ -4,7 +4,8 @@ ghost use Rattle.subnet_view.specs.GraphLaws.{IsGraph};
 ghost use Rattle.spread_labels.specs.Levels.{levels_of};
 ghost use Rattle.spread_labels.specs.Orders.{at_position};
 ghost use Rattle.spread_routes.specs.Rule.{by_index};
-ghost use Rattle.spread_routes.specs.Spread.{indices_of, keys_by, keys_from_roots, switches_in_order};
+ghost use Rattle.spread_routes.specs.Spread.{indices_of, keys_by, keys_from_roots, keys_least_loaded};
+ghost use Rattle.spread_routes.specs.Spread.{switches_in_order};
 ghost use Rattle.spread_routes.specs.SwitchOrders.{keys_as_named, order_value_of};
 
 use crate::SwitchOrder;
@@ -13,18 +14,19 @@ use smp_bytes::Guid;
 use spread_labels::{Grades, VertexKey, grade, grown_order, keys};
 use std::alloc::{AllocError, Global};
 use subnet_view::SwitchGraph;
+use trial_loads::least_loaded_keys;
 
-/// What switches are ordered and led by.
+/// The keys and levels of switches, by which they are ordered and led.
 #[derive(Drop)]
 pub(crate) struct SwitchKeys {
     /// The key of each switch, by rising GUID.
     pub(crate) keys: Vec<VertexKey>,
-    /// The level of each.
+    /// The level of each switch, by rising GUID.
     pub(crate) levels: Vec<usize>,
 }
 
-/// The switches of a graph in the order by which the rule goes, as the leaf switches and `order` give it. Takes what
-/// `Spread::of` takes, but for the edges.
+/// Returns the switches of a graph in the order by which the rule goes, given the leaf switches and `order`. Takes what
+/// `Spread::of` takes, except for the edges.
 pub fn switches_in_order(
     alloc: Global,
     graph: &SwitchGraph,
@@ -39,7 +41,7 @@ pub fn switches_in_order(
     switches_at(alloc, graph.switches(), &vertices)
 }
 
-/// The switches at these indices.
+/// Returns the switches at these indices.
 fn switches_at(alloc: Global, guids: &[Guid], indices: &[usize]) -> Result<Vec<Guid>, AllocError>
     requires { All (λ i. i < length guids.now) indices.now }
     ensures { IfOk result (λ found. found.items ≡ map (at_position guids.now) indices.now) }
@@ -51,7 +53,7 @@ fn switches_at(alloc: Global, guids: &[Guid], indices: &[usize]) -> Result<Vec<G
     Ok(found)
 }
 
-/// The keys and the levels of switches.
+/// Returns the keys and the levels of switches.
 pub(crate) fn switch_keys(
     alloc: Global,
     graph: &SwitchGraph,
@@ -65,10 +67,11 @@ pub(crate) fn switch_keys(
     match order {
         SwitchOrder::FromRoots { roots } => from_roots(alloc, graph, leaves, roots),
         SwitchOrder::AsNamed { switches } => as_named(alloc, graph, leaves, switches),
+        SwitchOrder::LeastLoaded => least_loaded(alloc, graph, leaves),
     }
 }
 
-/// The same from roots.
+/// Returns the keys by distances from roots, and the levels of switches.
 fn from_roots(
     alloc: Global,
     graph: &SwitchGraph,
@@ -90,7 +93,7 @@ fn from_roots(
     Ok(SwitchKeys { keys, levels })
 }
 
-/// The same as a list names switches.
+/// Returns the keys by a list that names switches, and the levels of switches.
 fn as_named(
     alloc: Global,
     graph: &SwitchGraph,
@@ -111,7 +114,24 @@ fn as_named(
     Ok(SwitchKeys { keys, levels })
 }
 
-/// The keys of switches by a list that names some. Takes a search for each of these.
+/// Returns the keys by the order of the least trial load, and the levels of switches.
+fn least_loaded(
+    alloc: Global,
+    graph: &SwitchGraph,
+    leaves: &[Guid],
+) -> Result<SwitchKeys, AllocError>
+    ensures keys { IfOk result (λ found. found.keys.items ≡ keys_least_loaded graph.now leaves.now) }
+    ensures levels { IfOk result (λ found. found.levels.items
+        ≡ levels_of (by_index graph.now) (indices_of graph.now leaves.now)) }
+{
+    let edges = graph.adjacency();
+    let SwitchKeys { keys, levels } = from_roots(alloc, graph, leaves, &[])?;
+    let bearing = indices(alloc, graph, leaves)?;
+    let keys = least_loaded_keys(alloc, edges, &bearing, &keys)?;
+    Ok(SwitchKeys { keys, levels })
+}
+
+/// Returns the keys of switches by a list that names some. Takes a search for each switch of the list.
 fn keys_as_named(
     alloc: Global,
     graph: &SwitchGraph,
@@ -131,7 +151,7 @@ fn keys_as_named(
     Ok(keys)
 }
 
-/// The key of a switch before which so many are named.
+/// Returns the key of a switch before which `number` are named.
 fn key_at(number: usize) -> VertexKey
     ensures { result ≡ record { distance_class = 0; distance = number } }
 {

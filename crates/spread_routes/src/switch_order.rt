@@ -4,23 +4,27 @@ ghost use Rattle.spread_routes.specs.SwitchOrders.{order_value_of};
 use smp_bytes::Guid;
 use std::alloc::{AllocError, Global};
 
-/// By what the order of switches grows, by which the rule goes.
+/// What the order of switches, by which the rule goes, grows by.
 #[derive(Drop)]
 pub enum SwitchOrder {
-    /// By how far switches are from some of them.
+    /// The distances of switches from some of them.
     FromRoots {
-        /// The switches from which distances count. None: the most central switch of each component is found.
+        /// The switches from which distances count. If there are none, the most central switch of each component is
+        /// found.
         roots: Vec<Guid>,
     },
-    /// As a list names them.
+    /// A list that names switches.
     AsNamed {
-        /// The switches. Those that it lacks come behind, by rising GUID; GUIDs that are no switch count for nothing.
+        /// The switches. Those that are missing come behind, by rising GUID; GUIDs that are no switch are ignored.
         switches: Vec<Guid>,
     },
+    /// The least load of the busiest channel: of the order without roots and the orders by depth from the eight
+    /// switches of least GUID, forwards and backwards, the first whose trial load between the leaf switches is least.
+    LeastLoaded,
 }
 
 impl SwitchOrder {
-    /// A copy of it. Takes a step for each GUID.
+    /// Returns a copy. Takes one step for each GUID.
     pub fn try_clone(&self, alloc: Global) -> Result<Self, AllocError>
         ensures { IfOk result (λ copy. order_value_of copy ≡ order_value_of self.now) }
     {
@@ -31,6 +35,7 @@ impl SwitchOrder {
             SwitchOrder::AsNamed { switches } => Ok(SwitchOrder::AsNamed {
                 switches: Vec::from_slice(alloc, switches)?,
             }),
+            SwitchOrder::LeastLoaded => Ok(SwitchOrder::LeastLoaded),
         }
     }
 }

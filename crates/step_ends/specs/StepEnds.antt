@@ -1,4 +1,4 @@
--- When steps towards a plan end, of whole tables.
+-- When steps of whole tables towards a plan end.
 use Rattle.std.specs.Prelude.{◌≡◌, ◌≤◌, ◌+◌, ◌*◌, ℕ, zero, suc, true, Contains, List, [], ◌∷◌, Some, length}
 use Rattle.fact_store.specs.View.{Facts, cells_of, AreInRange}
 use Rattle.subnet_view.specs.Reading.{Cells, switches}
@@ -21,36 +21,36 @@ use Rattle.ordered_steps.specs.Rightness.{are_right}
 use Rattle.plan_order_laws.specs.PlanLaws.{plan_position}
 use Rattle.next_run.specs.RunNext.{IsLoopInStep, planned, step_text, stepped}
 
--- from each switch from which some tables deliver at the end port that alone holds a LID, in these and in the plan, the
--- plan does so too
+-- the plan delivers from each switch from which some tables deliver, at the end port that alone holds a LID in these
+-- tables and in the plan
 abbrev pub DeliversWhatTablesCan : Cells → HeldPlan → Type 0
 DeliversWhatTablesCan cells plan =
     (tables : HeldPlan) (line : HeldLid) → IsKept tables plan line
     → (i n : ℕ) → after n (next_hops_of cells tables line.lid) (To i) ≡ Ends (Taken line.port)
     → (m : ℕ) × (after m (next_hops_of cells plan line.lid) (To i) ≡ Ends (Taken line.port))
 
--- no way of the plan to an end port that alone holds a LID meets more switches
+-- no way of the plan to an end port that alone holds a LID meets more than `most` switches
 abbrev pub MeetAtMost : Cells → HeldPlan → ℕ → Type 0
 MeetAtMost cells plan most =
     (line : HeldLid) → owners_of plan line.lid ≡ line.port ∷ []
     → (i m : ℕ) → after m (next_hops_of cells plan line.lid) (To i) ≡ Ends (Taken line.port)
     → after most (next_hops_of cells plan line.lid) (To i) ≡ Ends (Taken line.port)
 
--- then, after so many steps and two at least, a step answers what it was given
+-- after `most` steps, and two at least, a step returns what it was given
 abbrev pub StepsEnd : Type 0
 StepsEnd =
     (cells : Cells) (held plan : HeldPlan) (most n : ℕ) → DeliversWhatTablesCan cells plan → MeetAtMost cells plan most
     → most ≤ n → 2 ≤ n
     → settled cells plan held (suc n) ≡ settled cells plan held n
 
--- the plan of a view with room does
+-- the plan of a view with room delivers what tables can
 abbrev pub PlansDeliverWhatTablesCan : Type 0
 PlansDeliverWhatTablesCan =
     (rule : RuleValue) (lmc : ℕ) (facts : Facts) → AreInRange facts → ¬ (IsNoRoom lmc (cells_of facts))
     → DeliversWhatTablesCan (cells_of facts) (held_plan (plan_of rule lmc (cells_of facts)))
 
--- from tables that are right by the order of the plan's switches no credit loop comes about in a step, and the next
--- tables are right by it again
+-- a step from tables that are right by the order of the plan's switches makes no credit loop, and the next tables are
+-- right by that order
 pub record IsFreeOfLoops (lmc : ℕ) (rule : RuleValue) (facts : Facts) (held : HeldPlan) : Type 0 where
   pub loops : (cycle lids : List ℕ) → IsLoopInStep (cells_of facts) held (stepped lmc rule facts held) cycle lids
       → cycle ≡ []
@@ -62,20 +62,20 @@ RightTablesMakeNoLoop =
     → ¬ (IsNoRoom lmc (cells_of facts)) → are_right (cells_of facts) (plan_position rule (cells_of facts)) held ≡ true
     → IsFreeOfLoops lmc rule facts held
 
--- what `next` prints after so many steps from the tables of a text, each from what was printed before
+-- what `next` prints after n steps from the tables of a text, each step from what was printed before
 abbrev pub printed : ℕ → RuleValue → Facts → List ℕ → ℕ → List ℕ
 printed lmc rule facts text zero = text
 printed lmc rule facts text (suc n) = step_text lmc rule facts (held_of (printed lmc rule facts text n))
 
--- so many steps are enough: as many as the longest way of the plan meets switches, two at least, and besides by an order
--- twice as many as there are switches, and two
+-- n steps are enough: as many as the longest way of the plan meets switches, two at least, and besides, for steps by an
+-- order, twice as many as there are switches, and two
 pub record AreEnough (rule : RuleValue) (lmc : ℕ) (facts : Facts) (n : ℕ) : Type 0 where
   pub most : ℕ
   pub meet : MeetAtMost (cells_of facts) (planned lmc rule facts) most
   pub two : 2 ≤ most
   pub enough : most + 2 * length (switches (cells_of facts)) + 2 ≤ n
 
--- if there is room, it is in the end what was given, to the byte
+-- if there is room, `next` prints in the end what it was given, byte for byte
 abbrev pub PrintedStepsEnd : Type 0
 PrintedStepsEnd =
     (rule : RuleValue) (lmc : ℕ) (facts : Facts) (text : List ℕ) (n : ℕ) → lmc ≤ 7 → AreInRange facts
@@ -86,7 +86,8 @@ PrintedStepsEnd =
 abbrev pub WaysMeetAtMostAll : Type 0
 WaysMeetAtMostAll = (cells : Cells) (plan : HeldPlan) → MeetAtMost cells plan (length (switches cells))
 
--- and if a LID is given, and no usable switch held a greater top than the greatest LID, what `plan` prints
+-- if a LID is given and no usable switch held a greater top than the greatest LID, `next` prints in the end what `plan`
+-- prints
 abbrev pub LastTextIsThePlans : Type 0
 LastTextIsThePlans =
     (rule : RuleValue) (lmc : ℕ) (facts : Facts) (text : List ℕ) (n top : ℕ) → lmc ≤ 7 → AreInRange facts

@@ -1,36 +1,39 @@
-//! What repeated steps come to, and that an order of switches keeps them free of credit loops.
+//! The laws of repeated steps: what they come to, and that an order of switches keeps them free of credit loops.
 ghost use Rattle.step_ends.specs.StepEnds.{LastTextIsThePlans, PlansDeliverWhatTablesCan, PrintedStepsEnd};
 ghost use Rattle.step_ends.specs.StepEnds.{RightTablesMakeNoLoop, StepsEnd, WaysMeetAtMostAll};
 
-/// Repeated, `next_tables` by settled entries answers what it was given, after as many steps as the longest way of the
-/// plan meets switches and two at least: if the plan delivers from each switch from which tables can.
+/// `next_tables` by settled entries, repeated, returns what it was given after as many steps as the longest way of the
+/// plan meets switches, and two at least, if the plan delivers from each switch from which tables can.
 pub fn steps_end()
     ensures law { StepsEnd }
 {}
 
-/// The plan of a view with room does, by each rule and under each LMC.
+/// The plan of a view with room delivers from each switch from which tables can, by each rule and under each LMC.
 pub fn plans_deliver_what_tables_can()
     ensures law { PlansDeliverWhatTablesCan }
 {}
 
 /// A step of `next` by facts with room can make no credit loop in any mixture, and its tables are right by the order of
-/// the plan's switches again, if the held tables are: for no LID they lead packets down and then up by that order.
+/// the plan's switches, if the held tables are. Tables are right by an order if they lead packets for no LID down and
+/// then up.
 pub fn right_tables_make_no_loop()
     ensures law { RightTablesMakeNoLoop }
 {}
 
-/// Repeated with the same facts, LMC and rule, `next` prints what it was given, byte for byte, after so many steps: LIDs
-/// that are new or gone and entries without a way are included.
+/// `next`, repeated with the same facts, LMC and rule, prints what it was given, byte for byte, after enough steps,
+/// LIDs that are new or gone and entries without a way included. Enough steps are as many as the longest way of the
+/// plan meets switches, two at least, and besides twice as many as there are switches, and two.
 pub fn printed_steps_end()
     ensures law { PrintedStepsEnd }
 {}
 
-/// That is what `plan` prints, if an end port has a LID and no usable switch held a greater top than the greatest LID.
+/// What `next` prints after enough steps is what `plan` prints, if an end port has a LID and no usable switch held a
+/// greater top than the greatest LID.
 pub fn last_text_is_the_plans()
     ensures law { LastTextIsThePlans }
 {}
 
-/// No way meets more switches than there are.
+/// No way of a plan meets more switches than there are.
 pub fn ways_meet_at_most_all()
     ensures law { WaysMeetAtMostAll }
 {}

@@ -1,4 +1,4 @@
-//! The end of steps, one after the other, of whole tables.
+//! The end of repeated steps, of whole tables.
 #![tactic(auto)]
 
 pub mod laws;

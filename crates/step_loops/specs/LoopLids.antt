@@ -1,4 +1,4 @@
--- For which LIDs packets wait in a credit loop of a step.
+-- The LIDs for which packets wait in a credit loop of a step.
 use Rattle.std.specs.Prelude.{◌≡◌, ◌==◌, ◌⊎◌, ◌<◌, ◌≤◌, ◌/◌, ℕ, Bool, List, [], ◌∷◌, ◌++◌, Option, length, not, slice_index_or}
 use Rattle.std.specs.List.{list_all}
 use Rattle.port_graph.specs.declared.edge.Edge.{Edge}
@@ -7,45 +7,46 @@ use Rattle.plan_file.specs.Held.{HeldPlan}
 use Rattle.audit_channels.specs.Columns.{TakesAcross}
 use Rattle.next_tables.specs.Mixtures.{WaitsInStep}
 
--- the least LID for which packets that hold one channel wait for another
+-- the least LID for which packets that hold channel a wait for channel b
 pub record IsLeastLid (cells : Cells) (held next : HeldPlan) (a b lid : ℕ) : Type 0 where
   pub is_lid : 1 ≤ lid
   pub waits : WaitsInStep cells held next lid a b
   pub least : (other : ℕ) → 1 ≤ other → WaitsInStep cells held next other a b → lid ≤ other
 
--- of channels in a circle, those that come after each
+-- for each channel of a cycle, the next one, and for the last the first
 abbrev pub turned : List ℕ → List ℕ
 turned [] = []
 turned (channel ∷ later) = later ++ channel ∷ []
 
--- such a LID for each channel of a cycle, and the one after it
+-- for each channel of `cycle`, the least LID for which packets that hold it wait for the next one
 pub record AreLoopLids (cells : Cells) (held next : HeldPlan) (cycle lids : List ℕ) : Type 0 where
   pub as_many : length lids ≡ length cycle
   pub each : (i : ℕ) → i < length cycle
       → IsLeastLid cells held next (slice_index_or cycle i 0) (slice_index_or (turned cycle) i 0)
       (slice_index_or lids i 0)
 
--- each of these LIDs is known: 0 is none
+-- all LIDs are known: none is 0
 abbrev pub are_known : List ℕ → Bool
 are_known lids = list_all (λ lid. not (lid == 0)) lids
 
 -- packets for one LID ----------------------------------------------------------------------------
 
--- they leave the switch of a channel by it, and the next one by another, by the edges of each column
+-- packets leave the switch of channel a by it, along an edge of `before`, and the next switch by b, along an edge of
+-- `now`
 abbrev pub TakesFrom : List (Option Edge) → List (Option Edge) → ℕ → ℕ → Type 0
 TakesFrom before now a b = TakesAcross before now (a / 256) a b
 
--- by those of either
+-- packets leave the switch of channel a by it, and the next switch by b, along edges of either column
 abbrev pub TakesHere : List (Option Edge) → List (Option Edge) → ℕ → ℕ → Type 0
 TakesHere held next a b =
     TakesFrom held held a b ⊎ (TakesFrom held next a b ⊎ (TakesFrom next held a b ⊎ TakesFrom next next a b))
 
--- a LID is noted for two channels where none was known (0) and its packets do so
+-- `new` is `lid` if none was known (0) and its packets hold channel a and wait for b, else `known`
 abbrev pub IsNoted : List (Option Edge) → List (Option Edge) → ℕ → ℕ → ℕ → ℕ → ℕ → Type 0
 IsNoted held next lid a b known new =
     ((known ≡ 0) × TakesHere held next a b × (new ≡ lid)) ⊎ ((new ≡ known) × (known ≡ 0 → ¬ (TakesHere held next a b)))
 
--- for each channel of a cycle, and the one after it
+-- `lid` is noted for each channel of `cycle` and the channel after it
 pub record AreNoted (held next : List (Option Edge)) (lid : ℕ) (cycle after known new : List ℕ) : Type 0 where
   pub as_many : length new ≡ length known
   pub each : (i : ℕ) → i < length known

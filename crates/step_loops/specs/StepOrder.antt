@@ -8,39 +8,38 @@ use Rattle.audit_channels.specs.declared.order.ChannelOrder.{ChannelOrder}
 use Rattle.audit_channels.specs.declared.order.ChannelOrder.TheVariants.{Rises, Cycle}
 use Rattle.next_tables.specs.Mixtures.{TakesInStep, WaitsInStep, RiseInStep}
 
--- the same, and that all those follow each other of which the one is taken by either column, and then the other by
--- either
+-- `new` is `old`, and channels follow each other if packets take one and then the other by either column
 pub record IsWithStep (old : List (List ℕ)) (held next : List (Option Edge)) (new : List (List ℕ)) : Type 0 where
   pub as_many : length new ≡ length old
   pub follows : (a b : ℕ) → Follows new a b ↔ (Follows old a b ⊎ TakesInStep held next a b)
 
--- those that are taken so follow each other
+-- channels follow each other if packets take one and then the other by either column
 abbrev pub IsAddedInStep : List (Option Edge) → List (Option Edge) → List (List ℕ) → Type 0
 IsAddedInStep held next waits = (a b : ℕ) → TakesInStep held next a b → Follows waits a b
 
--- packets for some LID wait so, whether or not an end port holds it
+-- packets for some LID, whether or not an end port holds it, hold channel a and wait for b
 pub record WaitsFor (cells : Cells) (held next : HeldPlan) (a b : ℕ) : Type 0 where
   pub lid : ℕ
   pub is_lid : 1 ≤ lid
   pub waits : WaitsInStep cells held next lid a b
 
--- of each channel of each switch, those that packets that hold it wait for
+-- `waits` has, for each channel, those that packets wait for that hold it
 pub record AreWaits (cells : Cells) (held next : HeldPlan) (waits : List (List ℕ)) : Type 0 where
   pub as_many : length waits ≡ 256 * length (switches cells)
   pub follows : (a b : ℕ) → Follows waits a b ↔ WaitsFor cells held next a b
 
--- each channel of each switch has a number, and those that it waits for have greater ones
+-- each channel of each switch has a number, less than those of the channels that it waits for
 pub record NumbersRise (cells : Cells) (held next : HeldPlan) (numbers : List ℕ) : Type 0 where
   pub as_many : length numbers ≡ 256 * length (switches cells)
   pub rise : RiseInStep cells held next numbers
 
--- each of some channels waits for the next, and the last for another
+-- each channel waits for the next, from `channel` on, and the last one waits for `last`
 abbrev pub WaitOn : Cells → HeldPlan → HeldPlan → ℕ → List ℕ → ℕ → Type 0
 WaitOn cells held next channel [] last = WaitsFor cells held next channel last
 WaitOn cells held next channel (c ∷ later) last =
     WaitsFor cells held next channel c × WaitOn cells held next c later last
 
--- channels of which each waits for the next, and the last for the first
+-- each channel waits for the next, and the last for the first
 abbrev pub WaitInCycle : Cells → HeldPlan → HeldPlan → List ℕ → Type 0
 WaitInCycle cells held next [] = ⊥
 WaitInCycle cells held next (channel ∷ later) = WaitOn cells held next channel later channel
@@ -50,12 +49,12 @@ abbrev pub IsStepOrder : Cells → HeldPlan → HeldPlan → ChannelOrder → Ty
 IsStepOrder cells held next (Rises numbers) = NumbersRise cells held next numbers.items
 IsStepOrder cells held next (Cycle channels) = WaitInCycle cells held next channels.items
 
--- no cycle has fewer channels than these
+-- no cycle has fewer channels than `channels`
 abbrev pub NoneShorter : Cells → HeldPlan → HeldPlan → List ℕ → Type 0
 NoneShorter cells held next channels =
     (cycle : List ℕ) → WaitInCycle cells held next cycle → length channels ≤ length cycle
 
--- where it is a cycle, none has fewer channels
+-- if it is a cycle, no cycle has fewer channels
 abbrev pub IsShortestInStep : Cells → HeldPlan → HeldPlan → ChannelOrder → Type 0
 IsShortestInStep cells held next (Rises numbers) = Unit {0}
 IsShortestInStep cells held next (Cycle channels) = NoneShorter cells held next channels.items

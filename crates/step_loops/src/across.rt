@@ -11,7 +11,7 @@ use port_graph::Edge;
 use smp_bytes::Lid;
 use std::alloc::{AllocError, Global};
 
-/// By which edges packets for one LID leave the switches, by the tables held and by the next ones.
+/// The edges by which packets for one LID leave the switches, by the held tables and by the next ones.
 #[derive(Drop)]
 pub(crate) struct Columns {
     pub held: Vec<Option<Edge>>,
@@ -19,7 +19,7 @@ pub(crate) struct Columns {
 }
 
 impl Columns {
-    /// Those of no switches.
+    /// Returns the columns of no switches.
     pub fn none(alloc: Global) -> Self
         ensures held { result.held.items ≡ [] }
         ensures next { result.next.items ≡ [] }
@@ -31,7 +31,7 @@ impl Columns {
     }
 }
 
-/// Those of a LID, by the blocks of its number. Takes two steps for each switch.
+/// Returns the columns of `lid`, from the blocks that have it. Takes two steps for each switch.
 pub(crate) fn columns_of(
     alloc: Global,
     held: &Network,
@@ -57,10 +57,10 @@ pub(crate) fn columns_of(
     })
 }
 
-/// That channels follow each other by which packets for a LID leave a switch by either table, and then the next by
-/// either; unless those of the LID before, which have been added, are the same. Takes a step for each switch where they
-/// are, or where both tables have the same edges, and else four; and for each a walk over the channels that follow its
-/// own where the next is not known to.
+/// Adds that channels follow each other if packets for the LID of `columns` leave a switch by either table, and then
+/// the next switch by either. `before` are the columns of the LID before, which have been added; equal ones are not
+/// added again. Takes a step for each switch if they are equal, or if both tables have the same edges, and else four;
+/// and for each step a walk over the channels that follow the switch's own, if the next one is not known to.
 pub(crate) fn add_step(
     waits: &mut Waits,
     before: &Columns,
@@ -81,7 +81,7 @@ pub(crate) fn add_step(
     add_all(waits, &columns.held, &columns.next)
 }
 
-/// The same by two columns that differ.
+/// Adds that channels follow each other by the edges of two columns that differ.
 fn add_all(
     waits: &mut Waits,
     held: &[Option<Edge>],

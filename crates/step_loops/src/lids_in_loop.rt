@@ -1,4 +1,4 @@
-//! For which LIDs packets wait in a credit loop of a step.
+//! The LIDs for which packets wait in a credit loop of a step.
 ghost use Rattle.std.specs.Prelude.{◌≡◌, ◌↔◌, IfOk, IsTrue, length, replicate};
 ghost use Rattle.fact_store.specs.View.{cells_of};
 ghost use Rattle.audit_channels.specs.Columns.{number_of};
@@ -13,10 +13,10 @@ use port_graph::Edge;
 use smp_bytes::Lid;
 use std::alloc::{AllocError, Global};
 
-/// For each channel of a credit loop in a step the least LID for which packets that hold it wait for the channel after
-/// it, and from the last one on for the first, by an entry of either table at each of the two switches. Takes for each
-/// LID, until each channel has one, a step for each switch, by either table, and four for each channel without a LID
-/// yet.
+/// Returns, for each channel of a credit loop in a step, the least LID for which packets that hold it wait for the next
+/// channel, and for the last channel those that wait for the first. At each of the two switches the entry is one of
+/// either table. Takes, for each LID until each channel has one, a step for each switch by either table, and four for
+/// each channel that has no LID yet.
 pub fn loop_lids(
     alloc: Global,
     held: &Network,
@@ -45,7 +45,7 @@ pub fn loop_lids(
     Ok(lids)
 }
 
-/// Of channels in a circle, those that come after each.
+/// Returns, for each channel of `cycle`, the next one, and for the last the first.
 fn turned(alloc: Global, cycle: &[usize]) -> Result<Vec<usize>, AllocError>
     ensures { IfOk result (λ after. after.items ≡ turned cycle.now) }
 {
@@ -57,22 +57,22 @@ fn turned(alloc: Global, cycle: &[usize]) -> Result<Vec<usize>, AllocError>
     Ok(after)
 }
 
-/// So many LIDs that are none yet, which is 0.
+/// Returns `count` times 0, no LID.
 fn none_known(alloc: Global, count: usize) -> Result<Vec<Lid>, AllocError>
     ensures { IfOk result (λ lids. lids.items ≡ replicate count 0) }
 {
     vec![in alloc; Lid::NONE; count]
 }
 
-/// Whether none of these is none yet.
+/// Returns whether all `lids` are known.
 fn are_known(lids: &[Lid]) -> bool
     ensures { result ≡ are_known lids.now }
 {
     lids.iter().all(|lid| *lid != Lid::NONE)
 }
 
-/// Notes a LID for each channel of a cycle that has none yet, where its packets hold the channel and wait for the one
-/// after it, by the edges of either column.
+/// Sets `lid` for each channel of a cycle that has no LID yet, if packets for `lid` hold the channel and wait for the
+/// next one, by the edges of either column. `after` has the next channels.
 fn note_lid(
     lids: &mut [Lid],
     cycle: &[usize],
@@ -90,8 +90,8 @@ fn note_lid(
     }
 }
 
-/// The LID that is known for two channels, where 0 is none; or else this one, where its packets hold the one channel
-/// and wait for the other.
+/// Returns `known` if it is not 0. Otherwise returns `lid` if its packets hold `channel` and wait for `other`, and else
+/// 0.
 fn noted(
     channel: usize,
     other: usize,
@@ -109,7 +109,7 @@ fn noted(
     }
 }
 
-/// Whether packets for a LID leave the switch of one channel by it, and the next by the other, by the edges of either
+/// Returns whether packets leave the switch of `channel` by it, and the next switch by `other`, by the edges of either
 /// column.
 fn waits(channel: usize, other: usize, held: &[Option<Edge>], next: &[Option<Edge>]) -> bool
     ensures { IsTrue result ↔ TakesHere held.now next.now channel other }
@@ -120,8 +120,8 @@ fn waits(channel: usize, other: usize, held: &[Option<Edge>], next: &[Option<Edg
         || takes(channel, other, next, next)
 }
 
-/// Whether packets for a LID leave the switch of one channel by it, by the edges of one column, and the next by the
-/// other, by those of another column.
+/// Returns whether packets leave the switch of `channel` by it, by the edges in `before`, and the next switch by
+/// `other`, by the edges in `now`.
 fn takes(channel: usize, other: usize, before: &[Option<Edge>], now: &[Option<Edge>]) -> bool
     ensures { IsTrue result ↔ TakesFrom before.now now.now channel other }
 {
@@ -135,7 +135,7 @@ fn takes(channel: usize, other: usize, before: &[Option<Edge>], now: &[Option<Ed
     is_channel(channel, channel / 256, first) && is_channel(other, to, second)
 }
 
-/// Whether a channel is that of a vertex's edge.
+/// Returns whether `channel` is that of `edge`, an edge of `vertex`.
 fn is_channel(channel: usize, vertex: usize, edge: Edge) -> bool
     ensures { IsTrue result ↔ (channel ≡ number_of vertex edge) }
 {

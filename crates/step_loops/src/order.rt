@@ -1,4 +1,4 @@
-//! Whether packets can wait for each other in a cycle in a step.
+//! Whether packets can wait for each other in a credit loop during a step.
 ghost use Rattle.std.specs.Prelude.{◌≡◌, IfOk};
 ghost use Rattle.fact_store.specs.View.{cells_of};
 ghost use Rattle.step_loops.specs.StepOrder.{AreWaits, IsShortestInStep, IsStepOrder};
@@ -11,10 +11,10 @@ use smp_bytes::Lid;
 use std::alloc::{AllocError, Global};
 
 #[tactic(auto, using(crate::proofs::InStep::order_is, crate::proofs::InStep::shortest_is))]
-/// Numbers of channels that rise along the way of every packet, by whatever mixtures of the tables held and the next
-/// ones, where there are such; or else channels that wait for each other in a cycle by some, as few as there are. The
-/// channels have the numbers that they have in `audit_channels::channel_order`. Takes what that does for both tables,
-/// and four steps in place of one where they differ.
+/// Returns numbers of channels that rise along the way of every packet, by whatever mixtures of the held and the next
+/// tables. If there are no such numbers, returns a shortest credit loop of some mixtures. Channels are numbered as in
+/// `audit_channels::channel_order`. Costs what that takes for both tables, with four steps in place of one if they
+/// differ.
 pub fn step_order(alloc: Global, held: &Network, next: &Network) -> Result<ChannelOrder, AllocError>
     requires facts { next.now.facts ≡ held.now.facts }
     ensures order { IfOk result (λ found.
@@ -27,7 +27,7 @@ pub fn step_order(alloc: Global, held: &Network, next: &Network) -> Result<Chann
     Ok(found)
 }
 
-/// For each channel those that packets take next by either table, LID by LID up to the greatest top of both.
+/// Returns, for each channel, those that packets take next by either table, LID by LID up to the greatest top of both.
 fn waits(alloc: Global, held: &Network, next: &Network) -> Result<Waits, AllocError>
     requires facts { next.now.facts ≡ held.now.facts }
     ensures { IfOk result (λ waits.

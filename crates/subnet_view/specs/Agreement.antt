@@ -1,5 +1,5 @@
--- When a view tells exactly what a part of a fabric is. What it says of claims may be anything.
--- InfiniBand Architecture Specification, Volume 1: subnet management, NodeInfo, PortInfo and SwitchInfo.
+-- When a view tells exactly what a part of a fabric is. What it says of claims may be anything. InfiniBand Architecture
+-- Specification, Volume 1: subnet management, NodeInfo, PortInfo and SwitchInfo.
 use Rattle.std.specs.Prelude.{◌≡◌, ◌↔◌, ℕ, Some, IsTrue}
 use Rattle.fabric_model.specs.declared.cable.NodePort.{NodePort}
 use Rattle.smp_bytes.specs.NodeType.{is_switch}
@@ -16,11 +16,11 @@ use Rattle.subnet_view.specs.Wires.{IsWire}
 abbrev pub Part : Type 1
 Part = NodePort → Type 0
 
--- all of it
+-- the part that is the whole fabric
 abbrev pub WholeFabric : Part
 WholeFabric vertex = Unit {0}
 
--- an end port of the part, and the node that it is a port of
+-- an end port of the part, and the node that it belongs to
 pub record IsEndPortIn (part : Part) (f : Fabric) (port : NodePort) (node : fabric.Node) : Type 0 where
   pub node_there : IsNodeAt f port.node node
   pub end_port : fabric.IsEndPort f port
@@ -49,14 +49,14 @@ pub record HasWire (part : Part) (f : Fabric) (g p h q : ℕ) : Type 0 where
   pub wire : walks.IsWire f from to
   pub in_part : part (vertex_of f from)
 
--- the facts have the type and the ports of an end port's node, its port GUID, and a switch's table room
+-- the facts have the type and the number of ports of an end port's node, its port GUID, and a switch's table room
 pub record TellsEndPort (cells : Cells) (node : fabric.Node) (p : ℕ) : Type 0 where
   pub kind : node_of cells node.guid ≡ Some (node.kind, node.ports)
   pub port_guid : port_guid_of cells node.guid p ≡ Some (node.port_guid p)
   pub cap : IsTrue (is_switch node.kind) → cap_of cells node.guid ≡ Some node.cap
 
--- the facts tell the end ports of the part and their nodes, and the wires in its ports, as they are; of what is not of
--- the part they may tell anything, such as nodes that are gone
+-- the view describes the part: it tells the part's end ports and their nodes, and the wires in its ports, as they are;
+-- of what is elsewhere it may tell anything, such as nodes that are gone
 pub record Covers (part : Part) (cells : Cells) (f : Fabric) : Type 0 where
   pub guids_distinct : (p q : NodePort) (a b : fabric.Node) → IsEndPortIn part f p a → IsEndPortIn part f q b → a.guid
       ≡ b.guid → p.node ≡ q.node
@@ -66,7 +66,8 @@ pub record Covers (part : Part) (cells : Cells) (f : Fabric) : Type 0 where
   pub wires_there : (port : NodePort) (node : fabric.Node) → IsNodeAt f port.node node → part (vertex_of f port)
       → (h q : ℕ) → IsWire cells node.guid port.port h q → HasWire part f node.guid port.port h q
 
--- the facts tell the end ports of the part and their nodes, its switches and its wires, and no others
+-- the view describes the part exactly: it tells the part's end ports and their nodes, its switches and its wires, and
+-- no others
 pub record AgreesOn (part : Part) (cells : Cells) (f : Fabric) : Type 0 where
   pub guids_distinct : (p q : NodePort) (a b : fabric.Node) → IsEndPortIn part f p a → IsEndPortIn part f q b → a.guid
       ≡ b.guid → p.node ≡ q.node

@@ -1,4 +1,4 @@
--- Cells that are read in step with keys that rise.
+-- Cells that are read in step with rising keys.
 use Rattle.std.specs.Prelude.{◌≡◌, T, Bool, false, [], ◌∷◌, Option, MatchOption}
 use Rattle.std.specs.Ordering.{is_lt}
 use Rattle.std.specs.FinMap.{find, is_sorted}
@@ -8,19 +8,19 @@ use Rattle.reply_facts.specs.declared.value.Value.{Value}
 use Rattle.reply_facts.specs.Key.{key_cmp}
 use Rattle.subnet_view.specs.Reading.{Cells}
 
--- a key comes before another
+-- key k comes before `key`
 abbrev pub is_before : Key → Key → Bool
 is_before k key = is_lt (key_cmp k key)
 
--- the next cell and those after it are in the order of keys; where there is no next one, none is left
+-- the next cell and those after it are in the order of keys; if there is no next one, none is left
 abbrev pub AreLeft : Option (Key × Cell Value) → Cells → Type 0
 AreLeft next later = MatchOption next (later ≡ []) (λ s. T (is_sorted key_cmp (s ∷ later)))
 
--- what was found of this key, or of a later one, is still found
+-- what was found of this key and of later ones is still found
 abbrev pub KeepsFrom : Key → Cells → Cells → Type 0
 KeepsFrom key old new = (k : Key) → is_before k key ≡ false → find key_cmp k new ≡ find key_cmp k old
 
--- the first cell is not of a key before this one
+-- the first cell, if there is one, does not have a key before this one
 abbrev pub IsFrom : Key → Cells → Type 0
 IsFrom key [] = Unit {0}
 IsFrom key (s ∷ later) = is_before s.0 key ≡ false

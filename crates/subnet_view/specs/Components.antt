@@ -5,7 +5,7 @@ use Rattle.port_graph.specs.Walks.{shortest}
 use Rattle.subnet_view.specs.SwitchEdges.{SwitchEdges}
 use Rattle.subnet_view.specs.Graph.{guids_of, neighbors}
 
--- the fewest wires between two switches; none where they lie in different components
+-- the fewest wires between two switches; None if they lie in different components
 abbrev pub distance : List SwitchEdges → ℕ → ℕ → Option ℕ
 distance graph a b = shortest (neighbors graph) (length graph) a b
 

@@ -19,11 +19,11 @@ use Rattle.subnet_view.specs.Reading.{Cells, is_switch_node, is_port_of}
 abbrev pub is_end_port_number : Cells → ℕ → ℕ → Bool
 is_end_port_number cells g p = if is_switch_node cells g then p == 0 else is_port_of cells g p
 
--- such a port with a known GUID
+-- an end port: port 0 of a switch, or a port of another node, with a known GUID
 abbrev pub is_end_port : Cells → ℕ → ℕ → Bool
 is_end_port cells g p = is_end_port_number cells g p && is_some (port_guid_of cells g p)
 
--- the end port of a cell with its port GUID, where the cell is an end port's GUID
+-- the end port of a cell with its port GUID, if the cell is an end port's GUID
 abbrev pub guid_and_port : Cells → Key × Cell Value → Option (ℕ × EndPort)
 guid_and_port cells ((PortGuid g p), c) =
     if is_end_port_number cells g p then option_map (λ guid. (guid, record { node = g; port = p }))
@@ -38,16 +38,16 @@ port_numbers e = e.0 ∷ e.1.node ∷ e.1.port ∷ []
 abbrev pub port_cmp : ℕ × EndPort → ℕ × EndPort → Ordering
 port_cmp a b = slice_cmp nat_cmp (port_numbers a) (port_numbers b)
 
--- by port GUID, then node GUID, then port
+-- a comes before b: by port GUID, then node GUID, then port
 abbrev pub comes_before : ℕ × EndPort → ℕ × EndPort → Bool
 comes_before a b = is_lt (port_cmp a b)
 
--- before the first that it comes before
+-- the list with e put before the first end port that it comes before
 abbrev pub put_in_order : ℕ × EndPort → List (ℕ × EndPort) → List (ℕ × EndPort)
 put_in_order e [] = e ∷ []
 put_in_order e (x ∷ xs) = if comes_before e x then e ∷ x ∷ xs else x ∷ put_in_order e xs
 
--- each put where it belongs
+-- the list in order: each end port put in where it belongs
 abbrev pub in_order : List (ℕ × EndPort) → List (ℕ × EndPort)
 in_order [] = []
 in_order (x ∷ xs) = put_in_order x (in_order xs)
@@ -60,27 +60,27 @@ guids_and_ports cells = in_order (filter_map (guid_and_port cells) cells)
 abbrev pub end_ports : Cells → List EndPort
 end_ports cells = map (λ e. e.1) (guids_and_ports cells)
 
--- those that come after one, and all where there is none
+-- the end ports that come after the given one; all if none is given
 abbrev pub ports_after : Cells → Option (ℕ × EndPort) → List (ℕ × EndPort)
 ports_after cells None = guids_and_ports cells
 ports_after cells (Some e) = filter (comes_before e) (guids_and_ports cells)
 
--- the laws of these words: -----------------------------------------------------------
+-- the laws of these definitions: ------------------------------------------------------
 
--- the node is known to be of this type and to have so many ports
+-- the node is known to have this type and number of ports
 abbrev pub IsNodeWith : Cells → ℕ → NodeType → ℕ → Type 0
 IsNodeWith cells g kind ports = node_of cells g ≡ Some (kind, ports)
 
--- an end port in words
+-- the port is an end port, as a statement
 abbrev pub IsEndPort : Cells → ℕ → ℕ → Type 0
 IsEndPort cells g p = (kind : NodeType) × (ports : ℕ) × IsNodeWith cells g kind ports
     × MatchBool (is_switch kind) (p ≡ 0) ((1 ≤ p) × (p ≤ ports)) × IsSome (port_guid_of cells g p)
 
--- the test says what the words say
+-- the test agrees with the statement
 abbrev pub EndPortLaw : Type 0
 EndPortLaw = (cells : Cells) (g p : ℕ) → IsTrue (is_end_port cells g p) ↔ IsEndPort cells g p
 
--- by port GUID, node GUID and port
+-- a comes before b in the order of end ports, if their GUIDs are known
 abbrev pub ComesBefore : Cells → EndPort → EndPort → Type 0
 ComesBefore cells a b = (m n : ℕ) → port_guid_of cells a.node a.port ≡ Some m → port_guid_of cells b.node b.port
     ≡ Some n → IsTrue (comes_before (m, a) (n, b))

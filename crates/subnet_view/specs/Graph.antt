@@ -6,7 +6,7 @@ use Rattle.subnet_view.specs.Reading.{Cells, is_switch_node, port_count_of, swit
 use Rattle.subnet_view.specs.Wires.{across}
 use Rattle.subnet_view.specs.SwitchEdges.{SwitchEdges}
 
--- the wire in a port, where it leads to a switch
+-- the wire in a port, if it leads to a switch
 abbrev pub edge_at : Cells → ℕ → ℕ → Option Edge
 edge_at cells g p =
     option_and_then (λ q. if is_switch_node cells q.0 then Some (record { port = p; to = q.0 }) else None)
@@ -29,6 +29,6 @@ abbrev pub edges_at : List SwitchEdges → ℕ → List Edge
 edges_at [] a = []
 edges_at (c ∷ graph) a = if c.guid == a then c.edges else edges_at graph a
 
--- the switches that they lead to
+-- the switches that a's wires lead to
 abbrev pub neighbors : List SwitchEdges → ℕ → List ℕ
 neighbors graph a = map (λ e. e.to) (edges_at graph a)

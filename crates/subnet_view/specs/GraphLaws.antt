@@ -1,4 +1,4 @@
--- What the graph of the usable switches is, in words.
+-- What the graph of the usable switches is, as statements.
 use Rattle.std.specs.Prelude.{◌↔◌, ℕ, List, map, Contains, IsTrue}
 use Rattle.std.specs.List.Sorted.{IsStrictlyIncreasing}
 use Rattle.fact_store.specs.View.{Facts, cells_of}
@@ -18,11 +18,11 @@ pub record IsGraph (graph : List SwitchEdges) : Type 0 where
   pub leads_to_switch : (a b : ℕ) → Contains (neighbors graph a) b → IsSwitch graph b
   pub both_ways : (a b : ℕ) → Contains (neighbors graph a) b → Contains (neighbors graph b) a
 
--- what facts give is such a graph
+-- facts give a graph
 abbrev pub GraphLaw : Type 0
 GraphLaw = (facts : Facts) → IsGraph (graph_of (cells_of facts))
 
--- its switches are the usable ones
+-- the switches of the graph are the usable ones
 abbrev pub SwitchLaw : Type 0
 SwitchLaw = (facts : Facts) (g : ℕ) → IsSwitch (graph_of (cells_of facts)) g ↔ IsTrue (is_usable (cells_of facts) g)
 
@@ -30,7 +30,7 @@ SwitchLaw = (facts : Facts) (g : ℕ) → IsSwitch (graph_of (cells_of facts)) g
 abbrev pub IsSwitchWire : Facts → ℕ → ℕ → ℕ → Type 0
 IsSwitchWire facts g p h = IsTrue (is_usable (cells_of facts) h) × ((q : ℕ) × IsWire (cells_of facts) g p h q)
 
--- its edges are the wires among the usable switches
+-- the edges of a switch are the wires from it to usable switches
 abbrev pub EdgeLaw : Type 0
 EdgeLaw = (facts : Facts) (g p h : ℕ) → IsTrue (is_usable (cells_of facts) g)
     → Contains (edges_at (graph_of (cells_of facts)) g) (record { port = p; to = h }) ↔ IsSwitchWire facts g p h

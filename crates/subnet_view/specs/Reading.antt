@@ -29,7 +29,7 @@ is_switch_in node = option_map_or (λ n. is_switch n.0) node false
 abbrev pub is_switch_node : Cells → ℕ → Bool
 is_switch_node cells g = is_switch_in (node_of cells g)
 
--- the number of a node's ports, and 0 where the node is not known
+-- the number of a node's ports, 0 if the node is not known
 abbrev pub port_count_of : Cells → ℕ → ℕ
 port_count_of cells g = option_map_or (λ n. n.1) (node_of cells g) 0
 
@@ -41,7 +41,7 @@ is_usable cells g = is_switch_node cells g && is_some (cap_of cells g)
 abbrev pub is_port_of : Cells → ℕ → ℕ → Bool
 is_port_of cells g p = is_within p (port_count_of cells g)
 
--- the node of a cell, where it is a usable switch
+-- the node of a cell, if it is a usable switch
 abbrev pub usable_guid : Cells → Key × Cell Value → Option ℕ
 usable_guid cells ((Node g), c) = if is_usable cells g then Some g else None
 usable_guid cells (_, c) = None
@@ -50,13 +50,13 @@ usable_guid cells (_, c) = None
 abbrev pub switches : Cells → List ℕ
 switches cells = filter_map (usable_guid cells) cells
 
--- the laws of these words: -----------------------------------------------------------
+-- the laws of these definitions: ------------------------------------------------------
 
--- a usable switch in words
+-- the node is a usable switch, as a statement
 abbrev pub IsUsable : Cells → ℕ → Type 0
 IsUsable cells g = (ports : ℕ) × (node_of cells g ≡ Some (Switch, ports)) × IsSome (cap_of cells g)
 
--- the test says what the words say
+-- the test agrees with the statement
 abbrev pub UsableLaw : Type 0
 UsableLaw = (cells : Cells) (g : ℕ) → IsTrue (is_usable cells g) ↔ IsUsable cells g
 

@@ -1,8 +1,8 @@
--- Roots that are found one after another.
+-- Roots, as they are found one after another.
 use Rattle.std.specs.Prelude.{◌≡◌, ℕ, List, EachIndex, Option, None, option_map, slice_index_or}
 use Rattle.std.specs.Option.{option_or}
 
--- where there is no root yet, this one where there is a distance from it
+-- each switch without a root that has a distance from `root` gets it; the other roots stay
 abbrev pub FillsIn : List (Option ℕ) → List (Option ℕ) → ℕ → List (Option ℕ) → Type 0
 FillsIn roots distances root new =
     EachIndex new (λ k. slice_index_or new k None

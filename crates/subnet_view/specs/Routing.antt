@@ -8,29 +8,29 @@ use Rattle.subnet_view.specs.Graph.{edges_at}
 use Rattle.subnet_view.specs.GraphLaws.{IsSwitch}
 use Rattle.subnet_view.specs.Components.{in_one_component}
 
--- a rule: the port by which a packet for a LID leaves a switch for another, the wires that it then takes, and the
--- numbers of channels
+-- a rule of routing: the port by which a packet for a LID leaves a switch for another, the number of wires that it then
+-- takes, and the numbers of channels
 pub record Routing : Type 0 where
   pub next : ℕ → ℕ → ℕ → Option ℕ
   pub cost : ℕ → ℕ → Option ℕ
   pub channel : ℕ → ℕ → ℕ
 
--- wires of the graph in turn
+-- the edges are wires of the graph, taken in turn from s
 abbrev pub Passes : List SwitchEdges → ℕ → List Edge → Type 0
 Passes graph s [] = Unit {0}
 Passes graph s (e ∷ es) = Contains (edges_at graph s) e × Passes graph e.to es
 
--- wires by the rule's ports for a LID, as far as the switch t
+-- the edges follow the rule's ports for a LID from s up to the switch t
 abbrev pub FollowsRule : Routing → ℕ → ℕ → ℕ → List Edge → Type 0
 FollowsRule rule lid t s [] = s ≡ t
 FollowsRule rule lid t s (e ∷ es) =
     ((s == t) ≡ false) × (rule.next lid s t ≡ Some e.port) × FollowsRule rule lid t e.to es
 
--- the switches of a way, from the first on
+-- the switches of a way, from the first one s on
 abbrev pub stops : ℕ → List Edge → List ℕ
 stops s es = s ∷ map (λ e. e.to) es
 
--- the numbers of the wires that are taken in turn from a switch
+-- the numbers of the wires that are taken in turn from s
 abbrev pub numbers_along : (ℕ → ℕ → ℕ) → ℕ → List Edge → List ℕ
 numbers_along number s [] = []
 numbers_along number s (e ∷ es) = number s e.to ∷ numbers_along number e.to es
@@ -44,7 +44,8 @@ pub record Leads (graph : List SwitchEdges) (rule : Routing) (lid s t n : ℕ) :
   pub no_switch_twice : AllPairs (λ a b. a ≢ b) (stops s edges)
   pub channels_rise : IsStrictlyIncreasing (numbers_along rule.channel s edges)
 
--- each switch of a component has a cost to each other, and the rule leads there over as many wires
+-- each switch of a component has a cost to each other one, and if a switch has a cost, the rule leads there over as
+-- many wires
 pub record IsRouting (graph : List SwitchEdges) (rule : Routing) : Type 0 where
   pub reaches : (s t : ℕ) → IsSwitch graph s → IsSwitch graph t → in_one_component graph s t ≡ true → (n : ℕ)
       × (rule.cost s t ≡ Some n)

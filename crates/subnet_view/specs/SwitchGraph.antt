@@ -7,31 +7,31 @@ use Rattle.subnet_view.specs.Graph.{guids_of, edges_at}
 use Rattle.subnet_view.specs.GraphLaws.{IsGraph}
 use Rattle.subnet_view.specs.Components.{distance}
 
--- each edge leads to a lesser number
+-- each edge leads to an index below n
 abbrev pub LeadBelow : ℕ → List Edge → Type 0
 LeadBelow n edges = (e : Edge) → Contains edges e → e.to < n
 
--- the number stands at the index
+-- the number is at index i
 abbrev pub IsIndexOf : List ℕ → ℕ → ℕ → Type 0
 IsIndexOf numbers number i = (i < length numbers) × (slice_index numbers i ≡ number)
 
--- the index of a number, where it is one of the list
+-- the index of a number, if the list has it
 abbrev pub IsIndexIn : List ℕ → ℕ → Option ℕ → Type 0
 IsIndexIn numbers number found = MatchOption found (¬ (Contains numbers number)) (IsIndexOf numbers number)
 
--- the GUID of the switch at an index
+-- the GUID of the switch at index i
 abbrev pub switch_at : List SwitchEdges → ℕ → ℕ
 switch_at graph i = slice_index (guids_of graph) i
 
--- an edge to an index, by the GUID at that index
+-- an edge to an index, as an edge to the GUID at that index
 abbrev pub by_guid : List ℕ → Edge → Edge
 by_guid guids e = record { port = e.port; to = slice_index guids e.to }
 
--- the edges of the switch at an index, which lead to indices
+-- the edges, which lead to indices, are those of the switch at index i
 abbrev pub AreEdgesAt : List SwitchEdges → ℕ → List Edge → Type 0
 AreEdgesAt graph i edges = map (by_guid (guids_of graph)) edges ≡ edges_at graph (switch_at graph i)
 
--- the distances from the switch at an index to each, by rising GUID
+-- the distances from the switch at index i to each switch, by rising GUID
 abbrev pub distances_from : List SwitchEdges → ℕ → List (Option ℕ)
 distances_from graph i = map (distance graph (switch_at graph i)) (guids_of graph)
 
@@ -41,17 +41,17 @@ switch_edges [] edges = []
 switch_edges (g ∷ guids) [] = []
 switch_edges (g ∷ guids) (es ∷ edges) = record { guid = g; edges = es } ∷ switch_edges guids edges
 
--- the graph of switches whose edges lead to indices
+-- the graph of switches, from edges that lead to indices
 abbrev pub named : List ℕ → List (List Edge) → List SwitchEdges
 named guids edges = switch_edges guids (map (map (by_guid guids)) edges)
 
--- each switch has edges, to switches, and together they are a graph
+-- each switch has edges, which lead to switches, and together they are a graph
 pub record IsSwitchGraph (guids : List ℕ) (edges : List (List Edge)) : Type 0 where
   pub as_many : length edges ≡ length guids
   pub to_switches : LeadToVertices edges
   pub is_graph : IsGraph (named guids edges)
 
--- the edges of each switch, by rising GUID, which lead to indices
+-- the edges of each switch of the graph, by rising GUID, which lead to indices
 pub record AreEdgesByIndex (graph : List SwitchEdges) (edges : List (List Edge)) : Type 0 where
   pub as_many : length edges ≡ length graph
   pub to_switches : LeadToVertices edges

@@ -16,16 +16,16 @@ use Rattle.subnet_view.specs.Reading.{Cells, is_up, is_switch_in}
 use Rattle.subnet_view.specs.CellCursor.{KeepsFrom, is_before}
 use Rattle.subnet_view.specs.Wires.{is_at, is_wire_end}
 
--- where the link of a port leads that can have a wire
+-- where the link of a port leads, if the port can have a wire
 abbrev pub end_link : Cells → ℕ → ℕ → Option (ℕ × ℕ)
 end_link cells g p = if is_wire_end cells g p then link_of cells g p else None
 
--- the same of a cell of the port's link, with the port
+-- the port of a link's cell, and where the link leads, if the port can have a wire
 abbrev pub wire_end : Cells → Key × Cell Value → Option ((ℕ × ℕ) × (ℕ × ℕ))
 wire_end cells ((Link g p), c) = option_map (λ q. ((g, p), q)) (end_link cells g p)
 wire_end cells (_, c) = None
 
--- all of them, by rising GUID and port
+-- all ports that can have a wire, with where their links lead, by rising GUID and port
 abbrev pub wire_ends : Cells → List ((ℕ × ℕ) × (ℕ × ℕ))
 wire_ends cells = filter_map (wire_end cells) cells
 
@@ -35,41 +35,41 @@ is_pair near far back = not (is_at near.0 near.1 far) && option_map_or (is_at ne
 
 -- by what is read in step: -----------------------------------------------------------
 
--- the number of the ports of what is known of a node
+-- the number of a node's ports, 0 if the node is not known
 abbrev pub count_of : Option (NodeType × ℕ) → ℕ
 count_of node = option_map_or (λ n. n.1) node 0
 
--- a port that can have a wire, by what was not passed yet
+-- a port that can have a wire, by the cells that the reader has not passed
 abbrev pub is_end_read : PortReader → ℕ → ℕ → Bool
 is_end_read r g p = let node = node_of r.nodes g in is_up r.ports g p && is_within p (count_of node)
     && (if is_switch_in node then is_some (cap_of r.caps g) else is_some (port_guid_of r.guids g p))
 
--- the same of a cell, with where its link leads
+-- the port of a link's cell, and where the link leads, if the port can have a wire by what the reader has not passed
 abbrev pub end_read : PortReader → Key × Cell Value → Option ((ℕ × ℕ) × (ℕ × ℕ))
 end_read r ((Link g p), c) =
     if is_end_read r g p then option_map (λ q. ((g, p), q)) (peer_in (value_in (Some c))) else None
 end_read r (_, c) = None
 
--- what is known of a port was not passed
+-- the reader has not passed what is known of a port
 pub record HasNotPassed (cells : Cells) (r : PortReader) (g p : ℕ) : Type 0 where
   pub node : find key_cmp (Node g) r.nodes ≡ find key_cmp (Node g) cells
   pub guid : find key_cmp (PortGuid g p) r.guids ≡ find key_cmp (PortGuid g p) cells
   pub port : find key_cmp (Port g p) r.ports ≡ find key_cmp (Port g p) cells
   pub cap : find key_cmp (Cap g) r.caps ≡ find key_cmp (Cap g) cells
 
--- nor is it then, of this port or a later one
+-- for this key's port and later ones, the reader still has not passed what it had not passed
 abbrev pub PassesNone : Key → PortReader → PortReader → Type 0
 PassesNone key old new = (cells : Cells) (h q : ℕ) → is_before (Link h q) key ≡ false → HasNotPassed cells old h q
     → HasNotPassed cells new h q
 
--- nothing of a port or of a later one was passed
+-- the reader passes nothing of port p of node g or of later ports
 pub record KeepsPort (g p : ℕ) (old new : PortReader) : Type 0 where
   pub node : KeepsFrom (Node g) old.nodes new.nodes
   pub guid : KeepsFrom (PortGuid g p) old.guids new.guids
   pub port : KeepsFrom (Port g p) old.ports new.ports
   pub cap : KeepsFrom (Cap g) old.caps new.caps
 
--- all cells are to be read
+-- the reader has passed nothing
 pub record ReadsAll (cells : Cells) (r : PortReader) : Type 0 where
   pub node : r.nodes ≡ cells
   pub guid : r.guids ≡ cells

@@ -12,7 +12,7 @@ abbrev pub is_wire_end : Cells → ℕ → ℕ → Bool
 is_wire_end cells g p = is_up cells g p && is_port_of cells g p
     && (if is_switch_node cells g then is_usable cells g else is_end_port cells g p)
 
--- the port p of the node g
+-- q is port p of node g
 abbrev pub is_at : ℕ → ℕ → ℕ × ℕ → Bool
 is_at g p q = g == q.0 && p == q.1
 
@@ -25,20 +25,20 @@ is_wire cells g p q = not (is_at g p q) && is_wire_end cells g p && is_wire_end 
 abbrev pub across : Cells → ℕ → ℕ → Option (ℕ × ℕ)
 across cells g p = option_and_then (λ q. if is_wire cells g p q then Some q else None) (link_of cells g p)
 
--- the switch and the port of it that the wire in an adapter port leads to
+-- the switch and its port that the wire in an adapter port leads to
 abbrev pub attached : Cells → ℕ → ℕ → Option (ℕ × ℕ)
 attached cells g p =
     if is_switch_node cells g then None else option_and_then (λ q. if is_switch_node cells q.0 then Some q else None)
     (across cells g p)
 
--- the laws of these words: -----------------------------------------------------------
+-- the laws of these definitions: ------------------------------------------------------
 
--- a port that can have a wire, in words
+-- a port that can have a wire, as a statement
 abbrev pub CanHaveWire : Cells → ℕ → ℕ → Type 0
 CanHaveWire cells g p = (kind : NodeType) × (ports : ℕ) × IsNodeWith cells g kind ports × (1 ≤ p) × (p ≤ ports)
     × IsTrue (is_up cells g p) × MatchBool (is_switch kind) (IsSome (cap_of cells g)) (IsSome (port_guid_of cells g p))
 
--- a wire in words
+-- a wire, as a statement
 pub record IsWire (cells : Cells) (g p h q : ℕ) : Type 0 where
   pub different : ◌≢◌ {A = ℕ × ℕ} (g, p) (h, q)
   pub first : CanHaveWire cells g p
@@ -46,7 +46,7 @@ pub record IsWire (cells : Cells) (g p h q : ℕ) : Type 0 where
   pub named_there : link_of cells g p ≡ Some (h, q)
   pub named_back : link_of cells h q ≡ Some (g, p)
 
--- there is another end exactly where there is a wire
+-- a port has another end exactly if there is a wire
 abbrev pub WireLaw : Type 0
 WireLaw = (cells : Cells) (g p h q : ℕ) → (across cells g p ≡ Some (h, q)) ↔ IsWire cells g p h q
 
@@ -54,12 +54,12 @@ WireLaw = (cells : Cells) (g p h q : ℕ) → (across cells g p ≡ Some (h, q))
 abbrev pub WiresGoBothWays : Type 0
 WiresGoBothWays = (cells : Cells) (g p h q : ℕ) → across cells g p ≡ Some (h, q) → across cells h q ≡ Some (g, p)
 
--- a port of a node that is no known switch, with a wire to a port of a usable switch
+-- the port's node is not known to be a switch, and a wire leads from it to a port of a usable switch
 pub record IsAttached (cells : Cells) (g p h q : ℕ) : Type 0 where
   pub not_a_switch : is_switch_node cells g ≡ false
   pub wire : IsWire cells g p h q
   pub to_switch : IsUsable cells h
 
--- a port is attached exactly where the words say so
+-- a port is attached exactly if the statement holds
 abbrev pub AttachedLaw : Type 0
 AttachedLaw = (cells : Cells) (g p h q : ℕ) → (attached cells g p ≡ Some (h, q)) ↔ IsAttached cells g p h q

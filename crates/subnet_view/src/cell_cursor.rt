@@ -9,10 +9,10 @@ use fact_store::{Cells, Key, Sighting, Store, Value};
 use smp_bytes::{Guid, NodeType, PortNum};
 use std::marker::Model;
 
-/// Cells in the order of keys, read in step with keys that rise.
+/// Cells in the order of keys, read in step with rising keys.
 #[derive(Drop)]
 pub(crate) struct CellCursor<'s> {
-    /// The first cell that was not passed.
+    /// The first cell that has not been passed.
     next: Option<Sighting>,
     /// The cells after it.
     later: Cells<'s>,
@@ -32,7 +32,7 @@ impl<'s> Model for CellCursor<'s> {
 }
 
 impl<'s> CellCursor<'s> {
-    /// All cells of a store.
+    /// Creates a cursor before all cells of a store.
     pub(crate) fn new(store: &'s Store) -> Self
         ensures { result ≡ cells_of store.now }
     {
@@ -41,7 +41,7 @@ impl<'s> CellCursor<'s> {
         CellCursor { next, later }
     }
 
-    /// The type of a node and the number of its ports.
+    /// Returns the type of a node and its number of ports.
     pub(crate) fn node(&mut self, node: Guid) -> Option<(NodeType, u8)>
         ensures value { result ≡ node_of self.old node }
         ensures later { KeepsFrom (Node node) self.old self.new }
@@ -52,7 +52,7 @@ impl<'s> CellCursor<'s> {
         }
     }
 
-    /// The GUID of a port.
+    /// Returns the GUID of a port.
     pub(crate) fn port_guid(&mut self, node: Guid, port: PortNum) -> Option<Guid>
         ensures value { result ≡ port_guid_of self.old node port }
         ensures later { KeepsFrom (PortGuid node port) self.old self.new }
@@ -63,7 +63,7 @@ impl<'s> CellCursor<'s> {
         }
     }
 
-    /// How many LIDs a switch's linear forwarding table has room for.
+    /// Returns how many LIDs a switch's linear forwarding table has room for.
     pub(crate) fn cap(&mut self, node: Guid) -> Option<u16>
         ensures value { result ≡ cap_of self.old node }
         ensures later { KeepsFrom (Cap node) self.old self.new }
@@ -74,7 +74,7 @@ impl<'s> CellCursor<'s> {
         }
     }
 
-    /// Whether a port is known to be up.
+    /// Returns whether a port is known to be up.
     pub(crate) fn is_up(&mut self, node: Guid, port: PortNum) -> bool
         ensures value { result ≡ is_up self.old node port }
         ensures later { KeepsFrom (Port node port) self.old self.new }
@@ -82,8 +82,8 @@ impl<'s> CellCursor<'s> {
         matches!(self.known(Key::Port(node, port)), Some(Value::Up(true)))
     }
 
-    /// The value that a key is known to have. Passes the cells of the keys before it, so later ones
-    /// can be asked for, and it again.
+    /// Returns the known value of a key. Passes the cells of earlier keys, so only this key and later ones can be asked
+    /// for then.
     fn known(&mut self, key: Key) -> Option<Value>
         ensures value { result ≡ known_in self.old key }
         ensures later { KeepsFrom key self.old self.new }
@@ -97,7 +97,7 @@ impl<'s> CellCursor<'s> {
         }
     }
 
-    /// Passes the cells of the keys before one.
+    /// Passes the cells of the keys before `key`.
     fn pass(&mut self, key: Key)
         ensures later { KeepsFrom key self.old self.new }
         ensures reached { IsFrom key self.new }

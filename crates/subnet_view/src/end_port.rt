@@ -10,32 +10,31 @@ use fact_store::{Key, Refused, Sighting, Store};
 use smp_bytes::{Guid, NodeType, PortNum};
 use std::alloc::{AllocError, Global};
 
-/// A port that has a LID of its own: port 0 of a switch, or a port of another node.
+/// A port with a LID of its own: port 0 of a switch, or a port of another node.
 #[derive(Clone, Copy, Debug, PartialEq, Eq)]
 pub struct EndPort {
     /// The GUID of its node.
     pub node: Guid,
-    /// Its number at the node.
+    /// The number of the port at its node.
     pub port: PortNum,
 }
 
-/// Whether a port is an end port: port 0 of a switch, or a port of another node, with a known GUID.
-/// Takes two searches.
+/// Returns whether a port is an end port: port 0 of a switch, or a port of another node, with a known GUID. Takes two
+/// searches.
 pub fn is_end_port(store: &Store, node: Guid, port: PortNum) -> bool
     ensures { result ≡ is_end_port (cells_of store.now) node port }
 {
     is_end_port_number(store, node, port) && store.port_guid(node, port).is_some()
 }
 
-/// The end ports, by port GUID, then node GUID, then port. Walks the cells, and sorts.
+/// Returns the end ports, by port GUID, then node GUID, then port. Walks the cells, and sorts.
 pub fn end_ports(alloc: Global, store: &Store) -> Result<Vec<EndPort>, Refused>
     ensures { IfOk result (λ ports. ports.items ≡ end_ports (cells_of store.now)) }
 {
     Ok(listed_end_ports(alloc, store)?)
 }
 
-/// How many end ports there are. Takes no memory, and walks the cells: all of them count but those that
-/// are no end port's.
+/// Counts the end ports: the cells, except those that are no end port's GUID. Takes no memory, and walks the cells.
 pub fn count_end_ports(store: &Store) -> usize
     ensures { result ≡ length (end_ports (cells_of store.now)) }
 {
@@ -48,7 +47,7 @@ pub fn count_end_ports(store: &Store) -> usize
     count
 }
 
-/// The same, with the allocator's own refusal.
+/// Returns the end ports in their order, with the allocator's own error.
 fn listed_end_ports(alloc: Global, store: &Store) -> Result<Vec<EndPort>, AllocError>
     ensures { IfOk result (λ ports. ports.items ≡ end_ports (cells_of store.now)) }
 {
@@ -56,7 +55,7 @@ fn listed_end_ports(alloc: Global, store: &Store) -> Result<Vec<EndPort>, AllocE
     sorted.iter().map(|end| end.1).collect(alloc)
 }
 
-/// The end ports with their port GUIDs, in their order.
+/// Returns the end ports with their port GUIDs, in their order.
 fn sorted_end_ports(alloc: Global, store: &Store) -> Result<Vec<(Guid, EndPort)>, AllocError>
     ensures { IfOk result (λ sorted. sorted.items
         ≡ in_order (filter_map (guid_and_port (cells_of store.now)) (cells_of store.now))) }
@@ -66,7 +65,7 @@ fn sorted_end_ports(alloc: Global, store: &Store) -> Result<Vec<(Guid, EndPort)>
     Ok(found)
 }
 
-/// The end ports with their port GUIDs, in the order of keys.
+/// Returns the end ports with their port GUIDs, in the order of keys.
 fn found_end_ports(alloc: Global, store: &Store) -> Result<Vec<(Guid, EndPort)>, AllocError>
     ensures { IfOk result (λ found. found.items
         ≡ filter_map (guid_and_port (cells_of store.now)) (cells_of store.now)) }
@@ -87,7 +86,7 @@ fn sort(found: &mut [(Guid, EndPort)])
     found.sort_unstable_by_key(sort_key);
 }
 
-/// The port GUID, the node GUID and the port.
+/// Returns the port GUID, the node GUID and the port.
 pub(crate) fn sort_key(end: &(Guid, EndPort)) -> [u64; 3]
     ensures { result ≡ port_numbers end.now }
 {
@@ -98,7 +97,7 @@ pub(crate) fn sort_key(end: &(Guid, EndPort)) -> [u64; 3]
     ]
 }
 
-/// The end port of a cell with its port GUID, where the cell is an end port's GUID. Takes a search.
+/// Returns the end port of a cell with its port GUID, if the cell is an end port's GUID. Takes a search.
 pub(crate) fn guid_and_port(store: &Store, sighting: &Sighting) -> Option<(Guid, EndPort)>
     requires { cell_for store.now sighting.now.0 ≡ Some sighting.now.1 }
     ensures { result ≡ guid_and_port (cells_of store.now) sighting.now }
@@ -116,8 +115,7 @@ pub(crate) fn guid_and_port(store: &Store, sighting: &Sighting) -> Option<(Guid,
     }
 }
 
-/// Whether the port is port 0 of a switch, or a port from 1 to the count of another node. Takes a
-/// search.
+/// Returns whether the port is port 0 of a switch, or a port from 1 to the count of another node. Takes a search.
 fn is_end_port_number(store: &Store, node: Guid, port: PortNum) -> bool
     ensures { result ≡ is_end_port_number (cells_of store.now) node port }
 {

@@ -8,7 +8,7 @@ use crate::end_port::{EndPort, guid_and_port, sort_key};
 use fact_store::Store;
 use smp_bytes::Guid;
 
-/// The end port that comes after another one in their order, with its port GUID; the first one where none is named.
+/// Returns the end port that comes after `last` in their order, with its port GUID; the first one if `last` is `None`.
 /// Takes no memory, and walks the cells.
 pub fn next_end_port(store: &Store, last: Option<(Guid, EndPort)>) -> Option<(Guid, EndPort)>
     ensures { MatchOption result (ports_after (cells_of store.now) last ≡ [])
@@ -24,7 +24,7 @@ pub fn next_end_port(store: &Store, last: Option<(Guid, EndPort)>) -> Option<(Gu
     next
 }
 
-/// The end port, where it comes after the last one and before the next one so far; else that one.
+/// Returns `end` if it comes after `last` and before `next`, and otherwise `next`.
 fn nearer(
     last: &Option<(Guid, EndPort)>,
     next: Option<(Guid, EndPort)>,
@@ -39,7 +39,7 @@ fn nearer(
     }
 }
 
-/// Whether an end port comes after the last one, where there is one.
+/// Returns whether an end port comes after `last`, if there is one.
 fn is_after(last: &Option<(Guid, EndPort)>, end: &(Guid, EndPort)) -> bool
     ensures { result ≡ is_after last.now end.now }
 {
@@ -49,7 +49,7 @@ fn is_after(last: &Option<(Guid, EndPort)>, end: &(Guid, EndPort)) -> bool
     }
 }
 
-/// Whether an end port comes before the next one, where there is one.
+/// Returns whether an end port comes before `next`, if there is one.
 fn is_before(next: &Option<(Guid, EndPort)>, end: &(Guid, EndPort)) -> bool
     ensures { result ≡ is_before next.now end.now }
 {
@@ -59,7 +59,7 @@ fn is_before(next: &Option<(Guid, EndPort)>, end: &(Guid, EndPort)) -> bool
     }
 }
 
-/// Whether one end port comes before another.
+/// Returns whether one end port comes before another.
 fn comes_before(a: &(Guid, EndPort), b: &(Guid, EndPort)) -> bool
     ensures { result ≡ comes_before a.now b.now }
 {

@@ -9,18 +9,18 @@ pub fn usable_is_in_words()
     ensures { UsableLaw }
 {}
 
-/// The usable switches are listed each once, by rising GUID, and nothing else is.
+/// The list of switches has each usable switch once, by rising GUID, and nothing else.
 pub fn switches_are_listed_by_guid()
     ensures { SwitchesLaw }
 {}
 
-/// An end port is port 0 of a node known to be a switch, or a port from 1 to the count of a node known
-/// to be another, and its GUID is known.
+/// An end port is port 0 of a node known to be a switch, or a port from 1 to the count of a node known to be of another
+/// type, and its GUID is known.
 pub fn end_port_is_in_words()
     ensures { EndPortLaw }
 {}
 
-/// The end ports are listed each once, by port GUID, node GUID and port, and nothing else is.
+/// The list of end ports has each end port once, by port GUID, node GUID and port, and nothing else.
 pub fn end_ports_are_listed_in_order()
     ensures { EndPortsLaw }
 {}
@@ -35,14 +35,14 @@ pub fn wires_go_both_ways()
     ensures { WiresGoBothWays }
 {}
 
-/// A port is attached to a port of a usable switch exactly where its node isn't known to be a switch and
-/// a wire leads from the one to the other.
+/// A port is attached to a port of a usable switch exactly if its node is not known to be a switch and a wire leads
+/// from the one to the other.
 pub fn attachment_is_in_words()
     ensures { AttachedLaw }
 {}
 
-/// What facts give is a graph: its switches stand by rising GUID, each with its edges by rising
-/// port, and each wire leads to a switch that has a wire back.
+/// Facts give a graph: its switches stand by rising GUID, each with its edges by rising port, and each wire leads to a
+/// switch that has a wire back.
 pub fn facts_give_a_graph()
     ensures { GraphLaw }
 {}

@@ -9,7 +9,7 @@ use crate::reading::peer_said;
 use fact_store::{Key, Sighting, Store};
 use smp_bytes::{Guid, NodeType, PortNum};
 
-/// What is known of ports, in step with ports that rise.
+/// What is known of ports, read in step with rising ports.
 #[derive(Drop)]
 pub(crate) struct PortReader<'s> {
     nodes: CellCursor<'s>,
@@ -19,7 +19,7 @@ pub(crate) struct PortReader<'s> {
 }
 
 impl<'s> PortReader<'s> {
-    /// A reader of all that a store says.
+    /// Creates a reader of all that a store says.
     pub(crate) fn new(store: &'s Store) -> Self
         ensures { ReadsAll (cells_of store.now) result }
     {
@@ -31,8 +31,8 @@ impl<'s> PortReader<'s> {
         }
     }
 
-    /// The port of a link's cell and where the link leads, where that port can have a wire. Passes
-    /// what is known of earlier ports.
+    /// Returns the port of a link's cell and where the link leads, if the port can have a wire. Passes what is known of
+    /// earlier ports.
     pub(crate) fn wire_end(
         &mut self,
         sighting: &Sighting,
@@ -52,7 +52,7 @@ impl<'s> PortReader<'s> {
         }
     }
 
-    /// Whether a port can have a wire. Passes what is known of earlier ports.
+    /// Returns whether a port can have a wire. Passes what is known of earlier ports.
     fn is_wire_end(&mut self, node: Guid, port: PortNum) -> bool
         ensures end { result ≡ is_end_read self.old node port }
         ensures later { KeepsPort node port self.old self.new }
@@ -65,7 +65,7 @@ impl<'s> PortReader<'s> {
     }
 }
 
-/// Whether the port is one from 1 to the count of what is known of its node.
+/// Returns whether the port is from 1 to the count of its node, if the node is known.
 fn is_port_of(port: PortNum, node: Option<(NodeType, u8)>) -> bool
     ensures { result ≡ is_within port (count_of node) }
 {
@@ -75,7 +75,7 @@ fn is_port_of(port: PortNum, node: Option<(NodeType, u8)>) -> bool
     }
 }
 
-/// Whether what is known of a node says that it is a switch.
+/// Returns whether the node is known to be a switch.
 fn is_switch(node: Option<(NodeType, u8)>) -> bool
     ensures { result ≡ is_switch_in node }
 {

@@ -6,7 +6,7 @@ ghost use Rattle.subnet_view.specs.Reading.{port_count_of, is_up, is_switch_in, 
 use fact_store::{Sighting, Store, Value};
 use smp_bytes::{Guid, NodeType, PortNum};
 
-/// The number of a node's ports, and 0 where the node is not known. Takes a search.
+/// Returns the number of a node's ports, or 0 if the node is not known. Takes a search.
 pub fn port_count(store: &Store, guid: Guid) -> u8
     ensures { result ≡ port_count_of (cells_of store.now) guid }
 {
@@ -16,28 +16,28 @@ pub fn port_count(store: &Store, guid: Guid) -> u8
     }
 }
 
-/// Whether a port is known to be up. Takes a search.
+/// Returns whether a port is known to be up. Takes a search.
 pub(crate) fn is_up(store: &Store, node: Guid, port: PortNum) -> bool
     ensures { result ≡ is_up (cells_of store.now) node port }
 {
     store.is_up(node, port).unwrap_or(false)
 }
 
-/// Whether a node is known to be a switch. Takes a search.
+/// Returns whether a node is known to be a switch. Takes a search.
 pub(crate) fn is_switch(store: &Store, node: Guid) -> bool
     ensures { result ≡ is_switch_node (cells_of store.now) node }
 {
     matches!(store.node(node), Some((NodeType::Switch, _)))
 }
 
-/// Whether a cell says that its node is a switch.
+/// Returns whether a cell says that its node is a switch.
 pub(crate) fn is_switch_said(sighting: &Sighting) -> bool
     ensures { result ≡ is_switch_in (kind_in (value_in (Some sighting.now.1))) }
 {
     matches!(sighting.value(), Some(Value::Kind(NodeType::Switch, _)))
 }
 
-/// The GUID that a cell says.
+/// Returns the GUID that a cell says.
 pub(crate) fn guid_said(sighting: &Sighting) -> Option<Guid>
     ensures { result ≡ guid_in (value_in (Some sighting.now.1)) }
 {
@@ -47,7 +47,7 @@ pub(crate) fn guid_said(sighting: &Sighting) -> Option<Guid>
     }
 }
 
-/// The port that a cell says is at the other end of the link.
+/// Returns the port that a cell says is at the other end of the link.
 pub(crate) fn peer_said(sighting: &Sighting) -> Option<(Guid, PortNum)>
     ensures { result ≡ peer_in (value_in (Some sighting.now.1)) }
 {

@@ -8,21 +8,21 @@ use fact_store::{Key, Refused, Sighting, Store};
 use smp_bytes::Guid;
 use std::alloc::{AllocError, Global};
 
-/// Whether a node is a switch whose type and table room are known. Takes two searches.
+/// Returns whether a node is a usable switch: known to be a switch, with known table room. Takes two searches.
 pub fn is_usable(store: &Store, node: Guid) -> bool
     ensures { result ≡ is_usable (cells_of store.now) node }
 {
     is_switch(store, node) && store.cap(node).is_some()
 }
 
-/// The usable switches, by rising GUID. Walks the cells.
+/// Returns the usable switches, by rising GUID. Walks the cells.
 pub fn switches(alloc: Global, store: &Store) -> Result<Vec<Guid>, Refused>
     ensures { IfOk result (λ found. found.items ≡ switches (cells_of store.now)) }
 {
     Ok(listed_switches(alloc, store)?)
 }
 
-/// The same, with the allocator's own refusal.
+/// Returns the usable switches, by rising GUID, with the allocator's own error.
 fn listed_switches(alloc: Global, store: &Store) -> Result<Vec<Guid>, AllocError>
     ensures { IfOk result (λ found. found.items ≡ switches (cells_of store.now)) }
 {
@@ -35,8 +35,7 @@ fn listed_switches(alloc: Global, store: &Store) -> Result<Vec<Guid>, AllocError
     Ok(found)
 }
 
-/// The node of a cell of the store, where it is a usable switch. Takes a search where it is a
-/// switch.
+/// Returns the node of a cell of the store, if it is a usable switch. Takes a search if it is a switch.
 pub fn usable_guid(store: &Store, sighting: &Sighting) -> Option<Guid>
     requires { cell_for store.now sighting.now.0 ≡ Some sighting.now.1 }
     ensures { result ≡ usable_guid (cells_of store.now) sighting.now }
@@ -53,7 +52,7 @@ pub fn usable_guid(store: &Store, sighting: &Sighting) -> Option<Guid>
     }
 }
 
-/// Whether a node that this cell tells of is a switch whose table room is known.
+/// Returns whether the cell says that `node` is a switch, and its table room is known.
 fn is_usable_said(store: &Store, node: Guid, sighting: &Sighting) -> bool
     ensures { result ≡ (is_switch_in (kind_in (value_in (Some sighting.now.1)))
         && is_some (cap_of (cells_of store.now) node)) }

@@ -19,10 +19,10 @@ use smp_bytes::{Guid, PortNum};
 use std::alloc::{AllocError, Global};
 use std::marker::Model;
 
-/// The usable switches and the wires between them.
+/// The usable switches and the wires between them, as a graph.
 #[derive(Drop)]
 pub struct SwitchGraph {
-    /// The switches by rising GUID. An edge leads to an index among them.
+    /// The switches by rising GUID. An edge leads to an index in this list.
     guids: Vec<Guid>,
     /// The edges of each switch, by rising port.
     edges: Adjacency,
@@ -41,8 +41,8 @@ impl Model for SwitchGraph {
 }
 
 impl SwitchGraph {
-    /// The usable switches of the view with the wires between them. Takes two searches among the
-    /// wires for each port of a switch, and one among the switches for each wire.
+    /// Builds the graph of the view's usable switches and the wires between them. Takes two searches among the wires
+    /// for each port of a switch, and one among the switches for each wire.
     pub fn of(alloc: Global, wires: &Wires) -> Result<Self, Refused>
         ensures { IfOk result (λ graph. graph ≡ graph_of (cells_of wires.now)) }
     {
@@ -51,7 +51,7 @@ impl SwitchGraph {
         Ok(SwitchGraph { guids, edges })
     }
 
-    /// How many switches there are. It is held.
+    /// Returns the number of switches. Takes one step.
     pub fn len(&self) -> usize
         ensures count { result ≡ length self.now }
         ensures is_graph { IsGraph self.now }
@@ -59,35 +59,35 @@ impl SwitchGraph {
         self.guids.len()
     }
 
-    /// The switches, by rising GUID.
+    /// Returns the switches, by rising GUID.
     pub fn switches(&self) -> &[Guid]
         ensures { result.now ≡ guids_of self.now }
     {
         &self.guids
     }
 
-    /// The same, handed out.
+    /// Returns the switches, by rising GUID, and drops the edges.
     pub fn into_switches(self) -> Vec<Guid>
         ensures { result.items ≡ guids_of self }
     {
         self.guids
     }
 
-    /// The switch at an index. Takes one step.
+    /// Returns the switch at an index. Takes one step.
     pub fn switch(&self, index: usize) -> Option<Guid>
         ensures { result ≡ slice_get (guids_of self.now) index }
     {
         self.guids.get(index).copied()
     }
 
-    /// The index of a switch. Takes a search.
+    /// Returns the index of a switch. Takes a search.
     pub fn index_of(&self, switch: Guid) -> Option<usize>
         ensures { IsIndexIn (guids_of self.now) switch result }
     {
         index_of(&self.guids, switch)
     }
 
-    /// The edges of the switch at an index, which lead to indices. Takes one step.
+    /// Returns the edges of the switch at `index`, which lead to indices. Takes one step.
     pub fn edges(&self, index: usize) -> &[Edge]
         requires { index < length self.now }
         ensures edges { AreEdgesAt self.now index result.now }
@@ -96,7 +96,7 @@ impl SwitchGraph {
         self.edges.at(index)
     }
 
-    /// The edges of each switch, by rising GUID, which lead to indices.
+    /// Returns the edges of each switch, by rising GUID, which lead to indices.
     pub fn adjacency(&self) -> &Adjacency
         ensures edges { AreEdgesByIndex self.now result.now }
         ensures is_graph { IsGraph self.now }
@@ -104,7 +104,7 @@ impl SwitchGraph {
         &self.edges
     }
 
-    /// The distances from the switch at an index to each switch. Takes a search in breadth.
+    /// Returns the distances from the switch at index `from` to each switch. Takes a breadth-first search.
     pub fn distances(&self, alloc: Global, from: usize) -> Result<Vec<Option<usize>>, AllocError>
         requires { from < length self.now }
         ensures { IfOk result (λ found. found.items ≡ distances_from self.now from) }
@@ -112,8 +112,8 @@ impl SwitchGraph {
         port_graph::distances(alloc, &self.edges, from)
     }
 
-    /// The root of each switch's component, by rising GUID: the least GUID there. Takes a search in
-    /// breadth for each component.
+    /// Returns the root of each switch's component, the least GUID in it, by rising GUID of the switches. Takes a
+    /// breadth-first search for each component.
     pub fn roots(&self, alloc: Global) -> Result<Vec<Option<Guid>>, AllocError>
         ensures { IfOk result (λ roots. roots.items ≡ map (root_of self.now) (guids_of self.now)) }
     {
@@ -121,7 +121,7 @@ impl SwitchGraph {
     }
 }
 
-/// The edges of each switch, where the GUIDs are those of the usable switches.
+/// Returns the edges of each switch. `guids` are the usable switches.
 fn edges(alloc: Global, wires: &Wires, guids: &[Guid]) -> Result<Adjacency, AllocError>
     requires { guids.now ≡ switches (cells_of wires.now) }
     ensures wires { IfOk result (λ edges.
@@ -136,7 +136,7 @@ fn edges(alloc: Global, wires: &Wires, guids: &[Guid]) -> Result<Adjacency, Allo
     Ok(edges)
 }
 
-/// The wires from a switch to switches, by rising port.
+/// Returns the wires from a switch to switches, by rising port.
 fn edges_of(
     alloc: Global,
     wires: &Wires,
@@ -157,8 +157,8 @@ fn edges_of(
     Ok(found)
 }
 
-/// The wire in a port, where it leads to a switch. Takes two searches among the wires, and one among
-/// the switches where there is one.
+/// Returns the edge of the wire in a port, if it leads to a switch. Takes two searches among the wires, and one among
+/// the switches if there is a wire.
 fn edge_at(wires: &Wires, guids: &[Guid], guid: Guid, port: PortNum) -> Option<Edge>
     requires { guids.now ≡ switches (cells_of wires.now) }
     ensures wire { option_map (by_guid guids.now) result ≡ edge_at (cells_of wires.now) guid port }
@@ -169,7 +169,7 @@ fn edge_at(wires: &Wires, guids: &[Guid], guid: Guid, port: PortNum) -> Option<E
     Some(Edge { port, to })
 }
 
-/// The index of a GUID among GUIDs that rise. A search.
+/// Returns the index of a GUID among rising GUIDs. Takes a search.
 fn index_of(guids: &[Guid], guid: Guid) -> Option<usize>
     requires { IsStrictlyIncreasing guids.now }
     ensures { IsIndexIn guids.now guid result }

@@ -6,9 +6,8 @@ use crate::reading::{is_switch, is_up};
 use fact_store::Store;
 use smp_bytes::{Guid, NodeType, PortNum};
 
-/// The node and the port at the other end of the wire in a port. There is a wire where the links of two
-/// different ports name each other, and both are up and are ports of usable switches or end ports.
-/// Takes eight searches.
+/// Returns the node and the port at the other end of the wire in a port. There is a wire if the links of two different
+/// ports name each other, and both ports are up and belong to usable switches or are end ports. Takes eight searches.
 pub fn wire(store: &Store, node: Guid, port: PortNum) -> Option<(Guid, PortNum)>
     ensures { result ≡ across (cells_of store.now) node port }
 {
@@ -20,8 +19,8 @@ pub fn wire(store: &Store, node: Guid, port: PortNum) -> Option<(Guid, PortNum)>
     }
 }
 
-/// The switch and the port of it that the wire in an adapter port leads to. A port of a node that is known
-/// to be a switch is attached to nothing. Takes ten searches.
+/// Returns the switch and its port that the wire in an adapter port leads to. A port of a node that is known to be a
+/// switch is attached to nothing. Takes ten searches.
 pub fn attached(store: &Store, node: Guid, port: PortNum) -> Option<(Guid, PortNum)>
     ensures { result ≡ attached (cells_of store.now) node port }
 {
@@ -36,7 +35,7 @@ pub fn attached(store: &Store, node: Guid, port: PortNum) -> Option<(Guid, PortN
     }
 }
 
-/// Whether there is a wire between two ports, of which the first one's link names the second.
+/// Returns whether there is a wire between two ports. The link of `near` names `far`.
 fn is_wire(store: &Store, near: (Guid, PortNum), far: (Guid, PortNum)) -> bool
     ensures { result ≡ is_wire (cells_of store.now) near.0 near.1 far }
 {
@@ -46,7 +45,7 @@ fn is_wire(store: &Store, near: (Guid, PortNum), far: (Guid, PortNum)) -> bool
         && store.link(far.0, far.1) == Some(near)
 }
 
-/// Whether a port can have a wire. Takes three searches.
+/// Returns whether a port can have a wire. Takes three searches.
 fn is_wire_end(store: &Store, end: (Guid, PortNum)) -> bool
     ensures { result ≡ is_wire_end (cells_of store.now) end.0 end.1 }
 {

@@ -34,7 +34,7 @@ impl<'s> Model for Wires<'s> {
 }
 
 impl<'s> Wires<'s> {
-    /// The wires of a store's view. Walks the cells.
+    /// Finds the wires of a store's view. Walks the cells.
     pub fn of(alloc: Global, store: &'s Store) -> Result<Self, Refused>
         ensures { IfOk result (λ wires. wires ≡ store.now) }
     {
@@ -42,15 +42,15 @@ impl<'s> Wires<'s> {
         Ok(Wires { store, ends })
     }
 
-    /// The store whose view it is.
+    /// Returns the store whose view it is.
     pub fn store(&self) -> &'s Store
         ensures { result.now ≡ self.now }
     {
         self.store
     }
 
-    /// The node and the port at the other end of the wire in a port, as `wire` finds it. Takes two
-    /// searches among the ports that can have a wire.
+    /// Returns the node and the port at the other end of the wire in a port, as `wire` does. Takes two searches among
+    /// the ports that can have a wire.
     pub fn across(&self, node: Guid, port: PortNum) -> Option<(Guid, PortNum)>
         ensures { result ≡ across (cells_of self.now) node port }
     {
@@ -63,8 +63,8 @@ impl<'s> Wires<'s> {
         }
     }
 
-    /// The switch and the port of it that the wire in an adapter port leads to, as `attached` finds
-    /// it. Takes four searches.
+    /// Returns the switch and its port that the wire in an adapter port leads to, as `attached` does. Takes four
+    /// searches.
     pub fn attached(&self, node: Guid, port: PortNum) -> Option<(Guid, PortNum)>
         ensures { result ≡ attached (cells_of self.now) node port }
     {
@@ -79,7 +79,7 @@ impl<'s> Wires<'s> {
         }
     }
 
-    /// Where the link of a port leads that can have a wire. Takes a search among such ports.
+    /// Returns where the link of a port leads, if the port can have a wire. Takes a search among the ports that can.
     fn end_link(&self, node: Guid, port: PortNum) -> Option<(Guid, PortNum)>
         ensures { result ≡ end_link (cells_of self.now) node port }
     {
@@ -91,14 +91,14 @@ impl<'s> Wires<'s> {
     }
 }
 
-/// Whether a port's link leads to another port, whose link leads back.
+/// Returns whether the link of `near` leads to another port, whose link leads back.
 fn is_pair(near: (Guid, PortNum), far: (Guid, PortNum), back: Option<(Guid, PortNum)>) -> bool
     ensures { result ≡ is_pair near far back }
 {
     near != far && back == Some(near)
 }
 
-/// The ports that can have a wire, each with where its link leads, by rising GUID and port.
+/// Returns the ports that can have a wire, each with where its link leads, by rising GUID and port.
 fn wire_ends(
     alloc: Global,
     store: &Store,

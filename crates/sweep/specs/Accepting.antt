@@ -1,4 +1,4 @@
--- A reply that a sweep takes.
+-- An accepted reply.
 use Rattle.std.specs.Prelude.{◌≡◌, ℕ, ◌+◌, ◌^◌, ◌≤◌, List, length, slice_get, Some, Ok}
 use Rattle.sweep.specs.declared.on_reply.Accepted.{Accepted}
 use Rattle.sweep.specs.declared.request.Request.{Request}
@@ -6,7 +6,7 @@ use Rattle.sweep.specs.Sweep.{Sweep}
 use Rattle.sweep.specs.Finding.{finding, questions, IsWithinReach}
 use Rattle.sweep.specs.Replies.{judged, request_of, sightings_by}
 
--- the index of the request, what the reply brings up and tells, and what is answered
+-- `accepted` has the index of the request, what the reply brings up, its facts, and the answer
 pub record IsAccepted (s : Sweep) (packet : List ℕ) (accepted : Accepted) : Type 0 where
   pub request : Request
   pub waits : slice_get s.outstanding accepted.index ≡ Some request

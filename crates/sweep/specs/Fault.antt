@@ -1,10 +1,10 @@
--- The names of a sweep's faults, and which of them is out of memory.
+-- The names of a sweep's faults, and which of them is lack of memory.
 use Rattle.std.specs.Prelude.{ℕ, Bool, true, false, List, codes}
 use Rattle.reply_facts.specs.ReportFault.{report_fault_name}
 use Rattle.sweep.specs.declared.fault.SweepFault.{SweepFault}
 use Rattle.sweep.specs.declared.fault.SweepFault.TheVariants.{NotOutstanding, Bad, SequenceSpent, Memory}
 
--- that of the report's fault where there is one
+-- the name of a fault; for a fault of the report, the report's name of it
 abbrev pub sweep_fault_name : SweepFault → List ℕ
 sweep_fault_name NotOutstanding = codes "NotOutstanding"
 sweep_fault_name (Bad fault) = report_fault_name fault

@@ -28,7 +28,7 @@ use Rattle.sweep.specs.Sweep.{Sweep, Asking, asking, first_vertex, vertex_at, ve
 
 -- by NodeInfo ---------------------------------------------------------------------------------
 
--- a switch is one vertex, under port 0, and an adapter one for each port that is reached
+-- the vertex of a node: a switch has one, with port 0, an adapter one for each port that is reached
 abbrev pub vertex_of : List ℕ → NodeInfo → NodeType → ℕ → Vertex
 vertex_of path info kind ports =
     record {
@@ -40,12 +40,12 @@ vertex_of path info kind ports =
       path = path;
     }
 
--- a node of a GUID that is new to the sweep
+-- a node whose GUID is new to the sweep
 abbrev pub found_anew : List ℕ → NodeInfo → Option NodeType → Finding
 found_anew path info None = Nothing
 found_anew path info (Some kind) = NewVertex (vertex_of path info kind info.num_ports)
 
--- a node that is known: it is what its first reply said, and at most a port of an adapter is new
+-- a node that is known: it counts as what its first reply said, and at most a port of an adapter is new
 abbrev pub found_again : Sweep → List ℕ → NodeInfo → Vertex → Finding
 found_again s path info first =
     if is_switch first.kind || is_some (vertex_at s.reached info.node_guid info.local_port_num) then Nothing
@@ -64,36 +64,36 @@ abbrev pub is_start : List ℕ → Bool
 is_start [] = true
 is_start (port ∷ path) = false
 
--- a port of a switch, but not its management port, nor the one that leads back
+-- the port is a switch's, but not its management port, nor the one that leads back
 abbrev pub is_way_on : Sweep → ℕ → ℕ → Bool
 is_way_on s guid port =
     option_map_or (λ first. is_switch first.kind
     && (not (port == 0) && not (port == first.arrival))) (first_vertex s.reached guid) false
 
--- the port that the sweep goes out by, or one of a switch
+-- the sweep goes on by the port: it is the one that the sweep goes out by, or one of a switch that leads on
 abbrev pub goes_by : Sweep → List ℕ → ℕ → ℕ → Bool
 goes_by s path guid port = (is_start path && port == s.origin) || is_way_on s guid port
 
--- by a port that is up
+-- the port is up, and the sweep goes on by it
 abbrev pub leads_on : Sweep → List ℕ → ℕ → ℕ → List ℕ → Bool
 leads_on s path guid port info = is_up_state (bits_in port_state info) && goes_by s path guid port
 
--- by a port that leads on, as far as a path can be
+-- whether the sweep goes on by a port, given the greatest length of a path
 abbrev pub onward : Sweep → List ℕ → ℕ → ℕ → List ℕ → Onward
 onward s path guid port info =
     if not (leads_on s path guid port info) then Stays
     else if nat_lt (length path) max_hops then Leads
     else TooFar
 
--- the port says that a manager sits there
+-- the port reports that a manager sits there
 abbrev pub has_manager : List ℕ → Bool
 has_manager info = bits_in is_sm_bit info == 1
 
--- as the first reply of the node said
+-- the first reply of the node said that it is not a switch
 abbrev pub is_of_adapter : Sweep → ℕ → Bool
 is_of_adapter s guid = option_map_or (λ first. not (is_switch first.kind)) (first_vertex s.reached guid) false
 
--- of an adapter's port, but not of the sweep's own
+-- the port reports a manager, and is an adapter's, but not the sweep's own
 abbrev pub asks_manager : Sweep → List ℕ → ℕ → List ℕ → Bool
 asks_manager s path guid info = has_manager info && (not (is_start path) && is_of_adapter s guid)
 
@@ -110,7 +110,7 @@ port_finding_of s path guid port info =
 abbrev pub port_found_of : Sweep → List ℕ → ℕ → ℕ → List ℕ → Finding
 port_found_of s path guid port info = Port (port_finding_of s path guid port info)
 
--- a port of the node that the request was about
+-- what PortInfo brings up, if the request was about a node
 abbrev pub port_found : Sweep → List ℕ → Option ℕ → ℕ → List ℕ → Finding
 port_found s path None port info = Nothing
 port_found s path (Some guid) port info = port_found_of s path guid port info
@@ -129,13 +129,14 @@ finding s r packet = finding_of s r packet r.question
 
 -- what is asked next --------------------------------------------------------------------------------
 
--- so many ports, one after the other
+-- questions for PortInfo of consecutive ports, from `port` on
 abbrev pub port_questions : ℕ → ℕ → List ℕ → Context → List Asking
 port_questions port zero path context = []
 port_questions port (suc more) path context =
     record { question = ask.Port port; path = path; context = context } ∷ port_questions (port + 1) more path context
 
--- of a switch its table and all its ports, the management port among them; of an adapter the port that was reached
+-- the questions for a new vertex: for a switch its table and all its ports with the management port; for an adapter the
+-- port that was reached
 abbrev pub vertex_questions : Vertex → List Asking
 vertex_questions v =
     if is_switch v.kind
@@ -143,21 +144,21 @@ vertex_questions v =
     ∷ port_questions 0 (v.ports + 1) v.path (About v.guid)
     else record { question = ask.Port v.port; path = v.path; context = About v.guid } ∷ []
 
--- the manager at the port, over the same path
+-- the question for the manager at the port, over the path to the port
 abbrev pub manager_questions : List ℕ → PortFinding → List Asking
 manager_questions path found =
     if found.asks_manager
     then record { question = ask.Manager found.guid found.port; path = path; context = About found.guid } ∷ []
     else []
 
--- the node across the port, over the path with the port at its end
+-- the question for the node behind the port, over the path with the port at its end
 abbrev pub onward_questions : List ℕ → ℕ → ℕ → Onward → List Asking
 onward_questions path guid port Stays = []
 onward_questions path guid port Leads =
     record { question = ask.Node; path = path ++ port ∷ []; context = Via guid port } ∷ []
 onward_questions path guid port TooFar = []
 
--- the manager before the node across
+-- the question for the manager before that for the node behind the port
 abbrev pub port_found_questions : List ℕ → PortFinding → List Asking
 port_found_questions path found =
     manager_questions path found ++ onward_questions path found.guid found.port found.onward
@@ -174,7 +175,7 @@ with_vertex Nothing reached = reached
 with_vertex (NewVertex v) reached = placed vertex_key v reached
 with_vertex (Port found) reached = reached
 
--- a reserved number is no state
+-- a state is added, unless its number is reserved
 abbrev pub with_state_of : ℕ → ℕ → Option PortState → List SeenState → List SeenState
 with_state_of guid port None states = states
 with_state_of guid port (Some state) states =
@@ -195,7 +196,7 @@ too_far_by Nothing = 0
 too_far_by (NewVertex v) = 0
 too_far_by (Port found) = one_too_far found.onward
 
--- with what was found, and the questions that it brings up
+-- the sweep with what was found, and with the questions that it brings up
 abbrev pub with_finding : Sweep → List ℕ → Finding → Sweep
 with_finding s path found =
     record (asking s (questions path found)) {
@@ -205,7 +206,7 @@ with_finding s path found =
       too_far = s.too_far + too_far_by found;
     }
 
--- a path goes on only where it is not at its greatest length
+-- a path goes on only if it is shorter than the longest one
 abbrev pub IsPathWithinReach : List ℕ → Onward → Type 0
 IsPathWithinReach path onward = onward ≡ Leads → length path < max_hops
 

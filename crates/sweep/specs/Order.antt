@@ -3,21 +3,21 @@ use Rattle.std.specs.Prelude.{◌≡◌, ℕ, Bool, true, false, ◌&&◌, ◌||
 use Rattle.std.specs.Option.{option_map_or}
 use Rattle.request_table.specs.Order.{AreOrdered, IsIndex}
 
--- the item at an index passes the test
+-- the item at `index` passes the test
 abbrev pub passes_at : {T : Type 0} → (T → Bool) → List T → ℕ → Bool
 passes_at test items index = option_map_or test (slice_get items index) false
 
 -- by GUID and port -----------------------------------------------------------------------------
 
--- by GUID, and under one GUID by port
+-- `a` is before `b` by GUID, and for equal GUIDs by port
 abbrev pub is_before : ℕ × ℕ → ℕ × ℕ → Bool
 is_before a b = nat_lt a.0 b.0 || (a.0 == b.0 && nat_lt a.1 b.1)
 
--- each is before all that come later
+-- each item is before all that come later
 abbrev pub AreInOrder : {T : Type 0} → (T → ℕ × ℕ) → List T → Type 0
 AreInOrder key items = AreOrdered (λ a b. is_before (key a) (key b) ≡ true) items
 
--- with one put in at its index; where there is one with its GUID and port, that one stays
+-- the items with `x` inserted in order; if one with its GUID and port is there, that one stays
 abbrev pub placed : {T : Type 0} → (T → ℕ × ℕ) → T → List T → List T
 placed key x [] = x ∷ []
 placed key x (y ∷ ys) =
@@ -25,14 +25,14 @@ placed key x (y ∷ ys) =
     else if is_before (key x) (key y) then x ∷ (y ∷ ys)
     else y ∷ ys
 
--- it has this GUID and port
+-- `x` has this GUID and port
 abbrev pub has_key : {T : Type 0} → (T → ℕ × ℕ) → ℕ → ℕ → T → Bool
 has_key key guid port x = (key x).0 == guid && (key x).1 == port
 
--- the one with this GUID and port
+-- the item with this GUID and port
 abbrev pub found_at : {T : Type 0} → (T → ℕ × ℕ) → ℕ → ℕ → List T → Option T
 found_at key guid port items = find (has_key key guid port) items
 
--- where the one with this GUID and port is, or would be
+-- `index` is that of the item with the GUID and port `at`, or where it would be
 abbrev pub IsIndexFor : {T : Type 0} → (T → ℕ × ℕ) → ℕ × ℕ → List T → ℕ → Type 0
 IsIndexFor key at items index = IsIndex (λ x. is_before (key x) at) items index

@@ -1,4 +1,4 @@
--- What a sweep answers to a reply, and what it has then.
+-- What a sweep answers to a reply, and what it has afterwards.
 use Rattle.std.specs.Prelude.{ℕ, ◌+◌, ◌^◌, Bool, List, [], length, find, nat_lt, if◌then◌else◌, Option, Some, None, Result, Ok, Err}
 use Rattle.smp_bytes.specs.declared.smp_fault.SmpFault.{SmpFault}
 use Rattle.smp_bytes.specs.Answers.{answers, is_of}
@@ -20,17 +20,17 @@ use Rattle.sweep.specs.Finding.{finding, questions, with_finding}
 
 -- which request a reply belongs to ----------------------------------------------------------
 
--- attribute, modifier and path are those of the request
+-- attribute, modifier and path of the packet are those of the request
 abbrev pub is_for : List ℕ → Request → Bool
 is_for packet r = is_of packet (attribute_asked r.question) (modifier_asked r.question) (Some r.path)
 
--- and so is the TransactionID
+-- attribute, modifier, path and TransactionID of the packet are those of the request
 abbrev pub belongs : ℕ → List ℕ → Request → Bool
 belongs generation packet r =
     answers packet (transaction_of generation r.number) (attribute_asked r.question) (modifier_asked r.question)
     (Some r.path)
 
--- the request that waits for this reply
+-- the request that waits for the reply `packet`
 abbrev pub request_of : Sweep → List ℕ → Option Request
 request_of s packet = find (belongs s.generation packet) s.outstanding
 
@@ -39,7 +39,7 @@ request_of s packet = find (belongs s.generation packet) s.outstanding
 abbrev pub report_for : Sweep → Request → List ℕ → Report
 report_for s r packet = record { generation = s.generation; context = r.context; bytes = packet }
 
--- of SMInfo no attribute is judged: what a manager tells of itself may be anything
+-- the fault of a reply; no attribute is judged in SMInfo, since what a manager says of itself may be anything
 abbrev pub fault_by : Question → Report → Option ReportFault
 fault_by ask.Node report = report_fault report
 fault_by ask.Switch report = report_fault report
@@ -49,7 +49,7 @@ fault_by (ask.Manager guid port) report = packet_fault report.bytes
 abbrev pub fault_for : Sweep → Request → List ℕ → Option ReportFault
 fault_for s r packet = fault_by r.question (report_for s r packet)
 
--- of SMInfo what the manager tells, with the port that was asked
+-- what a reply gives: SMInfo gives what the manager says, with the port that was asked
 abbrev pub answer_by : Question → Report → Answer
 answer_by ask.Node report = Facts report
 answer_by ask.Switch report = Facts report
@@ -59,7 +59,7 @@ answer_by (ask.Manager guid port) report = Seen guid port (sm_info_in (payload_o
 abbrev pub answer_for : Sweep → Request → List ℕ → Answer
 answer_for s r packet = answer_by r.question (report_for s r packet)
 
--- a request that the reply brings up needs a number that 32 bits don't hold
+-- a request that the reply brings up needs a number that does not fit 32 bits
 abbrev pub is_spent : Sweep → Request → List ℕ → Bool
 is_spent s r packet = nat_lt (2 ^ 32) (s.next + length (questions r.path (finding s r packet)))
 
@@ -75,11 +75,11 @@ abbrev pub judged_as : Sweep → List ℕ → Option SmpFault → Result Answer 
 judged_as s packet (Some why) = Err (Bad (fault.Smp why))
 judged_as s packet None = judged_for s packet (request_of s packet)
 
--- what a sweep answers to these bytes, out of memory aside
+-- the sweep's answer to the packet, or why it is refused, except for lack of memory
 abbrev pub judged : Sweep → List ℕ → Result Answer SweepFault
 judged s packet = judged_as s packet (fault_of packet)
 
--- the facts that an answer tells; what a manager tells of itself is none
+-- the facts in an answer; what a manager says of itself has none
 abbrev pub sightings_by : Answer → Sightings
 sightings_by (Facts report) = sightings_of report
 sightings_by (Seen guid port info) = []

@@ -8,7 +8,7 @@ use Rattle.request_table.specs.Order.{AreOrdered}
 use Rattle.sweep.specs.Replies.{judged, after_reply}
 use Rattle.sweep.specs.Sweep.{Sweep, after_next_request, managers_asked, started, after_timeout}
 
--- the next request goes out; these bytes come; a TransactionID times out
+-- the next request goes out; bytes come; a TransactionID times out
 pub data Event : Type 0 where
   Sends : Event
   Hears : List ℕ → Event
@@ -39,12 +39,12 @@ abbrev pub numbers_sent : Sweep → List Event → List ℕ
 numbers_sent s [] = []
 numbers_sent s (e ∷ events) = number_sent s e ++ numbers_sent (step s e) events
 
--- they rise, so no number is used twice
+-- the numbers of the requests that go out rise, so no number is used twice
 abbrev pub NumbersRise : Type 0
 NumbersRise = (origin generation first : ℕ) (events : List Event)
     → AreOrdered (λ a b. a < b) (numbers_sent (started origin generation first) events)
 
--- how many replies are taken
+-- how many replies are accepted
 abbrev pub taken_by : Result Answer SweepFault → ℕ
 taken_by (Ok answer) = 1
 taken_by (Err fault) = 0
@@ -67,7 +67,7 @@ after s (e ∷ events) = after (step s e) events
 abbrev pub unended : Sweep → ℕ
 unended s = s.unanswered + (length s.outstanding + length s.queued)
 
--- each number from the first on is that of a request that was answered or was not, so in a sweep that is done each was
+-- each number from the first on is that of a request that was answered or was not; in a sweep that is done each was
 -- answered or counts as unanswered
 abbrev pub EachCounts : Type 0
 EachCounts =
@@ -77,7 +77,7 @@ EachCounts =
 
 -- managers that are asked ----------------------------------------------------------------------
 
--- how many of these requests are for SMInfo
+-- how many of the requests are for SMInfo
 abbrev pub managers_in : List Request → ℕ
 managers_in [] = 0
 managers_in (r ∷ requests) = managers_asked r.question + managers_in requests
@@ -86,7 +86,7 @@ abbrev pub manager_in_first : List Request → ℕ
 manager_in_first [] = 0
 manager_in_first (r ∷ queued) = managers_asked r.question
 
--- the requests for SMInfo that go out
+-- how many requests for SMInfo go out
 abbrev pub manager_sent : Sweep → Event → ℕ
 manager_sent s Sends = manager_in_first s.queued
 manager_sent s (Hears packet) = 0
@@ -96,7 +96,7 @@ abbrev pub managers_sent : Sweep → List Event → ℕ
 managers_sent s [] = 0
 managers_sent s (e ∷ events) = manager_sent s e + managers_sent (step s e) events
 
--- the managers that tell of themselves, by replies that are taken
+-- how many managers answer, by replies that are accepted
 abbrev pub manager_told : Result Answer SweepFault → ℕ
 manager_told (Ok (Facts report)) = 0
 manager_told (Ok (Seen guid port info)) = 1
@@ -111,8 +111,7 @@ abbrev pub managers_heard : Sweep → List Event → ℕ
 managers_heard s [] = 0
 managers_heard s (e ∷ events) = manager_heard s e + managers_heard (step s e) events
 
--- each request for SMInfo that went out is of a manager that told of itself, that may do so yet, or that counts as
--- silent
+-- each request for SMInfo that went out is to a manager that answered, that may still do so, or that counts as silent
 abbrev pub EachManagerCounts : Type 0
 EachManagerCounts =
     (origin generation first : ℕ) (events : List Event) →

@@ -16,10 +16,10 @@ use Rattle.sweep.specs.declared.vertex.SeenState.{SeenState}
 use Rattle.request_table.specs.Numbers as numbers
 use Rattle.sweep.specs.Order.{AreInOrder, found_at}
 
--- The port that it goes out by and its generation; the number of the next request; the requests that are to be sent and
--- those that wait for a reply, both first in, first out; the vertices that were reached and the states of ports that
--- were seen, in the order of GUIDs and ports; how many requests were not answered, how many of these were for SMInfo,
--- and how many ports lead further than a path.
+-- The port that the sweep goes out by and its generation; the number of the next request; the requests that are to be
+-- sent and those that wait for a reply, both first in, first out; the vertices that were reached and the states of
+-- ports that were seen, in the order of GUIDs and ports; how many requests were not answered, how many of these were
+-- for SMInfo, and how many ports lead further than a path.
 pub record Sweep : Type 0 where
   pub origin : ℕ
   pub generation : ℕ
@@ -53,7 +53,7 @@ managers_asked ask.Switch = 0
 managers_asked (ask.Port port) = 0
 managers_asked (ask.Manager guid port) = 1
 
--- the generation in the high half, the sequence number in the low half
+-- the TransactionID: the generation in the high half, the sequence number in the low half
 abbrev pub transaction_of : ℕ → ℕ → ℕ
 transaction_of generation number = generation * 2 ^ 32 + number
 
@@ -63,7 +63,7 @@ packet_of generation r =
     directed get (attribute_asked r.question) (modifier_asked r.question) (transaction_of generation r.number) r.path
     (replicate 64 0)
 
--- what comes up is asked ----------------------------------------------------------------
+-- what is found is asked for ------------------------------------------------------------
 
 -- a question that is to be asked, before it has a number
 pub record Asking : Type 0 where
@@ -71,13 +71,13 @@ pub record Asking : Type 0 where
   pub path : List ℕ
   pub context : Context
 
--- the questions as requests, by rising numbers
+-- the questions as requests, with rising numbers
 abbrev pub numbered : ℕ → List Asking → List Request
 numbered number [] = []
 numbered number (a ∷ asked) =
     record { number = number; question = a.question; path = a.path; context = a.context } ∷ numbered (number + 1) asked
 
--- with these questions at the end of the queue, numbered on from the last
+-- the sweep with the questions `asked` at the end of the queue, numbered on from the last request
 abbrev pub asking : Sweep → List Asking → Sweep
 asking s asked = record s { next = s.next + length asked; queued = s.queued ++ numbered s.next asked }
 
@@ -97,7 +97,7 @@ empty_sweep origin generation first =
       too_far = 0;
     }
 
--- a sweep begins with what it is that it sits at
+-- a sweep begins by asking for the node that it sits at
 abbrev pub first_question : Asking
 first_question = record { question = ask.Node; path = []; context = Start }
 
@@ -120,11 +120,11 @@ after_next_request_of s (r ∷ queued) =
           Some (packet_of s.generation r);
     }
 
--- the first of the queue goes out, and waits for its reply from then on
+-- the first request of the queue goes out, and waits for its reply from then on
 abbrev pub after_next_request : Sweep → Sent
 after_next_request s = after_next_request_of s s.queued
 
--- without the request of a number
+-- the requests without the one with the number `number`
 abbrev pub without_number : ℕ → List Request → List Request
 without_number number requests = numbers.without_number (λ r. r.number) number requests
 
@@ -132,7 +132,7 @@ without_number number requests = numbers.without_number (λ r. r.number) number 
 abbrev pub request_with : ℕ → ℕ → List Request → Option Request
 request_with generation transaction requests = find (λ r. transaction_of generation r.number == transaction) requests
 
--- only a request that waits can time out
+-- a fault unless a request with this TransactionID waits
 abbrev pub timeout_fault : Sweep → ℕ → Option SweepFault
 timeout_fault s transaction =
     if is_some (request_with s.generation transaction s.outstanding) then None else Some NotOutstanding
@@ -146,11 +146,12 @@ after_timeout_of s (Some r) =
       silent_managers = s.silent_managers + managers_asked r.question;
     }
 
--- a request that timed out waits no more, and counts as one that was not answered; a manager that was asked, as silent
+-- a request that timed out waits no more, and counts as not answered; if it was for SMInfo, its manager counts as
+-- silent
 abbrev pub after_timeout : Sweep → ℕ → Sweep
 after_timeout s transaction = after_timeout_of s (request_with s.generation transaction s.outstanding)
 
--- the TransactionID of the i-th request that waits
+-- the TransactionID of the request at index `i` of those that wait
 abbrev pub outstanding_at : Sweep → ℕ → Option ℕ
 outstanding_at s i = option_map (λ r. transaction_of s.generation r.number) (slice_get s.outstanding i)
 
@@ -180,22 +181,22 @@ vertex_at reached guid port = found_at vertex_key guid port reached
 abbrev pub state_at : List SeenState → ℕ → ℕ → Option PortState
 state_at states guid port = option_map (λ p. p.state) (found_at state_key guid port states)
 
--- the path that first reached a switch, by port 0, or an adapter's port
+-- the path that first reached a switch (port 0) or an adapter's port
 abbrev pub path_to : Sweep → ℕ → ℕ → Option (List ℕ)
 path_to s guid port = option_map (λ r. r.path) (vertex_at s.reached guid port)
 
--- the state that the first reply said
+-- the state of a port that its first reply said
 abbrev pub seen_state : Sweep → ℕ → ℕ → Option PortState
 seen_state s guid port = state_at s.states guid port
 
 -- what holds of each sweep ---------------------------------------------------------------------
 
--- the numbers of requests rise, from the least on, and stay below the next
+-- the numbers of requests rise, are at least `least`, and are below `next`
 abbrev pub AreRising : ℕ → List Request → ℕ → Type 0
 AreRising least requests next = numbers.AreRising (λ r. r.number) least requests next
 
--- No number is used twice, since those of the requests that wait and then of the queue rise, and the next is above all;
--- what was found is in order; each request counts once, and of those that were not answered some were for SMInfo.
+-- The numbers of the requests that wait and then of the queue rise, and the next number is above all, so that none is
+-- used twice; what was found is in order; each request counts once, and some of the unanswered ones were for SMInfo.
 pub record IsSweep (s : Sweep) : Type 0 where
   pub rising : AreRising 0 (s.outstanding ++ s.queued) s.next
   pub next : s.next ≤ 2 ^ 32

@@ -3,14 +3,14 @@ use Rattle.std.specs.Prelude.{◌≡◌, ℕ, ◌+◌, ◌≤◌, List, ◌++◌
 use Rattle.sweep.specs.declared.request.Request.{Request}
 use Rattle.sweep.specs.Sweep.{Asking, numbered}
 
--- the number of the next request, and for how many more there is memory
+-- the requests, the number of the next one, and for how many more there is memory
 pub record SweepRequests : Type 0 where
   pub next : ℕ
   pub outstanding : List Request
   pub queued : List Request
   pub room : ℕ
 
--- these questions more, at the end of the queue
+-- the questions `asked` were added at the end of the queue
 pub record HasAsked (asked : List Asking) (old new : SweepRequests) : Type 0 where
   pub next : new.next ≡ old.next + length asked
   pub outstanding : new.outstanding ≡ old.outstanding

@@ -2,11 +2,11 @@ use attr_codec::SmInfo;
 use fact_store::Report;
 use smp_bytes::{Guid, PortNum};
 
-/// What a reply that a sweep takes is good for.
+/// What an accepted reply gives.
 #[derive(Clone, Copy, Debug)]
 pub enum Answer {
-    /// It tells facts: what a store ingests.
+    /// Facts: a report for a store to ingest.
     Facts(Report),
-    /// A manager sits at this port of an adapter, and tells this of itself.
+    /// A manager at this port of an adapter, and the SMInfo that it answered.
     Seen(Guid, PortNum, SmInfo),
 }

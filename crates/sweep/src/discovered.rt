@@ -14,11 +14,11 @@ use smp_bytes::{Guid, PortNum};
 use std::alloc::{AllocError, Global};
 use std::marker::Model;
 
-/// What a sweep has found. Contracts see the vertices, the states of ports, how many ports lead too
-/// far, and for how many more there is memory.
+/// What a sweep has found. Contracts see the vertices, the states of ports, how many ports lead too far, and for how
+/// many more there is memory.
 #[derive(Drop)]
 pub(crate) struct Discovered {
-    /// In the order of GUIDs and ports, as are the states.
+    /// The vertices, by rising GUID and port, as are the states.
     vertices: Vec<Vertex>,
     seen: PageList<SeenState>,
     too_far: u64,
@@ -40,14 +40,14 @@ impl Model for Discovered {
     } };
 }
 
-/// By GUID, and under one GUID by port.
+/// Returns whether `a` comes before `b`: by GUID, and for equal GUIDs by port.
 fn is_before(a: (Guid, PortNum), b: (Guid, PortNum)) -> bool
     ensures { result ≡ is_before a b }
 {
     a.0 < b.0 || a.0 == b.0 && a.1 < b.1
 }
 
-/// Where a vertex is, or would be. Halves the indices at each step.
+/// Returns the index of the vertex, or where it would be. Halves the range of indices at each step.
 fn vertex_index(vertices: &[Vertex], guid: Guid, port: PortNum) -> usize
     requires { AreInOrder vertex_key vertices.now }
     ensures { IsIndexFor vertex_key (guid, port) vertices.now result }
@@ -55,7 +55,7 @@ fn vertex_index(vertices: &[Vertex], guid: Guid, port: PortNum) -> usize
     vertices.partition_point(|vertex| is_before((vertex.guid, vertex.port), (guid, port)))
 }
 
-/// Where a port's state is, or would be. Halves the indices at each step.
+/// Returns the index of the port's state, or where it would be. Halves the range of indices at each step.
 fn state_index(seen: &PageList<SeenState>, guid: Guid, port: PortNum) -> usize
     requires { AreInOrder state_key seen.now.items }
     ensures { IsIndexFor state_key (guid, port) seen.now.items result }
@@ -89,7 +89,7 @@ fn state_of(seen: Option<SeenState>) -> Option<PortState>
     }
 }
 
-/// Whether the vertex at an index has this GUID and port.
+/// Returns whether the vertex at `index` has this GUID and port.
 fn is_vertex(vertices: &[Vertex], index: usize, guid: Guid, port: PortNum) -> bool
     ensures { result ≡ passes_at (has_key vertex_key guid port) vertices.now index }
 {
@@ -99,7 +99,7 @@ fn is_vertex(vertices: &[Vertex], index: usize, guid: Guid, port: PortNum) -> bo
     }
 }
 
-/// Whether the vertex at an index has this GUID.
+/// Returns whether the vertex at `index` has this GUID.
 fn is_vertex_of(vertices: &[Vertex], index: usize, guid: Guid) -> bool
     ensures { result ≡ passes_at (λ r. r.guid == guid) vertices.now index }
 {
@@ -109,7 +109,7 @@ fn is_vertex_of(vertices: &[Vertex], index: usize, guid: Guid) -> bool
     }
 }
 
-/// Whether the state at an index has this GUID and port.
+/// Returns whether the state at `index` has this GUID and port.
 fn is_state(seen: &PageList<SeenState>, index: usize, guid: Guid, port: PortNum) -> bool
     ensures { result ≡ passes_at (has_key state_key guid port) seen.now.items index }
 {
@@ -156,7 +156,7 @@ fn state_at(seen: &PageList<SeenState>, guid: Guid, port: PortNum) -> Option<Por
 }
 
 impl Discovered {
-    /// Nothing yet. Takes no memory.
+    /// Creates an empty collection. Takes no memory.
     pub(crate) fn new(alloc: Global) -> Self
         ensures reached { result.reached ≡ [] }
         ensures states { result.states ≡ [] }
@@ -181,7 +181,7 @@ impl Discovered {
         &self.vertices
     }
 
-    /// Memory for one more of each.
+    /// Reserves memory for one more vertex and one more state.
     pub(crate) fn reserve(&mut self) -> Result<(), AllocError>
         ensures reached { self.new.reached ≡ self.old.reached }
         ensures states { self.new.states ≡ self.old.states }
@@ -193,7 +193,7 @@ impl Discovered {
         self.seen.reserve(1)
     }
 
-    /// The first vertex of a node. Takes a search.
+    /// Returns the first vertex of a node. Takes a search.
     pub(crate) fn first_of(&self, guid: Guid) -> Option<&Vertex>
         requires { AreInOrder vertex_key self.now.reached }
         ensures { option_copied result ≡ first_vertex self.now.reached guid }
@@ -201,7 +201,7 @@ impl Discovered {
         first_of(&self.vertices, guid)
     }
 
-    /// The vertex of a GUID and a port. Takes a search.
+    /// Returns the vertex with this GUID and port. Takes a search.
     pub(crate) fn vertex(&self, guid: Guid, port: PortNum) -> Option<&Vertex>
         requires { AreInOrder vertex_key self.now.reached }
         ensures { option_copied result ≡ vertex_at self.now.reached guid port }
@@ -209,7 +209,7 @@ impl Discovered {
         vertex_at(&self.vertices, guid, port)
     }
 
-    /// The state of a port. Takes a search.
+    /// Returns the state of a port. Takes a search.
     pub(crate) fn state(&self, guid: Guid, port: PortNum) -> Option<PortState>
         requires { AreInOrder state_key self.now.states }
         ensures { result ≡ state_at self.now.states guid port }
@@ -217,7 +217,7 @@ impl Discovered {
         state_at(&self.seen, guid, port)
     }
 
-    /// Puts in what a reply brings up, unless it is there. Takes no memory.
+    /// Adds what a reply brings up, unless it is there already. Takes no memory.
     pub(crate) fn put(&mut self, finding: Finding)
         requires reached { AreInOrder vertex_key self.old.reached }
         requires states { AreInOrder state_key self.old.states }
@@ -241,7 +241,7 @@ impl Discovered {
     }
 }
 
-/// Puts a vertex in at its index, unless there is one. Moves those behind it.
+/// Inserts the vertex in order, unless it is there already. Moves those behind it.
 fn put_vertex(vertices: &mut Vec<Vertex>, vertex: Vertex)
     requires order { AreInOrder vertex_key vertices.old.items }
     requires room { vec_len vertices.old < vec_capacity vertices.old }
@@ -257,7 +257,7 @@ fn put_vertex(vertices: &mut Vec<Vertex>, vertex: Vertex)
     }
 }
 
-/// Puts the state that a port says in at its index, unless its number is reserved.
+/// Inserts the state that a port reports in order, unless its number is reserved or the port has one already.
 fn put_state_of(states: &mut PageList<SeenState>, found: &PortFinding)
     requires order { AreInOrder state_key states.old.items }
     requires room { 0 < states.old.room }
@@ -270,7 +270,7 @@ fn put_state_of(states: &mut PageList<SeenState>, found: &PortFinding)
     }
 }
 
-/// Puts a port's state in at its index, unless there is one. Moves no more than a page.
+/// Inserts a port's state in order, unless the port has one already. Moves at most a page.
 fn put_state(states: &mut PageList<SeenState>, seen: SeenState)
     requires order { AreInOrder state_key states.old.items }
     requires room { 0 < states.old.room }

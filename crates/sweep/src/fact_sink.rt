@@ -3,12 +3,12 @@ ghost use Rattle.reply_facts.specs.Report.{Sightings};
 
 use fact_store::{Refused, Sighting, Store};
 
-/// What takes in the facts that a reply tells.
+/// A keeper of the facts in replies.
 pub(crate) trait Keeper {
-    /// With these facts more.
+    /// The keeper with `sightings` added.
     ghost kept: { Self → Sightings → Self };
 
-    /// Takes in all of them or, where memory runs out, none.
+    /// Adds all of `sightings`, or none if memory runs out.
     fn keep(&mut self, sightings: &[Sighting]) -> Result<(), Refused>
         ensures ok { OnOk result (self.new ≡ kept self.old sightings.now) }
         ensures err { OnErr result (self.new ≡ self.old) };
@@ -25,7 +25,7 @@ impl Keeper for Store {
     }
 }
 
-/// Keeps no facts.
+/// A keeper that drops all facts.
 #[derive(Drop)]
 pub(crate) struct Nowhere;
 

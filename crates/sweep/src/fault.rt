@@ -4,13 +4,13 @@ use fact_store::ReportFault;
 use std::alloc::AllocError;
 use thiserror::Error;
 
-/// Why a sweep refuses what it is told. It is then as it was.
+/// Why a sweep refuses a call. A refused call leaves it as it was.
 #[derive(Clone, Copy, Debug, PartialEq, Eq, Error)]
 pub enum SweepFault {
-    /// No request that waits for a reply is the one that this answers.
+    /// No request that waits is answered by the reply.
     #[error("NotOutstanding")]
     NotOutstanding,
-    /// The bytes are no packet, or no answer from which facts are read.
+    /// The bytes are not a packet, or not an answer from which facts can be read.
     #[error("{0}")]
     Bad(ReportFault),
     /// A request that the reply brings up needs a number over 4294967295.
@@ -24,7 +24,7 @@ pub enum SweepFault {
 impl SweepFault {
     ghost use Rattle.sweep.specs.Fault.{sweep_fault_name};
 
-    /// The name that `{}` writes; that of the report's fault where there is one.
+    /// Returns the name that `{}` writes; for a fault of the report, the report's name of it.
     pub fn name(self) -> &'static str
         ensures { result.now ≡ sweep_fault_name self }
     {

@@ -13,22 +13,22 @@ use smp_bytes::{Guid, NodeType, Path, PortNum, Smp};
 /// What a reply brings up.
 #[derive(Debug, Drop)]
 pub(crate) enum Finding {
-    /// Nothing that is new.
+    /// Nothing new.
     Nothing,
     /// A node, or another port of an adapter.
     NewVertex(Vertex),
-    /// What a port says of itself.
+    /// What a port reports.
     Port(PortFinding),
 }
 
-/// What a port says of itself.
+/// What a port reports.
 #[derive(Debug, Drop)]
 pub(crate) struct PortFinding {
     pub(crate) guid: Guid,
     pub(crate) port: PortNum,
-    /// None where its number is reserved.
+    /// The state, or `None` if its number is reserved.
     pub(crate) state: Option<PortState>,
-    /// Whether a manager sits there that is asked.
+    /// Whether a manager sits there that is to be asked.
     pub(crate) asks_manager: bool,
     pub(crate) onward: Onward,
 }
@@ -36,16 +36,16 @@ pub(crate) struct PortFinding {
 /// Whether a sweep goes on by a port.
 #[derive(Clone, Copy, Debug, PartialEq, Eq)]
 pub(crate) enum Onward {
-    /// It is down, or leads back, or is no port of a switch.
+    /// The port is down, leads back, or is not a switch's.
     Stays,
-    /// The node across it is asked.
+    /// The node behind the port is asked.
     Leads,
-    /// The node across it is further than a path goes.
+    /// The node behind the port is further away than the longest path.
     TooFar,
 }
 
 impl Finding {
-    /// How many requests it brings up.
+    /// Returns the number of requests that the finding brings up.
     pub(crate) fn question_count(&self) -> u64
         ensures count { (path : List ℕ) → result ≡ length (questions path self.now) }
         ensures within { result ≤ 257 }
@@ -59,7 +59,7 @@ impl Finding {
 }
 
 impl PortFinding {
-    /// How many requests a port brings up.
+    /// Returns the number of requests that the port brings up.
     fn question_count(&self) -> u64
         ensures count { (path : List ℕ) → result ≡ length (port_found_questions path self.now) }
         ensures within { result ≤ 257 }
@@ -73,7 +73,7 @@ impl PortFinding {
 }
 
 impl Vertex {
-    /// How many requests a new vertex brings up.
+    /// Returns the number of requests that a new vertex brings up.
     fn question_count(&self) -> u64
         ensures count { result ≡ length (vertex_questions self.now) }
         ensures within { result ≤ 257 }
@@ -87,7 +87,7 @@ impl Vertex {
 }
 
 impl Sweep {
-    /// What the reply to a request brings up.
+    /// Returns what the reply to `request` brings up.
     pub(crate) fn finding(&self, request: &Request, smp: &Smp) -> Finding
         ensures { result ≡ finding self.now request.now smp.now }
     {
@@ -107,7 +107,7 @@ impl Sweep {
         }
     }
 
-    /// What NodeInfo brings up: a node that is new, or a port of an adapter.
+    /// Returns what NodeInfo brings up: a new node, another port of an adapter, or nothing.
     fn node_found(&self, path: &Path<63>, info: &NodeInfo) -> Finding
         ensures { result ≡ node_found self.now path.now info.now }
     {
@@ -128,8 +128,8 @@ impl Sweep {
         Finding::NewVertex(vertex_of(path, info, first.kind, first.ports))
     }
 
-    /// What PortInfo brings up: the port's state, whether a manager sits there that is asked, and
-    /// whether the sweep goes on by the port.
+    /// Returns what PortInfo brings up: the port's state, whether a manager sits there that is to be asked, and whether
+    /// the sweep goes on by the port.
     fn port_found(&self, path: &Path<63>, guid: Guid, port: PortNum, info: &PortInfo) -> Finding
         ensures { result ≡ port_found_of self.now path.now guid port info.now }
     {
@@ -142,15 +142,15 @@ impl Sweep {
         })
     }
 
-    /// Whether the manager at a port is asked: where the port, one of an adapter and not the one
-    /// that the sweep sits at, says that there is one.
+    /// Returns whether the manager at a port is to be asked: the port reports one, and is an adapter's, but not the
+    /// port that the sweep sits at.
     fn asks_manager(&self, path: &Path<63>, guid: Guid, info: &PortInfo) -> bool
         ensures { result ≡ asks_manager self.now path.now guid info.now }
     {
         has_manager(info) && !path.is_empty() && self.is_of_adapter(guid)
     }
 
-    /// Whether the first reply of the node of a GUID said that it is no switch.
+    /// Returns whether the first reply of the node `guid` said that it is not a switch.
     fn is_of_adapter(&self, guid: Guid) -> bool
         ensures { result ≡ is_of_adapter self.now guid }
     {
@@ -172,14 +172,14 @@ impl Sweep {
         }
     }
 
-    /// Whether a port is up and the sweep goes on by it.
+    /// Returns whether a port is up and the sweep goes on by it.
     fn leads_on(&self, path: &Path<63>, guid: Guid, port: PortNum, info: &PortInfo) -> bool
         ensures { result ≡ leads_on self.now path.now guid port info.now }
     {
         is_up(info) && self.goes_by(path, guid, port)
     }
 
-    /// Whether the sweep goes on by a port: the one that it goes out by, or one of a switch that
+    /// Returns whether the sweep goes on by a port: it is the one that the sweep goes out by, or one of a switch that
     /// does not lead back.
     fn goes_by(&self, path: &Path<63>, guid: Guid, port: PortNum) -> bool
         ensures { result ≡ goes_by self.now path.now guid port }
@@ -194,14 +194,14 @@ impl Sweep {
     }
 }
 
-/// Whether a port says that a manager sits there.
+/// Returns whether a port reports that a manager sits there.
 fn has_manager(info: &PortInfo) -> bool
     ensures { result ≡ has_manager info.now }
 {
     info.is_sm()
 }
 
-/// The vertex of a node that answered: of a switch its management port, of an adapter the port that
+/// Builds the vertex of a node that answered: for a switch with its management port, for an adapter with the port that
 /// was asked.
 fn vertex_of(path: &Path<63>, info: &NodeInfo, kind: NodeType, ports: u8) -> Vertex
     ensures { result ≡ vertex_of path.now info.now kind ports }

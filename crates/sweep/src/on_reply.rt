@@ -20,8 +20,7 @@ use attr_codec::{Attribute, SmInfo};
 use fact_store::{Report, ReportFault, Sighting, Store, answer_fault, sightings_in};
 use smp_bytes::Smp;
 
-/// A reply that is taken: the index of its request among those that wait, what is answered, the
-/// facts that it tells, and what it brings up.
+/// An accepted reply: the index of its request among those that wait, the answer, its facts, and what it brings up.
 #[derive(Drop)]
 pub(crate) struct Accepted {
     pub(crate) index: usize,
@@ -31,7 +30,7 @@ pub(crate) struct Accepted {
 }
 
 impl Sweep {
-    /// What `on_reply_into` would answer, out of memory aside.
+    /// Returns what `on_reply_into` would return, except for lack of memory.
     pub fn judge(&self, smp: &Smp) -> Result<Answer, SweepFault>
         ensures { result ≡ judged self.now smp.now }
     {
@@ -41,11 +40,14 @@ impl Sweep {
         }
     }
 
-    /// Takes the reply to a request that waits for it, and queues what it brings up: of a new node
-    /// its ports; of a port first the manager that sits there, and then the node across it. Refused
-    /// are, in this order: bytes that are no packet; what no request waits for; a reply from which
-    /// facts are not read or, of SMInfo, which is no answer with status 0; one that brings up a
-    /// request for which no number is left; and out of memory.
+    /// Takes the reply to a request that waits, and queues what it brings up: for a new node its ports; for a port
+    /// first the manager that sits there, and then the node behind it.
+    ///
+    /// # Errors
+    ///
+    /// In this order: the bytes are not a packet; no request waits for it; facts cannot be read from the reply or, if
+    /// it is SMInfo, it is not an answer with status 0; no number is left for a request that it brings up; and memory
+    /// was refused.
     pub fn on_reply(&mut self, bytes: &[u8; 256]) -> Result<Answer, SweepFault>
         ensures judged { JudgesButFor is_memory result (result_err (judged self.old bytes.now)) }
         ensures answer { IfOk result (λ answer. judged self.old bytes.now ≡ Ok answer) }
@@ -59,8 +61,8 @@ impl Sweep {
         }
     }
 
-    /// The same with a packet that was parsed, and the store takes in the facts that the reply
-    /// tells; where it is refused, the store stays as it is too.
+    /// Takes the reply to a request that waits, as `on_reply` does, and adds its facts to `store`. If the reply is
+    /// refused, the store stays as it is too.
     pub fn on_reply_into(&mut self, smp: &Smp, store: &mut Store) -> Result<Answer, SweepFault>
         ensures judged { JudgesButFor is_memory result (result_err (judged self.old smp.now)) }
         ensures answer { IfOk result (λ answer. judged self.old smp.now ≡ Ok answer) }
@@ -74,7 +76,7 @@ impl Sweep {
         self.take_into(smp, store)
     }
 
-    /// Takes a reply, and its facts go where they are kept.
+    /// Takes a reply, and passes its facts to `keeper`.
     fn take_into<K: Keeper>(&mut self, smp: &Smp, keeper: &mut K) -> Result<Answer, SweepFault>
         ensures judged { JudgesButFor is_memory result (result_err (judged self.old smp.now)) }
         ensures answer { IfOk result (λ answer. judged self.old smp.now ≡ Ok answer) }
@@ -95,7 +97,7 @@ impl Sweep {
         Ok(accepted.answer)
     }
 
-    /// What is to be done about a reply, or the first reason to refuse it.
+    /// Returns what is to be done about a reply, or the first reason to refuse it.
     fn accept(&self, smp: &Smp) -> Result<Accepted, SweepFault>
         ensures ok { IfOk result (λ accepted. IsAccepted self.now smp.now accepted) }
         ensures err { IfErr result (λ fault. judged self.now smp.now ≡ Err fault) }
@@ -126,8 +128,7 @@ impl Sweep {
         })
     }
 
-    /// The facts that the reply to a request tells, or the first fault that it has. SMInfo tells
-    /// none, whatever it says.
+    /// Returns the facts in the reply to `request`, or its first fault. SMInfo has no facts, whatever it says.
     fn sightings_by(
         &self,
         request: &Request,
@@ -150,7 +151,7 @@ impl Sweep {
     }
 }
 
-/// What a reply without a fault is good for, by what was asked.
+/// Returns what a reply without a fault gives, by what was asked.
 fn answer_by(question: Question, report: Report, smp: &Smp) -> Answer
     requires { report.bytes ≡ smp.now }
     ensures { result ≡ answer_by question report }

@@ -7,28 +7,28 @@ use fact_store::Context;
 use request_table::Numbered;
 use smp_bytes::{AttributeId, Generation, Guid, Method, Path, PortNum, Smp};
 
-/// What a request asks of a node.
+/// What a request asks a node for.
 #[derive(Clone, Copy, Debug, PartialEq, Eq)]
 pub enum Question {
-    /// NodeInfo: what it is.
+    /// NodeInfo: what the node is.
     Node,
-    /// SwitchInfo: how large its forwarding table is.
+    /// SwitchInfo: how large the forwarding table is.
     Switch,
-    /// PortInfo of one of its ports.
+    /// PortInfo of a port of the node.
     Port(PortNum),
-    /// SMInfo: what the manager tells of itself that sits at this port of the adapter of that GUID.
+    /// SMInfo: what the manager at this port, of the adapter with that GUID, says of itself.
     Manager(Guid, PortNum),
 }
 
 /// A Get that a sweep makes over a directed route.
 #[derive(Debug, Drop)]
 pub struct Request {
-    /// Its sequence number, the low half of its TransactionID.
+    /// The sequence number, the low half of the TransactionID.
     pub number: u32,
     pub question: Question,
     /// The ports that lead to the node.
     pub path: Path<63>,
-    /// What the report of the reply will say beside it.
+    /// What the report of the reply will say besides the bytes.
     pub context: Context,
 }
 
@@ -40,14 +40,14 @@ impl Numbered for Request {
     }
 }
 
-/// The TransactionID of a number: the generation is its high half.
+/// Returns the TransactionID for `number`: the generation is its high half.
 pub(crate) fn transaction_of(generation: Generation, number: u32) -> u64
     ensures { result ≡ transaction_of generation number }
 {
     u64::from(generation.number()) * 0x1_0000_0000 + u64::from(number)
 }
 
-/// The number that a TransactionID of this generation has; 0 below all of them.
+/// Returns the number in a TransactionID of this generation; 0 if the TransactionID is below all of them.
 pub(crate) fn sequence_of(generation: Generation, transaction: u64) -> u64
     ensures { result ≡ transaction - generation * 2 ^ 32 }
 {
@@ -55,7 +55,7 @@ pub(crate) fn sequence_of(generation: Generation, transaction: u64) -> u64
 }
 
 impl Question {
-    /// The attribute that it asks for.
+    /// Returns the attribute that is asked for.
     pub(crate) fn attribute(self) -> AttributeId
         ensures { result.0 ≡ attribute_asked self }
     {
@@ -67,7 +67,7 @@ impl Question {
         }
     }
 
-    /// The attribute modifier: the port for PortInfo.
+    /// Returns the attribute modifier: the port for PortInfo, else 0.
     pub(crate) fn modifier(self) -> u32
         ensures { result ≡ modifier_asked self }
     {
@@ -77,7 +77,7 @@ impl Question {
         }
     }
 
-    /// How many managers it asks for SMInfo.
+    /// Returns how many managers are asked for SMInfo, 0 or 1.
     pub(crate) fn managers_asked(self) -> u64
         ensures count { result ≡ managers_asked self }
         ensures within { result ≤ 1 }
@@ -90,7 +90,7 @@ impl Question {
 }
 
 impl Request {
-    /// The packet that it goes out as.
+    /// Returns the packet of the request.
     pub(crate) fn packet(&self, generation: Generation) -> Smp
         ensures { result ≡ packet_of generation self.now }
     {
@@ -104,7 +104,7 @@ impl Request {
         )
     }
 
-    /// Whether a packet has its TransactionID, and the attribute, the modifier and the path of it.
+    /// Returns whether a packet has the request's TransactionID, attribute, modifier and path.
     pub(crate) fn is_answered_by(&self, generation: Generation, smp: &Smp) -> bool
         ensures { result ≡ belongs generation smp.now self.now }
     {

@@ -14,8 +14,8 @@ use smp_bytes::{Generation, Guid, Path, PortNum, Smp};
 use std::alloc::{AllocError, Global};
 use std::marker::Model;
 
-/// A sweep over a subnet: what it has asked, what it waits for, and what it has found (subnet
-/// management, topology discovery). Contracts see each part.
+/// A sweep over a subnet: what it has asked, what it waits for, and what it has found (subnet management, topology
+/// discovery). Contracts see each part.
 #[derive(Drop)]
 pub struct Sweep {
     /// The port of its own node that it goes out by.
@@ -24,7 +24,7 @@ pub struct Sweep {
     pub(crate) requests: SweepRequests,
     pub(crate) found: Discovered,
     pub(crate) unanswered: u64,
-    /// How many of the unanswered requests were for SMInfo.
+    /// The number of unanswered requests that were for SMInfo.
     pub(crate) silent_managers: u64,
 }
 
@@ -63,8 +63,8 @@ impl Model for Sweep {
 }
 
 impl Sweep {
-    /// A sweep that goes out by a port of its own node. Its first request asks what that node is,
-    /// and has the first sequence number.
+    /// Starts a sweep that goes out by the port `origin` of its own node. Its first request asks what that node is, and
+    /// has the number `first_sequence`.
     pub fn start(
         alloc: Global,
         origin: PortNum,
@@ -86,8 +86,8 @@ impl Sweep {
         })
     }
 
-    /// The next request as a packet, first in, first out; from now on it waits for its reply. Takes
-    /// one step.
+    /// Takes the next request from the queue, first in, first out, and returns its packet. The request then waits for
+    /// its reply. Takes one step.
     pub fn next_request(&mut self) -> Option<Smp>
         ensures packet { result ≡ (after_next_request self.old).packet }
         ensures sweep { self.new ≡ (after_next_request self.old).sweep }
@@ -98,8 +98,8 @@ impl Sweep {
         Some(packet)
     }
 
-    /// Gives up on the reply to the request that waits under a TransactionID. Takes a search, and
-    /// moves the requests on one side of it.
+    /// Ends the request that waits under this TransactionID, and counts it as unanswered. Takes a search, and moves the
+    /// requests on one side of it.
     pub fn on_timeout(&mut self, transaction: u64) -> Result<(), SweepFault>
         ensures judged { Judges result (timeout_fault self.old transaction) }
         ensures ok { OnOk result (self.new ≡ after_timeout self.old transaction) }
@@ -114,22 +114,21 @@ impl Sweep {
         Ok(())
     }
 
-    /// Whether nothing is to be sent and nothing waits for a reply.
+    /// Returns whether nothing is to be sent and nothing waits for a reply.
     pub fn is_done(&self) -> bool
         ensures { result ≡ is_done self.now }
     {
         self.requests.is_empty()
     }
 
-    /// The generation of its facts.
+    /// Returns the generation of its facts.
     pub fn generation(&self) -> Generation
         ensures { result ≡ self.now.generation }
     {
         self.generation
     }
 
-    /// The TransactionID of the request at index `i` of those that wait for a reply, by rising
-    /// TransactionIDs from 0 on.
+    /// Returns the TransactionID of the `i`-th request that waits for a reply, in rising order, from 0 on.
     pub fn outstanding(&self, i: usize) -> Option<u64>
         ensures { result ≡ outstanding_at self.now i }
     {
@@ -137,15 +136,15 @@ impl Sweep {
         Some(transaction_of(self.generation, request.number))
     }
 
-    /// How many requests timed out.
+    /// Returns the number of requests that timed out.
     pub fn unanswered(&self) -> u64
         ensures { result ≡ self.now.unanswered }
     {
         self.unanswered
     }
 
-    /// How many of these requests were for SMInfo: the managers that are there, as their ports say,
-    /// and did not answer.
+    /// Returns the number of requests for SMInfo that timed out: of managers that their ports report but that did not
+    /// answer.
     pub fn silent_managers(&self) -> u64
         ensures count { result ≡ self.now.silent_managers }
         ensures within { result ≤ self.now.unanswered }
@@ -153,22 +152,22 @@ impl Sweep {
         self.silent_managers
     }
 
-    /// How many ports lead to a node that is more than 63 hops away, which was not asked.
+    /// Returns the number of ports that lead to a node more than 63 hops away, which was not asked.
     pub fn too_far(&self) -> u64
         ensures { result ≡ self.now.too_far }
     {
         self.found.too_far()
     }
 
-    /// The vertices that were reached, by rising GUIDs and ports: a switch under port 0, an adapter
-    /// under each port that was reached.
+    /// Returns the vertices that were reached, by rising GUID and port: a switch with port 0, an adapter with each port
+    /// that was reached.
     pub fn reached(&self) -> &[Vertex]
         ensures { result.now ≡ self.now.reached }
     {
         self.found.vertices()
     }
 
-    /// The path that first reached a switch, by port 0, or an adapter's port. Takes a search.
+    /// Returns the path that first reached a switch (port 0) or an adapter's port. Takes a search.
     pub fn path_to(&self, guid: Guid, port: PortNum) -> Option<&Path<63>>
         ensures { option_copied result ≡ path_to self.now guid port }
     {
@@ -176,7 +175,7 @@ impl Sweep {
         Some(&vertex.path)
     }
 
-    /// The state of a port, as its reply said it. Takes a search.
+    /// Returns the state of a port, as its reply said. Takes a search.
     pub fn seen_state(&self, guid: Guid, port: PortNum) -> Option<PortState>
         ensures { result ≡ seen_state self.now guid port }
     {

@@ -20,17 +20,16 @@ use smp_bytes::{Generation, Guid, Path, PortNum, Smp};
 use std::alloc::{AllocError, Global};
 use std::marker::Model;
 
-/// A reply brings up no more requests than this: a switch has 254 ports, its management port and a
-/// table.
+/// The most requests that a reply brings up: a switch has 254 ports, its management port and a table.
 pub(crate) const REQUESTS_PER_REPLY: usize = 256;
 
-/// The requests of a sweep. Contracts see those that wait for a reply, those to be sent, the number
-/// of the next one, and for how many more there is memory.
+/// The requests of a sweep. Contracts see those that wait for a reply, those to be sent, the number of the next
+/// request, and for how many more there is memory.
 #[derive(Drop)]
 pub(crate) struct SweepRequests {
-    /// Those that wait, and then those to be sent.
+    /// The requests that wait, and then those to be sent.
     table: RequestTable<Request>,
-    /// How many wait.
+    /// The number of requests that wait.
     sent: usize,
 }
 
@@ -51,7 +50,7 @@ impl Model for SweepRequests {
 }
 
 impl SweepRequests {
-    /// None yet. Takes no memory.
+    /// Creates an empty table, whose first number is `first`. Takes no memory.
     pub(crate) fn new(alloc: Global, first: u32) -> Self
         ensures next { result.next ≡ first }
         ensures outstanding { result.outstanding ≡ [] }
@@ -63,21 +62,21 @@ impl SweepRequests {
         }
     }
 
-    /// The number of the next one.
+    /// Returns the number of the next request.
     pub(crate) fn next(&self) -> u64
         ensures { result ≡ self.now.next }
     {
         self.table.next()
     }
 
-    /// Whether none waits and none is to be sent.
+    /// Returns whether no request waits and none is to be sent.
     pub(crate) fn is_empty(&self) -> bool
         ensures { result ≡ is_none_left self.now.queued && is_none_left self.now.outstanding }
     {
         self.table.is_empty()
     }
 
-    /// Memory for as many more as a reply can bring up.
+    /// Reserves memory for as many more requests as a reply can bring up.
     pub(crate) fn reserve(&mut self) -> Result<(), AllocError>
         ensures next { self.new.next ≡ self.old.next }
         ensures outstanding { self.new.outstanding ≡ self.old.outstanding }
@@ -87,14 +86,14 @@ impl SweepRequests {
         self.table.reserve(REQUESTS_PER_REPLY)
     }
 
-    /// The next one to be sent.
+    /// Returns the next request to be sent.
     pub(crate) fn first(&self) -> Option<&Request>
         ensures { option_copied result ≡ slice_get self.now.queued 0 }
     {
         self.table.get(self.sent)
     }
 
-    /// The next one to be sent waits from now on.
+    /// Marks the next request to be sent as sent, so that it waits.
     pub(crate) fn send(&mut self)
         requires queued { 0 < length self.old.queued }
         requires few { length self.old.outstanding < 2 ^ 32 }
@@ -106,7 +105,7 @@ impl SweepRequests {
         self.sent += 1;
     }
 
-    /// One that waits, by its index in the order of their numbers.
+    /// Returns the request at `index` of those that wait, in the order of numbers.
     pub(crate) fn get(&self, index: usize) -> Option<&Request>
         ensures { option_copied result ≡ slice_get self.now.outstanding index }
     {
@@ -117,7 +116,7 @@ impl SweepRequests {
         }
     }
 
-    /// How many have a lower TransactionID. Halves the indices at each step.
+    /// Returns how many requests have a lower TransactionID. Halves the range of indices at each step.
     fn count_below(&self, generation: Generation, transaction: u64) -> usize
         ensures index { IsIndex (λ r. nat_lt r.number (transaction - generation * 2 ^ 32))
             (self.now.outstanding ++ self.now.queued) result }
@@ -127,7 +126,7 @@ impl SweepRequests {
         self.table.count_below(sequence_of(generation, transaction))
     }
 
-    /// The index of the one that waits under a TransactionID. Takes a search.
+    /// Returns the index of the request that waits under a TransactionID. Takes a search.
     pub(crate) fn index_of(&self, generation: Generation, transaction: u64) -> Option<usize>
         ensures { IsIndexFor (request_with generation transaction self.now.outstanding)
             self.now.outstanding result }
@@ -141,7 +140,7 @@ impl SweepRequests {
         }
     }
 
-    /// The index of the one that waits for a packet. Takes a search.
+    /// Returns the index of the request that waits for a packet. Takes a search.
     pub(crate) fn index_for(&self, generation: Generation, smp: &Smp) -> Option<usize>
         ensures { IsIndexFor (find (belongs generation smp.now) self.now.outstanding)
             self.now.outstanding result }
@@ -155,7 +154,7 @@ impl SweepRequests {
         }
     }
 
-    /// One that waits has ended. Moves the requests on one side of it.
+    /// Removes the request at `index` of those that wait. Moves the requests on one side of it.
     pub(crate) fn end(&mut self, index: usize) -> Request
         requires { index < length self.old.outstanding }
         ensures request { Some result ≡ slice_get self.old.outstanding index }
@@ -169,7 +168,7 @@ impl SweepRequests {
         self.table.end(index)
     }
 
-    /// One more at the end of the queue. Takes no memory.
+    /// Appends a request to the queue. Takes no memory.
     pub(crate) fn ask(&mut self, question: Question, path: Path<63>, context: Context)
         requires room { 0 < self.old.room }
         requires number { self.old.next < 2 ^ 32 }
@@ -185,7 +184,7 @@ impl SweepRequests {
         });
     }
 
-    /// PortInfo of all ports of a switch, from its management port on.
+    /// Asks for PortInfo of all ports of a switch, from its management port on.
     fn ask_ports(&mut self, vertex: &Vertex)
         requires room { vertex.now.ports + 1 ≤ self.old.room }
         requires number { self.old.next + (vertex.now.ports + 1) ≤ 2 ^ 32 }
@@ -204,7 +203,7 @@ impl SweepRequests {
         }
     }
 
-    /// What a new vertex is asked.
+    /// Asks what is asked of a new vertex.
     fn ask_vertex(&mut self, vertex: &Vertex)
         requires room { length (vertex_questions vertex.now) ≤ self.old.room }
         requires number { self.old.next + length (vertex_questions vertex.now) ≤ 2 ^ 32 }
@@ -220,7 +219,7 @@ impl SweepRequests {
         }
     }
 
-    /// The manager at a port, over the path to the port.
+    /// Asks the manager at a port for SMInfo, over the path to the port, if it is to be asked.
     fn ask_manager(&mut self, path: &Path<63>, found: &PortFinding)
         requires room { length (manager_questions path.now found.now) ≤ self.old.room }
         requires number { self.old.next + length (manager_questions path.now found.now) ≤ 2 ^ 32 }
@@ -235,7 +234,7 @@ impl SweepRequests {
         }
     }
 
-    /// The node across a port, over the path to the port with it at the end.
+    /// Asks the node behind `port` for NodeInfo, over `path` with `port` appended.
     fn ask_across(&mut self, path: Path<63>, guid: Guid, port: PortNum)
         requires path { length path < 63 }
         requires room { 0 < self.old.room }
@@ -247,7 +246,7 @@ impl SweepRequests {
         self.ask(Question::Node, path, Context::Via(guid, port));
     }
 
-    /// What a port brings up.
+    /// Asks what a port brings up.
     fn ask_of_port(&mut self, path: Path<63>, found: &PortFinding)
         requires reach { IsPathWithinReach path found.now.onward }
         requires room { length (port_found_questions path found.now) ≤ self.old.room }
@@ -261,7 +260,7 @@ impl SweepRequests {
         }
     }
 
-    /// The request of an index has ended, and what its reply brings up is asked. Takes no memory.
+    /// Removes the request at `index`, and asks what its reply brings up. Takes no memory.
     pub(crate) fn take(&mut self, index: usize, finding: &Finding)
         requires { CanTake self.old index finding.now }
         ensures { HasTaken index finding.now self.old self.new }

@@ -4,15 +4,14 @@ ghost use Rattle.smp_bytes.specs.NodeType.{is_switch};
 use attr_codec::PortState;
 use smp_bytes::{Guid, NodeType, Path, PortNum};
 
-/// A vertex that a reply came from: a switch under port 0, or an adapter under the port that was
-/// reached.
+/// A vertex that a reply came from: a switch with port 0, or an adapter with the port that was reached.
 #[derive(Debug, Drop)]
 pub struct Vertex {
     pub guid: Guid,
     pub port: PortNum,
-    /// As the node's first reply said.
+    /// The type of the node, as its first reply said.
     pub kind: NodeType,
-    /// How many ports it has, as its first reply said.
+    /// The number of ports, as the first reply said.
     pub ports: u8,
     /// The port by which the request came.
     pub arrival: PortNum,
@@ -28,7 +27,7 @@ impl Vertex {
     }
 }
 
-/// The state of a port as a reply said it.
+/// The state of a port, as a reply said.
 #[derive(Clone, Copy, Debug, PartialEq, Eq)]
 pub struct SeenState {
     pub guid: Guid,

@@ -1,4 +1,4 @@
--- After a cut: what a floor forgets, which LIDs stay, and what a manager brings up that takes over the rest.
+-- After a cut: what a floor forgets, which LIDs stay, and what a manager brings up that takes the rest over.
 use Rattle.std.specs.Prelude.{◌≡◌, ◌<◌, ℕ, true, max, List, [], Contains, Some}
 use Rattle.fabric_model.specs.declared.cable.NodePort.{NodePort}
 use Rattle.fabric_model.specs.Fabric as fabric
@@ -22,11 +22,12 @@ use Rattle.takeover_laws.specs.Takeover.{SweepsAlone, planning_at, plan_by_it}
 
 -- floors -------------------------------------------------------------------------------------------------
 
--- a floor above each generation that is held, and above 1, forgets all
+-- a floor above 1 and above each generation that is held forgets all facts
 abbrev pub FloorsForget : Type 0
 FloorsForget = (facts : Facts) (floor : ℕ) → 1 < floor → newest_held facts < floor → cells_of (raised facts floor) ≡ []
 
--- a manager whose floor is raised so holds no facts, and its next sweep is of the greater of its old floor and this one
+-- a manager that is given a floor above 1 and above each generation that it holds has no facts then, and the generation
+-- of its next sweep is the greater of its old floor and the given one
 abbrev pub RaisedManagersKnowNothing : Type 0
 RaisedManagersKnowNothing = (w : Managing) (floor : ℕ) → 1 < floor → newest_held w.manager.store < floor
     → (cells_of (after_manager_event w (Raise floor)).manager.store ≡ [])
@@ -34,15 +35,15 @@ RaisedManagersKnowNothing = (w : Managing) (floor : ℕ) → 1 < floor → newes
 
 -- LIDs ---------------------------------------------------------------------------------------------------
 
--- the second view has some of the first's end ports, which claim the LIDs that they have there, and room for all of
--- these
+-- the second view has some of the first one's end ports, which claim the LIDs that they have there, and room for all of
+-- these LIDs
 pub record IsRestOf (lmc : ℕ) (x y : Cells) : Type 0 where
   pub had : (e : EndPort) → Contains (end_ports y) e → Contains (end_ports x) e
   pub claimed : (e : EndPort) (lid : ℕ) → Contains (end_ports y) e → lid_of (lids lmc x) e ≡ Some lid
       → claim_of y e.node e.port ≡ Some lid
   pub in_room : (top : ℕ) → top_of (lids lmc x) ≡ Some top → top < room y
 
--- such end ports keep their LIDs, whichever are gone
+-- end ports that are left keep their LIDs, whichever others are gone
 abbrev pub LidsOutlast : Type 0
 LidsOutlast = (lmc : ℕ) (x y : Facts) → ¬ (IsNoRoom lmc (cells_of x)) → ¬ (IsNoRoom lmc (cells_of y))
     → IsRestOf lmc (cells_of x) (cells_of y)
@@ -64,7 +65,8 @@ pub record TakesRest (held : Facts) (w : Managing) (before between after : List 
       → range_of (plan_by_it (planning_at w before between) held).given (record { node = node.guid; port = port.port })
       ≡ Some (range_at (fabric_of w.scene.fabric) port)
 
--- what is written gives each end port that is there the LID that it had, and once it is written pings arrive among them
+-- the written plan gives each end port that is there the LID that it had, and once it is written pings arrive among
+-- them
 pub record IsServed (held : Facts) (w : Managing) (before between after : List ManagerEvent) : Type 0 where
   pub lids_stay : (e : EndPort) → Contains (end_ports (cells_of (at_writing w before between).manager.store)) e
       → lid_of (plan_at (at_writing w before between)).given e
@@ -74,13 +76,13 @@ pub record IsServed (held : Facts) (w : Managing) (before between after : List M
       (plan_at (at_writing w before between))
       (at_end w before between after).scene.fabric w.seat
 
--- so is the rest of a subnet served, whatever is gone
+-- the rest of a subnet is served, whatever is gone
 abbrev pub RestIsServed : Type 0
 RestIsServed =
     (held : Facts) (w : Managing) (before between after : List ManagerEvent) → TakesRest held w before between after
     → IsServed held w before between after
 
--- there is a manager that takes over a rest so: one that was just made
+-- a new manager that takes the rest over
 pub record SomeManagerServesTheRest : Type 0 where
   pub managing : Managing
   pub port_guid : ℕ

@@ -23,7 +23,7 @@ use Rattle.manager_laws.specs.WritingPings.{AreNoSweeps}
 use Rattle.manager_laws.specs.Written.{IsWritingRun, at_writing, at_first_steps, at_end, plan_at}
 use Rattle.takeover_laws.specs.Claims.{HasLidsOf}
 
--- at each moment of what happens each port has the LID that it has in this fabric
+-- at each moment of these events, each port has the LID that it has in the fabric f
 abbrev pub LidsStayAround : Fabric → List ManagerEvent → Managing → Type 0
 LidsStayAround f [] w = Unit {0}
 LidsStayAround f (event ∷ events) w =
@@ -33,15 +33,15 @@ LidsStayAround f (event ∷ events) w =
 abbrev pub planning_at : Managing → List ManagerEvent → List ManagerEvent → Planning
 planning_at w before between = (at_writing w before between).manager.planning
 
--- the plan of facts by the rule and the LMC of a planning
+-- the plan of facts by the rule and the LMC of `planning`
 abbrev pub plan_by_it : Planning → Facts → PlanValue
 plan_by_it planning facts = plan_of planning.rule planning.lmc (cells_of facts)
 
--- A manager that holds no facts sweeps, and is about to write what it learnt by that.
+-- A manager that held no facts sweeps, and is about to write what it learnt by that.
 pub record SweepsAlone (w : Managing) (before between after : List ManagerEvent) : Type 0 where
-  -- from a moment at which nothing is on its way: a sweep begins, and then a writing
+  -- from a moment at which nothing is on its way, a sweep begins, and later a writing
   pub run : IsWritingRun w before between after
-  -- it holds no facts when the sweep begins, and until the writing learns from this sweep alone
+  -- the manager holds no facts when the sweep begins, and until the writing learns from this sweep alone
   pub knew_nothing : cells_of (after_manager_events before w).manager.store ≡ []
   pub alone : AreNoSweeps between (after_manager_event (after_manager_events before w) Begin)
   -- the sweep has every answer, and nothing was out of its reach
@@ -53,17 +53,18 @@ pub record SweepsAlone (w : Managing) (before between after : List ManagerEvent)
   pub lids_between : LidsStayAround (fabric_of w.scene.fabric) between
       (after_manager_event (after_manager_events before w) Begin)
 
--- It does so on a subnet that holds a plan.
+-- A manager sweeps alone on a subnet that holds a plan.
 pub record TakesOver (held : Facts) (w : Managing) (before between after : List ManagerEvent) : Type 0 where
   pub sweeps : SweepsAlone w before between after
-  -- all that is joined to its seat is as these facts say, and holds their plan by the manager's rule and LMC
+  -- the facts `held` describe exactly all that is joined to the seat, and that holds their plan by the manager's rule
+  -- and LMC
   pub has_room : ¬ (IsNoRoom (planning_at w before between).lmc (cells_of held))
   pub agrees : AgreesOn (IsJoinedTo (fabric_of w.scene.fabric) w.seat) (cells_of held) (fabric_of w.scene.fabric)
   pub holds : HoldsPlan (IsJoinedTo (fabric_of w.scene.fabric) w.seat) (plan_by_it (planning_at w before between) held)
       (fabric_of w.scene.fabric)
 
--- What it is about to write is what is there: the same LIDs, and each block as it is. Pings arrived before it came, and
--- arrive once it has written.
+-- What the manager is about to write is what is there: the same LIDs, and each block as it is. Pings arrived before,
+-- and arrive once it has written.
 pub record ChangesNothing (held : Facts) (w : Managing) (before between after : List ManagerEvent) : Type 0 where
   pub same_plan : plan_at (at_writing w before between) ≡ plan_by_it (planning_at w before between) held
   pub arrived : EachPingArrives (planning_at w before between).rule (cells_of held)
@@ -79,9 +80,9 @@ TakeoverChangesNothing =
     (held : Facts) (w : Managing) (before between after : List ManagerEvent) → TakesOver held w before between after
     → ChangesNothing held w before between after
 
--- between its writes, too --------------------------------------------------------------------------------
+-- during the writing, too --------------------------------------------------------------------------------
 
--- no Set of the manager's own is looked for
+-- no Set is one of the manager's own
 abbrev pub no_sets : OwnSets
 no_sets at packet = ⊥
 
@@ -94,19 +95,19 @@ abbrev pub AllCarry : PlanValue → List ManagerEvent → Managing → Type 0
 AllCarry plan [] w = Unit {0}
 AllCarry plan (event ∷ events) w = Carrying plan w event × AllCarry plan events (after_manager_event w event)
 
--- what is joined to a seat holds the plan of facts, and each ping there for each LID of it arrives
+-- what is joined to a seat holds the plan of facts, and each ping there, for each LID of the plan, arrives
 pub record IsInUse (rule : RuleValue) (facts : Facts) (plan : PlanValue) (s : Simulation) (seat : NodePort) : Type 0
   where
     pub holds : HoldsPlan (IsJoinedTo (fabric_of s) seat) plan (fabric_of s)
     pub arrive : EachPingArrives rule (cells_of facts) plan s seat
 
--- so it is at each moment of what happens
+-- the plan is in use at each moment of these events
 abbrev pub InUseAlong : RuleValue → Facts → PlanValue → NodePort → List ManagerEvent → Managing → Type 0
 InUseAlong rule facts plan seat [] w = IsInUse rule facts plan w.scene.fabric seat
 InUseAlong rule facts plan seat (event ∷ events) w =
     IsInUse rule facts plan w.scene.fabric seat × InUseAlong rule facts plan seat events (after_manager_event w event)
 
--- a takeover while each Set carries the values of the plan that is held: until the writing begins; from then on the run
+-- a takeover while each Set carries the values of the held plan until the writing begins; from then on the run itself
 -- asks for it
 pub record TakesOverQuietly (held : Facts) (w : Managing) (before between after : List ManagerEvent) : Type 0 where
   pub takes : TakesOver held w before between after
@@ -114,7 +115,7 @@ pub record TakesOverQuietly (held : Facts) (w : Managing) (before between after 
   pub carry_between : AllCarry (plan_by_it (planning_at w before between) held) between
       (after_manager_event (after_manager_events before w) Begin)
 
--- at each moment before the sweep, until the writing, and between its Sets
+-- the held plan is in use at each moment before the sweep, until the writing, and between its Sets
 pub record IsInUseThroughout (held : Facts) (w : Managing) (before between after : List ManagerEvent) : Type 0 where
   pub until_sweep : InUseAlong (planning_at w before between).rule held (plan_by_it (planning_at w before between) held)
       w.seat before w
@@ -124,14 +125,14 @@ pub record IsInUseThroughout (held : Facts) (w : Managing) (before between after
   pub while_writing : InUseAlong (planning_at w before between).rule held
       (plan_by_it (planning_at w before between) held) w.seat after (at_first_steps w before between)
 
--- what is held stays held, and every ping arrives before, between and after the writes
+-- what is held stays held, and every ping arrives before, between and after the Sets
 abbrev pub PingsArriveThroughout : Type 0
 PingsArriveThroughout =
     (held : Facts) (w : Managing) (before between after : List ManagerEvent)
     → TakesOverQuietly held w before between after
     → IsInUseThroughout held w before between after
 
--- there is a manager that takes over so: one that was just made, and that another one, which is there, does not answer
+-- a new manager that takes over quietly, and that another manager, which is there, does not answer
 pub record SomeManagerTakesOver : Type 0 where
   pub managing : Managing
   pub port_guid : ℕ

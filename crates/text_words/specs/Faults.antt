@@ -1,4 +1,4 @@
--- What is said of a text that is not read: the line that has the fault, and a word.
+-- What is printed about a text that is refused: the faulty line, and a word.
 use Rattle.std.specs.Prelude.{ℕ, List, Bool, true, false, ◌++◌, Option, None, Some, codes, decimal}
 use Rattle.text_words.specs.declared.fault.LinesFault.{LinesFault}
 use Rattle.text_words.specs.declared.fault.LinesFault.TheVariants.{Line, Memory}
@@ -7,17 +7,17 @@ abbrev pub is_memory : {E : Type 0} → LinesFault E → Bool
 is_memory (Line fault) = false
 is_memory Memory = true
 
--- what `{}` writes, by the words for what can be wrong
+-- what `{}` writes; `word` gives the word for each fault of a line
 abbrev pub fault_text : {E : Type 0} → (E → List ℕ) → LinesFault E → List ℕ
 fault_text word (Line fault) = codes "line " ++ decimal fault.line ++ codes ": " ++ word fault.wrong
 fault_text word Memory = codes "out of memory"
 
--- the line that has the fault
+-- the number of the faulty line, if memory is not the fault
 abbrev pub fault_line : {E : Type 0} → LinesFault E → Option ℕ
 fault_line (Line fault) = Some fault.line
 fault_line Memory = None
 
--- what is said of it
+-- the word for the fault
 abbrev pub fault_word : {E : Type 0} → (E → List ℕ) → LinesFault E → List ℕ
 fault_word word (Line fault) = word fault.wrong
 fault_word word Memory = codes "out of memory"

@@ -5,20 +5,20 @@ use Rattle.std.specs.List.{list_all}
 use Rattle.std.specs.Str.{bytes_eq}
 use Rattle.std.specs.Str.Parse.{digits_value}
 
--- the value of a digit in this base
+-- the value of a digit in `base`
 abbrev pub digit_of : ℕ → ℕ → Option ℕ
 digit_of base b = if is_digit b base then Some (digit_value b) else None
 
--- the number that a word writes in this base: digits, however many, and nothing else
+-- the number that `word` spells in `base`: digits, however many, and nothing else
 abbrev pub number_of : ℕ → List ℕ → Option ℕ
 number_of base word =
     if nat_le 1 (length word) && list_all (λ b. is_digit b base) word then Some (digits_value base word) else None
 
--- the number, where it is from 1 up to the most
+-- n, if it is from 1 to `most`
 abbrev pub up_to : ℕ → ℕ → Option ℕ
 up_to most n = if nat_le 1 n && nat_le n most then Some n else None
 
--- a number in decimal, and whether it is from 1 up to the most
+-- a decimal number; inside it is None if it is not from 1 to `most`
 abbrev pub count_of : ℕ → List ℕ → Option (Option ℕ)
 count_of most word = option_map (up_to most) (number_of 10 word)
 

@@ -1,13 +1,13 @@
 -- Words, lines and texts as they are printed.
 use Rattle.std.specs.Prelude.{ℕ, List, [], ◌∷◌, ◌++◌, decimal}
 
--- words with a blank between two
+-- words with a blank between each two
 abbrev pub line_text : List (List ℕ) → List ℕ
 line_text [] = []
 line_text (word ∷ []) = word
 line_text (word ∷ next ∷ later) = word ++ 32 ∷ line_text (next ∷ later)
 
--- lines of words, each with a line feed behind it
+-- lines of words, each ended by a line feed
 abbrev pub lines_text : List (List (List ℕ)) → List ℕ
 lines_text [] = []
 lines_text (line ∷ later) = line_text line ++ 10 ∷ lines_text later
@@ -20,6 +20,6 @@ quoted_text name = 34 ∷ name ++ 34 ∷ []
 abbrev pub bracketed_text : ℕ → List ℕ
 bracketed_text port = 91 ∷ decimal port ++ 93 ∷ []
 
--- a name in quotes, and at once behind it a port in brackets
+-- a name in quotes, with a port in brackets right behind it
 abbrev pub named_text : List ℕ → ℕ → List ℕ
 named_text name port = 34 ∷ name ++ 34 ∷ bracketed_text port

@@ -1,18 +1,18 @@
 -- A text as lines, and a line as words.
 use Rattle.std.specs.Prelude.{ℕ, Bool, false, List, [], ◌∷◌, ◌==◌, ◌&&◌, ◌||◌, not, if◌then◌else◌}
 
--- the byte stands first
+-- the bytes begin with b
 abbrev pub begins_with : ℕ → List ℕ → Bool
 begins_with b [] = false
 begins_with b (c ∷ bytes) = c == b
 
--- the lines with a byte in front of the first
+-- the lines, with b put before the first
 abbrev pub onto_first : ℕ → List (List ℕ) → List (List ℕ)
 onto_first b [] = (b ∷ []) ∷ []
 onto_first b (line ∷ later) = (b ∷ line) ∷ later
 
--- the lines of a text: each ends with a line feed, before which a carriage return belongs to the end; the last may end
--- with the text
+-- the lines of a text: each ends with a line feed, and a carriage return before it belongs to the line end; the last
+-- line may end with the text
 abbrev pub lines : List ℕ → List (List ℕ)
 lines [] = []
 lines (b ∷ bytes) = if b == 10 then []
@@ -22,11 +22,11 @@ lines (b ∷ bytes) = if b == 10 then []
 abbrev pub is_blank : ℕ → Bool
 is_blank b = b == 32 || b == 9
 
--- a byte in front of the rest of a word, behind which others stand
+-- the byte b put before the first word; the later words stay
 abbrev pub onto_word : ℕ → List ℕ × List (List ℕ) → List ℕ × List (List ℕ)
 onto_word b parts = (b ∷ parts.0, parts.1)
 
--- the words, where none is begun
+-- the words; an empty first one does not count
 abbrev pub words_in : List ℕ × List (List ℕ) → List (List ℕ)
 words_in ([], later) = later
 words_in (b ∷ word, later) = (b ∷ word) ∷ later
@@ -39,7 +39,7 @@ is_behind_word quoted b = not quoted && (b == 35 || is_blank b)
 abbrev pub is_quoted_after : Bool → ℕ → Bool
 is_quoted_after quoted b = if b == 34 then not quoted else quoted
 
--- the rest of the word that is begun, within quotes or not, and the words behind it; a '#' outside quotes ends the line
+-- the rest of the current word, within quotes or not, and the words behind it; a '#' outside quotes ends the line
 abbrev pub parts : Bool → List ℕ → List ℕ × List (List ℕ)
 parts quoted [] = ([], [])
 parts quoted (b ∷ bytes) =
@@ -50,7 +50,7 @@ parts quoted (b ∷ bytes) =
 abbrev pub words : List ℕ → List (List ℕ)
 words line = words_in (parts false line)
 
--- the line without the carriage return that it may end with
+-- the line without its carriage return, if it ends with one
 abbrev pub without_return : List ℕ → List ℕ
 without_return [] = []
 without_return (b ∷ []) = if b == 13 then [] else b ∷ []

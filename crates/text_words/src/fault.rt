@@ -5,33 +5,33 @@ use std::alloc::{AllocError, AllocFailed};
 use std::error::Error;
 use std::fmt;
 
-/// What can be wrong with a line of a text.
+/// A fault of one line of a text.
 pub trait LineError: Copy {
-    // The word for it.
+    // The word for the fault.
     ghost word: { Self → List ℕ };
 
-    /// The word for it, as it is printed.
+    /// Returns the word for the fault, as it is printed.
     fn word(self) -> &'static str
         ensures { result.now ≡ word self };
 }
 
-/// The first faulty line of a text, from 1, and what is wrong with it.
+/// The first faulty line of a text, counted from 1, and its fault.
 #[derive(Clone, Copy, Debug, PartialEq, Eq)]
 pub struct LineFault<E> {
     pub line: usize,
     pub wrong: E,
 }
 
-/// Why a text is not read.
+/// Why a text is refused.
 #[derive(Clone, Copy, Debug, PartialEq, Eq)]
 pub enum LinesFault<E> {
-    /// A line has a fault, and none above it.
+    /// The first line with a fault, and the fault.
     Line(LineFault<E>),
-    /// Memory was refused, and no line has a fault.
+    /// Memory ran out, and no line has a fault.
     Memory,
 }
 
-/// The line and the word, as in `line 3: port`; or that memory is out.
+/// Writes the line and the word, as in `line 3: port`, or `out of memory`.
 impl<E: LineError> fmt::Display for LinesFault<E> {
     ghost use Rattle.std.specs.Prelude.{Some};
     ghost use Rattle.text_words.specs.Faults.{fault_text};
@@ -55,7 +55,7 @@ impl<E: LineError + fmt::Debug> Error for LinesFault<E> {}
 impl<E: LineError> LinesFault<E> {
     ghost use Rattle.text_words.specs.Faults.{fault_line, fault_word};
 
-    /// The line that has the fault, from 1.
+    /// Returns the number of the faulty line, from 1, or `None` if memory ran out.
     pub fn line(self) -> Option<usize>
         ensures { result ≡ fault_line self }
     {
@@ -65,7 +65,7 @@ impl<E: LineError> LinesFault<E> {
         }
     }
 
-    /// What is said of the line, or that memory is out.
+    /// Returns the word for the line's fault, or `out of memory`.
     pub fn word(self) -> &'static str
         ensures { result.now ≡ fault_word E.word self }
     {

@@ -1,5 +1,4 @@
-//! The words of a text: its lines, the words of a line, and the numbers, the names and the ports
-//! that words tell.
+//! The words of a text: its lines, the words of a line, and the numbers, names and ports that words spell.
 #![tactic(auto)]
 
 mod fault;

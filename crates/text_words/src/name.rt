@@ -10,8 +10,7 @@ use arrayvec::ArrayString;
 use std::cmp::Ordering;
 use std::marker::Model;
 
-/// The name of a node: 1 to 64 characters that ASCII prints, the blank among them and the quote
-/// not.
+/// The name of a node: 1 to 64 printable ASCII characters, blanks included, without quotes.
 #[derive(Debug, Drop)]
 pub struct NodeName {
     text: ArrayString<64>,
@@ -29,7 +28,7 @@ impl Model for NodeName {
 }
 
 impl NodeName {
-    /// The bytes as a name, where they are one.
+    /// Creates a name from its bytes. Returns `None` if they are no name.
     pub fn new(name: &[u8]) -> Option<Self>
         ensures { result ≡ name_in name.now }
     {
@@ -40,7 +39,7 @@ impl NodeName {
         }
     }
 
-    /// The name as text.
+    /// Returns the name as text.
     pub fn as_str(&self) -> &str
         ensures name { result.now ≡ self.now }
         ensures is_name { IsTrue (is_name self.now) }
@@ -48,7 +47,7 @@ impl NodeName {
         self.text.as_str()
     }
 
-    /// The same name once more.
+    /// Returns a copy of the name.
     pub fn copied(&self) -> Self
         ensures { result ≡ self.now }
     {
@@ -56,28 +55,28 @@ impl NodeName {
     }
 }
 
-/// Whether the bytes are a name.
+/// Returns whether `name` is a name.
 fn is_name(name: &[u8]) -> bool
     ensures { result ≡ is_name name.now }
 {
     !name.is_empty() && name.len() <= 64 && are_name_bytes(name)
 }
 
-/// Whether a name may have all these characters.
+/// Returns whether a name may contain each of `bytes`.
 fn are_name_bytes(bytes: &[u8]) -> bool
     ensures { result ≡ list_all is_name_byte bytes.now }
 {
     bytes.iter().all(|byte| is_name_byte(*byte))
 }
 
-/// Whether a name may have the character.
+/// Returns whether a name may contain `byte`.
 fn is_name_byte(byte: u8) -> bool
     ensures { result ≡ is_name_byte byte }
 {
     matches!(byte, 0x20..=0x7E) && byte != b'"'
 }
 
-/// The text of a name.
+/// Returns the bytes of a name as text.
 fn text(name: &[u8]) -> ArrayString<64>
     requires { IsTrue (is_name name.now) }
     ensures { result.bytes ≡ name.now }

@@ -3,8 +3,8 @@ ghost use Rattle.text_words.specs.Number.{digit_of, number_of, count_of, guid_of
 
 use smp_bytes::Guid;
 
-/// The number that a word of digits writes in a base from 2 to 36. One over `u64::MAX` reads as
-/// that. Takes a step for each digit.
+/// Parses a word of digits in a base from 2 to 36, or returns `None` if the word is anything else. A number over
+/// `u64::MAX` gives `u64::MAX`. Takes a step for each digit.
 pub fn number(word: &[u8], base: u32) -> Option<u64>
     requires { 2 ≤ base × base ≤ 36 }
     ensures { result ≡ option_map (min (2 ^ 64 - 1)) (number_of base word.now) }
@@ -19,7 +19,7 @@ pub fn number(word: &[u8], base: u32) -> Option<u64>
     Some(number)
 }
 
-/// The value of a digit.
+/// Returns the value of a digit, or `None` if the byte is no digit in this base.
 fn digit(byte: u8, base: u32) -> Option<u32>
     requires { 2 ≤ base × base ≤ 36 }
     ensures { result ≡ digit_of base byte }
@@ -27,7 +27,7 @@ fn digit(byte: u8, base: u32) -> Option<u32>
     char::from(byte).to_digit(base)
 }
 
-/// The number with a digit more behind it.
+/// Appends a digit to `number`. Returns `u64::MAX` if the result is greater.
 fn with_digit(number: u64, base: u32, digit: u32) -> u64
     requires { 1 ≤ base }
     ensures { result ≡ min (2 ^ 64 - 1) (number * base + digit) }
@@ -37,8 +37,8 @@ fn with_digit(number: u64, base: u32, digit: u32) -> u64
         .saturating_add(u64::from(digit))
 }
 
-/// The number from 1 to `most` that a word of decimal digits writes; inside it is `None` where it
-/// is another.
+/// Parses a word of decimal digits as a number from 1 to `most`. Returns `None` if the word is no number, and
+/// `Some(None)` if the number is out of range.
 pub fn count(word: &[u8], most: u16) -> Option<Option<u16>>
     ensures { result ≡ count_of most word.now }
 {
@@ -47,8 +47,8 @@ pub fn count(word: &[u8], most: u16) -> Option<Option<u16>>
     Some(if is_within { Some(number as u16) } else { None })
 }
 
-/// The number from 1 to 254 that a word of decimal digits writes; inside it is `None` where it is
-/// another.
+/// Parses a word of decimal digits as a port from 1 to 254. Returns `None` if the word is no number, and `Some(None)`
+/// if the number is out of range.
 pub fn port_number(word: &[u8]) -> Option<Option<u8>>
     ensures { result ≡ count_of 254 word.now }
 {
@@ -60,7 +60,7 @@ pub fn port_number(word: &[u8]) -> Option<Option<u8>>
     })
 }
 
-/// The GUID that a word writes: `0x` and 1 to 16 hex digits.
+/// Parses a GUID: `0x` and 1 to 16 hex digits.
 pub fn guid(word: &[u8]) -> Option<Guid>
     ensures { result ≡ guid_of word.now }
 {

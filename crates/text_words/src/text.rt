@@ -5,8 +5,7 @@ ghost use Rattle.text_words.specs.Text.{lines, words, is_blank, parts, is_behind
 ghost use Rattle.text_words.specs.Text.{without_return};
 
 #[tactic(auto, using(crate::proofs::Splits::lines_at, crate::proofs::Splits::lines_none))]
-/// The first line of a text without its end, and the text behind it; or `None` where the text is
-/// empty.
+/// Returns the first line of a text without its line end, and the text behind it. Returns `None` if the text is empty.
 pub fn split_line(text: &[u8]) -> Option<(&[u8], &[u8])>
     ensures line { MatchOption result (lines text.now ≡ [])
         (λ x. lines text.now ≡ x.0.now ∷ lines x.1.now) }
@@ -22,7 +21,7 @@ pub fn split_line(text: &[u8]) -> Option<(&[u8], &[u8])>
 }
 
 #[tactic(auto, using(crate::proofs::Splits::return_at_end, crate::proofs::Splits::no_return_at_end))]
-/// The line without the carriage return that it may end with.
+/// Returns the line without its carriage return, if it ends with one.
 fn without_return(line: &[u8]) -> &[u8]
     ensures { result.now ≡ without_return line.now }
 {
@@ -32,7 +31,7 @@ fn without_return(line: &[u8]) -> &[u8]
     if *last == b'\r' { rest } else { line }
 }
 
-/// The first word of a line, and what stands behind it; or `None` where there is none.
+/// Returns the first word of a line and what follows it, or `None` if there is no word.
 pub fn split_word(line: &[u8]) -> Option<(&[u8], &[u8])>
     ensures { MatchOption result (words line.now ≡ [])
         (λ x. words line.now ≡ x.0.now ∷ words x.1.now) }
@@ -45,14 +44,14 @@ pub fn split_word(line: &[u8]) -> Option<(&[u8], &[u8])>
     }
 }
 
-/// The place of the first byte that is none that separates words.
+/// Returns the index of the first byte that is not a separator.
 fn word_start(line: &[u8]) -> Option<usize>
     ensures { result ≡ position (λ b. not (is_blank b)) line.now }
 {
     line.iter().position(|byte| !is_blank(*byte))
 }
 
-/// How long the word is that the line begins with.
+/// Returns the length of the word that the line begins with.
 fn word_len(line: &[u8]) -> usize
     ensures within { result ≤ length line.now }
     ensures word { (parts false line.now).0 ≡ take result line.now }
@@ -68,35 +67,35 @@ fn word_len(line: &[u8]) -> usize
     line.len()
 }
 
-/// Whether a word, within quotes or not, ends before the byte.
+/// Returns whether a word ends before `byte`. `is_quoted` says whether the word is within quotes there.
 fn is_behind_word(is_quoted: bool, byte: u8) -> bool
     ensures { result ≡ is_behind_word is_quoted byte }
 {
     !is_quoted && (byte == b'#' || is_blank(byte))
 }
 
-/// Whether a word is within quotes behind the byte.
+/// Returns whether a word is within quotes behind `byte`. `is_quoted` says whether it is before `byte`.
 fn is_quoted_after(is_quoted: bool, byte: u8) -> bool
     ensures { result ≡ is_quoted_after is_quoted byte }
 {
     if byte == b'"' { !is_quoted } else { is_quoted }
 }
 
-/// Whether the word is this one.
+/// Returns whether `word` is `wanted`.
 pub fn is_word(word: &[u8], wanted: &str) -> bool
     ensures { result ≡ bytes_eq word.now wanted.now }
 {
     word == wanted.as_bytes()
 }
 
-/// The place of the first such byte.
+/// Returns the index of the first `byte`, or `None` if there is none.
 pub(crate) fn place_of(bytes: &[u8], byte: u8) -> Option<usize>
     ensures { result ≡ position (λ b. b == byte) bytes.now }
 {
     bytes.iter().position(|b| *b == byte)
 }
 
-/// Whether the byte separates words.
+/// Returns whether the byte separates words.
 fn is_blank(byte: u8) -> bool
     ensures { result ≡ is_blank byte }
 {

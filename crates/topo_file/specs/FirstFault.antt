@@ -1,4 +1,4 @@
--- The first fault of a text's lines, apart from those of its links, by the names of the nodes alone.
+-- The first fault of a text's lines, except for those of its links, given only the names of the nodes.
 use Rattle.std.specs.Prelude.{◌≡◌, ℕ, ◌+◌, Bool, false, List, [], ◌∷◌, ◌++◌, Option, None, Some, Result, Ok, Err, length, nat_lt, if◌then◌else◌}
 use Rattle.std.specs.List.{list_any}
 use Rattle.std.specs.Option.{option_map_or}
@@ -11,21 +11,21 @@ use Rattle.topo_file.specs.declared.line.TopologyLine.TheVariants as line
 use Rattle.topo_file.specs.TopologyLine.{line_of}
 use Rattle.topo_file.specs.Reading.{◌>>=◌, node_of, nodes_of_lines}
 
--- the fault of what is told, where it has one
+-- the fault of a result, if it is one
 abbrev pub fault_of : {T : Type 0} → Result T TopoFault → Option TopoFault
 fault_of (Ok value) = None
 fault_of (Err fault) = Some fault
 
--- the first fault of a text's lines, apart from those of its links: a peer or a port that is not there, or a port with
--- two links
+-- the first fault of a text's lines, except for those of its links: a peer or a port that does not exist, or a port
+-- with two links
 unfoldable pub first_line_fault : List ℕ → Option TopoFault
 first_line_fault text = fault_of (nodes_of_lines (lines text))
 
--- a name is among those that are there
+-- `name` is one of `names`
 abbrev pub is_used : List (Option (List ℕ)) → List ℕ → Bool
 is_used names name = list_any (λ used. option_map_or (λ n. bytes_eq n name) used false) names
 
--- the names of the nodes with one more
+-- `names` with one more
 abbrev pub with_new_name : ℕ → List (Option (List ℕ)) → List ℕ → Result (List (Option (List ℕ))) TopoFault
 with_new_name number names name =
     if is_used names name then Err (Name number)
@@ -36,20 +36,20 @@ abbrev pub below_node : ℕ → List (Option (List ℕ)) → Result (List (Optio
 below_node number [] = Err (Syntax number)
 below_node number (name ∷ names) = Ok (name ∷ names)
 
--- the names with that of a line
+-- `names` with the name in a line
 abbrev pub with_name : ℕ → List (Option (List ℕ)) → Option TopologyLine → Result (List (Option (List ℕ))) TopoFault
 with_name number names None = Err (Syntax number)
 with_name number names (Some line.Empty) = Ok names
 with_name number names (Some (line.Node node)) = node_of number node >>= λ n. with_new_name number names n.name
 with_name number names (Some (line.Link link)) = below_node number names
 
--- and those of lines that count from this number
+-- `names` with the names in lines, which are numbered from `number` on
 abbrev pub with_names : ℕ → List (Option (List ℕ)) → List (List ℕ) → Result (List (Option (List ℕ))) TopoFault
 with_names number names [] = Ok names
 with_names number names (line ∷ later) =
     with_name number names (line_of line) >>= λ now. with_names (number + 1) now later
 
--- a call left these names, or answered the fault
+-- a call left these names, or returned the fault
 abbrev pub Leaves : {T : Type 0} → Result T TopoFault → Result (Unit {0}) TopoFault → T → Type 0
 Leaves (Ok now) (Ok u) new = new ≡ now
 Leaves (Err fault) (Err answered) new = answered ≡ fault

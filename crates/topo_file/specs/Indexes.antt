@@ -1,4 +1,4 @@
--- The indexes by which a node, and the other end of a link, are found.
+-- The indexes by which a node and the other end of a link are found.
 use Rattle.std.specs.Prelude.{◌≡◌, ◌≤◌, ℕ, List, length}
 use Rattle.std.specs.BTreeMap.{BTreeMap, get}
 use Rattle.std.specs.Cmp.Lexicographic.{slice_cmp}
@@ -10,15 +10,15 @@ use Rattle.topo_file.specs.declared.node.Node.{Node}
 use Rattle.fabric_model.specs.Cables.{other_end}
 use Rattle.topo_file.specs.Topology.{id_of}
 
--- the index has at each name the id of its node
+-- the index has the id of each node under its name
 pub record HasIds (nodes : List Node) (ids : BTreeMap (List ℕ) ℕ) : Type 0 where
   pub few : length nodes ≤ 1024
   pub found : (name : List ℕ) → get (slice_cmp nat_cmp) ids name ≡ id_of nodes name
 
--- the order of nodes and ports
+-- the order of ports: by node, then by port
 abbrev pub port_cmp : ℕ × ℕ → ℕ × ℕ → Ordering
 port_cmp a b = ordering_then (nat_cmp a.0 b.0) (nat_cmp a.1 b.1)
 
--- the index has at each port the other end of its link
+-- the index has the other end of each link under its port
 abbrev pub HasEnds : List Cable → BTreeMap (ℕ × ℕ) NodePort → Type 0
 HasEnds links across = (p : NodePort) → get port_cmp across (p.node, p.port) ≡ other_end links p

@@ -10,14 +10,14 @@ use Rattle.topo_file.specs.declared.node.Node.{Node}
 use Rattle.topo_file.specs.Topology.{Layout, IsTopology}
 use Rattle.topo_file.specs.Reading.{topology_of}
 
--- the words of a node's line: its type, port count, name and GUID, and the room of a switch's forwarding table
+-- the words of a node's line: its type, port count, name and GUID, and the size of a switch's forwarding table
 abbrev pub node_words : Node → List (List ℕ)
 node_words node =
     (if is_switch node.kind then codes "Switch" else codes "Hca") ∷ decimal node.ports ∷ quoted_text node.name
     ∷ codes "guid" ∷ (codes "0x" ++ guid_text node.guid)
     ∷ (if is_switch node.kind then codes "cap" ∷ decimal node.cap ∷ [] else [])
 
--- the name of the node of an id
+-- the name of the node `id`
 abbrev pub name_at : List Node → ℕ → List ℕ
 name_at nodes id = option_map_or (λ node. node.name) (slice_get nodes id) []
 
@@ -25,11 +25,11 @@ name_at nodes id = option_map_or (λ node. node.name) (slice_get nodes id) []
 abbrev pub link_words : List Node → Cable → List (List ℕ)
 link_words nodes link = bracketed_text link.one.port ∷ named_text (name_at nodes link.other.node) link.other.port ∷ []
 
--- the links whose first end is at the node of an id
+-- the links whose first end is at the node `id`
 abbrev pub links_at : List Cable → ℕ → List Cable
 links_at links id = filter (λ link. link.one.node == id) links
 
--- the lines of the nodes from an id on, each with its links below it
+-- the lines of the nodes from the node `id` on, each with its links below it
 abbrev pub lines_from : Layout → ℕ → List Node → List (List (List ℕ))
 lines_from t id [] = []
 lines_from t id (node ∷ later) =
@@ -43,10 +43,10 @@ topology_text t = lines_text (lines_from t 0 t.nodes)
 abbrev pub IsInOrder : List Cable → Type 0
 IsInOrder links = AllPairs (λ x y. x.one.node ≤ y.one.node) links
 
--- a topology whose links are in this order is read from its text as it is
+-- a topology whose links stand in the order of their first ends' nodes is read from its text as it is
 abbrev pub PrintedTopologiesAreRead : Type 0
 PrintedTopologiesAreRead = (t : Layout) → IsTopology t → IsInOrder t.links → topology_of (topology_text t) ≡ Ok t
 
--- the links of each topology that is read are in this order
+-- the links of each topology that is read stand in the order of their first ends' nodes
 abbrev pub ReadTopologiesAreInOrder : Type 0
 ReadTopologiesAreInOrder = (text : List ℕ) (t : Layout) → topology_of text ≡ Ok t → IsInOrder t.links

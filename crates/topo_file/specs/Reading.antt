@@ -18,7 +18,7 @@ use Rattle.topo_file.specs.TopologyLine.{line_of}
 use Rattle.fabric_model.specs.Cables.{is_same_port, other_end}
 use Rattle.topo_file.specs.Topology.{Layout, id_of}
 
--- what may follow a value, or its fault
+-- the value goes to `next`, and a fault stays
 infixl 10 ◌>>=◌
 abbrev pub ◌>>=◌ : {A B : Type 0} → Result A TopoFault → (A → Result B TopoFault) → Result B TopoFault
 (Ok value) >>= next = next value
@@ -29,11 +29,11 @@ pub record Lines : Type 0 where
   pub nodes : List Node
   pub links : List LinkAt
 
--- the GUID of the last port of an adapter does not fit
+-- the GUID of an adapter's last port does not fit 64 bits
 abbrev pub is_beyond : NodeLine → ℕ → Bool
 is_beyond node ports = if is_switch node.kind then false else nat_le (2 ^ 64) (node.guid + ports)
 
--- the node that a line of this number tells
+-- the node in the line `number`
 abbrev pub node_with : ℕ → NodeLine → Option ℕ → Option ℕ → Result Node TopoFault
 node_with number node (Some ports) (Some cap) =
     if is_beyond node ports then Err (GuidRange number)
@@ -44,18 +44,18 @@ node_with number node None cap = Err (Ports number)
 abbrev pub node_of : ℕ → NodeLine → Result Node TopoFault
 node_of number node = node_with number node node.ports node.cap
 
--- the nodes with one more
+-- `nodes` with one more
 abbrev pub with_node : ℕ → List Node → Node → Result (List Node) TopoFault
 with_node number nodes node =
     if is_some (id_of nodes node.name) then Err (Name number)
     else (if nat_lt (length nodes) 1024 then Ok (nodes ++ node ∷ []) else Err (TooManyNodes number))
 
--- the link lines with one more, below the last of so many nodes
+-- the links with one more, below the last of the nodes; a fault if there is no node
 abbrev pub with_link_line : ℕ → ℕ → List LinkAt → LinkLine → Result (List LinkAt) TopoFault
 with_link_line number zero links link = Err (Syntax number)
 with_link_line number (suc last) links link = Ok (links ++ record { line = number; node = last; link = link } ∷ [])
 
--- what a line of this number adds to the lines before it
+-- the lines before, with what the line `number` adds
 abbrev pub with_line : ℕ → Lines → Option TopologyLine → Result Lines TopoFault
 with_line number before None = Err (Syntax number)
 with_line number before (Some line.Empty) = Ok before
@@ -64,13 +64,13 @@ with_line number before (Some (line.Node node)) =
 with_line number before (Some (line.Link link)) =
     with_link_line number (length before.nodes) before.links link >>= λ links. Ok (record before { links = links })
 
--- what lines add that count from this number
+-- the lines before, with what lines add that are numbered from `number` on
 abbrev pub with_lines : ℕ → Lines → List (List ℕ) → Result Lines TopoFault
 with_lines number before [] = Ok before
 with_lines number before (line ∷ later) =
     with_line number before (line_of line) >>= λ now. with_lines (number + 1) now later
 
--- the port of the node of an id, where the node has it
+-- the port of the node `id`, if the node has it
 abbrev pub port_at : List Node → ℕ → Option ℕ → Option NodePort
 port_at nodes id port =
     option_and_then (λ p. option_and_then (λ node. if nat_le p node.ports then Some (record {
@@ -90,22 +90,22 @@ link_to nodes at None = Err (Peer at.line)
 link_to nodes at (Some id) =
     link_between at.line (port_at nodes at.node at.link.port) (port_at nodes id at.link.peer_port)
 
--- the link that a line tells
+-- the link in a line
 abbrev pub link_of : List Node → LinkAt → Result Cable TopoFault
 link_of nodes at = link_to nodes at (id_of nodes at.link.peer)
 
--- the port is there, and this one
+-- a port is found, and is `p`
 abbrev pub is_end : NodePort → Option NodePort → Bool
 is_end p found = option_map_or (is_same_port p) found false
 
--- the links with one more, which may be there already
+-- `links` with one more, unless it is there already
 abbrev pub with_link : ℕ → List Cable → Cable → Result (List Cable) TopoFault
 with_link number links link =
     if is_end link.other (other_end links link.one) then Ok links
     else (if is_some (other_end links link.one)
     || is_some (other_end links link.other) then Err (Linked number) else Ok (links ++ link ∷ []))
 
--- the links with those that the lines tell
+-- `links` with those in the lines
 abbrev pub with_links : List Node → List Cable → List LinkAt → Result (List Cable) TopoFault
 with_links nodes links [] = Ok links
 with_links nodes links (at ∷ later) = link_of nodes at >>= with_link at.line links >>= λ now. with_links nodes now later
@@ -118,6 +118,6 @@ topology_in told = with_links told.nodes [] told.links >>= λ links. Ok (record 
 abbrev pub nodes_of_lines : List (List ℕ) → Result Lines TopoFault
 nodes_of_lines lines = with_lines 1 (record { nodes = []; links = [] }) lines
 
--- what a text says
+-- the topology that a text says, or its first fault
 unfoldable pub topology_of : List ℕ → Result Layout TopoFault
 topology_of text = nodes_of_lines (lines text) >>= topology_in

@@ -1,4 +1,4 @@
--- What a call answers that may refuse its text, and what is said of a fault: its line, and a word.
+-- What a call returns that may refuse its text, and what is said of a fault: its line, and a word.
 use Rattle.std.specs.Prelude.{◌≡◌, ℕ, List, Option, None, Some, Result, Ok, Err, ◌++◌, codes, decimal}
 use Rattle.topo_file.specs.declared.fault.TopoFault.{TopoFault}
 use Rattle.topo_file.specs.declared.fault.TopoFault.TheVariants.{Syntax, Name, Ports, Peer, Port, Linked, GuidRange, TooManyNodes, Memory}
@@ -8,16 +8,16 @@ abbrev pub IsRefused : {T : Type 0} → TopoFault → Result T TopoFault → Typ
 IsRefused Memory told = Unit {0}
 IsRefused fault told = told ≡ Err fault
 
--- a call answers exactly what is told, a value as it is seen or the first fault, unless memory was refused
+-- a call returns exactly `told`, a value as `seen` shows it or the first fault, unless memory was refused
 abbrev pub ReadsAs : {S T : Type 0} → (S → T) → Result S TopoFault → Result T TopoFault → Type 0
 ReadsAs seen (Ok value) told = told ≡ Ok (seen value)
 ReadsAs seen (Err fault) told = IsRefused fault told
 
--- a call answers exactly what is told, a value or the first fault, unless memory was refused
+-- a call returns exactly `told`, a value or the first fault, unless memory was refused
 abbrev pub Reads : {T : Type 0} → Result T TopoFault → Result T TopoFault → Type 0
 Reads result told = ReadsAs (λ value. value) result told
 
--- what is said of the fault
+-- what is said of the fault, without its line
 abbrev pub fault_word : TopoFault → List ℕ
 fault_word (Syntax line) = codes "syntax"
 fault_word (Name line) = codes "name"
@@ -29,7 +29,7 @@ fault_word (GuidRange line) = codes "guid"
 fault_word (TooManyNodes line) = codes "too many nodes"
 fault_word Memory = codes "out of memory"
 
--- the line that has the fault, from 1; out of memory is no line's
+-- the number of the faulty line, from 1; lack of memory has none
 abbrev pub fault_line : TopoFault → Option ℕ
 fault_line (Syntax line) = Some line
 fault_line (Name line) = Some line
@@ -41,7 +41,7 @@ fault_line (GuidRange line) = Some line
 fault_line (TooManyNodes line) = Some line
 fault_line Memory = None
 
--- what `{}` writes of a fault: its line, where it has one, and the word
+-- what `{}` writes of a fault: its line, if there is one, and the word
 abbrev pub said_at : Option ℕ → List ℕ → List ℕ
 said_at None word = word
 said_at (Some line) word = codes "line " ++ decimal line ++ codes ": " ++ word

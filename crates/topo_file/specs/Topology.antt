@@ -16,12 +16,12 @@ pub record Layout : Type 0 where
   pub nodes : List Node
   pub links : List Cable
 
--- the id of the node that has the name
+-- the id of the node with this name
 abbrev pub id_of : List Node → List ℕ → Option ℕ
 id_of [] name = None
 id_of (node ∷ nodes) name = if bytes_eq node.name name then Some 0 else option_map suc (id_of nodes name)
 
--- the id is that of the node that has the name, or no node has it
+-- `id` is that of the node with this name, or no node has the name
 abbrev pub IsFound : List Node → List ℕ → Option ℕ → Type 0
 IsFound nodes name None = All (λ node. node.name ≢ name) nodes
 IsFound nodes name (Some id) = (node : Node) × (slice_get nodes id ≡ Some node) × (node.name ≡ name)
@@ -30,17 +30,17 @@ IsFound nodes name (Some id) = (node : Node) × (slice_get nodes id ≡ Some nod
 abbrev pub is_switch_with : ℕ → Node → Bool
 is_switch_with guid node = is_switch node.kind && (node.guid == guid)
 
--- one of the nodes is
+-- one of the nodes is a switch with this GUID
 abbrev pub has_switch : List Node → ℕ → Bool
 has_switch nodes guid = list_any (is_switch_with guid) nodes
 
--- the entries that a node's forwarding table may have, and the GUIDs that its ports may need
+-- the size of the forwarding table and the GUIDs of the ports fit the type of the node
 abbrev pub IsOfKind : NodeType → ℕ → ℕ → ℕ → Type 0
 IsOfKind Switch ports guid cap = (1 ≤ cap) × (cap ≤ 0xC000)
 IsOfKind ChannelAdapter ports guid cap = (cap ≡ 0) × (guid + ports < 2 ^ 64)
 IsOfKind Router ports guid cap = ⊥
 
--- a node as a topology may have it
+-- a node that a topology may have
 pub record IsNode (node : Node) : Type 0 where
   pub named : IsTrue (is_name node.name)
   pub some_ports : 1 ≤ node.ports
@@ -48,7 +48,7 @@ pub record IsNode (node : Node) : Type 0 where
   pub guid_range : node.guid < 2 ^ 64
   pub of_kind : IsOfKind node.kind node.ports node.guid node.cap
 
--- a port from 1 on of a node that is there
+-- a port of a node in the list, from 1 to its port count
 pub record IsPortIn (nodes : List Node) (p : NodePort) : Type 0 where
   pub node : Node
   pub there : slice_get nodes p.node ≡ Some node
@@ -66,7 +66,7 @@ pub record AreApart (x y : Cable) : Type 0 where
   pub other_one : x.other ≢ y.one
   pub other_other : x.other ≢ y.other
 
--- at most 1,024 nodes, each with a name of its own, and links between their ports, at most one in each
+-- at most 1,024 nodes, each with a name of its own, and links between their ports, at most one in each port
 pub record IsTopology (t : Layout) : Type 0 where
   pub few : length t.nodes ≤ 1024
   pub nodes : All IsNode t.nodes
@@ -74,6 +74,6 @@ pub record IsTopology (t : Layout) : Type 0 where
   pub links : All (IsLinkIn t.nodes) t.links
   pub apart : AllPairs AreApart t.links
 
--- no two nodes have one GUID
+-- no two nodes have the same GUID
 abbrev pub GuidsDiffer : List Node → Type 0
 GuidsDiffer nodes = AllPairs (λ x y. x.guid ≢ y.guid) nodes

@@ -11,13 +11,13 @@ use Rattle.text_words.specs.Text.{words}
 use Rattle.text_words.specs.Number.{count_of, guid_of}
 use Rattle.text_words.specs.Quoted.{quoted_name, bracketed_port, named_port}
 
--- a switch or a channel adapter
+-- the type of node that a word names: a switch or a channel adapter
 abbrev pub kind_of : List ℕ → Option NodeType
 kind_of word =
     if bytes_eq word (codes "Switch") then Some Switch else (if bytes_eq word (codes "Hca")
     || bytes_eq word (codes "Ca") then Some ChannelAdapter else None)
 
--- how many entries a switch's table has: 1024, or what follows 'cap'; an adapter has none
+-- the size of a switch's table: 1024, or the number behind 'cap'; an adapter has none
 abbrev pub cap_of : NodeType → List (List ℕ) → Option (Option ℕ)
 cap_of Switch [] = Some (Some 1024)
 cap_of Switch (word ∷ cap ∷ []) = if bytes_eq word (codes "cap") then count_of 0xC000 cap else None
@@ -26,7 +26,7 @@ cap_of ChannelAdapter [] = Some (Some 0)
 cap_of ChannelAdapter _ = None
 cap_of Router _ = None
 
--- a node: its port count, its name, 'guid', its GUID, and a switch's table
+-- a node: its port count, its name, 'guid', its GUID, and the size of a switch's table
 abbrev pub node_line : NodeType → List (List ℕ) → Option NodeLine
 node_line kind (ports ∷ name ∷ word ∷ guid ∷ rest) =
     if bytes_eq word (codes "guid") then
@@ -48,7 +48,7 @@ line_of_kind (Some kind) (word ∷ rest) = option_map Node (node_line kind rest)
 line_of_kind None words = option_map Link (link_line words)
 line_of_kind _ [] = None
 
--- the line that the words are
+-- what a line with these words says
 abbrev pub line_in : List (List ℕ) → Option TopologyLine
 line_in [] = Some Empty
 line_in (word ∷ rest) = line_of_kind (kind_of word) (word ∷ rest)

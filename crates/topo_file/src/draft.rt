@@ -11,7 +11,7 @@ use fabric_model::NodeId;
 use std::alloc::Global;
 use std::marker::Model;
 
-/// A link with the number of its line and the node below which it stands.
+/// A link with the number of its line and the node that the line stands below.
 #[derive(Drop)]
 pub(crate) struct LinkAt {
     pub(crate) line: usize,
@@ -35,7 +35,7 @@ impl Model for Draft {
 }
 
 impl Draft {
-    /// No lines.
+    /// Creates a draft of no lines.
     pub(crate) fn new(alloc: Global) -> Self
         ensures { result ≡ record { nodes = []; links = [] } }
     {
@@ -45,7 +45,7 @@ impl Draft {
         }
     }
 
-    /// These lines and the next one.
+    /// Adds the next line, whose number is `number`.
     pub(crate) fn with(self, number: usize, line: &[u8]) -> Result<Self, TopoFault>
         ensures { Reads result (with_line number self (line_of line.now)) }
     {
@@ -61,7 +61,7 @@ impl Draft {
         }
     }
 
-    /// These lines and the next one, a link.
+    /// Adds a link, from the line `number`.
     fn with_link(self, number: usize, link: LinkLine) -> Result<Self, TopoFault>
         ensures { Reads result (with_line number self (Some (TopologyLine.Link link))) }
     {
@@ -79,7 +79,7 @@ impl Draft {
     }
 }
 
-/// The node that a line tells.
+/// Builds the node of a line.
 pub(crate) fn node(number: usize, line: NodeLine) -> Result<Node, TopoFault>
     ensures { result ≡ node_of number line }
 {

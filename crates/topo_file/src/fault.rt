@@ -4,21 +4,21 @@ use std::alloc::{AllocError, AllocFailed};
 use std::error::Error;
 use std::fmt;
 
-/// Why a text is no topology, in the order in which it is judged: first each line in turn, then
-/// each link in turn. Lines count from 1.
+/// Why a text is not a topology, in the order of checks: first each line in turn, then each link in turn. Lines count
+/// from 1.
 #[derive(Clone, Copy, Debug, PartialEq, Eq)]
 pub enum TopoFault {
-    /// The line is none of the grammar's, or a link above all nodes.
+    /// The line is not one of the grammar, or is a link above all nodes.
     Syntax { line: usize },
-    /// Another node has the name.
+    /// Another node has this name.
     Name { line: usize },
-    /// A port count outside 1 to 254, or a forwarding table's room outside 1 to 49,152.
+    /// A port count is not from 1 to 254, or a forwarding table's size is not from 1 to 49,152.
     Ports { line: usize },
-    /// A link to a name that no node has.
+    /// A link names a node that does not exist.
     Peer { line: usize },
-    /// A link's port is 0 or over its node's count.
+    /// A link's port is 0 or above its node's port count.
     Port { line: usize },
-    /// A port is linked in two ways.
+    /// A port has two links.
     Linked { line: usize },
     /// The GUID of an adapter's last port does not fit 64 bits.
     GuidRange { line: usize },
@@ -31,7 +31,7 @@ pub enum TopoFault {
 impl TopoFault {
     ghost use Rattle.topo_file.specs.TopoFault.{fault_word, fault_line};
 
-    /// What `{}` says of the line, and the whole of what it says where there is none.
+    /// Returns what `{}` writes of the fault, without the line.
     pub fn word(self) -> &'static str
         ensures { result.now ≡ fault_word self }
     {
@@ -48,7 +48,7 @@ impl TopoFault {
         }
     }
 
-    /// The line that has the fault, from 1. Out of memory is no line's.
+    /// Returns the number of the faulty line, from 1; `None` for lack of memory.
     pub fn line(self) -> Option<usize>
         ensures { result ≡ fault_line self }
     {
@@ -66,7 +66,7 @@ impl TopoFault {
     }
 }
 
-/// The line and the word, as in `line 3: port`; or that memory is out.
+/// Writes the line and the word, as in `line 3: port`, or that memory ran out.
 impl fmt::Display for TopoFault {
     ghost use Rattle.std.specs.Prelude.{Some};
     ghost use Rattle.topo_file.specs.TopoFault.{fault_text};

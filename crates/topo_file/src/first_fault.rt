@@ -1,4 +1,4 @@
-//! The first fault of a text's lines, found with no memory from the allocator.
+//! The first fault of a text's lines, found without memory from the allocator.
 ghost use Rattle.std.specs.Prelude.{◌≡◌};
 ghost use Rattle.topo_file.specs.FirstFault.{Leaves, first_line_fault, is_used, with_name, with_new_name};
 ghost use Rattle.topo_file.specs.TopologyLine.{line_of};
@@ -11,11 +11,10 @@ use crate::nodes::MAX_NODES;
 use arrayvec::ArrayVec;
 use text_words::{NodeName, split_line};
 
-/// The names of the nodes so far; each is there.
+/// The names of the nodes so far. None of the slots is `None`.
 type Names = ArrayVec<Option<NodeName>, MAX_NODES>;
 
-/// The first fault of a text's lines, apart from those of its links. Takes a walk over the names for
-/// each node.
+/// Returns the first fault of a text's lines, except for those of its links. Takes a walk over the names for each node.
 pub(crate) fn first_line_fault(text: &[u8]) -> Option<TopoFault>
     ensures { result ≡ first_line_fault text.now }
 {
@@ -32,7 +31,7 @@ pub(crate) fn first_line_fault(text: &[u8]) -> Option<TopoFault>
     None
 }
 
-/// Judges a line behind those of the nodes with these names.
+/// Checks the line `number`, given the `names` of the nodes above, and adds the name of a node.
 fn judge_line(names: &mut Names, number: usize, line: &[u8]) -> Result<(), TopoFault>
     ensures { Leaves (with_name number names.old.items (line_of line.now)) result names.new.items }
 {
@@ -49,7 +48,7 @@ fn judge_line(names: &mut Names, number: usize, line: &[u8]) -> Result<(), TopoF
     }
 }
 
-/// Judges a node behind those with these names.
+/// Checks a node, given the `names` of the nodes above, and adds its name.
 fn judge_node(names: &mut Names, line: usize, node: Node) -> Result<(), TopoFault>
     ensures { Leaves (with_new_name line names.old.items node.name) result names.new.items }
 {
@@ -62,7 +61,7 @@ fn judge_node(names: &mut Names, line: usize, node: Node) -> Result<(), TopoFaul
     }
 }
 
-/// Whether a node has the name.
+/// Returns whether a node has the name.
 fn is_used(names: &[Option<NodeName>], name: &NodeName) -> bool
     ensures { result ≡ is_used names.now name.now }
 {

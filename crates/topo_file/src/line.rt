@@ -16,19 +16,19 @@ pub(crate) enum TopologyLine {
     Link(LinkLine),
 }
 
-/// A node as its line tells it. A number is `None` where it is out of its range.
+/// A node as in its line. A number is `None` if it is out of its range.
 #[derive(Drop)]
 pub(crate) struct NodeLine {
     pub(crate) kind: NodeType,
-    /// From 1 to 254.
+    /// The port count, from 1 to 254.
     pub(crate) ports: Option<u8>,
     pub(crate) name: NodeName,
     pub(crate) guid: Guid,
-    /// From 1 to 49,152 at a switch, and 0 at an adapter.
+    /// The size of the forwarding table: from 1 to 49,152 for a switch, and 0 for an adapter.
     pub(crate) cap: Option<u16>,
 }
 
-/// A link as a line of one of its nodes tells it. A port is `None` where it is not from 1 to 254.
+/// A link as in its line, below one of its nodes. A port is `None` if it is not from 1 to 254.
 #[derive(Drop)]
 pub(crate) struct LinkLine {
     pub(crate) port: Option<u8>,
@@ -37,7 +37,7 @@ pub(crate) struct LinkLine {
 }
 
 #[tactic(auto, unfolding(crate::specs::TopologyLine::line_of))]
-/// What a line says; `None` is a line that is none of the grammar's.
+/// Parses a line. Returns `None` if the grammar has no such line.
 pub(crate) fn read_line(line: &[u8]) -> Option<TopologyLine>
     ensures { result ≡ line_of line.now }
 {
@@ -50,7 +50,7 @@ pub(crate) fn read_line(line: &[u8]) -> Option<TopologyLine>
     }
 }
 
-/// The type of node that a word is for.
+/// Returns the type of node that a word names.
 fn kind(word: &[u8]) -> Option<NodeType>
     ensures { result ≡ kind_of word.now }
 {
@@ -63,7 +63,7 @@ fn kind(word: &[u8]) -> Option<NodeType>
     }
 }
 
-/// The rest of the line of a node.
+/// Parses the line of a node, without its first word.
 fn node_line(kind: NodeType, line: &[u8]) -> Option<NodeLine>
     ensures { result ≡ node_line kind (words line.now) }
 {
@@ -83,7 +83,7 @@ fn node_line(kind: NodeType, line: &[u8]) -> Option<NodeLine>
     })
 }
 
-/// The room of a node's forwarding table, by the rest of its line.
+/// Parses the size of a node's forwarding table from the rest of its line.
 fn cap(kind: NodeType, line: &[u8]) -> Option<Option<u16>>
     ensures { result ≡ cap_of kind (words line.now) }
 {
@@ -96,7 +96,7 @@ fn cap(kind: NodeType, line: &[u8]) -> Option<Option<u16>>
     }
 }
 
-/// The room of a switch's forwarding table, by the word `cap` and what follows it.
+/// Parses the size of a switch's forwarding table from the word `cap` and what follows it.
 fn given_cap(word: &[u8], line: &[u8]) -> Option<Option<u16>>
     ensures { result ≡ cap_of NodeType.Switch (word.now ∷ words line.now) }
 {
@@ -111,7 +111,7 @@ fn given_cap(word: &[u8], line: &[u8]) -> Option<Option<u16>>
     }
 }
 
-/// A link, by the first word of its line and what follows it.
+/// Parses a link from the first word of its line and what follows it.
 fn link_line(port: &[u8], line: &[u8]) -> Option<LinkLine>
     ensures { result ≡ link_line (port.now ∷ words line.now) }
 {

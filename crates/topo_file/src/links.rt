@@ -33,7 +33,7 @@ impl Model for Links {
 }
 
 impl Links {
-    /// No links.
+    /// Creates an empty list of links.
     fn new(alloc: Global) -> Self
         ensures { result ≡ [] }
     {
@@ -43,7 +43,7 @@ impl Links {
         }
     }
 
-    /// The links that the lines tell, each once. Takes a few searches for each line.
+    /// Builds the links of the lines, each once. Takes a few searches for each line.
     pub(crate) fn of(alloc: Global, nodes: &Nodes, lines: &[LinkAt]) -> Result<Self, TopoFault>
         ensures { Reads result (with_links nodes.now [] lines.now) }
     {
@@ -54,21 +54,21 @@ impl Links {
         Ok(links)
     }
 
-    /// The links in their order.
+    /// Returns the links in their order.
     pub(crate) fn as_slice(&self) -> &[Cable]
         ensures { result.now ≡ self.now }
     {
         &self.links
     }
 
-    /// The port at the other end of the link in a port. A search.
+    /// Returns the port at the other end of the link in `port`. Takes a search.
     fn other_end(&self, port: NodePort) -> Option<NodePort>
         ensures { result ≡ other_end self.now port }
     {
         self.across.get(&key(port)).copied()
     }
 
-    /// These links and that of a line, which may be one of them.
+    /// Adds the link of a line, unless it is there already.
     fn with(self, line: usize, link: Cable) -> Result<Self, TopoFault>
         ensures { Reads result (with_link line self link) }
     {
@@ -81,7 +81,7 @@ impl Links {
         }
     }
 
-    /// These links and another, in whose ports there is none.
+    /// Adds a link between two ports that have none.
     fn with_new(self, link: Cable) -> Result<Self, TopoFault>
         requires one { other_end self link.one ≡ None }
         requires other { other_end self link.other ≡ None }
@@ -98,14 +98,14 @@ impl Links {
     }
 }
 
-/// A port as the index has it.
+/// Returns the key of a port in the index.
 fn key(port: NodePort) -> (NodeId, PortNum)
     ensures { result ≡ (port.node, port.port) }
 {
     (port.node, port.port)
 }
 
-/// The link that a line tells.
+/// Builds the link of a line.
 fn link(nodes: &Nodes, at: &LinkAt) -> Result<Cable, TopoFault>
     ensures { Reads result (link_of nodes.now at.now) }
 {

@@ -6,10 +6,10 @@ use text_words::NodeName;
 pub struct Node {
     pub name: NodeName,
     pub kind: NodeType,
-    /// How many ports it has: 1 to 254, without a switch's management port.
+    /// The number of ports, 1 to 254, without a switch's management port.
     pub ports: u8,
-    /// The GUID of a switch's port 0; that of an adapter's port p is p more.
+    /// The GUID of a switch's port 0. For an adapter, port `p` has this GUID plus `p`.
     pub guid: Guid,
-    /// The entries of a switch's linear forwarding table: 1 to 49,152. An adapter has none.
+    /// The size of a switch's linear forwarding table, 1 to 49,152; 0 for an adapter, which has none.
     pub cap: u16,
 }

@@ -12,14 +12,14 @@ use std::collections::BTreeMap;
 use std::marker::Model;
 use text_words::NodeName;
 
-/// The most nodes that a topology may have.
+/// The most nodes of a topology.
 pub(crate) const MAX_NODES: usize = 1024;
 
 /// Nodes by id, each with a name of its own.
 #[derive(Drop)]
 pub(crate) struct Nodes {
     nodes: Vec<Node>,
-    /// The node that has the name.
+    /// The id of the node with a name.
     ids: BTreeMap<NodeName, NodeId>,
 }
 
@@ -36,7 +36,7 @@ impl Model for Nodes {
 }
 
 impl Nodes {
-    /// No nodes.
+    /// Creates an empty list of nodes.
     pub(crate) fn new(alloc: Global) -> Self
         ensures { result ≡ [] }
     {
@@ -53,28 +53,28 @@ impl Nodes {
         self.nodes.len()
     }
 
-    /// A node. Takes one step.
+    /// Returns the node with this id. Takes one step.
     pub(crate) fn get(&self, node: NodeId) -> Option<&Node>
         ensures { option_copied result ≡ slice_get self.now node }
     {
         self.nodes.get(node.number())
     }
 
-    /// The nodes in their order.
+    /// Returns the nodes in their order.
     pub(crate) fn as_slice(&self) -> &[Node]
         ensures { result.now ≡ self.now }
     {
         &self.nodes
     }
 
-    /// The node that has the name. A search.
+    /// Returns the id of the node with this name. Takes a search.
     pub(crate) fn id(&self, name: &NodeName) -> Option<NodeId>
         ensures { result ≡ id_of self.now name.now }
     {
         self.ids.get(name).copied()
     }
 
-    /// The port of a node, where the node has it. Takes one step.
+    /// Returns the port of a node, or `None` if the node does not have it. Takes one step.
     pub(crate) fn port(&self, node: NodeId, port: Option<u8>) -> Option<NodePort>
         ensures { result ≡ port_at self.now node port }
     {
@@ -88,7 +88,7 @@ impl Nodes {
         })
     }
 
-    /// These nodes and that of a line.
+    /// Adds the node of a line.
     pub(crate) fn with(self, line: usize, node: Node) -> Result<Self, TopoFault>
         ensures { Reads result (with_node line self node) }
     {

@@ -40,7 +40,7 @@ impl Model for Topology {
 }
 
 impl Topology {
-    /// How many nodes there are: at most 1,024.
+    /// Returns the number of nodes, at most 1,024.
     pub fn count(&self) -> usize
         ensures count { result ≡ length self.now.nodes }
         ensures is_topology { IsTopology self.now }
@@ -48,7 +48,7 @@ impl Topology {
         self.nodes.len()
     }
 
-    /// A node: their ids, from 0, are in the order of their lines. Takes one step.
+    /// Returns the node with this id. Ids count from 0, in the order of the nodes' lines. Takes one step.
     pub fn node(&self, node: NodeId) -> Option<&Node>
         ensures node { option_copied result ≡ slice_get self.now.nodes node }
         ensures is_node { IfSome result (λ node. IsNode node.now) }
@@ -56,14 +56,14 @@ impl Topology {
         self.nodes.get(node)
     }
 
-    /// The links, each once, in the order of their first lines.
+    /// Returns the links, each once, in the order of their first lines.
     pub fn links(&self) -> &[Cable]
         ensures { result.now ≡ self.now.links }
     {
         self.links.as_slice()
     }
 
-    /// The node that has the name. A search.
+    /// Returns the id of the node with this name. Takes a search.
     pub fn find(&self, name: &str) -> Option<NodeId>
         ensures id { result ≡ id_of self.now.nodes name.now }
         ensures found { IsFound self.now.nodes name.now result }
@@ -71,7 +71,7 @@ impl Topology {
         self.nodes.id(&NodeName::new(name.as_bytes())?)
     }
 
-    /// Whether a node is a switch with this GUID. A walk over the nodes.
+    /// Returns whether a node is a switch with this GUID. Takes a walk over the nodes.
     pub fn has_switch(&self, guid: Guid) -> bool
         ensures { result ≡ has_switch self.now.nodes guid }
     {
@@ -81,7 +81,7 @@ impl Topology {
             .any(|node| node.kind.is_switch() && node.guid == guid)
     }
 
-    /// Whether no two nodes have the same GUID. It is held.
+    /// Returns whether no two nodes have the same GUID. Takes one step.
     pub fn guids_distinct(&self) -> bool
         ensures { IsTrue result ↔ GuidsDiffer self.now.nodes }
     {
@@ -89,8 +89,8 @@ impl Topology {
     }
 }
 
-/// Reads the text of a topology. Each line, which ends with LF or CR LF, is empty, a node or a link
-/// of the node above it, and `#` outside quotes begins a comment:
+/// Parses the text of a topology. Each line, which ends with LF or CR LF, is empty, a node or a link of the node above
+/// it. `#` outside quotes begins a comment:
 ///
 /// ```text
 /// Switch 4 "S1" guid 0x10 cap 1024
@@ -98,13 +98,14 @@ impl Topology {
 /// Hca 1 "H1" guid 0x100
 /// ```
 ///
-/// A node has a port count, a name and a GUID, and a switch may have the room of its forwarding
-/// table. A link has a port, and its peer's name and port. Takes a search for each node and each
-/// link.
+/// A node has a port count, a name and a GUID, and a switch may have the size of its forwarding table. A link has a
+/// port, and its peer's name and port. Takes a search for each node and each link.
 ///
-/// Out of memory is answered only where no line has a fault but for its link: whether a link's peer
-/// and ports are there, and free, is judged by indexes that take memory. Once memory is refused, the
-/// lines are judged with none, by a walk over at most 1,024 names for each node.
+/// # Errors
+///
+/// Returns the first fault. Lack of memory is returned only if no line has a fault other than that of its link: whether
+/// a link's peer and ports exist and are free is checked by indexes, which take memory. Once memory is refused, the
+/// lines are checked without any, by a walk over at most 1,024 names for each node.
 pub fn parse(alloc: Global, text: &str) -> Result<Topology, TopoFault>
     ensures reads { Reads result (topology_of text.now) }
     ensures memory { result ≡ Err TopoFault.Memory → first_line_fault text.now ≡ None }
@@ -119,7 +120,7 @@ pub fn parse(alloc: Global, text: &str) -> Result<Topology, TopoFault>
     }
 }
 
-/// The nodes and the links of a text's lines.
+/// Parses the lines of a text into nodes and links.
 fn read_lines(alloc: Global, text: &[u8]) -> Result<Draft, TopoFault>
     ensures { Reads result (nodes_of_lines (lines text.now)) }
 {
@@ -134,7 +135,7 @@ fn read_lines(alloc: Global, text: &[u8]) -> Result<Draft, TopoFault>
     Ok(draft)
 }
 
-/// The topology of the lines.
+/// Builds the topology of the lines.
 fn finish(alloc: Global, draft: Draft) -> Result<Topology, TopoFault>
     requires { IsDraft draft }
     ensures { Reads result (topology_in draft) }
@@ -152,7 +153,7 @@ fn finish(alloc: Global, draft: Draft) -> Result<Topology, TopoFault>
     })
 }
 
-/// Whether no two nodes have the same GUID.
+/// Returns whether no two nodes have the same GUID.
 fn guids_distinct(alloc: Global, nodes: &[Node]) -> Result<bool, AllocError>
     ensures { IfOk result (λ distinct. IsTrue distinct ↔ GuidsDiffer nodes.now) }
 {

@@ -9,11 +9,11 @@ use Rattle.subnet_view.specs.Components.{in_one_component}
 use Rattle.subnet_view.specs.Routing.{numbers_along}
 use Rattle.updown_routes.specs.Ranks.{is_before, slopes_of}
 
--- how many switches the component of a switch has
+-- the number of switches in b's component
 abbrev pub component_size : List SwitchEdges → ℕ → ℕ
 component_size graph b = count_by (in_one_component graph b) (guids_of graph)
 
--- how many switches of its component come before a switch
+-- the number of switches in b's component that are before b
 abbrev pub position_of : List SwitchEdges → ℕ → ℕ
 position_of graph b = count_by (λ a. in_one_component graph b a && is_before graph a b) (guids_of graph)
 

@@ -3,7 +3,7 @@ use Rattle.std.specs.Prelude.{◌≡◌, ◌<◌, ℕ, Bool, true, List, map, Ea
 use Rattle.std.specs.List.{enumerate_from}
 use Rattle.std.specs.Option.{option_or}
 
--- lesser in rank, or of one rank and lesser in index
+-- a is of lesser rank than b, or of equal rank and lesser index
 abbrev pub goes_before : List (Option ℕ) → ℕ → ℕ → Bool
 goes_before ranks a b = let ra = unwrap_or (slice_index_or ranks a None) 0 in let rb =
     unwrap_or (slice_index_or ranks b None) 0 in nat_lt ra rb || (ra == rb && nat_lt a b)
@@ -12,13 +12,13 @@ goes_before ranks a b = let ra = unwrap_or (slice_index_or ranks a None) 0 in le
 abbrev pub ranked : List (Option ℕ) → List (ℕ × ℕ)
 ranked ranks = map (λ x. (unwrap_or x.1 0, x.0)) (enumerate_from 0 ranks)
 
--- where there is no rank yet, the distance
+-- each switch without a rank gets its distance; the other ranks stay
 abbrev pub FillsIn : List (Option ℕ) → List (Option ℕ) → List (Option ℕ) → Type 0
 FillsIn ranks distances new =
     EachIndex new (λ k. slice_index_or new k None
     ≡ option_or (slice_index_or ranks k None) (slice_index_or distances k None))
 
--- all indices, each before those that follow it
+-- all indices, by rank and then by index
 pub record IsOrder (ranks : List (Option ℕ)) (order : List ℕ) : Type 0 where
   pub all : length order ≡ length ranks
   pub each : (i : ℕ) → i < length ranks → Contains order i
@@ -26,7 +26,7 @@ pub record IsOrder (ranks : List (Option ℕ)) (order : List ℕ) : Type 0 where
   pub rises : (p q : ℕ) → p < q → q < length order → goes_before ranks (slice_index order p) (slice_index order q)
       ≡ true
 
--- at each index its position in the order
+-- for each index its position in the order
 pub record ArePositions (order positions : List ℕ) : Type 0 where
   pub all : length positions ≡ length order
   pub position : (p : ℕ) → p < length order → slice_index positions (slice_index order p) ≡ p

@@ -8,15 +8,15 @@ use Rattle.subnet_view.specs.Graph.{guids_of}
 use Rattle.subnet_view.specs.GraphLaws.{IsGraph}
 use Rattle.updown_routes.specs.Ranks.{slopes_of}
 
--- the next port of each switch to a target
+-- the next port of each switch to target t
 abbrev pub ports_to : List SwitchEdges → ℕ → List (Option ℕ)
 ports_to graph t = map (λ s. next_port (slopes_of graph) s t) (guids_of graph)
 
--- to each switch
+-- for each switch as a target, the next port of each switch
 abbrev pub ports_of : List SwitchEdges → List (List (Option ℕ))
 ports_of graph = map (ports_to graph) (guids_of graph)
 
--- between the switches at two indices, where there are such
+-- the next port from the switch at index i to the one at index j, if there are such switches
 abbrev pub next_port_at : List SwitchEdges → ℕ → ℕ → Option ℕ
 next_port_at graph i j =
     option_and_then (λ t. option_and_then (λ s. next_port (slopes_of graph) s t) (slice_get (guids_of graph) i))

@@ -7,19 +7,19 @@ use Rattle.subnet_view.specs.SwitchEdges.{SwitchEdges}
 use Rattle.subnet_view.specs.SwitchGraph.{switch_at}
 use Rattle.updown_routes.specs.Ranks.{slopes_of}
 
--- the switch at a position, where the order has its index
+-- the switch at a position of the order, which has the switches' indices
 abbrev pub switch_at_position : List SwitchEdges → List ℕ → ℕ → ℕ
 switch_at_position graph order p = switch_at graph (slice_index order p)
 
--- an edge to a position, by the GUID of the switch there
+-- an edge to a position, as an edge to the GUID of the switch there
 abbrev pub by_position : List SwitchEdges → List ℕ → Edge → Edge
 by_position graph order e = record { port = e.port; to = switch_at_position graph order e.to }
 
--- an edge to an index, by the position of that index
+-- an edge to an index, as an edge to the position of that index
 abbrev pub at_position : List ℕ → Edge → Edge
 at_position positions e = record { port = e.port; to = slice_index positions e.to }
 
--- the edges to lesser positions, and those to greater
+-- the edges to positions less than p; `downs_from` those to greater ones
 abbrev pub ups_from : ℕ → List Edge → List Edge
 ups_from p edges = filter (λ e. nat_lt e.to p) edges
 
@@ -33,7 +33,7 @@ pub record IsAtPosition (graph : List SwitchEdges) (order : List ℕ) (p : ℕ) 
   pub to_lesser : (e : Edge) → Contains ups e → e.to < p
   pub to_position : (e : Edge) → Contains downs e → e.to < length order
 
--- of each switch, at its position
+-- the wires up and down of each switch, at its position
 pub record AreAtPositions (graph : List SwitchEdges) (order : List ℕ) (ups downs : List (List Edge)) : Type 0 where
   pub all_up : length ups ≡ length order
   pub all_down : length downs ≡ length order

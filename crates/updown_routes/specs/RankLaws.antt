@@ -1,4 +1,4 @@
--- Ranks, and what is up and down, in words.
+-- Ranks, and what is up and down, as statements.
 use Rattle.std.specs.Prelude.{◌≡◌, ◌<◌, ◌≤◌, ◌↔◌, ◌⊎◌, ℕ, List, Contains, IsTrue, MatchOption}
 use Rattle.port_graph.specs.declared.edge.Edge.{Edge}
 use Rattle.port_graph.specs.Walks.{Walk, IsShortest}
@@ -17,23 +17,23 @@ pub record IsRoot (graph : List SwitchEdges) (a root : ℕ) : Type 0 where
 abbrev pub HasRank : List SwitchEdges → ℕ → ℕ → Type 0
 HasRank graph a n = (root : ℕ) × IsRoot graph a root × IsShortest (neighbors graph) root a n
 
--- lesser in rank, or of one rank and lesser in GUID
+-- a is of lesser rank than b, or of equal rank and lesser GUID
 abbrev pub IsBefore : List SwitchEdges → ℕ → ℕ → Type 0
 IsBefore graph a b = (m n : ℕ) → HasRank graph a m → HasRank graph b n → (m < n) ⊎ ((m ≡ n) × (a < b))
 
 -- the laws: ------------------------------------------------------------------------
 
--- each switch has a rank, and it is the one in words
+-- each switch has a rank, which satisfies the statement
 abbrev pub RankLaw : Type 0
 RankLaw = (graph : List SwitchEdges) → IsGraph graph → (a : ℕ) → IsSwitch graph a
     → MatchOption (rank_of graph a) ⊥ (HasRank graph a)
 
--- what is before by the test is before in words
+-- the test `is_before` agrees with the statement
 abbrev pub BeforeLaw : Type 0
 BeforeLaw = (graph : List SwitchEdges) → IsGraph graph → (a b : ℕ) → IsSwitch graph a → IsSwitch graph b
     → IsTrue (is_before graph a b) ↔ IsBefore graph a b
 
--- an edge leads up where its end is before the switch, and down where its end is after it
+-- an edge leads up if its end is before the switch, and down if its end is after it
 abbrev pub SlopeLaw : Type 0
 SlopeLaw = (graph : List SwitchEdges) → IsGraph graph → (a : ℕ) (e : Edge) → IsSwitch graph a
     → (Contains (ups_at (slopes_of graph) a) e ↔ (Contains (edges_at graph a) e × IsBefore graph e.to a))

@@ -6,11 +6,11 @@ use Rattle.subnet_view.specs.Graph.{guids_of}
 use Rattle.subnet_view.specs.GraphLaws.{IsGraph}
 use Rattle.subnet_view.specs.Components.{distance, root_of}
 
--- the fewest wires from the root
+-- the fewest wires from the root of a's component
 abbrev pub rank_of : List SwitchEdges → ℕ → Option ℕ
 rank_of graph a = option_and_then (λ root. distance graph root a) (root_of graph a)
 
--- by rank, and then by GUID
+-- a is before b: by rank, and then by GUID
 abbrev pub is_before : List SwitchEdges → ℕ → ℕ → Bool
 is_before graph a b = let ra = unwrap_or (rank_of graph a) 0 in let rb =
     unwrap_or (rank_of graph b) 0 in nat_lt ra rb || (ra == rb && nat_lt a b)

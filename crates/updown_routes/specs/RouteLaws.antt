@@ -1,4 +1,4 @@
--- Down distances, costs and next ports of a graph of switches, in words.
+-- Down distances, costs and next ports of a graph of switches, as statements.
 use Rattle.std.specs.Prelude.{◌≡◌, ℕ, suc, true, false, List, None, Some, is_some, option_map, MatchOption, if◌then◌else◌}
 use Rattle.std.specs.List.{filter_map}
 use Rattle.port_graph.specs.Walks.{HasNoWalk}
@@ -9,25 +9,25 @@ use Rattle.subnet_view.specs.GraphLaws.{IsGraph, IsSwitch}
 use Rattle.subnet_view.specs.Components.{in_one_component}
 use Rattle.updown_routes.specs.Ranks.{slopes_of}
 
--- the length of a shortest walk down, and none where no walk down leads to the target
+-- the down distance is the length of a shortest walk down; None if no walk down leads to the target
 abbrev pub DownDistanceLaw : Type 0
 DownDistanceLaw = (graph : List SwitchEdges) → IsGraph graph → (s t : ℕ) → IsSwitch graph s
     → MatchOption (down_distance (slopes_of graph) s t) (HasNoWalk (below (slopes_of graph)) s t)
     (IsDownDistance (slopes_of graph) s t)
 
--- the length of a shortest route, and none where there is no route
+-- the cost is the length of a shortest route; None if there is no route
 abbrev pub CostLaw : Type 0
 CostLaw = (graph : List SwitchEdges) → IsGraph graph → (s t : ℕ) → IsSwitch graph s
     → MatchOption (cost (slopes_of graph) s t) ((n : ℕ) → IsRoute (slopes_of graph) s t n
     → ⊥) (IsCost (slopes_of graph) s t)
 
--- the next port in words, and none where there is none
+-- the next port satisfies the statement; None if no port does
 abbrev pub NextPortLaw : Type 0
 NextPortLaw = (graph : List SwitchEdges) → IsGraph graph → (s t : ℕ) → IsSwitch graph s
     → MatchOption (next_port (slopes_of graph) s t) ((p : ℕ) → IsNextPort (slopes_of graph) s t p
     → ⊥) (IsNextPort (slopes_of graph) s t)
 
--- down where that leads to the target, else one wire up and the least cost from there
+-- the cost is the down distance if there is one, else one more than the least cost over the wires up
 abbrev pub CostRecursion : Type 0
 CostRecursion = (graph : List SwitchEdges) → IsGraph graph → (s t : ℕ)
     → cost (slopes_of graph) s t
@@ -35,7 +35,7 @@ CostRecursion = (graph : List SwitchEdges) → IsGraph graph → (s t : ℕ)
     if is_some down then down else option_map suc
     (least_of (filter_map (λ e. cost (slopes_of graph) e.to t) (ups_at (slopes_of graph) s))))
 
--- from each switch with a cost a way of so many wires leads to the target
+-- from each switch with a cost, a way of as many wires leads to the target
 abbrev pub WayLaw : Type 0
 WayLaw = (graph : List SwitchEdges) → IsGraph graph → (n s t : ℕ) → cost (slopes_of graph) s t ≡ Some n
     → Way (slopes_of graph) s t n
@@ -45,7 +45,7 @@ abbrev pub NoCostBetween : Type 0
 NoCostBetween = (graph : List SwitchEdges) → IsGraph graph → (s t : ℕ) → IsSwitch graph s → in_one_component graph s t
     ≡ false → (cost (slopes_of graph) s t ≡ None) × (next_port (slopes_of graph) s t ≡ None)
 
--- all of a component have a cost to each other
+-- within a component each switch has a cost to each other one
 abbrev pub CostInComponent : Type 0
 CostInComponent = (graph : List SwitchEdges) → IsGraph graph → (s t : ℕ) → IsSwitch graph s → IsSwitch graph t
     → in_one_component graph s t ≡ true → (n : ℕ) × (cost (slopes_of graph) s t ≡ Some n)

@@ -35,9 +35,8 @@ impl Model for Graph {
 }
 
 impl Graph {
-    /// The usable switches of the view with the wires between them. Takes two searches among the
-    /// wires for each port of a switch, one among the switches for each wire, and a search in breadth
-    /// for each component.
+    /// Builds the graph of the view's usable switches and the wires between them. Takes two searches among the wires
+    /// for each port of a switch, one among the switches for each wire, and a breadth-first search for each component.
     pub fn of(alloc: Global, wires: &Wires) -> Result<Self, Refused>
         ensures { IfOk result (λ graph. graph ≡ graph_of (cells_of wires.now)) }
     {
@@ -46,7 +45,7 @@ impl Graph {
         Ok(Graph { graph, ranks })
     }
 
-    /// How many switches there are. It is held.
+    /// Returns the number of switches. Takes one step.
     pub fn len(&self) -> usize
         ensures count { result ≡ length self.now }
         ensures is_graph { IsGraph self.now }
@@ -54,36 +53,36 @@ impl Graph {
         self.graph.len()
     }
 
-    /// The switches, by rising GUID.
+    /// Returns the switches, by rising GUID.
     pub fn switches(&self) -> &[Guid]
         ensures { result.now ≡ guids_of self.now }
     {
         self.graph.switches()
     }
 
-    /// The same, handed out.
+    /// Returns the switches, by rising GUID, and drops the graph.
     pub fn into_switches(self) -> Vec<Guid>
         ensures { result.items ≡ guids_of self }
     {
         self.graph.into_switches()
     }
 
-    /// The switch at an index, by rising GUID from 0 on. Takes one step.
+    /// Returns the switch at an index, by rising GUID from 0 on. Takes one step.
     pub fn switch(&self, index: usize) -> Option<Guid>
         ensures { result ≡ slice_get (guids_of self.now) index }
     {
         self.graph.switch(index)
     }
 
-    /// The index of a switch. Takes a search.
+    /// Returns the index of a switch. Takes a search.
     pub fn index_of(&self, switch: Guid) -> Option<usize>
         ensures { IsIndexIn (guids_of self.now) switch result }
     {
         self.graph.index_of(switch)
     }
 
-    /// The number of wires from the root of its component to a switch; none for another GUID.
-    /// Takes a search.
+    /// Returns the number of wires from the root of its component to a switch, or `None` for another GUID. Takes a
+    /// search.
     pub fn rank(&self, switch: Guid) -> Option<usize>
         ensures { result ≡ rank_of self.now switch }
     {
@@ -91,15 +90,15 @@ impl Graph {
         self.ranks[index]
     }
 
-    /// The root of each switch's component, by rising GUID: the least GUID there. Takes a search in
-    /// breadth for each component.
+    /// Returns the root of each switch's component, the least GUID in it, by rising GUID of the switches. Takes a
+    /// breadth-first search for each component.
     pub fn roots(&self, alloc: Global) -> Result<Vec<Option<Guid>>, AllocError>
         ensures { IfOk result (λ roots. roots.items ≡ map (root_of self.now) (guids_of self.now)) }
     {
         self.graph.roots(alloc)
     }
 
-    /// The ranks of the switches, by rising GUID.
+    /// Returns the ranks of the switches, by rising GUID.
     pub(crate) fn ranks(&self) -> &[Option<usize>]
         ensures ranks { result.now ≡ map (rank_of self.now) (guids_of self.now) }
         ensures is_graph { IsGraph self.now }
@@ -107,7 +106,7 @@ impl Graph {
         &self.ranks
     }
 
-    /// The edges of the switch at an index, which lead to indices. Takes one step.
+    /// Returns the edges of the switch at `index`, which lead to indices. Takes one step.
     pub fn edges(&self, index: usize) -> &[Edge]
         requires { index < length self.now }
         ensures edges { AreEdgesAt self.now index result.now }

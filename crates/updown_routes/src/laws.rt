@@ -5,49 +5,44 @@ ghost use Rattle.updown_routes.specs.Updown.{UpdownIsRouting};
 ghost use Rattle.updown_routes.specs.RouteLaws.{DownDistanceLaw, CostLaw, CostRecursion, NextPortLaw, WayLaw};
 ghost use Rattle.updown_routes.specs.RouteLaws.{NoCostBetween, CostInComponent};
 
-/// Each switch has a rank: the length of a shortest walk from the switch with the least GUID of
-/// those that can be reached.
+/// Each switch has a rank: the length of a shortest walk from the switch of least GUID that it can reach.
 pub fn ranks_are_in_words()
     ensures { RankLaw }
 {}
 
-/// A switch is before another where its rank is lesser, or the ranks are equal and its GUID is
-/// lesser.
+/// A switch is before another if its rank is less, or the ranks are equal and its GUID is less.
 pub fn before_is_in_words()
     ensures { BeforeLaw }
 {}
 
-/// A wire leads up where its end is before the switch, and down where its end is after it.
+/// A wire leads up if its end is before the switch, and down if its end is after it.
 pub fn up_and_down_are_in_words()
     ensures { SlopeLaw }
 {}
 
-/// The down distance is the length of a shortest walk down, and there is none where no walk leads
-/// down to the target.
+/// The down distance is the length of a shortest walk down; there is none if no walk leads down to the target.
 pub fn down_distances_are_in_words()
     ensures { DownDistanceLaw }
 {}
 
-/// The cost is the length of a shortest route: a climb past switches from which no walk leads
-/// down to the target, and a shortest walk down.
+/// The cost is the length of a shortest route: a climb past switches from which no walk leads down to the target, and
+/// then a shortest walk down.
 pub fn costs_are_in_words()
     ensures { CostLaw }
 {}
 
-/// The cost is the down distance where there is one, else one more than the least cost over the
-/// wires up.
+/// The cost is the down distance if there is one, and else one more than the least cost over the wires up.
 pub fn costs_follow_the_wires_up()
     ensures { CostRecursion }
 {}
 
-/// The next port is the least port down to a switch one nearer, or else, where no walk leads
-/// down, the least port up to a switch of least cost.
+/// The next port is the least port down to a switch one nearer or, if no walk leads down, the least port up to a switch
+/// of least cost.
 pub fn next_ports_are_in_words()
     ensures { NextPortLaw }
 {}
 
-/// From each switch with a cost the next ports lead to the target, up and then down, over as many
-/// wires as the cost.
+/// The next ports lead from each switch with a cost to the target, up and then down, over as many wires as the cost.
 pub fn next_ports_lead_to_the_target()
     ensures { WayLaw }
 {}
@@ -68,8 +63,8 @@ pub fn channels_rise_along_ways()
     ensures { ChannelLaw }
 {}
 
-/// So up and down is a rule of routing: within a component it leads from each switch to each other over as many
-/// wires as the cost, no switch comes twice, and channels rise.
+/// Routing up and then down is a rule of routing: within a component it leads from each switch to each other one over
+/// as many wires as the cost, no switch comes twice, and channels rise.
 pub fn up_and_down_is_a_routing()
     ensures { UpdownIsRouting }
 {}

@@ -4,7 +4,7 @@ ghost use Rattle.updown_routes.specs.Order.{ranked, IsOrder, ArePositions};
 
 use std::alloc::{AllocError, Global};
 
-/// The indices of switches by rank, and then by index.
+/// Returns the indices of switches by rank, and then by index.
 pub(crate) fn order(alloc: Global, ranks: &[Option<usize>]) -> Result<Vec<usize>, AllocError>
     ensures { IfOk result (λ order. IsOrder ranks.now order.items) }
 {
@@ -13,14 +13,14 @@ pub(crate) fn order(alloc: Global, ranks: &[Option<usize>]) -> Result<Vec<usize>
     indices(alloc, &ranked)
 }
 
-/// The indices, without the ranks.
+/// Returns the indices, without the ranks.
 fn indices(alloc: Global, ranked: &[(usize, usize)]) -> Result<Vec<usize>, AllocError>
     ensures { IfOk result (λ indices. indices.items ≡ map (λ x. x.1) ranked.now) }
 {
     ranked.iter().map(|(_, index)| *index).collect(alloc)
 }
 
-/// Each index, after its rank.
+/// Returns each index, after its rank.
 fn ranked(alloc: Global, ranks: &[Option<usize>]) -> Result<Vec<(usize, usize)>, AllocError>
     ensures { IfOk result (λ pairs. pairs.items ≡ ranked ranks.now) }
 {
@@ -31,7 +31,7 @@ fn ranked(alloc: Global, ranks: &[Option<usize>]) -> Result<Vec<(usize, usize)>,
         .collect(alloc)
 }
 
-/// The position of each index in an order.
+/// Returns the position of each index in an order.
 pub(crate) fn positions(alloc: Global, order: &[usize]) -> Result<Vec<usize>, AllocError>
     requires { NamesEachOnce (length order.now) order.now }
     ensures { IfOk result (λ positions. ArePositions order.now positions.items) }

@@ -6,8 +6,8 @@ ghost use Rattle.updown_routes.specs.Ranks.{rank_of};
 use std::alloc::{AllocError, Global};
 use subnet_view::SwitchGraph;
 
-/// The rank of each switch. A switch that no switch before it reaches is the root of its component,
-/// and the ranks there are the distances from it: a search for each component.
+/// Computes each switch's rank, its distance from the root of its component. The root is the first switch that no
+/// earlier one reaches. Takes one search for each component.
 pub(crate) fn ranks(alloc: Global, graph: &SwitchGraph) -> Result<Vec<Option<usize>>, AllocError>
     ensures { IfOk result (λ ranks. ranks.items ≡ map (rank_of graph.now) (guids_of graph.now)) }
 {
@@ -21,7 +21,7 @@ pub(crate) fn ranks(alloc: Global, graph: &SwitchGraph) -> Result<Vec<Option<usi
     Ok(ranks)
 }
 
-/// Puts the distance of each switch where there is no rank yet.
+/// Sets the rank of each switch that has none yet to its distance.
 fn fill(ranks: &mut [Option<usize>], distances: &[Option<usize>])
     requires { length ranks.old ≡ length distances.now }
     ensures { FillsIn ranks.old distances.now ranks.new }

@@ -13,7 +13,7 @@ use smp_bytes::{Guid, PortNum};
 use std::alloc::{AllocError, Global};
 use std::marker::Model;
 
-/// The next port of each switch of a graph to each other.
+/// The next port of each switch of a graph to each other one.
 #[derive(Drop)]
 pub struct Routes<'g> {
     graph: &'g Graph,
@@ -34,7 +34,7 @@ impl<'g> Model for Routes<'g> {
 }
 
 impl<'g> Routes<'g> {
-    /// The routes of a graph. For each target takes a step for each switch and each wire.
+    /// Computes the routes of a graph. For each target takes one step for each switch and each wire.
     pub fn of(alloc: Global, graph: &'g Graph) -> Result<Self, Refused>
         ensures { IfOk result (λ routes. routes ≡ graph.now) }
     {
@@ -45,9 +45,9 @@ impl<'g> Routes<'g> {
         Ok(Routes { graph, towards })
     }
 
-    /// The port by which a packet leaves a switch to another: down where that leads to the target,
-    /// else up. None at the target, between components, and where one of them is no switch. Takes
-    /// two searches.
+    /// Returns the port by which a packet leaves a switch for another: down if a walk down leads to the target,
+    /// otherwise up. Returns `None` at the target, between components, and if one of them is no switch. Takes two
+    /// searches.
     pub fn next_port(&self, switch: Guid, target: Guid) -> Option<PortNum>
         ensures { result ≡ next_port (slopes_of self.now) switch target }
     {
@@ -56,7 +56,8 @@ impl<'g> Routes<'g> {
         self.next_port_at(switch, target)
     }
 
-    /// The same for the switches at two indices of the graph. Takes one step.
+    /// Returns the next port between the switches at two indices of the graph, or `None` if there is none. Takes one
+    /// step.
     pub fn next_port_at(&self, switch: usize, target: usize) -> Option<PortNum>
         ensures { result ≡ next_port_at self.now switch target }
     {
@@ -65,7 +66,7 @@ impl<'g> Routes<'g> {
     }
 }
 
-/// The next ports between the switches at these positions: for each target those of each switch.
+/// Returns for each target the next port of each switch, for the switches at `positions`.
 fn towards(
     alloc: Global,
     slopes: &UpDownEdges,

@@ -8,18 +8,18 @@ use crate::graph::Graph;
 use port_graph::{Adjacency, Edge};
 use std::alloc::{AllocError, Global};
 
-/// The wires of the switch at each position of an order, to positions.
+/// The wires of the switch at each position of an order. They lead to positions.
 #[derive(Drop)]
 pub(crate) struct UpDownEdges {
-    /// Up, to lesser positions.
+    /// The wires up, to lesser positions.
     pub(crate) ups: Adjacency,
-    /// Down, to greater positions.
+    /// The wires down, to greater positions.
     pub(crate) downs: Adjacency,
 }
 
 impl UpDownEdges {
-    /// The wires up and down of each switch, where the order is that of ranks and GUIDs and has
-    /// these positions.
+    /// Finds the wires up and down of each switch. `order` is by rank and then by GUID, and `positions` are its
+    /// positions.
     pub(crate) fn of(
         alloc: Global,
         graph: &Graph,
@@ -41,7 +41,7 @@ impl UpDownEdges {
     }
 }
 
-/// Edges to indices, as edges to the positions of these.
+/// Returns edges to indices as edges to the positions of these.
 fn to_positions(alloc: Global, edges: &[Edge], positions: &[usize]) -> Result<Vec<Edge>, AllocError>
     requires { All (λ edge. edge.to < length positions.now) edges.now }
     ensures { IfOk result (λ found. found.items ≡ map (at_position positions.now) edges.now) }
@@ -55,7 +55,7 @@ fn to_positions(alloc: Global, edges: &[Edge], positions: &[usize]) -> Result<Ve
         .collect(alloc)
 }
 
-/// The edges to lesser positions.
+/// Returns the edges to lesser positions.
 fn ups_from(alloc: Global, position: usize, edges: &[Edge]) -> Result<Vec<Edge>, AllocError>
     ensures { IfOk result (λ ups. ups.items ≡ ups_from position edges.now) }
 {
@@ -66,7 +66,7 @@ fn ups_from(alloc: Global, position: usize, edges: &[Edge]) -> Result<Vec<Edge>,
         .collect(alloc)
 }
 
-/// The edges to greater positions.
+/// Returns the edges to greater positions.
 fn downs_from(alloc: Global, position: usize, edges: &[Edge]) -> Result<Vec<Edge>, AllocError>
     ensures { IfOk result (λ downs. downs.items ≡ downs_from position edges.now) }
 {

@@ -6,7 +6,7 @@ use smp_bytes::{AttributeId, Guid, Lid, Method, NodeType, Path, PortNum, Smp, St
 use std::alloc::{AllocError, Global};
 use std::test::Fail;
 
-/// The switch S2: port 3 is wired.
+/// Creates the switch S2, whose port 3 is wired.
 fn s2(alloc: Global) -> Result<Agent, AllocError> {
     let mut agent = Agent::new(
         alloc,
@@ -22,7 +22,7 @@ fn s2(alloc: Global) -> Result<Agent, AllocError> {
     Ok(agent)
 }
 
-/// The adapter H1: its port is wired, and a subnet manager sits there.
+/// Creates the adapter H1, whose port is wired and has a subnet manager.
 fn h1(alloc: Global) -> Result<Agent, AllocError> {
     let mut agent = Agent::new(
         alloc,
@@ -39,13 +39,13 @@ fn h1(alloc: Global) -> Result<Agent, AllocError> {
     Ok(agent)
 }
 
-/// The answer to a request that came to port 3 of the switch, or to the port of the adapter.
+/// Returns the answer to a request that came to port 3 of the switch, or to the port of the adapter.
 fn answer_to(agent: &mut Agent, smp: &Smp) -> Smp {
     let arrival = PortNum::new(agent.ports().min(3));
     agent.answer(smp, arrival)
 }
 
-/// The answer to a LID-routed request there.
+/// Returns the answer to a LID-routed request that came to the same port.
 fn ask(agent: &mut Agent, method: u8, attribute: u16, modifier: u32, payload: &[u8; 64]) -> Smp {
     let smp = Smp::lid_routed(Method(method), AttributeId(attribute), modifier, 7, payload);
     answer_to(agent, &smp)
@@ -65,7 +65,7 @@ const PORT_INFO: u16 = 0x15;
 
 const TABLE: u16 = 0x19;
 
-/// What each request without a payload is answered with: method, attribute, modifier, and the status at S2 and at H1.
+/// For each request without a payload: method, attribute, modifier, and the status that S2 and H1 answer.
 const STATUSES: [(u8, u16, u32, u16, u16); 34] = [
     (GET, NODE_DESCRIPTION, 9, 0, 0),
     (GET, NODE_INFO, 9, 0, 0),
@@ -123,7 +123,7 @@ fn each_status(rt: HostRuntime) -> Result<(), Fail> {
     Ok(())
 }
 
-/// PortInfo with a BaseLID, a MasterSMLID and a state.
+/// Builds a PortInfo with a BaseLID, a MasterSMLID and a state.
 fn port_info(base_lid: u16, master_sm_lid: u16, state: u8) -> [u8; 64] {
     let mut payload = [0; 64];
     payload[16..18].copy_from_slice(&base_lid.to_be_bytes());
@@ -132,8 +132,8 @@ fn port_info(base_lid: u16, master_sm_lid: u16, state: u8) -> [u8; 64] {
     payload
 }
 
-/// A BaseLID and a state that are set at port 3 of S2 and at the port of H1, one after the other: the status, and
-/// the state and the LID that H1 has then. The switch's port has no LID.
+/// The BaseLIDs and states that are set at port 3 of S2 and at the port of H1, one after the other; for each the
+/// status, and the state and the LID that H1 has then. The switch's port has no LID.
 const PORT_SETS: [(u16, u8, u16, PortState, u16); 17] = [
     (9, 4, 0x1C, PortState::Initialize, 0),
     (9, 1, 0x1C, PortState::Initialize, 0),
@@ -175,7 +175,7 @@ fn port_states(rt: HostRuntime) -> Result<(), Fail> {
     Ok(())
 }
 
-/// A BaseLID and an LMC: the status at the port of H1, at port 0 of S2 and at its port 3, which takes neither.
+/// BaseLIDs and LMCs; for each the status at the port of H1, at port 0 of S2 and at its port 3, which takes neither.
 const LMC_SETS: [(u16, u8, u16, u16, u16); 11] = [
     (9, 0, 0, 0, 0),
     (8, 1, 0, 0x1C, 0),
@@ -213,7 +213,7 @@ fn lids_that_a_set_takes(rt: HostRuntime) -> Result<(), Fail> {
     Ok(())
 }
 
-/// Whether bytes stand at an offset of an answer's attribute.
+/// Returns whether `bytes` stand at `offset` in an answer's attribute.
 fn holds(smp: &Smp, offset: usize, bytes: [u8; 8]) -> bool {
     match smp.attribute_data().get(offset..) {
         Some(rest) => rest.starts_with(&bytes),
@@ -354,7 +354,7 @@ fn sets_of_a_switch(rt: HostRuntime) -> Result<(), Fail> {
     Ok(())
 }
 
-/// A Set of PortInfo over no hop, of which one byte is turned: it is no packet, or gets one of the four statuses.
+/// Changes each byte of a Set of PortInfo over no hop: it is then no packet, or gets one of the four statuses.
 #[test]
 fn each_byte_turned(rt: HostRuntime) -> Result<(), Fail> {
     let mut adapter = h1(rt.alloc())?;

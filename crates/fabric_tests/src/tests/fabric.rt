@@ -1,4 +1,4 @@
-//! Requests there and their answers back, each refusal, each reason to discard a packet, and pings.
+//! Requests and their answers, each refusal, each reason to discard a packet, and pings.
 use fabric_model::{NodeId, NodePort};
 use fabric_sim::{Delivered, Fabric, FabricFault, Packet, Ping, Reason};
 use smp_bytes::{AttributeId, Lid, Method, Path, PortNum, Smp};
@@ -7,7 +7,7 @@ use std::process::Abort;
 use std::test::Fail;
 use topo_file::parse;
 
-/// Three switches in a ring, the nodes 0 to 2, and an adapter at two of them, at 3 and 4.
+/// Three switches in a ring, nodes 0 to 2, and an adapter at two of them, nodes 3 and 4.
 const RING: &str = r#"Switch 4 "S1" guid 0x10
 [1] "S2"[1]
 [2] "S3"[1]
@@ -34,7 +34,7 @@ fn at(node: usize, port: u8) -> NodePort {
     }
 }
 
-/// A directed request over at most three ports; behind the last are zeros.
+/// Builds a directed request over at most three ports, with zeros behind the last one.
 fn directed(
     method: Method,
     attribute: AttributeId,
@@ -64,7 +64,7 @@ fn get_node_info(ports: [u8; 3]) -> Packet {
     directed(Method::GET, AttributeId::NODE_INFO, 0, ports, &[0; 64])
 }
 
-/// What a delivery did, in a word and a number.
+/// Returns what a delivery did, as a word and a number.
 fn said(delivered: Result<Delivered, FabricFault>) -> (&'static str, u64) {
     match delivered {
         Ok(Delivered::Moved(serial)) => ("moved", serial),
@@ -96,11 +96,11 @@ fn carried(fabric: &mut Fabric, mut serial: u64) -> (&'static str, u64) {
     last
 }
 
-/// A request to the first switch is delivered until its answer is at the manager.
+/// Delivers a request to the first switch, and its answer, until the manager has it, and checks each step.
 fn check_round_trip(rt: &impl Abort, fabric: &mut Fabric) -> Result<(), Fail> {
     let serial = fabric.inject(at(3, 1), get_node_info([1, 0, 0]))?;
-    // The serial number that is delivered, what that does; then the first bytes, the path's first port, the port
-    // noted for the way back, and the local port of the node information, of the packet that waits.
+    // The serial number that is delivered and what that does; then, of the packet that waits, its first bytes, the
+    // path's first port, the port recorded for the way back, and the local port of the NodeInfo.
     let start = [
         0x01, 0x81, 0x01, 0x01, 0, 0, 0, 1, 0, 0, 0, 1, 0, 0, 0, 2, 0, 0x11, 0, 0, 0, 0, 0, 0,
     ];
@@ -133,21 +133,21 @@ fn a_request_comes_and_its_answer_goes_home(rt: HostRuntime) -> Result<(), Fail>
     check_round_trip(&rt, &mut fabric)
 }
 
-/// What becomes of a packet that is sent from the first adapter.
+/// Returns what becomes of a packet that is sent from the first adapter.
 fn fate_of(alloc: Global, packet: Packet) -> Result<(&'static str, u64), Fail> {
     let mut fabric = ring(alloc, 0)?;
     let serial = fabric.inject(at(3, 1), packet)?;
     Ok(carried(&mut fabric, serial))
 }
 
-/// A request for NodeInfo over no hop, with another byte at an offset.
+/// Builds a request for NodeInfo over no hop, with `byte` at `offset`.
 fn turned(offset: u8, byte: u8) -> Packet {
     let mut packet = get_node_info([0; 3]);
     packet.bytes[usize::from(offset)] = byte;
     packet
 }
 
-/// A LID-routed request for NodeInfo.
+/// Builds a LID-routed request for NodeInfo.
 fn routed(dlid: u16) -> Packet {
     Packet {
         bytes: *Smp::lid_routed(Method::GET, AttributeId::NODE_INFO, 0, 1, &[0; 64]).bytes(),
@@ -159,8 +159,8 @@ fn routed(dlid: u16) -> Packet {
 #[test]
 fn each_packet_that_is_discarded(rt: HostRuntime) -> Result<(), Fail> {
     let get_sm_info = directed(Method::GET, AttributeId::SM_INFO, 0, [0; 3], &[0; 64]);
-    // The adapter has no LID, so its own is 0. Byte 0 is the base version, byte 3 the method and
-    // byte 6 the hop pointer.
+    // The adapter has no LID, so its own is 0. Byte 0 is the base version, byte 3 the method and byte 6 the hop
+    // pointer.
     for (packet, wanted) in [
         (turned(0, 2), ("unreadable", 0)),
         (turned(6, 1), ("course", 0)),
@@ -181,8 +181,7 @@ fn each_packet_that_is_discarded(rt: HostRuntime) -> Result<(), Fail> {
     Ok(())
 }
 
-/// Each refusal where packets are concerned, of a fabric with one packet in flight and no serial
-/// number left.
+/// Returns each refusal of a call about packets, in a fabric with one packet in flight and no serial number left.
 fn packet_refusals(fabric: &mut Fabric, last: u64) -> [(Option<FabricFault>, FabricFault); 7] {
     [
         (fabric.deliver(0).err(), FabricFault::NoSuchPacket),
@@ -201,7 +200,7 @@ fn packet_refusals(fabric: &mut Fabric, last: u64) -> [(Option<FabricFault>, Fab
     ]
 }
 
-/// Each refusal where ports are concerned.
+/// Returns each refusal of a call about ports.
 fn port_refusals(fabric: &mut Fabric) -> [(Option<FabricFault>, FabricFault); 11] {
     let lid = Lid::new(1);
     [
@@ -228,7 +227,7 @@ fn port_refusals(fabric: &mut Fabric) -> [(Option<FabricFault>, FabricFault); 11
     ]
 }
 
-/// Refusals of packets, and then of ports.
+/// Checks the refusals of calls about packets, and then about ports.
 fn check_refusals(rt: &impl Abort, fabric: &mut Fabric) -> Result<(), Fail> {
     let last = fabric.inject(at(3, 1), get_node_info([0; 3]))?;
     for (refused, wanted) in packet_refusals(fabric, last) {
@@ -248,7 +247,7 @@ fn each_refusal(rt: HostRuntime) -> Result<(), Fail> {
     check_refusals(&rt, &mut fabric)
 }
 
-/// Where a ping comes to: the node, the port, and how many wires, or 99 for a node where it is lost.
+/// Returns where a ping ends: the node, the port and the number of wires, or the node and 99 if it is lost.
 fn pinged(fabric: &Fabric, lid: u16) -> (usize, u8, usize) {
     match fabric.ping(at(3, 1), Lid::new(lid)) {
         Ok(ping) => spot(&ping),
@@ -263,12 +262,12 @@ fn spot(ping: &Ping) -> (usize, u8, usize) {
     }
 }
 
-/// Where pings for the LIDs 2, 3 and 5 come to.
+/// Returns where pings for the LIDs 2, 3 and 5 end.
 fn three_pings(fabric: &Fabric) -> [(usize, u8, usize); 3] {
     [2, 3, 5].map(|lid| pinged(fabric, lid))
 }
 
-/// What becomes of a Set over a path.
+/// Returns what becomes of a Set over a path.
 fn set_over(
     fabric: &mut Fabric,
     attribute: AttributeId,
@@ -280,7 +279,7 @@ fn set_over(
     Ok(carried(fabric, serial))
 }
 
-/// Tables and a LID are set, and pings go further after each Set.
+/// Sets tables and a LID, and checks that pings go further after each Set.
 fn check_sets(rt: &impl Abort, fabric: &mut Fabric) -> Result<(), Fail> {
     let (table, switch_info) = (
         AttributeId::LINEAR_FORWARDING_TABLE,
@@ -313,13 +312,13 @@ fn check_sets(rt: &impl Abort, fabric: &mut Fabric) -> Result<(), Fail> {
     Ok(())
 }
 
-/// The LIDs from and to which the packet goes that waits, if one does.
+/// Returns the SLID and the DLID of the first packet in flight, if there is one.
 fn waiting(fabric: &Fabric) -> Option<(u16, u16)> {
     let flight = fabric.in_flight(0)?;
     Some((flight.packet.slid.number(), flight.packet.dlid.number()))
 }
 
-/// A request to a LID comes there by the tables, and its answer back.
+/// Checks that the tables bring a request by LIDs to its port, and its answer back.
 fn check_routed(rt: &impl Abort, fabric: &mut Fabric) -> Result<(), Fail> {
     let serial = fabric.inject(at(3, 1), routed(2))?;
     for (number, wanted, waits) in [
@@ -335,7 +334,7 @@ fn check_routed(rt: &impl Abort, fabric: &mut Fabric) -> Result<(), Fail> {
     Ok(())
 }
 
-/// Pings, Sets and a request by LIDs.
+/// Checks pings, Sets and a request by LIDs.
 fn check_tables(rt: &impl Abort, fabric: &mut Fabric) -> Result<(), Fail> {
     let fresh = pinged(fabric, 5);
     assert!(rt; fresh == (1, 0, 99), "{fresh:?}");
@@ -351,7 +350,7 @@ fn packets_that_tables_route(rt: HostRuntime) -> Result<(), Fail> {
     check_tables(&rt, &mut fabric)
 }
 
-/// A request for NodeInfo of the first switch is repeated twice, and the first copy is lost.
+/// Repeats a request for NodeInfo twice, loses the first copy, and checks the others.
 fn check_copies(rt: &impl Abort, fabric: &mut Fabric) -> Result<(), Fail> {
     let serial = fabric.inject(at(3, 1), get_node_info([1, 0, 0]))?;
     let copy = fabric.repeat(serial)?;
@@ -366,8 +365,7 @@ fn check_copies(rt: &impl Abort, fabric: &mut Fabric) -> Result<(), Fail> {
     Ok(())
 }
 
-/// A packet that came by a wire is discarded once the cable is cut, and one that waits at its seat
-/// is not.
+/// Checks that a packet that came by a wire is discarded once the cable is cut, and that one at its seat is not.
 fn check_cut(rt: &impl Abort, fabric: &mut Fabric) -> Result<(), Fail> {
     let came = fabric.inject(at(3, 1), get_node_info([1, 0, 0]))?;
     let moved = said(fabric.deliver(came));
@@ -379,7 +377,7 @@ fn check_cut(rt: &impl Abort, fabric: &mut Fabric) -> Result<(), Fail> {
     Ok(())
 }
 
-/// Copies, a cut, and a cable from a port to itself.
+/// Checks copies, a cut, and a cable from a port to itself.
 fn check_cables(rt: &impl Abort, fabric: &mut Fabric) -> Result<(), Fail> {
     check_copies(rt, fabric)?;
     check_cut(rt, fabric)?;

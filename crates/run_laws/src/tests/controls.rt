@@ -1,7 +1,7 @@
-//! What a manager in each state answers to each control, and to other requests for SMInfo.
+//! Tests of what a manager in each state answers to each control, and to other requests for SMInfo.
 use super::*;
 
-/// Modifiers of controls.
+/// The modifiers of controls.
 const HANDOVER: u32 = 1;
 
 const ACKNOWLEDGE: u32 = 2;
@@ -10,7 +10,7 @@ const DISABLE: u32 = 3;
 
 const DISCOVER: u32 = 5;
 
-/// What a state becomes by each modifier from 0 on; `None` where the control is refused.
+/// For each state, the next state by each modifier from 0 on; `None` if the control is refused.
 const MOVES: [(SmState, [Option<SmState>; 7]); 4] = [
     (
         SmState::Discovering,
@@ -46,12 +46,12 @@ const MOVES: [(SmState, [Option<SmState>; 7]); 4] = [
     ),
 ];
 
-/// A control by LIDs.
+/// Returns a control that is forwarded by LIDs.
 fn control(modifier: u32) -> Smp {
     Smp::lid_routed(Method::SET, AttributeId::SM_INFO, modifier, 7, &[0xA5; 64])
 }
 
-/// Whether a new manager is master once its only sweep met nobody.
+/// Returns whether a new manager is master once its only sweep met nobody.
 fn becomes_master(manager: &mut Manager) -> bool {
     if manager.begin_sweep().is_err() {
         return false;
@@ -62,7 +62,7 @@ fn becomes_master(manager: &mut Manager) -> bool {
     manager.on_timeout(request.packet.transaction_id()).is_ok()
 }
 
-/// Whether a master comes to a state by controls, with nothing to be sent.
+/// Returns whether a master gets to `state` by controls, with nothing left to send.
 fn comes_to(manager: &mut Manager, state: SmState) -> bool {
     let controls = match state {
         SmState::Master => [].as_slice(),
@@ -78,7 +78,7 @@ fn comes_to(manager: &mut Manager, state: SmState) -> bool {
     manager.state() == state
 }
 
-/// Whether the next packet is the answer with this status, and tells what the manager says of itself, or what was
+/// Returns whether the next packet is the answer with `status`, and has what the manager says of itself, or what was
 /// asked.
 fn answers(manager: &mut Manager, status: Status, to: Option<Lid>) -> bool {
     let state = manager.state();
@@ -97,7 +97,7 @@ fn answers(manager: &mut Manager, status: Status, to: Option<Lid>) -> bool {
         && is_told
 }
 
-/// Whether the acknowledgement of a handover comes next, where there is to be one, and nothing after it.
+/// Returns whether the acknowledgement of a handover comes next, if it is wanted, and nothing after it.
 fn acknowledges(manager: &mut Manager, is_wanted: bool) -> bool {
     if !is_wanted {
         return manager.take_outgoing().is_none();
@@ -112,7 +112,8 @@ fn acknowledges(manager: &mut Manager, is_wanted: bool) -> bool {
         && manager.take_outgoing().is_none()
 }
 
-/// Whether a manager does about a control what a state becomes by it.
+/// Returns whether a manager obeys a control: it moves to the state `to`, or refuses the control and stays if that is
+/// `None`.
 fn obeys(manager: &mut Manager, modifier: u32, to: Option<SmState>) -> bool {
     let state = to.unwrap_or(manager.state());
     let status = if to.is_some() { DONE } else { INVALID_FIELD };
@@ -122,7 +123,7 @@ fn obeys(manager: &mut Manager, modifier: u32, to: Option<SmState>) -> bool {
         && acknowledges(manager, to.is_some() && modifier == HANDOVER)
 }
 
-/// The same of a manager in a state.
+/// Returns whether a manager in the state `from` obeys a control.
 fn obeys_in(alloc: Global, from: SmState, modifier: u32, to: Option<SmState>) -> bool {
     let mut manager = manager(alloc);
     becomes_master(&mut manager)
@@ -143,7 +144,7 @@ fn controls_move_by_the_table(rt: HostRuntime) {
     }
 }
 
-/// A request for SMInfo over a path without hops, or by LIDs.
+/// Returns a request for SMInfo over a path without hops, or by LIDs.
 fn request(method: Method, is_directed: bool) -> Smp {
     if is_directed {
         Smp::directed(
@@ -159,7 +160,7 @@ fn request(method: Method, is_directed: bool) -> Smp {
     }
 }
 
-/// The methods of requests that are no controls, whether they are directed, and the status of their answers.
+/// The methods of requests that are not controls, whether they are directed, and the status of their answers.
 const REQUESTS: [(Method, bool, Status); 5] = [
     (Method::GET, true, DONE),
     (Method::SET, true, INVALID_FIELD),
@@ -168,7 +169,7 @@ const REQUESTS: [(Method, bool, Status); 5] = [
     (Method(0x05), false, NO_METHOD),
 ];
 
-/// Whether a manager in a state answers such a request, and nothing else comes of it.
+/// Returns whether a manager in `state` answers the request of a row, and does nothing else.
 fn replies_in(alloc: Global, state: SmState, row: (Method, bool, Status)) -> bool {
     let (method, is_directed, status) = row;
     let to = if is_directed { None } else { Some(sender()) };

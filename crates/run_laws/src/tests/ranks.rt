@@ -1,28 +1,29 @@
-//! Which manager that a sweep saw outranks the one that swept, of priority 3 at the port GUID 0x101.
+//! Tests of which manager that a sweep saw outranks the one that swept, which has priority 3 and the port GUID 0x101.
 use super::*;
 
-/// The priority, port GUID and state that the other one tells, and the state of the one that swept then.
+/// The priority, port GUID and state of the other manager, and the state of the one that swept then.
 const ROWS: [(u8, u64, SmState, SmState); 12] = [
-    // One that wins is standby or discovers.
+    // A manager that wins is Standby or Discovering.
     (4, 0x1FF, SmState::Standby, SmState::Standby),
     (4, 0x1FF, SmState::Discovering, SmState::Standby),
     (3, 0x100, SmState::Standby, SmState::Standby),
     (3, 0x100, SmState::Discovering, SmState::Standby),
-    // One that wins is not active.
+    // A manager that wins is Not-active.
     (4, 0x1FF, SmState::NotActive, SmState::Master),
     (3, 0x100, SmState::NotActive, SmState::Master),
-    // One that does not win.
+    // The other manager does not win.
     (2, 0x100, SmState::Standby, SmState::Master),
     (3, 0x102, SmState::Discovering, SmState::Master),
     // Neither of two of one priority and one port GUID wins.
     (3, 0x101, SmState::Standby, SmState::Master),
     (3, 0x101, SmState::Discovering, SmState::Master),
-    // A master outranks, whether it wins or not.
+    // A master outranks, whether or not it wins.
     (3, 0x101, SmState::Master, SmState::Standby),
     (2, 0x102, SmState::Master, SmState::Standby),
 ];
 
-/// What an adapter with one port says, and the manager at it: NodeInfo, with the GUID 0x100 or 0x200, or PortInfo.
+/// Returns what an adapter with one port says, or the manager at it: NodeInfo, with the GUID 0x100 or 0x200, PortInfo,
+/// or the SMInfo of `other`.
 fn told(attribute: AttributeId, is_far: bool, other: &SmInfo) -> [u8; 64] {
     if attribute == AttributeId::SM_INFO {
         return other.encode();
@@ -43,7 +44,8 @@ fn told(attribute: AttributeId, is_far: bool, other: &SmInfo) -> [u8; 64] {
     data
 }
 
-/// Whether a manager sweeps: it asks its own node and port, the adapter across and its port, and the manager there.
+/// Returns whether a manager sweeps. It asks its own node and port, the adapter across and its port, and the manager
+/// there.
 fn sweeps(manager: &mut Manager, other: &SmInfo) -> bool {
     if manager.begin_sweep().is_err() {
         return false;
@@ -61,13 +63,13 @@ fn sweeps(manager: &mut Manager, other: &SmInfo) -> bool {
     true
 }
 
-/// Whether a new manager is in a state once its sweep met this one.
+/// Returns whether a new manager is in `state` once its sweep met `other`.
 fn is_then(alloc: Global, other: &SmInfo, state: SmState) -> bool {
     let mut manager = manager(alloc);
     sweeps(&mut manager, other) && manager.state() == state
 }
 
-/// What the other one says of itself.
+/// Returns what the other manager says of itself.
 fn other(priority: u8, guid: u64, state: SmState) -> SmInfo {
     let mut info = info_in(state);
     info.guid = Guid::new(guid);

@@ -1,4 +1,4 @@
-//! What a sweep takes and refuses, how many bytes are asked for at a time, and a store's copy.
+//! Tests of what a sweep takes and refuses, how many bytes are read at a time, and a store's copy.
 ghost use Rattle.std.specs.Prelude.{◌<◌, ◌≤◌};
 
 use super::*;
@@ -8,13 +8,13 @@ use record_file::absorb_by;
 use smp_bytes::Generation;
 use sweep::{Answer, Sweep, SweepFault};
 
-/// A sweep by port 1, whose first request has this number.
+/// Starts a sweep by port 1, whose first request has the number `first`.
 fn start(alloc: Global, first: u32) -> Option<Sweep> {
     let generation = Generation::new(1)?;
     Sweep::start(alloc, PortNum::new(1), generation, first).ok()
 }
 
-/// NodeInfo of a switch of ten ports.
+/// Returns the NodeInfo of a switch with ten ports.
 fn ten_ports() -> [u8; 64] {
     let mut data = [0; 64];
     data[2] = 2; // a switch
@@ -24,7 +24,7 @@ fn ten_ports() -> [u8; 64] {
     data
 }
 
-/// Whether a reply was taken, and is about the node that the sweep began at.
+/// Returns whether a reply was taken, and is about the node at which the sweep began.
 fn is_of_start(answered: Result<Answer, SweepFault>) -> bool {
     match answered {
         Ok(Answer::Facts(Report { context, .. })) => context == Context::Start,
@@ -32,7 +32,7 @@ fn is_of_start(answered: Result<Answer, SweepFault>) -> bool {
     }
 }
 
-/// Whether a reply was refused for this.
+/// Returns whether a reply was refused for `fault`.
 fn is_refused(answered: Result<Answer, SweepFault>, fault: SweepFault) -> bool {
     match answered {
         Ok(_) => false,
@@ -40,7 +40,7 @@ fn is_refused(answered: Result<Answer, SweepFault>, fault: SweepFault) -> bool {
     }
 }
 
-/// Whether a reply is taken, and refused once ten more requests went out.
+/// Returns whether a reply is taken, and refused after ten more requests.
 fn takes_once(alloc: Global) -> Option<bool> {
     let mut sweep = start(alloc, 1)?;
     let reply = sweep.next_request()?.answer(DONE, &ten_ports());
@@ -51,7 +51,7 @@ fn takes_once(alloc: Global) -> Option<bool> {
     Some(is_taken && is_refused(sweep.on_reply(reply.bytes()), SweepFault::NotOutstanding))
 }
 
-/// Whether the reply to a request of the greatest number is refused, since it brings up more.
+/// Returns whether the reply to a request of the greatest number is refused, since it asks for more requests.
 fn spends(alloc: Global) -> Option<bool> {
     let mut sweep = start(alloc, u32::MAX)?;
     let reply = sweep.next_request()?.answer(DONE, &ten_ports());
@@ -68,7 +68,7 @@ fn numbers_are_spent(rt: HostRuntime) {
     assert!(rt; spends(rt.alloc()) == Some(true));
 }
 
-/// A source that fails where it is asked for more than so many bytes at a time.
+/// A source that fails if it is asked for more than `most` bytes at a time.
 #[derive(Drop)]
 struct AtMost<'b> {
     bytes: FromBytes<'b>,
@@ -90,7 +90,7 @@ impl<'b> Source for AtMost<'b> {
     }
 }
 
-/// A file of one report, of the first reply to a sweep.
+/// Returns a file of one report, of the first reply to a sweep.
 fn file(alloc: Global) -> Option<[u8; 280]> {
     let reply = start(alloc, 1)?.next_request()?.answer(DONE, &ten_ports());
     let mut bytes = [0; 280];
@@ -100,7 +100,7 @@ fn file(alloc: Global) -> Option<[u8; 280]> {
     Some(bytes)
 }
 
-/// How many facts a file tells that is asked for at most `N` bytes at a time, and how many a copy of them has.
+/// Returns how many facts a file tells that is read by at most `N` bytes at a time, and how many a copy of them has.
 fn told<const N: usize>(alloc: Global) -> Option<(usize, usize)>
     requires some { 0 < N }
     requires most { N ≤ 4096 }

@@ -1,4 +1,4 @@
-//! What `{}` says of each fault whose text no clause names.
+//! The text that `{}` gives for each fault whose text no clause names.
 use byte_io::{ReadError, WriteFault};
 use fabric_sim::FabricFault;
 use fact_store::{IngestFault, Refused, ReportFault};
@@ -107,7 +107,7 @@ const READS: [(ReadError, &str); 2] = [
 
 const WRITES: [(WriteFault, &str); 1] = [(WriteFault::Write, "write failed")];
 
-/// What is wrong with the third line.
+/// A fault in the third line.
 const PEER: TopoFault = TopoFault::Peer { line: 3 };
 
 const SEAT: ScheduleFault = ScheduleFault::Seat { line: 3 };
@@ -154,7 +154,7 @@ const RUNS: [(Fault, &str); 6] = [
     (Fault::Memory, "out of memory"),
 ];
 
-/// A root that is none.
+/// Returns the fault of a root that is not a usable switch.
 fn no_switch() -> [(TextFault, &'static str); 1] {
     let guid = Guid::new(0xAB);
     [(
@@ -163,12 +163,12 @@ fn no_switch() -> [(TextFault, &'static str); 1] {
     )]
 }
 
-/// A LID that moves.
+/// Returns the fault of a LID that moves.
 fn moved() -> [(TextFault, &'static str); 1] {
     [(TextFault::Moves(Lid::new(49151)), "lid 49151 moves")]
 }
 
-/// Why there are no next tables.
+/// Returns the faults of a step.
 fn steps() -> [(StepFault, &'static str); 2] {
     [
         (StepFault::Moves(Lid::new(258)), "lid 258 moves"),
@@ -176,7 +176,7 @@ fn steps() -> [(StepFault, &'static str); 2] {
     ]
 }
 
-/// The first text that is not what `{}` says of the fault beside it.
+/// Returns the first text that is not what `{}` gives for the fault beside it.
 fn untold<T: Display>(alloc: Global, rows: &[(T, &'static str)]) -> Option<&'static str> {
     for (fault, text) in rows {
         match format!(in alloc; "{fault}") {

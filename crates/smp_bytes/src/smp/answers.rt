@@ -6,8 +6,8 @@ use crate::path::Path;
 use crate::smp::Smp;
 
 impl Smp {
-    /// Whether the packet has the TransactionID, the attribute, the modifier and the way of a request: over this path,
-    /// or by LIDs where there is none. Its method and its status are not looked at.
+    /// Returns whether the packet has TransactionID, attribute, modifier and way of a request: over `path`, or by LIDs
+    /// if `path` is `None`. Looks at neither method nor status.
     pub fn answers(
         &self,
         transaction: u64,
@@ -24,7 +24,7 @@ impl Smp {
             && self.goes_by(path)
     }
 
-    /// Whether the packet goes over this path, or by LIDs where there is none.
+    /// Returns whether the packet goes over `path`, or by LIDs if `path` is `None`.
     fn goes_by(&self, path: Option<&Path<63>>) -> bool
         ensures { result ≡ goes_by self.now (option_copied path.entry) }
     {
@@ -38,7 +38,7 @@ impl Smp {
         }
     }
 
-    /// Whether the ports of the packet's path are these.
+    /// Returns whether InitialPath has the ports of `path` from index 1 on.
     fn has_ports(&self, path: &Path<63>) -> bool
         ensures { result ≡ has_ports self.now 1 path.now }
     {

@@ -9,8 +9,8 @@ use crate::smp::{DIRECTED_ROUTE, LID_ROUTED, PERMISSIVE_LID, Smp, VERSION};
 use crate::wire::{put_bytes, put_u8, put_u16, put_u32, put_u64};
 
 impl Smp {
-    /// A request that leaves by the ports of a path, one after the other. All that is not given is 0, but for the
-    /// versions, the number of hops and the permissive LIDs.
+    /// Creates a request that leaves by the ports of `path`, one after the other. Every other field is 0, except the
+    /// versions, the class, HopCount and the permissive LIDs.
     pub fn directed(
         method: Method,
         attribute: AttributeId,
@@ -32,7 +32,7 @@ impl Smp {
         Smp { bytes }
     }
 
-    /// A request that switches forward by the LIDs of its way. All that is not given is 0, but for the versions.
+    /// Creates a request that switches forward by LID. Every other field is 0, except the versions and the class.
     pub fn lid_routed(
         method: Method,
         attribute: AttributeId,
@@ -47,8 +47,8 @@ impl Smp {
         Smp { bytes }
     }
 
-    /// The answer to this request: method GetResp, the status, the attribute, and D set if it is directed; all else is
-    /// as it was.
+    /// Creates the answer to this request: method GetResp, `status`, and `payload` as the attribute; if the request is
+    /// directed, the D bit is set. Everything else stays as in the request.
     pub fn answer(&self, status: Status, payload: &[u8; 64]) -> Smp
         requires { is_directed self.now ≡ true → status.0 < 2 ^ 15 }
         ensures { result ≡ answer_packet self.now status.0 payload.now }
@@ -65,7 +65,7 @@ impl Smp {
     }
 }
 
-/// The fields that a request of either class has, and 0 elsewhere.
+/// Returns the bytes of a request of either class: the fields that both have, and 0 elsewhere.
 fn request(
     class: u8,
     method: Method,

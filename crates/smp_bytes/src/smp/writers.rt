@@ -1,4 +1,4 @@
-//! Writers of single fields: the field's bits become the value, and every other bit stays.
+//! Writers of single fields: each writes the bits of its field and leaves every other bit as it is.
 ghost use Rattle.std.specs.Prelude.{◌≡◌, ◌+◌, ◌≤◌, ◌<◌, ◌^◌, true};
 ghost use Rattle.smp_bytes.specs.Field.{number_in, with_bits, with_number};
 ghost use Rattle.smp_bytes.specs.Requests.{flag, word_with_status};
@@ -33,7 +33,7 @@ impl Smp {
         put_u16(&mut self.bytes, field::STATUS, word);
     }
 
-    /// Writes the D bit of a directed packet: whether it is on its way back.
+    /// Writes the D bit of a directed packet, which says whether it is on its way back.
     pub fn set_returning(&mut self, returning: bool)
         ensures { self.new ≡ with_bits direction_bit (flag returning) self.old }
     {

@@ -1,5 +1,5 @@
 -- A LID more.
-use Rattle.std.proofs.Common.{◌≡◌, ◌∙◌, ◌+◌, Bool, true, List, sym, subst}
+use Rattle.std.proofs.Common.{◌≡◌, ◌∙◌, ◌+◌, ℕ, Bool, true, List, sym, subst}
 use Rattle.std.specs.Prelude.{Option}
 use Rattle.fact_store.specs.View.{cells_of}
 use Rattle.subnet_view.specs.EndPorts.{end_ports}
@@ -27,6 +27,9 @@ add_packets-requires-clause-listed c =
     let port = c.line-item.result.port in
     (subst (λ (o : Option Site). IsSiteOf sites port o) (sym c.site_in.ensures ∙ c.in-Some.is) c.index_of-index.ensures).0
 
+pub blocks_for-requires : goal.blocks_for-requires
+blocks_for-requires c = c.loop-line.invariant.blocks_are
+
 pub loop-line-preserved : goal.loop-line-preserved
 loop-line-preserved c =
     let cells = cells_of c.args.network.now.facts in
@@ -39,24 +42,25 @@ loop-line-preserved c =
     let rows = c.in_ok-blocks-2.blocks.rows.items in
     let number = c.in_ok-blocks-2.blocks.number in
     let all = c.match-site_in.all in
-    let Surveyed = λ (t : PacketTally). AreSurveyed cells held lines number rows (n + 1) t in
+    let Surveyed = λ (most : ℕ) (t : PacketTally). AreSurveyed most cells held lines number rows (n + 1) t in
     let come : all ≡ true → AllComeTo cells held line = elim c.match-site_in.branch [
       | in-Some+in_ok-all-in-Some w ↦ λ e. w.in_ok-all-in-Some.ensures.told (sym w.all-is ∙ e)
       | in-None w ↦ λ e. (let no = w.all-is in absurd (cc))
     ] in
     record {
-      surveyed = elim c.match-site_in.branch [
+      blocks_are = c.in_ok-blocks-2.ensures.0;
+      surveyed = λ most begun. elim c.match-site_in.branch [
         | in-Some+in_ok-all-in-Some w ↦
-            subst Surveyed (sym w.tally-is)
-            (line_surveyed cells held lines c.loop-line.blocks.number number c.loop-line.blocks.rows.items rows n line c.loop-line.tally
-            w.add_packets.new.tally c.loop-line.invariant.surveyed c.in_ok-blocks-2.ensures.0 c.loop-line-test.true c.line-item.is
+            subst (Surveyed most) (sym w.tally-is)
+            (line_surveyed most cells held lines c.loop-line.blocks.number number c.loop-line.blocks.rows.items rows n line c.loop-line.tally
+            w.add_packets.new.tally (c.loop-line.invariant.surveyed most begun) c.in_ok-blocks-2.ensures.0 c.loop-line-test.true c.line-item.is
             (site_is cells port (end_ports cells) sites c.requires.sites w.in-Some.owner
             (subst (λ (o : Option Site). IsSiteOf sites port o) (sym c.site_in.ensures ∙ w.in-Some.is) c.index_of-index.ensures)).1
-            w.in_ok-all-in-Some.ensures.counted)
+            (w.in_ok-all-in-Some.ensures.counted most))
         | in-None w ↦
-            subst Surveyed (sym w.tally-is)
-            (line_passed cells held lines c.loop-line.blocks.number number c.loop-line.blocks.rows.items rows n line c.loop-line.tally
-            c.loop-line.invariant.surveyed c.in_ok-blocks-2.ensures.0 c.loop-line-test.true c.line-item.is
+            subst (Surveyed most) (sym w.tally-is)
+            (line_passed most cells held lines c.loop-line.blocks.number number c.loop-line.blocks.rows.items rows n line c.loop-line.tally
+            (c.loop-line.invariant.surveyed most begun) c.in_ok-blocks-2.ensures.0 c.loop-line-test.true c.line-item.is
             (no_site cells port (end_ports cells) sites c.requires.sites
             (subst (λ (o : Option Site). IsSiteOf sites port o) (sym c.site_in.ensures ∙ w.in-None.is) c.index_of-index.ensures)))
       ];
@@ -77,7 +81,8 @@ loop-line-init c =
     let lines = c.lids-line-items.result.now in
     let blocks = c.in_ok-blocks.blocks in
     record {
-      surveyed = none_surveyed cells held lines blocks.number blocks.rows.items c.args.tally.now c.in_ok-blocks.ensures.0 c.requires.tally;
+      blocks_are = c.in_ok-blocks.ensures.0;
+      surveyed = λ most. none_surveyed most cells held lines blocks.number blocks.rows.items c.args.tally.now c.in_ok-blocks.ensures.0;
       deliveries_are = c.in_ok-deliveries.ensures;
       told = subst (λ (ts : List Bool). ToldSoFar cells held lines 0 ts) (sym c.requires.told) (none_told cells held lines);
     }
@@ -85,5 +90,6 @@ loop-line-init c =
 pub returns-clause-tally : goal.returns-clause-tally
 returns-clause-tally c =
     let l = c.loop-line in
-    all_surveyed (cells_of c.args.network.now.facts) c.args.network.now.held c.lids-line-items.result.now l.blocks.number l.blocks.rows.items l.line-index
-    l.tally l.invariant.surveyed c.lids-line-items.ensures c.loop-line-test.false
+    λ most begun.
+    all_surveyed most (cells_of c.args.network.now.facts) c.args.network.now.held c.lids-line-items.result.now l.blocks.number l.blocks.rows.items l.line-index
+    l.tally (l.invariant.surveyed most begun) c.lids-line-items.ensures c.loop-line-test.false

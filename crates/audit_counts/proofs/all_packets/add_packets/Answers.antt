@@ -59,8 +59,8 @@ returns-then-all_arrive c =
     let sites = c.args.sites.now in
     let come = come_there cells held line (c.all_arrive.ensures c.if-all_arrive.true) in
     record {
-      counted = λ packets before.
-          tally_arrived packets (sent_to cells held line) c.args.tally.now c.add_arrived.new.tally (count_by (λ site. are_joined site owner) sites)
+      counted = λ most packets before.
+          tally_arrived most packets (sent_to cells held line) c.args.tally.now c.add_arrived.new.tally (count_by (λ site. are_joined site owner) sites)
           (count_by (λ site. are_joined_adapters site owner) sites) before (sent_come cells held line come)
           (all_sent cells held line owner sites (count_by (λ site. are_joined site owner) sites) c.requires.owner c.requires.sites refl)
           (adapters_sent cells held line owner sites (count_by (λ site. are_joined_adapters site owner) sites) c.requires.owner c.requires.sites refl)
@@ -78,8 +78,8 @@ returns-in-None c =
     let ends = c.in_ok-ends.ends in
     let none = sym c.in-None.ensures in
     record {
-      counted = λ packets before.
-          tally_arrived packets (sent_to cells held line) c.args.tally.now c.add_arrived-in-None.new.tally (count_by (λ site. are_joined site owner) sites)
+      counted = λ most packets before.
+          tally_arrived most packets (sent_to cells held line) c.args.tally.now c.add_arrived-in-None.new.tally (count_by (λ site. are_joined site owner) sites)
           (count_by (λ site. are_joined_adapters site owner) sites) before
           (sent_arrive cells held line ends.port ends.ends c.in_ok-ends.ensures.0 c.in_ok-ends.ensures.1 none)
           (all_sent cells held line owner sites (count_by (λ site. are_joined site owner) sites) c.requires.owner c.requires.sites refl)

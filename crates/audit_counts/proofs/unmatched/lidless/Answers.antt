@@ -14,12 +14,12 @@ loop-port-preserved c =
     let port = c.port-item.result in
     elim c.if-not-has_lid.branch [
       | then-not-has_lid+in_ok-add w ↦
-          told_more p ports c.loop-port.port-index port c.loop-port.few c.if-not-has_lid.few c.loop-port.invariant c.loop-port-test.true c.port-item.is
+          told_more c.args.most p ports c.loop-port.port-index port c.loop-port.few c.if-not-has_lid.few c.loop-port.invariant c.loop-port-test.true c.port-item.is
           (ap not (sym c.has_lid.ensures ∙ w.if-not-has_lid.true)) (w.few-is ∙ w.in_ok-add.ensures)
       | else-not-has_lid w ↦
-          told_same p ports c.loop-port.port-index port c.loop-port.few c.if-not-has_lid.few c.loop-port.invariant c.loop-port-test.true c.port-item.is
+          told_same c.args.most p ports c.loop-port.port-index port c.loop-port.few c.if-not-has_lid.few c.loop-port.invariant c.loop-port-test.true c.port-item.is
           (ap not (sym c.has_lid.ensures ∙ w.if-not-has_lid.false)) w.few-is
     ]
 
 pub returns : goal.returns
-returns c = told_all (λ e. not (has_lid c.args.held.now e)) c.args.ports.now c.loop-port.port-index c.loop-port.few c.loop-port.invariant (omega arith)
+returns c = told_all c.args.most (λ e. not (has_lid c.args.held.now e)) c.args.ports.now c.loop-port.port-index c.loop-port.few c.loop-port.invariant (omega arith)

@@ -6,4 +6,4 @@ use Rattle.audit_counts.proofs.unmatched.lidless.Given as goal
 
 -- the end ports so far
 abbrev pub invariant-loop-port : goal.invariant-loop-port
-invariant-loop-port l = l.few ≡ listed_of (λ e. not (has_lid l.held e)) (take l.port-index l.ports)
+invariant-loop-port l = l.few ≡ listed_of l.most (λ e. not (has_lid l.held e)) (take l.port-index l.ports)

@@ -6,4 +6,4 @@ use Rattle.audit_counts.proofs.unmatched.tableless.Given as goal
 
 -- the switches so far
 abbrev pub invariant-loop-guid : goal.invariant-loop-guid
-invariant-loop-guid l = l.few ≡ listed_of (λ g. not (is_held l.held g)) (take l.guid-index l.guids)
+invariant-loop-guid l = l.few ≡ listed_of l.most (λ g. not (is_held l.held g)) (take l.guid-index l.guids)

@@ -12,9 +12,9 @@ loop-line-preserved c =
     let line = c.line-item.result in
     elim c.if-is_told_twice.branch [
       | then-is_told_twice+in_ok-add w ↦
-          told_more p lines c.loop-line.line-index line c.loop-line.few c.if-is_told_twice.few c.loop-line.invariant c.loop-line-test.true c.line-item.is
+          told_more c.args.most p lines c.loop-line.line-index line c.loop-line.few c.if-is_told_twice.few c.loop-line.invariant c.loop-line-test.true c.line-item.is
           (sym w.if-is_told_twice.ensures) (w.few-is ∙ w.in_ok-add.ensures)
       | else-is_told_twice w ↦
-          told_same p lines c.loop-line.line-index line c.loop-line.few c.if-is_told_twice.few c.loop-line.invariant c.loop-line-test.true c.line-item.is
+          told_same c.args.most p lines c.loop-line.line-index line c.loop-line.few c.if-is_told_twice.few c.loop-line.invariant c.loop-line-test.true c.line-item.is
           (sym w.if-is_told_twice.ensures) w.few-is
     ]

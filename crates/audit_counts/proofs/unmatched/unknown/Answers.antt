@@ -23,10 +23,10 @@ loop-switch-preserved c =
     ap guid_of c.switch-item.is ∙ sym (get_or-map guid_of switches i switch switch.guid c.loop-switch-test.true) in
     elim c.if-not-is_usable.branch [
       | then-not-is_usable+in_ok-add w ↦
-          told_more p (map guid_of switches) i switch.guid c.loop-switch.few c.if-not-is_usable.few c.loop-switch.invariant within there
+          told_more c.args.most p (map guid_of switches) i switch.guid c.loop-switch.few c.if-not-is_usable.few c.loop-switch.invariant within there
           (ap not (sym c.is_usable.ensures ∙ w.if-not-is_usable.true)) (w.few-is ∙ w.in_ok-add.ensures)
       | else-not-is_usable w ↦
-          told_same p (map guid_of switches) i switch.guid c.loop-switch.few c.if-not-is_usable.few c.loop-switch.invariant within there
+          told_same c.args.most p (map guid_of switches) i switch.guid c.loop-switch.few c.if-not-is_usable.few c.loop-switch.invariant within there
           (ap not (sym c.is_usable.ensures ∙ w.if-not-is_usable.false)) w.few-is
     ]
 
@@ -34,6 +34,6 @@ pub returns : goal.returns
 returns c =
     let guid_of = λ (s : HeldSwitch). s.guid in
     let p : ℕ → Bool = λ g. not (is_usable (cells_of c.args.store.now) g) in
-    told_all p (map guid_of c.switches-switch-items.result.now) c.loop-switch.switch-index c.loop-switch.few c.loop-switch.invariant
+    told_all c.args.most p (map guid_of c.switches-switch-items.result.now) c.loop-switch.switch-index c.loop-switch.few c.loop-switch.invariant
     (omega (arith, c.loop-switch-test.false, length_map guid_of c.switches-switch-items.result.now))
-    ∙ ap (λ ss. listed_of p (map guid_of ss)) c.switches-switch-items.ensures
+    ∙ ap (λ ss. listed_of c.args.most p (map guid_of ss)) c.switches-switch-items.ensures

@@ -7,4 +7,4 @@ use Rattle.audit_counts.proofs.unmatched.unknown.Given as goal
 
 -- the switches so far
 abbrev pub invariant-loop-switch : goal.invariant-loop-switch
-invariant-loop-switch l = l.few ≡ listed_of (λ g. not (is_usable (cells_of l.store) g)) (take l.switch-index (map (λ s. s.guid) l.switch-items))
+invariant-loop-switch l = l.few ≡ listed_of l.most (λ g. not (is_usable (cells_of l.store) g)) (take l.switch-index (map (λ s. s.guid) l.switch-items))

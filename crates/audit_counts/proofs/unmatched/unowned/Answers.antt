@@ -19,14 +19,14 @@ loop-line-preserved c =
     let found = c.is_end_port.ensures ∙ listed c.args.store.now line.port in
     elim c.if-not-is_end_port.branch [
       | then-not-is_end_port+in_ok-add w ↦
-          told_more p lines c.loop-line.line-index line c.loop-line.few c.if-not-is_end_port.few c.loop-line.invariant c.loop-line-test.true c.line-item.is
+          told_more c.args.most p lines c.loop-line.line-index line c.loop-line.few c.if-not-is_end_port.few c.loop-line.invariant c.loop-line-test.true c.line-item.is
           (ap not (sym found ∙ w.if-not-is_end_port.true)) (w.few-is ∙ w.in_ok-add.ensures)
       | else-not-is_end_port w ↦
-          told_same p lines c.loop-line.line-index line c.loop-line.few c.if-not-is_end_port.few c.loop-line.invariant c.loop-line-test.true c.line-item.is
+          told_same c.args.most p lines c.loop-line.line-index line c.loop-line.few c.if-not-is_end_port.few c.loop-line.invariant c.loop-line-test.true c.line-item.is
           (ap not (sym found ∙ w.if-not-is_end_port.false)) w.few-is
     ]
 
 pub returns : goal.returns
 returns c =
     let p : HeldLid → Bool = λ line. not (is_owner (end_ports (cells_of c.args.store.now)) line.port) in
-    told_all p c.args.lines.now c.loop-line.line-index c.loop-line.few c.loop-line.invariant (omega arith)
+    told_all c.args.most p c.args.lines.now c.loop-line.line-index c.loop-line.few c.loop-line.invariant (omega arith)

@@ -8,4 +8,4 @@ use Rattle.audit_counts.proofs.unmatched.unowned.Given as goal
 
 -- the LIDs so far
 abbrev pub invariant-loop-line : goal.invariant-loop-line
-invariant-loop-line l = l.few ≡ listed_of (λ line. not (is_owner (end_ports (cells_of l.store)) line.port)) (take l.line-index l.lines)
+invariant-loop-line l = l.few ≡ listed_of l.most (λ line. not (is_owner (end_ports (cells_of l.store)) line.port)) (take l.line-index l.lines)

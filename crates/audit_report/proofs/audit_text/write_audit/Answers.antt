@@ -21,7 +21,7 @@ returns-clause-writes g c =
     let held = a.network.held in
     let written = g.W.Sink.written in
     let tally = tally_text cells held f.tally in
-    let counted = tally_told cells held (packets_of cells held) f.tally found.counted in
+    let counted = tally_told a.most cells held (packets_of cells held) f.tally found.counted in
     let unmatched = unmatched_text f.unmatched in
     let disputed = disputed_line f.disputed in
     let ways = ways_text f.ways.hops f.ways.load in
@@ -36,7 +36,7 @@ returns-clause-writes g c =
     let all = appends_then (written c.args.sink.now) (written c.write_ways.new.sink) (written c.write_cycle.new.sink) (((tally ++ unmatched) ++ disputed)
     ++ ways) cycle
     four c.in_ok-write_cycle.ensures.ok in
-    let differs : unmatched ≡ unmatched_told cells held =
+    let differs : unmatched ≡ unmatched_told a.most cells held =
     (λ i. kind_text lid_line (codes "unowned") (differ.unowned_are i)
     ++ kind_text lid_line (codes "twice") (differ.twice_are i)
     ++ kind_text switch_line (codes "unknown") (differ.unknown_are i)
@@ -44,7 +44,7 @@ returns-clause-writes g c =
     ++ kind_text switch_line (codes "unusable") (differ.unusable_are i)
     ++ kind_text port_line (codes "lidless") (differ.lidless_are i)
     ++ kind_text port_line (codes "unjoined") (differ.unjoined_are i)) in
-    let whole : ((((tally ++ unmatched) ++ disputed) ++ ways) ++ cycle) ≡ text_of cells held f.cycle.items =
+    let whole : ((((tally ++ unmatched) ++ disputed) ++ ways) ++ cycle) ≡ text_of a.most cells held f.cycle.items =
     (λ i. ((((counted i) ++ differs i) ++ disputed_line (found.count_is i))
     ++ ways_text (found.told.hops i) (found.told.load i)) ++ cycle_line cells (c.deref.ensures.value i)) in
     record {

@@ -2,7 +2,7 @@
 use Rattle.std.proofs.Common.{◌≡◌, ◌∙◌, ◌<◌, length, sym, arith}
 use Rattle.std.proofs.lemmas.Bool.{eqb-true}
 use Rattle.std.proofs.lemmas.List.{get_or_default}
-use Rattle.plan_order.proofs.Found.{found_at, not_found}
+use Rattle.spread_labels.proofs.Found.{found_at, not_found}
 use Rattle.plan_order.proofs.positions.position_of.Goals as goal
 
 pub returns-then-eq : goal.returns-then-eq

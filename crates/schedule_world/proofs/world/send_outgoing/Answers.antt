@@ -4,9 +4,11 @@ use Rattle.fabric_sim.specs.Changes.{after_inject}
 use Rattle.fabric_sim.specs.Simulation.{Simulation}
 use Rattle.schedule_world.specs.Flights.{packet_out}
 use Rattle.schedule_lines.specs.Outcome.{Outcome}
-use Rattle.schedule_world.specs.World.{after_fabric, emptied, after_inject_all}
+use Rattle.schedule_world.specs.World.{after_fabric, after_inject_all}
+use Rattle.schedule_lines.specs.Asked.{emptied}
 use Rattle.schedule_lines.proofs.Printing.{IsUnderWay, goes_on, is_over, stops_in}
-use Rattle.schedule_world.proofs.Sending.{fewer_left, first_goes, none_emptied, none_goes, taken_emptied}
+use Rattle.schedule_lines.proofs.Taking.{fewer_left, none_emptied, taken_emptied}
+use Rattle.schedule_world.proofs.Sending.{first_goes, none_goes}
 use Rattle.schedule_world.proofs.world.send_outgoing.Goals as goal
 
 pub loop-outgoing-preserved : goal.loop-outgoing-preserved

@@ -13,4 +13,4 @@ returns c =
     let Judges = λ (x : Audited). IsTrue (many == 0) ↔ EachHoldsLid (cells_of x.facts) x.held in
     subst Judges c.self.view_is
     (subst (λ n. IsTrue (n == 0) ↔ EachHoldsLid (cells_of a.network.facts) a.network.held) (sym c.count.ensures)
-    (lids_is (cells_of a.network.facts) a.network.held a.findings.unmatched c.self.invariant.differ))
+    (lids_is (cells_of a.network.facts) a.network.held a.most a.findings.unmatched c.self.invariant.differ))

@@ -13,4 +13,4 @@ returns c =
     let Judges = λ (x : Audited). IsTrue (many == 0) ↔ EachNodeIsKnown (cells_of x.facts) in
     subst Judges c.self.view_is
     (subst (λ n. IsTrue (n == 0) ↔ EachNodeIsKnown (cells_of a.network.facts)) (sym c.count.ensures)
-    (nodes_is (cells_of a.network.facts) a.network.held a.findings.unmatched c.self.invariant.differ))
+    (nodes_is (cells_of a.network.facts) a.network.held a.most a.findings.unmatched c.self.invariant.differ))

@@ -18,7 +18,7 @@ returns-then-count-eq0 c =
     let b = (c.count.result == 0) in
     let Judges = λ (x : Audited). IsTrue b ↔ EachHasTables (cells_of x.facts) x.held in
     subst Judges c.self.view_is
-    (tables_is cells a.network.held f.unmatched b c.self.invariant.differ
+    (tables_is cells a.network.held a.most f.unmatched b c.self.invariant.differ
     (eq-eqb c.count.result 0 c.if-count-eq0.true
     ∙ sym (ap (λ t. t || (length (end_ports cells) == 0)) (eq-eqb f.unmatched.tableless.count 0 (sym c.count.ensures ∙ c.if-count-eq0.true)))))
 
@@ -30,7 +30,7 @@ returns-else-count-eq0 c =
     let b = c.is_empty.result in
     let Judges = λ (x : Audited). IsTrue b ↔ EachHasTables (cells_of x.facts) x.held in
     subst Judges c.self.view_is
-    (tables_is cells a.network.held f.unmatched b c.self.invariant.differ
+    (tables_is cells a.network.held a.most f.unmatched b c.self.invariant.differ
     (c.is_empty.ensures ∙ ap (λ ss. length ss == 0) c.sources.ensures
     ∙ ap (λ n. n == 0) (length_map (sender_of cells) (end_ports cells))
     ∙ sym (ap (λ t. t || (length (end_ports cells) == 0)) (ne_eqb f.unmatched.tableless.count 0 (λ e. c.if-count-eq0.false (c.count.ensures ∙ e))))))

@@ -20,7 +20,7 @@ returns-then-self c =
     let Judges = λ (x : Audited). IsTrue b ↔ IsSound (cells_of x.facts) x.held in
     let long : vec_len f.cycle ≡ length f.cycle.items = omega (arith, f.cycle.ok.0) in
     subst Judges c.self.view_is
-    (sound_is a.network f.tally f.unmatched f.disputed f.ways f.cycle.items b c.self.invariant
+    (sound_is a.most a.network f.tally f.unmatched f.disputed f.ways f.cycle.items b c.self.invariant
     (c.is_empty.ensures ∙ ap (λ n. n == 0) long
     ∙ sym (ap (λ t. t && (length f.cycle.items == 0)) (eq-eqb f.tally.all.arrived f.tally.all.sent c.if-self.true))))
 
@@ -31,5 +31,5 @@ returns-else-self c =
     let b = (f.tally.all.arrived == f.tally.all.sent) in
     let Judges = λ (x : Audited). IsTrue b ↔ IsSound (cells_of x.facts) x.held in
     subst Judges c.self.view_is
-    (sound_is a.network f.tally f.unmatched f.disputed f.ways f.cycle.items b c.self.invariant
+    (sound_is a.most a.network f.tally f.unmatched f.disputed f.ways f.cycle.items b c.self.invariant
     (not_both (f.tally.all.arrived == f.tally.all.sent) (length f.cycle.items == 0) (ne_eqb f.tally.all.arrived f.tally.all.sent c.if-self.false)))

@@ -2,7 +2,8 @@ use Rattle.std.proofs.Common.{refl}
 use Rattle.sm_manager.specs.Packets.{after_timeout}
 use Rattle.schedule_world.specs.Commands.{after_give_up}
 use Rattle.schedule_lines.specs.Outcome.{quiet}
-use Rattle.schedule_world.proofs.Seats.{but_for_memory, quiet_does, refused_does}
+use Rattle.schedule_world.proofs.Seats.{quiet_does, refused_does}
+use Rattle.schedule_lines.proofs.Refused.{but_for_memory}
 use Rattle.schedule_world.proofs.world.World.give_up.Goals as goal
 
 pub returns-in-Ok : goal.returns-in-Ok

@@ -1,7 +1,8 @@
 use Rattle.std.proofs.Common.{Some, refl}
 use Rattle.sm_manager.specs.Packets.{after_packet}
 use Rattle.schedule_lines.specs.Outcome.{quiet}
-use Rattle.schedule_world.proofs.Seats.{but_for_memory, quiet_does, refused_does}
+use Rattle.schedule_world.proofs.Seats.{quiet_does, refused_does}
+use Rattle.schedule_lines.proofs.Refused.{but_for_memory}
 use Rattle.schedule_world.proofs.world.World.take_in.Goals as goal
 
 pub returns-in-Ok : goal.returns-in-Ok

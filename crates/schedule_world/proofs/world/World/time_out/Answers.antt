@@ -4,7 +4,8 @@ use Rattle.schedule_world.specs.Commands.{after_give_up, after_giving_up}
 use Rattle.schedule_lines.specs.Outcome.{Outcome}
 use Rattle.schedule_world.specs.World.{WorldValue, after_send, value_of}
 use Rattle.schedule_lines.proofs.Printing.{IsUnderWay, begins, failed_with, goes_on, prints_same, stops_before, then_leaves, then_prints}
-use Rattle.schedule_world.proofs.Seats.{leaves_same, timed_out}
+use Rattle.schedule_world.proofs.Seats.{timed_out}
+use Rattle.schedule_lines.proofs.Refused.{leaves_same}
 use Rattle.schedule_world.proofs.Turns.{given_next, given_none}
 use Rattle.schedule_world.proofs.world.World.time_out.Goals as goal
 

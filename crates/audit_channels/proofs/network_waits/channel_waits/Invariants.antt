@@ -1,0 +1,11 @@
+-- The LIDs so far.
+use Rattle.fact_store.specs.View.{cells_of}
+use Rattle.audit_channels.specs.Waiting.{IsAdded}
+use Rattle.audit_channels.proofs.Waiting.{SoFar}
+use Rattle.audit_channels.proofs.network_waits.channel_waits.Given as goal
+
+abbrev pub invariant-loop-below : goal.invariant-loop-below
+invariant-loop-below l = record {
+  so_far : SoFar l.below (cells_of l.network.facts) l.network.held l.blocks.number l.blocks.rows.items l.waits;
+  added : IsAdded l.before.items l.waits;
+}

@@ -1,0 +1,2 @@
+pub mod Neighbors
+pub mod Flags

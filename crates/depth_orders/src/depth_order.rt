@@ -1,0 +1,200 @@
+//! The order by depth.
+ghost use Rattle.std.specs.Prelude.{◌≡◌, ◌<◌, length, count_by, IfOk, MatchOption};
+ghost use Rattle.port_graph.specs.Heads.{LeadToVertices};
+ghost use Rattle.spread_labels.specs.Keys.{before_by};
+ghost use Rattle.spread_labels.specs.Stages.{earlier_of};
+ghost use Rattle.depth_orders.specs.DepthOrders.{best_beside, deepest, first_left, flag_at, goes_before};
+ghost use Rattle.depth_orders.specs.DepthOrders.{next_by_depth, order_by_depth, turned};
+
+use crate::direction::Direction;
+use port_graph::{Adjacency, Edge};
+use spread_labels::VertexKey;
+use std::alloc::{AllocError, Global};
+
+/// Returns the vertices in their order by depth from `root`. Next comes a neighbour of the vertex that was placed last,
+/// as long as one of its neighbours is left; else of the last one before it that has such a neighbour. Among these
+/// neighbours, the one comes that most edges lead from to placed vertices, and `direction` decides between equals. If
+/// no placed vertex has a neighbour left, the first of all that are left comes next. For each vertex, takes one step
+/// for each edge that is looked at before a neighbour is found.
+pub fn order_by_depth(
+    alloc: Global,
+    edges: &Adjacency,
+    keys: &[VertexKey],
+    direction: Direction,
+    root: usize,
+) -> Result<Vec<usize>, AllocError>
+    requires keys { length keys.now ≡ length edges.now }
+    requires lead { LeadToVertices edges.now }
+    requires root { root < length edges.now }
+    ensures { IfOk result (λ vertices. vertices.items
+        ≡ order_by_depth edges.now (turned direction (before_by keys.now)) root) }
+{
+    let mut placed = vec![in alloc; false; edges.len()]?;
+    let mut vertices = Vec::with_capacity(alloc, edges.len())?;
+    vertices.push(root)?;
+    placed[root] = true;
+    for _ in 0..edges.len() {
+        if let Some(vertex) = next_by_depth(edges, keys, direction, &placed, &vertices) {
+            vertices.push(vertex)?;
+            placed[vertex] = true;
+        }
+    }
+    Ok(vertices)
+}
+
+/// Returns the vertex that is placed next, if one is left.
+fn next_by_depth(
+    edges: &Adjacency,
+    keys: &[VertexKey],
+    direction: Direction,
+    placed: &[bool],
+    vertices: &[usize],
+) -> Option<usize>
+    requires keys { length keys.now ≡ length edges.now }
+    requires lead { LeadToVertices edges.now }
+    ensures next { result ≡ next_by_depth edges.now (turned direction (before_by keys.now))
+        (flag_at placed.now) vertices.now }
+    ensures vertex { MatchOption result (Unit {0}) (λ vertex. vertex < length edges.now) }
+{
+    match deepest(edges, keys, direction, placed, vertices) {
+        Some(vertex) => Some(vertex),
+        None => first_left(keys, direction, placed),
+    }
+}
+
+/// Returns the best neighbour that is left of the last vertex in `vertices` that has one.
+fn deepest(
+    edges: &Adjacency,
+    keys: &[VertexKey],
+    direction: Direction,
+    placed: &[bool],
+    vertices: &[usize],
+) -> Option<usize>
+    requires keys { length keys.now ≡ length edges.now }
+    requires lead { LeadToVertices edges.now }
+    ensures deepest { result ≡ deepest edges.now (turned direction (before_by keys.now))
+        (flag_at placed.now) vertices.now (length vertices.now) }
+    ensures vertex { MatchOption result (Unit {0}) (λ vertex. vertex < length edges.now) }
+{
+    let mut behind = vertices.len();
+    while behind > 0 {
+        behind -= 1;
+        let found = best_beside(edges, keys, direction, placed, vertices[behind]);
+        if found.is_some() {
+            return found;
+        }
+    }
+    None
+}
+
+/// Returns the neighbour of a vertex that is left and that most edges lead from to placed vertices.
+fn best_beside(
+    edges: &Adjacency,
+    keys: &[VertexKey],
+    direction: Direction,
+    placed: &[bool],
+    vertex: usize,
+) -> Option<usize>
+    requires keys { length keys.now ≡ length edges.now }
+    requires lead { LeadToVertices edges.now }
+    ensures best { result ≡ best_beside edges.now (turned direction (before_by keys.now))
+        (flag_at placed.now) vertex }
+    ensures vertex { MatchOption result (Unit {0}) (λ vertex. vertex < length edges.now) }
+{
+    let mut found = None;
+    for edge in edges.at(vertex) {
+        if !is_placed(placed, edge.to) {
+            found = Some(better(edges, keys, direction, placed, found, edge.to));
+        }
+    }
+    found
+}
+
+/// Returns the better of `vertex` and the vertex found so far, if there is one.
+fn better(
+    edges: &Adjacency,
+    keys: &[VertexKey],
+    direction: Direction,
+    placed: &[bool],
+    found: Option<usize>,
+    vertex: usize,
+) -> usize
+    requires keys { length keys.now ≡ length edges.now }
+    requires vertex { vertex < length edges.now }
+    requires found { MatchOption found (Unit {0}) (λ other. other < length edges.now) }
+    ensures { result ≡ earlier_of (goes_before edges.now (turned direction (before_by keys.now))
+        (flag_at placed.now)) found vertex }
+{
+    match found {
+        Some(other) if !goes_before(edges, keys, direction, placed, vertex, other) => other,
+        _ => vertex,
+    }
+}
+
+/// Returns whether one vertex goes before another: more of its edges lead to placed vertices, or as many do and
+/// `direction` takes it.
+fn goes_before(
+    edges: &Adjacency,
+    keys: &[VertexKey],
+    direction: Direction,
+    placed: &[bool],
+    one: usize,
+    other: usize,
+) -> bool
+    requires keys { length keys.now ≡ length edges.now }
+    requires one { one < length edges.now }
+    requires other { other < length edges.now }
+    ensures { result ≡ goes_before edges.now (turned direction (before_by keys.now)) (flag_at placed.now)
+        one other }
+{
+    let to_placed = count_placed(edges.at(one), placed);
+    let others = count_placed(edges.at(other), placed);
+    others < to_placed || (to_placed == others && direction.takes(keys, one, other))
+}
+
+/// Counts the edges that lead to placed vertices.
+fn count_placed(edges: &[Edge], placed: &[bool]) -> usize
+    ensures { result ≡ count_by (λ edge. flag_at placed.now edge.to) edges.now }
+{
+    edges
+        .iter()
+        .filter(|edge| is_placed(placed, edge.to))
+        .count()
+}
+
+/// Returns the first of all vertices that are left, by `direction`.
+fn first_left(keys: &[VertexKey], direction: Direction, placed: &[bool]) -> Option<usize>
+    ensures first { result ≡ first_left (turned direction (before_by keys.now)) (flag_at placed.now)
+        (length keys.now) }
+    ensures vertex { MatchOption result (Unit {0}) (λ vertex. vertex < length keys.now) }
+{
+    let mut found = None;
+    for vertex in 0..keys.len() {
+        if !is_placed(placed, vertex) {
+            found = Some(earlier(keys, direction, found, vertex));
+        }
+    }
+    found
+}
+
+/// Returns the vertex that `direction` takes of `vertex` and the one found so far, if there is one.
+fn earlier(keys: &[VertexKey], direction: Direction, found: Option<usize>, vertex: usize) -> usize
+    requires vertex { vertex < length keys.now }
+    requires found { MatchOption found (Unit {0}) (λ other. other < length keys.now) }
+    ensures { result ≡ earlier_of (turned direction (before_by keys.now)) found vertex }
+{
+    match found {
+        Some(other) if !direction.takes(keys, vertex, other) => other,
+        _ => vertex,
+    }
+}
+
+/// Returns whether a vertex is placed.
+fn is_placed(placed: &[bool], vertex: usize) -> bool
+    ensures { result ≡ flag_at placed.now vertex }
+{
+    match placed.get(vertex) {
+        Some(flag) => *flag,
+        None => false,
+    }
+}

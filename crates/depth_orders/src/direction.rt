@@ -1,0 +1,28 @@
+ghost use Rattle.std.specs.Prelude.{◌≡◌, ◌<◌, length};
+ghost use Rattle.spread_labels.specs.Keys.{before_by};
+ghost use Rattle.depth_orders.specs.DepthOrders.{turned};
+
+use spread_labels::{VertexKey, is_before};
+
+/// Which of two vertices is taken if nothing else distinguishes them.
+#[derive(Clone, Copy, Debug, PartialEq, Eq)]
+pub enum Direction {
+    /// The vertex of the earlier key.
+    Forwards,
+    /// The vertex of the later key.
+    Backwards,
+}
+
+impl Direction {
+    /// Returns whether `one` is taken rather than `other`.
+    pub(crate) fn takes(self, keys: &[VertexKey], one: usize, other: usize) -> bool
+        requires one { one < length keys.now }
+        requires other { other < length keys.now }
+        ensures { result ≡ turned self (before_by keys.now) one other }
+    {
+        match self {
+            Direction::Forwards => is_before(keys, one, other),
+            Direction::Backwards => is_before(keys, other, one),
+        }
+    }
+}

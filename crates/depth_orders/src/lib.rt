@@ -1,0 +1,8 @@
+//! Orders of the vertices of a graph by depth.
+#![tactic(auto)]
+
+mod depth_order;
+mod direction;
+
+pub use depth_order::order_by_depth;
+pub use direction::Direction;

@@ -1,0 +1,47 @@
+-- What telling the order of tables from files does: it reads all files and writes the order, or says which file it
+-- refuses.
+use Rattle.std.specs.Prelude.{◌≡◌, ◌↔◌, ◌⊎◌, ℕ, Bool, List, [], Option, None, Some, IsTrue, is_some, length, map, reverse}
+use Rattle.std.specs.List.{range_with_len}
+use Rattle.byte_io.specs.Source.{SourceState}
+use Rattle.fact_store.specs.View.{Facts, cells_of}
+use Rattle.subnet_view.specs.Reading.{Cells, switches}
+use Rattle.plan_file.specs.Held.{HeldPlan}
+use Rattle.next_tables.specs.ByOrder.{switch_at}
+use Rattle.told_order.specs.ToldOrder.{IsTold}
+use Rattle.sm_cli.specs.OrderText.{order_text}
+use Rattle.sm_cli.specs.InputTables.{AreNoTablesAndFiles, AreTablesAndFiles}
+use Rattle.sm_cli.specs.declared.fault.Fault.{Fault}
+use Rattle.sm_cli.specs.declared.input_tables.TablesAndFacts.{TablesAndFacts}
+use Rattle.audit_report.specs.RunAudit.{IsAnswerFault}
+
+-- the switches of a told order from the first one on, none if no order is told; `taken` has the last switch first
+abbrev pub told_switches : Cells → Option (List ℕ) → List ℕ
+told_switches cells None = []
+told_switches cells (Some taken) = map (switch_at cells) (reverse taken)
+
+-- the order that the tables tell was written; if several switches may be taken, the one with the greatest GUID is;
+-- `has_order` is whether an order is told
+pub record IsTelling (facts : Facts) (held : HeldPlan) (prints : List ℕ → Type 0) (has_order : Bool) : Type 0 where
+  pub order : Option (List ℕ)
+  pub told : IsTold (cells_of facts) held (range_with_len 0 (length (switches (cells_of facts)))) order
+  pub written : prints (order_text (told_switches (cells_of facts) order))
+  pub judged : has_order ≡ is_some order
+
+-- the tables and then the files were read, and their order was written
+pub record HasTold {S : Type 0} (state : S → SourceState) (floor : ℕ) (olds news : List S)
+    (prints : List ℕ → Type 0) (has_order : Bool) : Type 0 where
+  pub read_are : TablesAndFacts
+  pub read : AreTablesAndFiles state floor olds news read_are
+  pub telling : IsTelling read_are.store read_are.held prints has_order
+
+-- the inputs were read, and their order was not written
+pub record FailsToTell {S : Type 0} (state : S → SourceState) (floor : ℕ) (olds news : List S)
+    (sink_failed : Bool) (fault : Fault) : Type 0 where
+  pub read_are : TablesAndFacts
+  pub read : AreTablesAndFiles state floor olds news read_are
+  pub why : IsAnswerFault sink_failed fault
+
+-- why a run over open inputs ends early: the inputs are not read, or the order is not written
+abbrev pub IsOrderFault : {S : Type 0} → (S → SourceState) → ℕ → List S → List S → Bool → Fault → Type 0
+IsOrderFault state floor olds news sink_failed fault =
+    AreNoTablesAndFiles state 0 olds news fault ⊎ FailsToTell state floor olds news sink_failed fault

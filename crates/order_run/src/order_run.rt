@@ -1,0 +1,123 @@
+//! The order that a text of tables tells in the subnet of files.
+ghost use Rattle.std.specs.Prelude.{◌≡◌, ◌≤◌, ◌⊎◌, Err, IfErr, IfOk, IsTrue, OnErr, OnOk, false, length, map, reverse};
+ghost use Rattle.std.specs.List.{range_with_len};
+ghost use Rattle.std.specs.Io.KnownBytes.{Appends};
+ghost use Rattle.std.specs.Option.{option_map};
+ghost use Rattle.fact_store.specs.View.{cells_of};
+ghost use Rattle.subnet_view.specs.Reading.{switches};
+ghost use Rattle.audit_report.specs.RunAudit.{IsAnswerFault};
+ghost use Rattle.next_tables.specs.ByOrder.{switch_at};
+ghost use Rattle.told_order.specs.ToldOrder.{IsTold};
+ghost use Rattle.order_run.specs.OrderRun.{HasTold, IsOrderFault, IsTelling, told_switches};
+
+use audit::Network;
+use byte_io::{Sink, Source};
+use fact_store::Store;
+use plan_file::Held;
+use sm_cli::{Fault, read_tables_and_files, write_order};
+use smp_bytes::{Generation, Guid};
+use std::alloc::{AllocError, Global};
+use told_order::told_order;
+
+/// Reads the tables from the first input, then the files in order. Writes the usable switches in an order by which
+/// these tables send no packet, for whatever LID, down and then up again: a line for each switch, its GUID with `0x`
+/// before it. Writes nothing if there is no such order. Returns whether there is one.
+///
+/// # Errors
+///
+/// Returns the first fault. If an input is refused or memory runs out, nothing is written. If a write fails, how much
+/// was written before is unspecified.
+pub fn run_order_of<S: Source, W: Sink>(
+    alloc: Global,
+    inputs: &mut [S],
+    floor: Generation,
+    sink: &mut W,
+) -> Result<bool, Fault>
+    requires { 1 ≤ length inputs.old }
+    ensures done { IfOk result (HasTold S.state floor inputs.old inputs.new
+        (Appends (W.written sink.old) (W.written sink.new))) }
+    ensures flushed { OnOk result (IsTrue (W.is_flushed sink.new)) }
+    ensures sink_works { OnOk result (W.has_failed sink.new ≡ false) }
+    ensures refused { IfErr result (IsOrderFault S.state floor
+        inputs.old inputs.new (W.has_failed sink.new)) }
+    ensures nothing_written { OnErr result ((result ≡ Err Fault.Write) ⊎ (sink.new ≡ sink.old)) }
+{
+    match read_tables_and_files(alloc, 0, inputs, floor) {
+        Ok(read) => answer(alloc, sink, &read.store, &read.held),
+        Err(fault) => Err(fault),
+    }
+}
+
+/// Writes the order that tables tell, and flushes. Returns whether they tell one.
+fn answer<W: Sink>(alloc: Global, sink: &mut W, store: &Store, held: &Held) -> Result<bool, Fault>
+    ensures told { IfOk result (IsTelling store.now held.now
+        (Appends (W.written sink.old) (W.written sink.new))) }
+    ensures flushed { OnOk result (IsTrue (W.is_flushed sink.new)) }
+    ensures sink_works { OnOk result (W.has_failed sink.new ≡ false) }
+    ensures refused { IfErr result (IsAnswerFault (W.has_failed sink.new)) }
+    ensures nothing_written { OnErr result ((result ≡ Err Fault.Write) ⊎ (sink.new ≡ sink.old)) }
+{
+    let Ok(network) = Network::of(alloc, store, held) else {
+        return Err(Fault::Memory);
+    };
+    let Ok(order) = order_of(alloc, &network) else {
+        return Err(Fault::Memory);
+    };
+    let Ok(switches) = told_switches(alloc, &network, &order) else {
+        return Err(Fault::Memory);
+    };
+    write_order(sink, &switches)?;
+    Ok(order.is_some())
+}
+
+/// Returns the order that the network's tables tell, as indices of switches, the last switch first. If several switches
+/// may be taken, the one with the greatest GUID is.
+fn order_of(alloc: Global, network: &Network) -> Result<Option<Vec<usize>>, AllocError>
+    ensures { IfOk result (λ order. IsTold (cells_of network.now.facts) network.now.held
+        (range_with_len 0 (length (switches (cells_of network.now.facts)))) (option_map (λ taken. taken.items) order)) }
+{
+    let indices = indices(alloc, network.switch_count())?;
+    told_order(alloc, network, &indices)
+}
+
+/// Returns the numbers from 0 to `count` - 1.
+fn indices(alloc: Global, count: usize) -> Result<Vec<usize>, AllocError>
+    ensures { IfOk result (λ indices. indices.items ≡ range_with_len 0 count) }
+{
+    (0..count).collect(alloc)
+}
+
+/// Returns the switches of a told order from the first one on, or none if there is no order. `order` has the last
+/// switch first.
+fn told_switches(
+    alloc: Global,
+    network: &Network,
+    order: &Option<Vec<usize>>,
+) -> Result<Vec<Guid>, AllocError>
+    ensures { IfOk result (λ switches. switches.items
+        ≡ told_switches (cells_of network.now.facts) (option_map (λ taken. taken.items) order.now)) }
+{
+    match order {
+        Some(taken) => switches_at(alloc, network, taken),
+        None => Ok(Vec::new(alloc)),
+    }
+}
+
+/// Returns the switches at the indices `taken`, the last one first.
+fn switches_at(alloc: Global, network: &Network, taken: &[usize]) -> Result<Vec<Guid>, AllocError>
+    ensures { IfOk result (λ switches. switches.items
+        ≡ map (switch_at (cells_of network.now.facts)) (reverse taken.now)) }
+{
+    taken
+        .iter()
+        .rev()
+        .map(|index| switch_at(network, *index))
+        .collect(alloc)
+}
+
+/// Returns the GUID of the usable switch at `index`, or 0 if there is none.
+fn switch_at(network: &Network, index: usize) -> Guid
+    ensures { result ≡ switch_at (cells_of network.now.facts) index }
+{
+    network.switch(index).unwrap_or(Guid::new(0))
+}

@@ -1,0 +1,39 @@
+-- Words about one manager: what it is asked for, what is shown of it, and the numbers behind these.
+use Rattle.std.specs.Prelude.{ℕ, List, Option, None, Some, option_and_then, codes, nat_le, ◌==◌, if◌then◌else◌}
+use Rattle.std.specs.Str.{bytes_eq}
+use Rattle.text_words.specs.Number.{number_of}
+use Rattle.schedule_file.specs.declared.command.Ask.{Ask}
+use Rattle.schedule_file.specs.declared.command.Ask.TheVariants.{Sweep, Write, Handover}
+use Rattle.schedule_file.specs.declared.command.Shown.{Shown}
+use Rattle.schedule_file.specs.declared.command.Shown.TheVariants.{Facts, Plan, Progress, Silent, State, Written}
+
+-- the request that `word` alone makes to a manager
+abbrev pub asked_by : List ℕ → Option Ask
+asked_by word =
+    if bytes_eq word (codes "sweep") then Some Sweep
+    else if bytes_eq word (codes "write") then Some Write
+    else if bytes_eq word (codes "handover") then Some Handover
+    else None
+
+-- what of a manager `word` shows
+abbrev pub shown_by : List ℕ → Option Shown
+shown_by word =
+    if bytes_eq word (codes "facts") then Some Facts
+    else if bytes_eq word (codes "plan") then Some Plan
+    else if bytes_eq word (codes "progress") then Some Progress
+    else if bytes_eq word (codes "silent") then Some Silent
+    else if bytes_eq word (codes "written") then Some Written
+    else if bytes_eq word (codes "state") then Some State
+    else None
+
+-- a number in decimal, up to `most`
+abbrev pub number_up_to : ℕ → List ℕ → Option ℕ
+number_up_to most word = option_and_then (λ n. if nat_le n most then Some n else None) (number_of 10 word)
+
+-- a LID in decimal
+abbrev pub lid_of : List ℕ → Option ℕ
+lid_of word = number_up_to 0xFFFF word
+
+-- a generation in decimal
+abbrev pub generation_of : List ℕ → Option ℕ
+generation_of word = option_and_then (λ n. if n == 0 then None else Some n) (number_up_to 0xFFFFFFFF word)

@@ -1,0 +1,58 @@
+//! Words about one manager: what it is asked for, what is shown of it, and the numbers behind these.
+ghost use Rattle.std.specs.Prelude.{◌≡◌};
+ghost use Rattle.schedule_file.specs.ManagerWords.{asked_by, generation_of, lid_of, shown_by};
+
+use crate::command::{Ask, Shown};
+use crate::numbers::number_up_to;
+use smp_bytes::{Generation, Lid};
+use text_words::is_word;
+
+/// Returns the request that `word` alone makes to a manager.
+pub fn asked_by(word: &[u8]) -> Option<Ask>
+    ensures { result ≡ asked_by word.now }
+{
+    if is_word(word, "sweep") {
+        Some(Ask::Sweep)
+    } else if is_word(word, "write") {
+        Some(Ask::Write)
+    } else if is_word(word, "handover") {
+        Some(Ask::Handover)
+    } else {
+        None
+    }
+}
+
+/// Returns what of a manager `word` shows.
+pub fn shown_by(word: &[u8]) -> Option<Shown>
+    ensures { result ≡ shown_by word.now }
+{
+    if is_word(word, "facts") {
+        Some(Shown::Facts)
+    } else if is_word(word, "plan") {
+        Some(Shown::Plan)
+    } else if is_word(word, "progress") {
+        Some(Shown::Progress)
+    } else if is_word(word, "silent") {
+        Some(Shown::Silent)
+    } else if is_word(word, "written") {
+        Some(Shown::Written)
+    } else if is_word(word, "state") {
+        Some(Shown::State)
+    } else {
+        None
+    }
+}
+
+/// Parses a LID up to 65,535, in decimal.
+pub fn lid_of(word: &[u8]) -> Option<Lid>
+    ensures { result ≡ lid_of word.now }
+{
+    Some(Lid::new(number_up_to(word, 0xFFFF)? as u16))
+}
+
+/// Parses a generation from 1 to 4,294,967,295, in decimal.
+pub fn generation_of(word: &[u8]) -> Option<Generation>
+    ensures { result ≡ generation_of word.now }
+{
+    Generation::new(number_up_to(word, u32::MAX)?)
+}

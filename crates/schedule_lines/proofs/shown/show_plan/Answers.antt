@@ -1,0 +1,25 @@
+use Rattle.std.proofs.Common.{Option, refl}
+use Rattle.std.proofs.lemmas.Result.{err_from_is_err_and}
+use Rattle.fact_store.specs.View.{cells_of}
+use Rattle.sm_manager.specs.declared.fault.ManagerFault.{ManagerFault}
+use Rattle.schedule_lines.specs.Asked.{plan_or_refusal}
+use Rattle.schedule_lines.specs.Outcome.{Outcome, shows}
+use Rattle.schedule_lines.proofs.Refused.{but_for_memory, refusal_prints, refuses}
+use Rattle.schedule_lines.proofs.shown.show_plan.Goals as goal
+
+pub returns-in-Err : goal.returns-in-Err
+returns-in-Err g c =
+    let m = c.args.manager.now in
+    let u : Unit {0} = tt in
+    let run : Option ManagerFault → Outcome (Unit {0}) = λ why. shows (plan_or_refusal m.planning (cells_of m.store) why) u in
+    let refused = refuses c.in-Err.fault _ u run (λ fault. refl)
+    (but_for_memory c.in-Err.fault _ c.in-Err.ensures.judged) in
+    record {
+      prints = refusal_prints g.W.Sink.written g.W.Sink.has_failed c.in-Err.fault u _ c.refuse_manager.result _ _ refused
+          c.refuse_manager.ensures.memory c.refuse_manager.ensures.prints c.refuse_manager.ensures.unprinted;
+    }
+
+pub returns-in_err-write_plan-in-Ok : goal.returns-in_err-write_plan-in-Ok
+returns-in_err-write_plan-in-Ok g c =
+    let p = err_from_is_err_and c.from_residual.result c.from_residual.ensures.1 in
+    record { prints = rw (p.1, p.2) (c.in_err-write_plan-in-Ok.ensures.writes.failed.0 refl) }

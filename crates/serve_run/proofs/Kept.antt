@@ -1,0 +1,78 @@
+-- What is kept of a line that is begun says what the line says.
+use Rattle.std.proofs.Common.{◌≡◌, ◌∙◌, ℕ, ◌+◌, ◌<◌, ◌≤◌, Bool, true, false, cond, List, [], ◌∷◌, ◌++◌, length, length-append, append_assoc, refl, sym, ap, arith, leb-false}
+use Rattle.std.specs.Prelude.{◌==◌, map, nat_le}
+use Rattle.std.proofs.lemmas.Bool.{cond_both, leb-true}
+use Rattle.schedule_lines.specs.Outcome.{Outcome, and_then, quiet}
+use Rattle.serve_lines.specs.ServeLine.{line_of, lines_ended, lines_told, most_bytes}
+use Rattle.serve_lines.specs.declared.line.ServeLine.TheVariants.{Wrong}
+use Rattle.sm_manager.specs.Manager.{Manager}
+use Rattle.serve_run.specs.Kept.{ServerValue, after_byte, after_bytes, after_kept, kept_with}
+use Rattle.serve_run.specs.Served.{served, served_all, served_by}
+
+-- these are what is kept of these bytes: all, or as many as tell that they are too many
+data IsKept (kept begun : List ℕ) : Type 0 where
+  whole : kept ≡ begun → IsKept kept begun
+  cut : most_bytes < length kept → most_bytes < length begun → IsKept kept begun
+
+long_is_wrong : (line : List ℕ) → most_bytes < length line → line_of line ≡ Wrong
+unfolding line_of
+long_is_wrong line h = grind (arith, h)
+
+kept_says : (kept begun : List ℕ) → IsKept kept begun → line_of kept ≡ line_of begun
+kept_says kept begun (whole e) = ap line_of e
+kept_says kept begun (cut h k) = long_is_wrong kept h ∙ sym (long_is_wrong begun k)
+
+short_more : (kept begun : List ℕ) (b : ℕ) → IsKept kept begun → length kept ≤ most_bytes → IsKept (kept ++ b ∷ []) (begun ++ b ∷ [])
+short_more kept begun b (whole e) h = whole (ap (λ x. x ++ b ∷ []) e)
+short_more kept begun b (cut g k) h = absurd (omega (arith, g, h))
+
+long_more : (kept begun : List ℕ) (b : ℕ) → IsKept kept begun → most_bytes < length kept → IsKept kept (begun ++ b ∷ [])
+long_more kept begun b (whole e) h =
+    let same = ap length e in cut h (omega (arith, h, same, length-append begun (b ∷ [])))
+long_more kept begun b (cut g k) h = cut h (omega (arith, k, length-append begun (b ∷ [])))
+
+kept_more : (kept begun : List ℕ) (b : ℕ) → IsKept kept begun → IsKept (kept_with kept b) (begun ++ b ∷ [])
+kept_more kept begun b is =
+    cond_both (nat_le (length kept) most_bytes) (kept ++ b ∷ []) kept (λ k. IsKept k (begun ++ b ∷ []))
+    (λ e. short_more kept begun b is (leb-true (length kept) most_bytes e)) (λ e. long_more kept begun b is (leb-false (length kept) most_bytes e))
+
+-- what is printed byte by byte is what is printed line by line
+text_is : (m : Manager) (kept begun bytes : List ℕ) → IsKept kept begun
+    → (after_bytes (record { manager = m; begun = kept }) bytes).text ≡ (served_all m (lines_told begun bytes)).text
+text_is m kept begun [] is = refl
+text_is m kept begun (b ∷ bytes) is =
+    let next = (served m (line_of kept)).now in
+    by_test (b == 10)
+    (ap (λ text. (served m (line_of kept)).text ++ text) (text_is next [] [] bytes (whole refl))
+    ∙ ap (λ line. (served_all m (line ∷ lines_told [] bytes)).text) (kept_says kept begun is))
+    (text_is m (kept_with kept b) (begun ++ b ∷ []) bytes (kept_more kept begun b is))
+  where
+    by_test : (t : Bool)
+        → (served m (line_of kept)).text ++ (after_bytes (record { manager = (served m (line_of kept)).now; begun = [] }) bytes).text
+        ≡ (served_all m (line_of begun ∷ lines_told [] bytes)).text
+        → (after_bytes (record { manager = m; begun = kept_with kept b }) bytes).text ≡ (served_all m (lines_told (begun ++ b ∷ []) bytes)).text
+        → (and_then (cond t (after_kept (served m (line_of kept))) (quiet (record { manager = m; begun = kept_with kept b })))
+        (λ now. after_bytes now bytes)).text
+        ≡ (served_all m (map line_of (cond t (begun ∷ lines_ended [] bytes) (lines_ended (begun ++ b ∷ []) bytes)))).text
+    by_test true ended longer = ended
+    by_test false ended longer = longer
+
+-- a manager of which no line is begun
+abbrev pub beginning : Manager → ServerValue
+beginning m = record { manager = m; begun = [] }
+
+pub bytes_are_lines : (m : Manager) (bytes : List ℕ) → (after_bytes (beginning m) bytes).text ≡ served_by m bytes
+bytes_are_lines m bytes = text_is m [] [] bytes (whole refl)
+
+-- bytes behind others
+pub now_behind : (s : ServerValue) (one other : List ℕ) → (after_bytes s (one ++ other)).now ≡ (after_bytes (after_bytes s one).now other).now
+now_behind s [] other = refl
+now_behind s (b ∷ one) other = now_behind (after_byte s b).now one other
+
+pub text_behind : (s : ServerValue) (one other : List ℕ)
+    → (after_bytes s (one ++ other)).text ≡ (after_bytes s one).text ++ (after_bytes (after_bytes s one).now other).text
+text_behind s [] other = refl
+text_behind s (b ∷ one) other =
+    let next = (after_byte s b).now in
+    ap (λ text. (after_byte s b).text ++ text) (text_behind next one other)
+    ∙ sym (append_assoc (after_byte s b).text (after_bytes next one).text (after_bytes (after_bytes next one).now other).text)

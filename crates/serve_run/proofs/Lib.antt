@@ -1,0 +1,4 @@
+pub mod Calls
+pub mod Going
+pub mod Kept
+pub mod Turns

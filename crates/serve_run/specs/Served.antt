@@ -1,0 +1,104 @@
+-- A manager that is controlled by lines: what each line does, and what is printed.
+use Rattle.std.specs.Prelude.{ℕ, List, [], ◌∷◌, ◌++◌, Option, None, Some, codes, decimal}
+use Rattle.std.specs.List.{flat_map}
+use Rattle.std.specs.Option.{option_map_or}
+use Rattle.hex.specs.Hex.{encode_lower}
+use Rattle.smp_bytes.specs.Text.{guid_text, port_text}
+use Rattle.schedule_file.specs.declared.command.Ask.{Ask as Asking}
+use Rattle.schedule_lines.specs.Asked.{after_asked, asked_fault, emptied, manager_line, text_of}
+use Rattle.schedule_lines.specs.Outcome.{Outcome, and_then, quiet, shows}
+use Rattle.serve_lines.specs.ServeLine.{lines_told}
+use Rattle.serve_lines.specs.declared.line.ServeLine.{ServeLine}
+use Rattle.serve_lines.specs.declared.line.ServeLine.TheVariants.{Ask, Floor, Packet, Timeout, GiveUp, Show, Managers, Empty, Wrong}
+use Rattle.attr_codec.specs.declared.sm_info.SmInfo.{SmInfo}
+use Rattle.sm_state.specs.States.{state_of_number, state_word}
+use Rattle.sm_state.specs.declared.election.SeenManager.{SeenManager}
+use Rattle.sm_manager.specs.Manager.{Manager, after_raise_floor, outstanding}
+use Rattle.sm_manager.specs.Packets.{Called, after_packet, after_timeout, done, refused}
+use Rattle.sm_manager.specs.declared.fault.ManagerFault.{ManagerFault}
+use Rattle.sm_manager.specs.declared.outgoing.Outgoing.{Outgoing}
+
+-- texts ------------------------------------------------------------------------------------------
+
+-- the LID that a packet goes to; empty if it goes by the path that it carries
+abbrev pub to_text : Option ℕ → List ℕ
+to_text None = []
+to_text (Some lid) = codes " to " ++ decimal lid
+
+-- the line of a packet that goes out
+unfoldable pub send_line : Outgoing → List ℕ
+send_line out = codes "send " ++ encode_lower out.packet ++ to_text out.to ++ codes "\n"
+
+-- the line that ends an answer
+abbrev pub end_line : List ℕ
+end_line = codes ".\n"
+
+-- the state that a manager reported
+abbrev pub told_state : ℕ → List ℕ
+told_state number = option_map_or state_word (state_of_number number) (decimal number)
+
+-- the port at which a manager was seen, and the port GUID that it reported
+abbrev pub where_text : SeenManager → List ℕ
+where_text s = codes "manager " ++ port_text s.guid s.port ++ codes " guid " ++ guid_text s.info.guid
+
+-- the priority and the state that a manager reported
+abbrev pub told_text : SmInfo → List ℕ
+told_text info = codes " priority " ++ decimal info.priority ++ codes " state " ++ told_state info.state ++ codes "\n"
+
+-- the line of a manager that the last sweep saw
+unfoldable pub seen_line : SeenManager → List ℕ
+seen_line s = where_text s ++ told_text s.info
+
+-- the line of a refusal, empty if there is none
+abbrev pub fault_text : Option ManagerFault → List ℕ
+fault_text None = []
+fault_text (Some fault) = manager_line fault
+
+-- lines ------------------------------------------------------------------------------------------
+
+-- what a call leaves and prints: the manager then, and the line of its refusal
+abbrev pub after_called : Called → Outcome Manager
+after_called c = record { now = c.manager; text = fault_text c.fault }
+
+-- a manager is asked, and refuses with the fault, if any
+abbrev pub asked_with : Manager → Option ManagerFault → Manager → Called
+asked_with m None after = done after
+asked_with m (Some fault) after = refused m fault
+
+abbrev pub asked : Manager → Asking → Called
+asked m what = asked_with m (asked_fault what m) (after_asked what m)
+
+-- each request of a list is given up in turn
+abbrev pub after_giving_up : Manager → List ℕ → Outcome Manager
+after_giving_up m [] = quiet m
+after_giving_up m (transaction ∷ later) =
+    and_then (after_called (after_timeout m transaction)) (λ now. after_giving_up now later)
+
+-- what a line does, before any packet goes out
+abbrev pub after_line : Manager → ServeLine → Outcome Manager
+after_line m (Ask what) = after_called (asked m what)
+after_line m (Floor floor) = quiet (after_raise_floor m floor)
+after_line m (Packet bytes from) = after_called (after_packet m bytes (Some from))
+after_line m (Timeout transaction) = after_called (after_timeout m transaction)
+after_line m GiveUp = after_giving_up m (outstanding m)
+after_line m (Show what) = shows (text_of what None m) m
+after_line m Managers = shows (flat_map seen_line m.seen) m
+after_line m Empty = quiet m
+after_line m Wrong = shows (codes "syntax\n") m
+
+-- all that is queued goes out, behind what was printed
+abbrev pub given_out : Outcome Manager → Outcome Manager
+given_out o = record { now = emptied o.now; text = o.text ++ flat_map send_line o.now.outgoing }
+
+-- the line is answered, all that is queued goes out, and the answer ends
+unfoldable pub served : Manager → ServeLine → Outcome Manager
+served m line = and_then (given_out (after_line m line)) (shows end_line)
+
+-- each line is served in turn
+abbrev pub served_all : Manager → List ServeLine → Outcome Manager
+served_all m [] = quiet m
+served_all m (line ∷ later) = and_then (served m line) (λ now. served_all now later)
+
+-- what is printed if the manager `m` is told `bytes`
+abbrev pub served_by : Manager → List ℕ → List ℕ
+served_by m bytes = (served_all m (lines_told [] bytes)).text

@@ -1,0 +1,61 @@
+//! The managers that a sweep saw, as lines.
+ghost use Rattle.std.specs.List.{flat_map};
+ghost use Rattle.byte_io.specs.Writes.{Writes};
+ghost use Rattle.schedule_lines.specs.Prints.{PrintsUnless};
+ghost use Rattle.serve_run.specs.Served.{seen_line, told_state, told_text, where_text};
+
+use attr_codec::{SmInfo, SmStateNumber};
+use byte_io::{Sink, WriteFault, write_guid, write_number, write_port};
+use schedule_lines::RunFault;
+use sm_state::{SeenManager, SmState};
+
+/// Prints a line for each of the managers that a sweep saw, in their order.
+pub(crate) fn show_managers<W: Sink>(sink: &mut W, managers: &[SeenManager]) -> Result<(), RunFault>
+    ensures prints { PrintsUnless W.written W.has_failed result sink.old sink.new
+        (flat_map seen_line managers.now) }
+{
+    for seen in managers {
+        write_seen(sink, seen)?;
+    }
+    Ok(())
+}
+
+/// Writes the line of a manager that a sweep saw.
+#[tactic(auto, unfolding(crate::specs::Served::seen_line))]
+fn write_seen<W: Sink>(sink: &mut W, seen: &SeenManager) -> Result<(), WriteFault>
+    ensures writes { Writes W.written W.has_failed result sink.old sink.new (seen_line seen.now) }
+{
+    write_where(sink, seen)?;
+    write_told(sink, &seen.info)
+}
+
+/// Writes the port at which the manager was seen, and the port GUID that it reported.
+fn write_where<W: Sink>(sink: &mut W, seen: &SeenManager) -> Result<(), WriteFault>
+    ensures writes { Writes W.written W.has_failed result sink.old sink.new (where_text seen.now) }
+{
+    sink.write(b"manager ")?;
+    write_port(sink, seen.guid, seen.port)?;
+    sink.write(b" guid ")?;
+    write_guid(sink, seen.info.guid)
+}
+
+/// Writes the priority and the state that the manager reported, and ends the line.
+fn write_told<W: Sink>(sink: &mut W, info: &SmInfo) -> Result<(), WriteFault>
+    ensures writes { Writes W.written W.has_failed result sink.old sink.new (told_text info.now) }
+{
+    sink.write(b" priority ")?;
+    write_number(sink, u64::from(info.priority.number()))?;
+    sink.write(b" state ")?;
+    write_told_state(sink, info.state)?;
+    sink.write(b"\n")
+}
+
+/// Writes the word of a state, or `number` itself if it is not that of a state.
+fn write_told_state<W: Sink>(sink: &mut W, number: SmStateNumber) -> Result<(), WriteFault>
+    ensures writes { Writes W.written W.has_failed result sink.old sink.new (told_state number) }
+{
+    match SmState::from_number(number) {
+        Some(state) => sink.write(state.word().as_bytes()),
+        None => write_number(sink, u64::from(number.number())),
+    }
+}

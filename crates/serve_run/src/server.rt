@@ -1,0 +1,132 @@
+//! Serving a manager: lines are read, and each is handled before the next one is read.
+ghost use Rattle.std.specs.Prelude.{◌≡◌, ◌<◌, IfErr, OnOk, IsTrue, false, length};
+ghost use Rattle.std.specs.Io.KnownBytes.{Appends};
+ghost use Rattle.schedule_lines.specs.Prints.{PrintsSome};
+ghost use Rattle.serve_run.specs.Kept.{after_byte, after_bytes, kept_with};
+ghost use Rattle.serve_run.specs.Lives.{Lives};
+ghost use Rattle.serve_run.specs.Serving.{HasServed, ServesPiece, StopsServing, value_of};
+
+use crate::serve_fault::ServeFault;
+use crate::serve_line::serve_line;
+use byte_io::{ReadError, Sink, Source};
+use schedule_lines::RunFault;
+use serve_lines::{MOST_BYTES, read_line};
+use sm_manager::Manager;
+use std::alloc::{AllocError, Global};
+
+/// The most bytes that one read asks for.
+const PIECE: usize = 4096;
+
+/// A manager, and the line that has begun: its first bytes, up to one more than a line may have.
+#[derive(Drop)]
+pub(crate) struct Server {
+    manager: Manager,
+    begun: Vec<u8>,
+}
+
+/// Serves a manager by lines until they end. Answers each line, and flushes the answer, before it reads more.
+///
+/// Writes `served_by` of all that was read; bytes behind the last line feed are not a line. Takes the memory of the
+/// manager, and 601 bytes for the line that has begun.
+///
+/// # Errors
+///
+/// `Read`: the lines cannot be read, and all that were read have been answered. `Memory`: a beginning of the answers
+/// was written. `Write`: how much was written is unspecified.
+pub fn serve<S: Source, W: Sink>(
+    alloc: Global,
+    manager: Manager,
+    lines: &mut S,
+    sink: &mut W,
+) -> Result<(), ServeFault>
+    ensures served { OnOk result (HasServed S.state lines.old lines.new manager
+        (Appends (W.written sink.old) (W.written sink.new))) }
+    ensures flushed { OnOk result (IsTrue (W.is_flushed sink.new)) }
+    ensures sink_works { OnOk result (W.has_failed sink.new ≡ false) }
+    ensures stopped { IfErr result (StopsServing S.state lines.old lines.new manager
+        (PrintsSome W.written W.has_failed sink.old sink.new)
+        (Appends (W.written sink.old) (W.written sink.new)) (W.has_failed sink.new)) }
+{
+    let mut server = Server {
+        manager,
+        begun: Vec::new(alloc),
+    };
+    sink.flush()?;
+    for _ in 0..u64::MAX {
+        if !server.serve_piece(alloc, lines, sink)? {
+            return Ok(());
+        }
+    }
+    Err(ServeFault::Read)
+}
+
+impl Server {
+    /// Reads some bytes, and handles the lines that end in them. Holds back no output while it reads. Returns whether
+    /// more may come.
+    fn serve_piece<S: Source, W: Sink>(
+        &mut self,
+        alloc: Global,
+        lines: &mut S,
+        sink: &mut W,
+    ) -> Result<bool, ServeFault>
+        requires { IsTrue (W.is_flushed sink.old) }
+        ensures serves { ServesPiece S.state W.written W.has_failed lines.old lines.new (value_of self.old)
+            (value_of self.new) sink.old sink.new result }
+        ensures flushed { OnOk result (IsTrue (W.is_flushed sink.new)) }
+    {
+        let mut room = [0u8; PIECE];
+        match lines.read(&mut room) {
+            Ok(0) => Ok(false),
+            Ok(count) => {
+                self.serve_bytes(alloc, &room[..count], sink)?;
+                Ok(true)
+            }
+            Err(ReadError::Interrupted) => Ok(true),
+            Err(ReadError::Failed) => Err(ServeFault::Read),
+        }
+    }
+
+    /// Handles the lines that end in `bytes`.
+    fn serve_bytes<W: Sink>(
+        &mut self,
+        alloc: Global,
+        bytes: &[u8],
+        sink: &mut W,
+    ) -> Result<(), RunFault>
+        requires { IsTrue (W.is_flushed sink.old) }
+        ensures serves { Lives W.written W.has_failed (value_of self.new) result sink.old sink.new
+            (after_bytes (value_of self.old) bytes.now) }
+        ensures flushed { OnOk result (IsTrue (W.is_flushed sink.new)) }
+    {
+        for byte in bytes {
+            self.serve_byte(alloc, *byte, sink)?;
+        }
+        Ok(())
+    }
+
+    /// Handles the line that has begun if `byte` ends it; otherwise adds `byte` to the line.
+    fn serve_byte<W: Sink>(&mut self, alloc: Global, byte: u8, sink: &mut W) -> Result<(), RunFault>
+        requires { IsTrue (W.is_flushed sink.old) }
+        ensures serves { Lives W.written W.has_failed (value_of self.new) result sink.old sink.new
+            (after_byte (value_of self.old) byte) }
+        ensures flushed { OnOk result (IsTrue (W.is_flushed sink.new)) }
+    {
+        if byte != b'\n' {
+            keep(&mut self.begun, byte)?;
+            return Ok(());
+        }
+        let line = read_line(&self.begun);
+        self.begun.clear();
+        serve_line(alloc, &mut self.manager, line, sink)
+    }
+}
+
+/// Appends `byte` to those of a line, unless they are already too many for a line.
+fn keep(begun: &mut Vec<u8>, byte: u8) -> Result<(), AllocError>
+    ensures { OnOk result (begun.new.items ≡ kept_with begun.old.items byte) }
+{
+    if begun.len() <= MOST_BYTES {
+        begun.push(byte)?;
+    }
+    Ok(())
+}

@@ -1,0 +1,81 @@
+//! A manager that is served by lines.
+ghost use Rattle.std.specs.Prelude.{◌≡◌, ◌⊎◌, ◌+◌, Err, false, length, IfErr, OnErr, OnOk, IsTrue};
+ghost use Rattle.std.specs.Io.KnownBytes.{Appends};
+ghost use Rattle.record_file.specs.declared.file_fault.FileFault.TheVariants.{Read};
+ghost use Rattle.schedule_lines.specs.Prints.{PrintsSome};
+ghost use Rattle.serve_task.specs.RunServe.{HasServedLines, IsServeFault, fault_of_serving};
+ghost use Rattle.sm_cli.specs.Asked.{texts_for};
+
+use crate::no_files::NoFiles;
+use attr_codec::{Lmc, Priority};
+use byte_io::{Sink, Source};
+use lft_blocks::Planning;
+use record_file::FileFault;
+use serve_run::{ServeFault, serve};
+use sm_cli::{Fault, RuleAsked, read_inputs};
+use sm_manager::Manager;
+use smp_bytes::{Guid, PortNum};
+use std::alloc::Global;
+
+/// Which manager is served, and how it plans.
+#[derive(Clone, Copy, Debug, PartialEq, Eq)]
+pub struct Serving {
+    /// The GUID of the port that it sits at.
+    pub guid: Guid,
+    /// The number of the port that it sits at.
+    pub port: PortNum,
+    pub priority: Priority,
+    /// The LMC of its plans: 2^LMC LIDs for each adapter port.
+    pub lmc: Lmc,
+    pub rule: RuleAsked,
+}
+
+/// Serves a manager that has no facts yet by lines, as `serve` does. The inputs are the text that its rule takes, if
+/// any, which is read first, and the lines.
+///
+/// Writes `served_by` of that manager and the lines; writes nothing if the rule's text is refused. Roots may be any
+/// GUIDs, since no switch is known yet.
+pub fn run_serve<S: Source, W: Sink>(
+    alloc: Global,
+    inputs: &mut [S],
+    asked: Serving,
+    sink: &mut W,
+) -> Result<(), Fault>
+    requires { length inputs.old ≡ texts_for asked.rule + 1 }
+    ensures done { OnOk result (HasServedLines S.state asked inputs.old inputs.new
+        (Appends (W.written sink.old) (W.written sink.new))) }
+    ensures flushed { OnOk result (IsTrue (W.is_flushed sink.new)) }
+    ensures sink_works { OnOk result (W.has_failed sink.new ≡ false) }
+    ensures refused { IfErr result (IsServeFault S.state asked inputs.old inputs.new
+        (PrintsSome W.written W.has_failed sink.old sink.new)
+        (Appends (W.written sink.old) (W.written sink.new)) (W.has_failed sink.new)) }
+    ensures nothing_written { OnErr result ((result ≡ Err Fault.Write) ⊎ (result ≡ Err Fault.Memory)
+        ⊎ (result ≡ Err (Fault.File (texts_for asked.rule) Read)) ⊎ (sink.new ≡ sink.old)) }
+{
+    let first = asked.rule.texts();
+    let (texts, lines) = inputs.split_at_mut(first);
+    let rule = match read_inputs(alloc, asked.rule, &NoFiles, texts) {
+        Ok((rule, _none)) => rule,
+        Err(fault) => return Err(fault),
+    };
+    let planning = Planning::new(asked.lmc, rule);
+    let manager = Manager::new(alloc, asked.guid, asked.port, asked.priority, planning);
+    match serve(alloc, manager, &mut lines[0], sink) {
+        Ok(()) => Ok(()),
+        Err(fault) => Err(fault_of_serving(first, fault)),
+    }
+}
+
+/// Returns the fault of serving as one of the program; `lines` is the input that the lines come from.
+fn fault_of_serving(lines: usize, fault: ServeFault) -> Fault
+    ensures { result ≡ fault_of_serving lines fault }
+{
+    match fault {
+        ServeFault::Read => Fault::File {
+            input: lines,
+            fault: FileFault::Read,
+        },
+        ServeFault::Write => Fault::Write,
+        ServeFault::Memory => Fault::Memory,
+    }
+}

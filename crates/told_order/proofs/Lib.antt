@@ -1,0 +1,3 @@
+pub mod MayBeLast
+pub mod Noted
+pub mod Orders

@@ -1,0 +1,4 @@
+pub mod Last
+pub mod ToldLaws
+pub mod ToldOrder
+pub mod Turns

@@ -1,0 +1,52 @@
+-- The order of the switches that tables tell by themselves: switches are taken from the last one on.
+use Rattle.std.specs.Prelude.{◌≡◌, ◌<◌, ◌+◌, ℕ, ◌==◌, Bool, true, false, List, [], ◌∷◌, Option, None, Some, length, replicate, slice_get, slice_index_or, slice_set, if◌then◌else◌}
+use Rattle.subnet_view.specs.Reading.{Cells, switches}
+use Rattle.plan_file.specs.Held.{HeldPlan}
+use Rattle.told_order.specs.Turns.{IsTurn}
+
+-- the switch at index i is left
+abbrev pub is_left : List Bool → ℕ → Bool
+is_left left i = slice_index_or left i false
+
+-- switch j may be the last of those left: no packet comes to it from one of them and leaves it for one of them
+abbrev pub MayBeLast : Cells → HeldPlan → List Bool → ℕ → Type 0
+MayBeLast cells tables left j =
+    (i k : ℕ) → is_left left i ≡ true → is_left left k ≡ true → IsTurn cells tables i j k → ⊥
+
+-- no switch that is left and stands at `index` or later in `preferred` may be the last
+abbrev pub NoneFrom : Cells → HeldPlan → List ℕ → List Bool → ℕ → Type 0
+NoneFrom cells tables preferred left index =
+    (k y : ℕ) → index < k + 1 → slice_get preferred k ≡ Some y → is_left left y ≡ true
+    → MayBeLast cells tables left y → ⊥
+
+-- switch x may be the last of those left, and no switch that is left and stands after it in `preferred` may be
+pub record IsLast (cells : Cells) (tables : HeldPlan) (preferred : List ℕ) (left : List Bool) (x : ℕ) : Type 0 where
+  pub is_left : is_left left x ≡ true
+  pub may_be : MayBeLast cells tables left x
+  pub index : ℕ
+  pub stands : slice_get preferred index ≡ Some x
+  pub none_behind : NoneFrom cells tables preferred left (index + 1)
+
+-- switches are taken one after the other, each as the last of those left then; `end` says which are left in the end
+abbrev pub AreTaken : Cells → HeldPlan → List ℕ → List Bool → List ℕ → List Bool → Type 0
+AreTaken cells tables preferred left [] end = left ≡ end
+AreTaken cells tables preferred left (x ∷ taken) end =
+    IsLast cells tables preferred left x × AreTaken cells tables preferred (slice_set left x false) taken end
+
+-- all usable switches are left
+abbrev pub all_left : Cells → List Bool
+all_left cells = replicate (length (switches cells)) true
+
+-- all switches are taken, the last one first; None if some are left of which none may be the last
+abbrev pub IsTold : Cells → HeldPlan → List ℕ → Option (List ℕ) → Type 0
+IsTold cells tables preferred None =
+    (taken : List ℕ) × (end : List Bool) × AreTaken cells tables preferred (all_left cells) taken end
+    × NoneFrom cells tables preferred end 0 × ((i : ℕ) × (is_left end i ≡ true))
+IsTold cells tables preferred (Some taken) =
+    (end : List Bool) × AreTaken cells tables preferred (all_left cells) taken end
+    × ((i : ℕ) → is_left end i ≡ false)
+
+-- the position of switch s: how many are left when it is taken
+abbrev pub position_in : List ℕ → ℕ → ℕ
+position_in [] s = 0
+position_in (x ∷ taken) s = if x == s then length taken else position_in taken s

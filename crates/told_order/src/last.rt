@@ -1,0 +1,53 @@
+//! The switch that may be the last of those left.
+ghost use Rattle.std.specs.Prelude.{◌≡◌};
+ghost use Rattle.told_order.specs.Last.{IsNextBy, may_be_last, turns_in};
+ghost use Rattle.told_order.specs.ToldOrder.{is_left};
+ghost use Rattle.told_order.specs.Turns.{lists_of};
+
+use crate::turns::SwitchTurn;
+
+/// Returns the switch that may be the last of those left, by the turns at each switch. If there are several, returns
+/// the one that stands last in `preferred`. Takes a step for each switch of that list, and one for each turn at those
+/// left, until it finds one.
+pub(crate) fn last_of(
+    turns: &[Vec<SwitchTurn>],
+    preferred: &[usize],
+    left: &[bool],
+) -> Option<usize>
+    ensures { IsNextBy (lists_of turns.now) preferred.now left.now result }
+{
+    for index in (0..preferred.len()).rev() {
+        let switch = preferred[index];
+        if may_be_last(turns, left, switch) {
+            return Some(switch);
+        }
+    }
+    None
+}
+
+/// Returns whether the switch is left, and no packets from a switch that is left turn there to one that is left.
+fn may_be_last(turns: &[Vec<SwitchTurn>], left: &[bool], switch: usize) -> bool
+    ensures { result ≡ may_be_last (lists_of turns.now) left.now switch }
+{
+    is_left(left, switch)
+        && match turns.get(switch) {
+            Some(turns) => !turns_in(turns, left),
+            None => true,
+        }
+}
+
+/// Returns whether one of the turns leads from a switch that is left to one that is left.
+fn turns_in(turns: &[SwitchTurn], left: &[bool]) -> bool
+    ensures { result ≡ turns_in left.now turns.now }
+{
+    turns
+        .iter()
+        .any(|turn| is_left(left, turn.from) && is_left(left, turn.to))
+}
+
+/// Returns whether the switch at `index` is left.
+pub(crate) fn is_left(left: &[bool], index: usize) -> bool
+    ensures { result ≡ is_left left.now index }
+{
+    left.get(index).copied().unwrap_or(false)
+}

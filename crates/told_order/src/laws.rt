@@ -1,0 +1,13 @@
+//! The laws of the order that tables tell.
+ghost use Rattle.told_order.specs.ToldLaws.{SomeOrderIsTold, ToldOrdersAreRight};
+
+/// Tables are right for every LID by the order that they tell, and no two switches that a wire joins have the same
+/// position.
+pub fn told_orders_are_right()
+    ensures law { ToldOrdersAreRight }
+{}
+
+/// Tables that are right by some order of the switches tell one, if each usable switch is in the list of preferences.
+pub fn some_order_is_told()
+    ensures law { SomeOrderIsTold }
+{}

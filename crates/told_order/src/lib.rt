@@ -1,0 +1,9 @@
+//! The order of the switches that forwarding tables tell by themselves, whoever wrote them.
+#![tactic(auto)]
+
+mod last;
+pub mod laws;
+mod told;
+mod turns;
+
+pub use told::told_order;

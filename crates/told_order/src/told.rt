@@ -1,0 +1,52 @@
+//! The order that tables tell.
+ghost use Rattle.std.specs.Prelude.{◌≡◌, IfOk, length, replicate, true};
+ghost use Rattle.std.specs.Option.{option_map};
+ghost use Rattle.std.specs.List.{list_any};
+ghost use Rattle.fact_store.specs.View.{cells_of};
+ghost use Rattle.told_order.specs.ToldOrder.{IsTold};
+
+use crate::last::last_of;
+use crate::turns::turns;
+use audit::Network;
+use std::alloc::{AllocError, Global};
+
+/// Returns the indices (by rising GUID) of all usable switches, in an order by which no packet, for whatever LID, goes
+/// down and then up again by the tables of `network`. The last switch comes first. Returns `None` if there is no such
+/// order. Each switch is the last one in `preferred` that may be taken then. Costs what `channel_waits` takes, and for
+/// each switch a step for each switch in `preferred` and each turn that is looked at.
+pub fn told_order(
+    alloc: Global,
+    network: &Network,
+    preferred: &[usize],
+) -> Result<Option<Vec<usize>>, AllocError>
+    ensures { IfOk result (λ told. IsTold (cells_of network.now.facts) network.now.held preferred.now
+        (option_map (λ taken. taken.items) told)) }
+{
+    let turns = turns(alloc, network)?;
+    let mut left = all_left(alloc, network.switch_count())?;
+    let mut taken = Vec::new(alloc);
+    let mut next = last_of(&turns, preferred, &left);
+    while let Some(switch) = next {
+        left[switch] = false;
+        taken.push(switch)?;
+        next = last_of(&turns, preferred, &left);
+    }
+    if is_any(&left) {
+        return Ok(None);
+    }
+    Ok(Some(taken))
+}
+
+/// Returns `count` flags that are set.
+fn all_left(alloc: Global, count: usize) -> Result<Vec<bool>, AllocError>
+    ensures { IfOk result (λ left. left.items ≡ replicate count true) }
+{
+    vec![in alloc; true; count]
+}
+
+/// Returns whether a flag is set.
+fn is_any(left: &[bool]) -> bool
+    ensures { result ≡ list_any (λ flag. flag) left.now }
+{
+    left.iter().any(|flag| *flag)
+}

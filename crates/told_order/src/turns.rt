@@ -1,0 +1,93 @@
+//! The turns that packets make at each switch.
+ghost use Rattle.std.specs.Prelude.{◌≡◌, [], IfOk, OnOk, length, replicate};
+ghost use Rattle.fact_store.specs.View.{cells_of};
+ghost use Rattle.subnet_view.specs.Reading.{switches};
+ghost use Rattle.audit_channels.specs.Waiting.{AreWaits};
+ghost use Rattle.told_order.specs.Turns.{AreTurns, IsWithTurns, IsWithTurn, lists_of};
+
+use audit::Network;
+use audit_channels::{Waits, channel_waits};
+use held_tables::Far;
+use std::alloc::{AllocError, Global};
+
+/// A turn at a switch: packets for some LID come from one switch and leave for another.
+#[derive(Clone, Copy, Debug, PartialEq, Eq)]
+pub(crate) struct SwitchTurn {
+    /// The index of the switch that they come from.
+    pub from: usize,
+    /// The index of the switch that they leave for.
+    pub to: usize,
+}
+
+/// Returns the turns that packets make at each usable switch, by rising GUID, by the tables of `network`. Costs what
+/// `channel_waits` takes, and a step for each channel and each that follows it.
+pub(crate) fn turns(alloc: Global, network: &Network) -> Result<Vec<Vec<SwitchTurn>>, AllocError>
+    ensures { IfOk result (λ turns.
+        AreTurns (cells_of network.now.facts) network.now.held (lists_of turns.items)) }
+{
+    let waits = channel_waits(alloc, network)?;
+    turns_over(alloc, network, &waits)
+}
+
+/// Returns the turns from each channel into the channels that follow it.
+fn turns_over(
+    alloc: Global,
+    network: &Network,
+    waits: &Waits,
+) -> Result<Vec<Vec<SwitchTurn>>, AllocError>
+    requires { AreWaits (cells_of network.now.facts) network.now.held waits.now }
+    ensures { IfOk result (λ turns.
+        AreTurns (cells_of network.now.facts) network.now.held (lists_of turns.items)) }
+{
+    let mut turns = no_turns(alloc, network.switch_count())?;
+    for channel in 0..waits.len() {
+        add_turns(&mut turns, network, channel, waits.at(channel))?;
+    }
+    Ok(turns)
+}
+
+/// Returns `count` empty lists of turns.
+fn no_turns(alloc: Global, count: usize) -> Result<Vec<Vec<SwitchTurn>>, AllocError>
+    ensures { IfOk result (λ turns. lists_of turns.items ≡ replicate count []) }
+{
+    let mut turns = Vec::with_capacity(alloc, count)?;
+    for _switch in 0..count {
+        turns.push(Vec::new(alloc))?;
+    }
+    Ok(turns)
+}
+
+/// Adds the turns from `channel` into the channels that follow it.
+fn add_turns(
+    turns: &mut [Vec<SwitchTurn>],
+    network: &Network,
+    channel: usize,
+    following: &[usize],
+) -> Result<(), AllocError>
+    requires { length turns.old ≡ length (switches (cells_of network.now.facts)) }
+    ensures { OnOk result (IsWithTurns (cells_of network.now.facts) channel following.now
+        (lists_of turns.old) (lists_of turns.new)) }
+{
+    for next in following {
+        add_turn(turns, network, channel, *next)?;
+    }
+    Ok(())
+}
+
+/// Adds the turn from `channel` into `next`, which follows it.
+fn add_turn(
+    turns: &mut [Vec<SwitchTurn>],
+    network: &Network,
+    channel: usize,
+    next: usize,
+) -> Result<(), AllocError>
+    requires { length turns.old ≡ length (switches (cells_of network.now.facts)) }
+    ensures { OnOk result (IsWithTurn (cells_of network.now.facts) channel next
+        (lists_of turns.old) (lists_of turns.new)) }
+{
+    if let Far::Switch(to) = network.far(next) {
+        let from = channel / 256;
+        turns[next / 256].push(SwitchTurn { from, to })?;
+    }
+    Ok(())
+}

@@ -1,0 +1,50 @@
+-- The keys of the least load, one list after the other.
+use Rattle.std.proofs.Common.{◌≡◌, ◌++◌, ◌∙◌, ℕ, List, [], ◌∷◌, refl, ap, true, false, Bool, cond, length, map}
+use Rattle.std.specs.Prelude.{min, nat_lt}
+use Rattle.port_graph.specs.declared.edge.Edge.{Edge}
+use Rattle.spread_labels.specs.declared.vertex_key.VertexKey.{VertexKey}
+use Rattle.spread_labels.specs.Keys.{before_by}
+use Rattle.spread_labels.specs.Orders.{numbers_from}
+use Rattle.spread_labels.proofs.Numbers.{numbers_long}
+use Rattle.depth_orders.specs.declared.direction.Direction.{Direction}
+use Rattle.depth_orders.specs.declared.direction.Direction.TheVariants.{Forwards, Backwards}
+use Rattle.depth_orders.specs.DepthOrders.{order_by_depth, turned}
+use Rattle.trial_loads.specs.LeastLoaded.{key_in, keys_by_depth, least_by, least_loaded_keys, tried_by_depth}
+use Rattle.trial_loads.specs.TrialLoads.{trial_load}
+
+module _ (load : List VertexKey → ℕ) where
+  pub least_both : (keys : List VertexKey) (xs ys : List (List VertexKey)) → least_by load keys (xs ++ ys) ≡ least_by load (least_by load keys xs) ys
+  least_both keys [] ys = refl
+  least_both keys (x ∷ xs) ys = least_both (cond (nat_lt (load x) (load keys)) x keys) xs ys
+
+-- what holds of both holds of either
+pub of_either : {X : Type 0} (P : X → Type 0) (b : Bool) (x y : X) → P x → P y → P (cond b x y)
+of_either P true x y p q = p
+of_either P false x y p q = q
+
+pub made_of_either : {X Y : Type 0} (f : X → Y) (b : Bool) (x y : X) → f (cond b x y) ≡ cond b (f x) (f y)
+made_of_either f true x y = refl
+made_of_either f false x y = refl
+
+-- the keys of the least load are as many as the others ------------------------------------------
+
+module _ (load : List VertexKey → ℕ) (n : ℕ) (f : ℕ → List VertexKey) (long : (x : ℕ) → length (f x) ≡ n) where
+  least_long : (keys : List VertexKey) (xs : List ℕ) → length keys ≡ n → length (least_by load keys (map f xs)) ≡ n
+  least_long keys [] own = own
+  least_long keys (x ∷ xs) own =
+      least_long (cond (nat_lt (load (f x)) (load keys)) (f x) keys) xs
+      (of_either (λ ks. length ks ≡ n) (nat_lt (load (f x)) (load keys)) (f x) keys (long x) own)
+
+pub keys_long : (edges : List (List Edge)) (bearing : List ℕ) (keys : List VertexKey) → length keys ≡ length edges
+    → length (least_loaded_keys edges bearing keys) ≡ length edges
+unfolding least_loaded_keys
+keys_long edges bearing keys own =
+    let n = length edges in
+    let load = trial_load edges bearing in
+    let by : Direction → ℕ → List VertexKey = keys_by_depth edges keys in
+    let long : (direction : Direction) (root : ℕ) → length (by direction root) ≡ n =
+    (λ direction root. numbers_long (key_in (order_by_depth edges (turned direction (before_by keys)) root)) 0 n) in
+    let roots = numbers_from 0 (min n 8) in
+    ap length (least_both load keys (tried_by_depth edges keys Forwards) (tried_by_depth edges keys Backwards))
+    ∙ least_long load n (by Backwards) (long Backwards) (least_by load keys (map (by Forwards) roots)) roots
+    (least_long load n (by Forwards) (long Forwards) keys roots own)

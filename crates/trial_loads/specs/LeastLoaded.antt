@@ -1,0 +1,37 @@
+-- The order of the least trial load, among those that are tried.
+use Rattle.std.specs.Prelude.{ℕ, min, nat_lt, List, [], ◌∷◌, ◌++◌, map, length, if◌then◌else◌}
+use Rattle.port_graph.specs.declared.edge.Edge.{Edge}
+use Rattle.spread_labels.specs.declared.vertex_key.VertexKey.{VertexKey}
+use Rattle.spread_labels.specs.Keys.{before_by}
+use Rattle.spread_labels.specs.Orders.{numbers_from, position_of}
+use Rattle.depth_orders.specs.declared.direction.Direction.{Direction}
+use Rattle.depth_orders.specs.declared.direction.Direction.TheVariants.{Forwards, Backwards}
+use Rattle.depth_orders.specs.DepthOrders.{order_by_depth, turned}
+use Rattle.trial_loads.specs.TrialLoads.{trial_load}
+
+-- the key of vertex s by a list: how many vertices stand before it there
+abbrev pub key_in : List ℕ → ℕ → VertexKey
+key_in vertices s = record { distance_class = 0; distance = position_of vertices s }
+
+abbrev pub keys_in : List ℕ → ℕ → List VertexKey
+keys_in vertices n = map (key_in vertices) (numbers_from 0 n)
+
+-- the keys by the order by depth from `root`; `keys` decide between equals
+abbrev pub keys_by_depth : List (List Edge) → List VertexKey → Direction → ℕ → List VertexKey
+keys_by_depth edges keys direction root =
+    keys_in (order_by_depth edges (turned direction (before_by keys)) root) (length edges)
+
+-- the keys by depth from each of the first vertices, at most eight
+abbrev pub tried_by_depth : List (List Edge) → List VertexKey → Direction → List (List VertexKey)
+tried_by_depth edges keys direction = map (keys_by_depth edges keys direction) (numbers_from 0 (min (length edges) 8))
+
+-- the first of `keys` and the others whose load is least
+abbrev pub least_by : (List VertexKey → ℕ) → List VertexKey → List (List VertexKey) → List VertexKey
+least_by load keys [] = keys
+least_by load keys (other ∷ others) = least_by load (if nat_lt (load other) (load keys) then other else keys) others
+
+-- the first whose trial load is least: the keys themselves, those by depth, and those by depth backwards
+unfoldable pub least_loaded_keys : List (List Edge) → List ℕ → List VertexKey → List VertexKey
+least_loaded_keys edges bearing keys =
+    least_by (trial_load edges bearing) keys
+    (tried_by_depth edges keys Forwards ++ tried_by_depth edges keys Backwards)

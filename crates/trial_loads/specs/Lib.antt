@@ -1,0 +1,2 @@
+pub mod TrialLoads
+pub mod LeastLoaded

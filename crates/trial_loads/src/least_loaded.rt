@@ -1,0 +1,139 @@
+//! The order of the least trial load.
+ghost use Rattle.std.specs.Prelude.{◌≡◌, ◌<◌, All, IfOk, if◌then◌else◌, length, nat_lt};
+ghost use Rattle.port_graph.specs.Heads.{LeadToVertices};
+ghost use Rattle.spread_labels.specs.LabelLaws.{IsSymmetric};
+ghost use Rattle.spread_labels.specs.Orders.{position_of};
+ghost use Rattle.trial_loads.specs.LeastLoaded.{keys_by_depth, keys_in, least_by, least_loaded_keys, tried_by_depth};
+ghost use Rattle.trial_loads.specs.TrialLoads.{trial_load};
+
+use crate::trials::trial_load;
+use depth_orders::{Direction, order_by_depth};
+use port_graph::Adjacency;
+use spread_labels::VertexKey;
+use std::alloc::{AllocError, Global};
+
+/// The greatest number of vertices from which orders by depth are tried.
+const TRIED: usize = 8;
+
+/// Keys, and the trial load of the order that grows by them.
+#[derive(Drop)]
+struct Trial {
+    keys: Vec<VertexKey>,
+    load: usize,
+}
+
+/// Returns the keys of the order whose trial load between the vertices `bearing` is least: `keys` themselves, or those
+/// by an order by depth from one of the first eight vertices, forwards or backwards. Of equals the first counts. Takes
+/// 17 trials at most.
+pub fn least_loaded_keys(
+    alloc: Global,
+    edges: &Adjacency,
+    bearing: &[usize],
+    keys: &[VertexKey],
+) -> Result<Vec<VertexKey>, AllocError>
+    requires keys { length keys.now ≡ length edges.now }
+    requires lead { LeadToVertices edges.now }
+    requires symmetric { IsSymmetric edges.now }
+    requires bearing { All (λ vertex. vertex < length edges.now) bearing.now }
+    ensures { IfOk result (λ found. found.items ≡ least_loaded_keys edges.now bearing.now keys.now) }
+{
+    let first = trial_of(alloc, edges, bearing, Vec::from_slice(alloc, keys)?)?;
+    let best = try_by_depth(alloc, edges, bearing, keys, Direction::Forwards, first)?;
+    let best = try_by_depth(alloc, edges, bearing, keys, Direction::Backwards, best)?;
+    Ok(best.keys)
+}
+
+/// Tries the orders by depth in one direction. Returns the best trial of these and `first`.
+fn try_by_depth(
+    alloc: Global,
+    edges: &Adjacency,
+    bearing: &[usize],
+    keys: &[VertexKey],
+    direction: Direction,
+    first: Trial,
+) -> Result<Trial, AllocError>
+    requires keys { length keys.now ≡ length edges.now }
+    requires lead { LeadToVertices edges.now }
+    requires symmetric { IsSymmetric edges.now }
+    requires bearing { All (λ vertex. vertex < length edges.now) bearing.now }
+    requires first { first.load ≡ trial_load edges.now bearing.now first.keys.items }
+    ensures keys { IfOk result (λ best. best.keys.items ≡ least_by (trial_load edges.now bearing.now)
+        first.keys.items (tried_by_depth edges.now keys.now direction)) }
+    ensures load { IfOk result (λ best. best.load ≡ trial_load edges.now bearing.now best.keys.items) }
+{
+    let mut best = first;
+    for root in 0..edges.len().min(TRIED) {
+        let tried = keys_by_depth(alloc, edges, keys, direction, root)?;
+        let other = trial_of(alloc, edges, bearing, tried)?;
+        best = lesser(best, other);
+    }
+    Ok(best)
+}
+
+/// Returns keys with the trial load of the order that grows by them.
+fn trial_of(
+    alloc: Global,
+    edges: &Adjacency,
+    bearing: &[usize],
+    keys: Vec<VertexKey>,
+) -> Result<Trial, AllocError>
+    requires keys { length keys.items ≡ length edges.now }
+    requires lead { LeadToVertices edges.now }
+    requires symmetric { IsSymmetric edges.now }
+    requires bearing { All (λ vertex. vertex < length edges.now) bearing.now }
+    ensures keys { IfOk result (λ found. found.keys.items ≡ keys.items) }
+    ensures load { IfOk result (λ found. found.load ≡ trial_load edges.now bearing.now keys.items) }
+{
+    let load = trial_load(alloc, edges, bearing, &keys)?;
+    Ok(Trial { keys, load })
+}
+
+/// Returns the trial with the lesser load; `best` if they are equal.
+fn lesser(best: Trial, other: Trial) -> Trial
+    ensures { result ≡ if nat_lt other.load best.load then other else best }
+{
+    if other.load < best.load { other } else { best }
+}
+
+/// Returns keys by the order by depth from `root`.
+fn keys_by_depth(
+    alloc: Global,
+    edges: &Adjacency,
+    keys: &[VertexKey],
+    direction: Direction,
+    root: usize,
+) -> Result<Vec<VertexKey>, AllocError>
+    requires keys { length keys.now ≡ length edges.now }
+    requires lead { LeadToVertices edges.now }
+    requires root { root < length edges.now }
+    ensures { IfOk result (λ found. found.items ≡ keys_by_depth edges.now keys.now direction root) }
+{
+    let vertices = order_by_depth(alloc, edges, keys, direction, root)?;
+    keys_in(alloc, &vertices, edges.len())
+}
+
+/// Returns the keys of `count` vertices by a list: how many vertices stand before each there.
+fn keys_in(alloc: Global, vertices: &[usize], count: usize) -> Result<Vec<VertexKey>, AllocError>
+    ensures { IfOk result (λ keys. keys.items ≡ keys_in vertices.now count) }
+{
+    let mut keys = Vec::with_capacity(alloc, count)?;
+    for vertex in 0..count {
+        keys.push(VertexKey {
+            distance_class: 0,
+            distance: position_of(vertices, vertex),
+        })?;
+    }
+    Ok(keys)
+}
+
+/// Returns the position of a vertex in a list, or the length of the list if it lacks the vertex.
+fn position_of(vertices: &[usize], vertex: usize) -> usize
+    ensures { result ≡ position_of vertices.now vertex }
+{
+    for (index, other) in vertices.iter().enumerate() {
+        if *other == vertex {
+            return index;
+        }
+    }
+    vertices.len()
+}

@@ -1,0 +1,10 @@
+//! How evenly orders of vertices spread ways over the channels of a graph, and the one that does best.
+#![tactic(auto)]
+
+mod least_loaded;
+mod loads;
+mod trials;
+mod ways;
+
+pub use least_loaded::least_loaded_keys;
+pub use trials::trial_load;

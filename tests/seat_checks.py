@@ -1,0 +1,538 @@
+"""What `tests/test` tries of `seat` over ibsim: `ibsm serve` as manager of the subnet, beside itself and OpenSM."""
+import contextlib
+import json
+import os
+import pathlib
+import re
+import signal
+import subprocess
+import time
+
+import live_checks
+import paths
+import sample_fabrics
+
+SECONDS = 90
+# OpenSM with SM_Key 0 accepts a manager whose SM_Key is 0.
+OPENSM = "sm_key 0x0\nsminfo_polling_timeout 500\npolling_retry_number 3\n"
+# The TransactionID in a packet.
+NUMBER = slice(8, 16)
+# The number of a trap for a changed link: 128.
+LINK_CHANGED = b"\0\x80"
+
+
+def until(holds, seconds=SECONDS):
+    """Waits until `holds` is true, and returns the seconds that this took, or None."""
+    began = time.monotonic()
+    while time.monotonic() < began + seconds:
+        if holds():
+            return time.monotonic() - began
+        time.sleep(0.02)
+    return None
+
+
+class Seat:
+    """A process at an adapter of the fabric, and its output."""
+
+    def __init__(self, process, log, status):
+        self.process, self.log, self.status_file = process, log, status
+
+    def said(self):
+        return self.log.read_text(errors="replace")
+
+    def count(self, words):
+        return self.said().count(words)
+
+    def status(self):
+        return json.loads(self.status_file.read_text())
+
+    def children(self):
+        number = self.process.pid
+        return [int(it) for it in pathlib.Path(f"/proc/{number}/task/{number}/children").read_text().split()]
+
+    def settles(self, seconds=SECONDS):
+        """Returns whether its last sweep found what it wrote last."""
+
+        def holds():
+            now = self.status() if self.status_file.exists() else None
+            return now and now["writing"]["settled"]
+
+        return until(holds, seconds) is not None
+
+    def end(self, number=signal.SIGTERM):
+        self.process.send_signal(number)
+        return self.process.wait(10)
+
+
+@contextlib.contextmanager
+def seated(bench, host, *words, program=None, packets=None, bend=None):
+    """Runs a seat at an adapter, ended by its id. `packets` names a file that keeps its packets; `bend` says how to
+    bend them."""
+    bench.seats = getattr(bench, "seats", 0) + 1
+    log, status = (bench.path / f"seat{bench.seats}.{kind}" for kind in ("log", "json"))
+    environment = bench.environment() | {"SIM_HOST": host}
+    if packets or bend:
+        environment["LD_PRELOAD"] = f"{bench.room}/out/bent_replies.so:{bench.library}"
+        environment |= {"PACKETS": str(bench.path / packets)} if packets else {"BEND": bend}
+    words = [bench.room / "out/seat", "--ibsm", program or bench.program, "--status", status, "-v", *words]
+    with open(log, "w") as said:
+        how = {"cwd": bench.path, "env": environment, "stdin": subprocess.DEVNULL, "stderr": said}
+        process = subprocess.Popen([str(word) for word in words], **how)
+    try:
+        yield Seat(process, log, status)
+    finally:
+        if process.poll() is None:
+            process.terminate()
+            try:
+                process.wait(5)
+            except subprocess.TimeoutExpired:
+                process.kill()
+                process.wait()
+
+
+@contextlib.contextmanager
+def opensm(bench, host, priority, *words):
+    """Runs OpenSM with SM_Key 0 at another adapter, and yields it with its log."""
+    (bench.path / "opensm.conf").write_text(OPENSM)
+    log = bench.path / f"opensm-{host}.log"
+    log.unlink(missing_ok=True)
+    environment = bench.environment() | {"SIM_HOST": host}
+    words = ["-e", "-p", priority, "-d", "2", "-s", "2", "-D", "0x43", "-f", log, "-F", "opensm.conf", *words]
+    quiet = {"stdout": subprocess.DEVNULL, "stderr": subprocess.DEVNULL, "stdin": subprocess.DEVNULL}
+    words = ["opensm", *map(str, words)]
+    process = subprocess.Popen(words, cwd=bench.path, env=environment, **quiet)
+    try:
+        yield process, lambda: log.read_text(errors="replace") if log.exists() else ""
+    finally:
+        if process.poll() is None:
+            process.kill()
+            process.wait()
+
+
+def held(bench, name, host="H1"):
+    """Returns what the subnet holds. Checks that it is the plan of a recording and passes the audit."""
+    bench.record("-q", "-g", 1, "-T", name, f"{name}.reports", seat=host)
+    bench.texts(name, f"{name}.reports")
+    bench.check(bench.same(name, f"{name}.plan"), f"{name}: held is the plan of a recording, byte for byte")
+    status = bench.run(bench.program, "audit", name, f"{name}.reports")
+    bench.check(status == 0, f"{name}: and the audit passes it: {bench.printed.splitlines()[:1]}")
+    return (bench.path / name).read_text()
+
+
+def lids(text):
+    return [line for line in text.splitlines() if line.startswith("lid ")]
+
+
+def manager(bench, host="H1"):
+    """Returns GUID, priority and state of the master, as `sminfo` tells them."""
+    bench.run("sminfo", simulated=True, seat=host)
+    found = re.search(r"sm guid (0x\w+), .*priority (\d+) state (\d)", bench.printed)
+    return (int(found[1], 16), int(found[2]), int(found[3])) if found else bench.printed + bench.said
+
+
+def port_guid(bench, host):
+    return bench.fabric.guid(host) + 1
+
+
+def dry_run(bench):
+    """Checks that --dry-run prints what would be written, and writes nothing."""
+    words = [bench.room / "out/seat", "-q", "--ibsm", bench.program, "--dry-run"]
+    bench.check(bench.run(*words, simulated=True) == 0, f"--dry-run: status 0 {bench.said}")
+    (bench.path / "dry").write_text(bench.printed)
+    bench.record("-q", "-g", 1, "-T", "none", "none.reports")
+    bench.texts("none")
+    bench.check(bench.same("dry", "none.plan"), "it prints the plan of a recording")
+    bench.check("lid " not in (bench.path / "none").read_text(), "the subnet has no LIDs still")
+    bench.check(
+        bench.run(*words, "--lmc", 1, simulated=True) == 0 and " lmc 1\n" in bench.printed,
+        "with --lmc 1 that of this LMC",
+    )
+
+
+def wrong_usage(bench):
+    """Checks command lines that must not start."""
+    seat = bench.room / "out/seat"
+    bench.check(bench.run(seat, "more") == 2 and bench.run(seat, "-p", 16) == 2, "wrong usage: status 2")
+    bench.check(
+        bench.run(seat, "--version") == 0 and bench.run(seat, "--help") == 0,
+        "--help and --version: status 0",
+    )
+    helped = set(re.findall(r"(?<![\w-])--[a-z][a-z-]*", bench.printed))
+    page = set(re.findall(r"--[a-z][a-z-]*", (paths.TOOLS / "seat/seat.1").read_text().replace("\\", "")))
+    bench.check(
+        helped <= page | {"--help"} and len(helped) > 20,
+        f"options that the manual page lacks: {helped - page}",
+    )
+    bench.check(bench.run(seat) == 4, "no adapter: status 4")
+    status = bench.run(seat, "--ibsm", "nowhere", "-S", "nowhere.json", simulated=True)
+    bench.check(
+        status == 4 and "there is no program nowhere" in bench.said,
+        f"no program: status 4: {bench.said.strip()}",
+    )
+    (bench.path / "no.roots").write_text("x\n")
+    words = ["--ibsm", bench.program, "--routing", "spread", "--roots", "no.roots"]
+    bench.check(
+        bench.run(seat, *words, simulated=True) == 3 and "no.roots: line 1: syntax" in bench.said,
+        "wrong ROOTS: status 3",
+    )
+    bench.check(
+        bench.run(seat, "--ibsm", "/bin/true", simulated=True) == 4 and "ends soon" in bench.said,
+        "one that ends at once: status 4",
+    )
+
+
+def brought_up(bench):
+    """Checks that a subnet without a manager is brought up, and what other tools see of it."""
+    with seated(bench, "H1", "-p", 5) as seat:
+        bench.check(seat.settles(), f"SUBNET UP: {seat.said().splitlines()[-2:]}")
+        held(bench, "up")
+        bench.check(manager(bench) == (port_guid(bench, "H1"), 5, 3), f"sminfo: {manager(bench)}")
+        told = seat.status()
+        nodes = [sum(map(kind, bench.fabric.nodes)) for kind in (lambda node: True, bench.fabric.is_switch)]
+        counts = [told["writing"]["lids"], told["writing"]["switches"]]
+        bench.check(
+            told["state"] == "master" and counts == nodes and not told["silent"],
+            f"status: {told['state']}, {counts}",
+        )
+        before = told["writing"]["count"]
+        seat.process.send_signal(signal.SIGHUP)
+        bench.check(until(lambda: seat.count("a sweep is asked for")), "SIGHUP: a sweep")
+        time.sleep(2)
+        told = seat.status()
+        bench.check(told["writing"]["count"] == before == 1, "whose plan is what was written, and nothing is written")
+        ways(bench)
+        begun = seat.status()["sweep"]["count"]
+        os.kill(seat.children()[0], signal.SIGKILL)
+        bench.check(
+            until(lambda: seat.count("SUBNET UP") == 2) is not None,
+            "its process is killed: another one brings it up",
+        )
+        bench.check(until(lambda: seat.status()["sweep"]["count"] > begun + 1) is not None, "and sweeps once more")
+        bench.check(held(bench, "again") == (bench.path / "up").read_text(), "tables are as they were")
+        bench.check(seat.end() == 0 and "ended by signal 15" in seat.said(), "SIGTERM: status 0")
+
+
+def by_options(bench):
+    """Checks the options that are passed to the program: LMC, rule and roots."""
+    root = next(node for node in bench.fabric.nodes if bench.fabric.is_switch(node))
+    (bench.path / "roots").write_text(f"{bench.fabric.guid(root):x}\n")
+    words = ["--lmc", 2, "--routing", "spread", "--roots", "roots"]
+    with seated(bench, "H1", "-p", 5, *words) as seat:
+        bench.check(seat.settles(), "SUBNET UP")
+    bench.record("-q", "-g", 1, "-T", "spread", "spread.reports")
+    bench.run(bench.program, "plan", *words, "spread.reports")
+    bench.check(
+        bench.printed == (bench.path / "spread").read_text() and " lmc 2\n" in bench.printed,
+        "held is the plan of these options",
+    )
+
+
+def ways(bench):
+    """Checks that `ibtracert` finds a way between any two adapters, and that `ibroute` dumps the plan."""
+    plan = (bench.path / "up.plan").read_text()
+    lid_of = {guid: lid for lid, guid in re.findall(r"^lid (\d+) (\w+)/", plan, re.M)}
+    adapters = [node for node in bench.fabric.nodes if not bench.fabric.is_switch(node)]
+    hosts = [lid_of[f"{bench.fabric.guid(node):016x}"] for node in adapters]
+    arrive = 0
+    for one in hosts:
+        for other in hosts:
+            status = bench.run("ibtracert", one, other, simulated=True)
+            arrive += status == 0 and bench.printed.strip().splitlines()[-1].startswith("To ca")
+    bench.check(arrive == len(hosts) ** 2 > 0, f"ibtracert: {arrive} of {len(hosts) ** 2} pairs of adapters")
+    same = 0
+    for guid, block in re.findall(r"^switch (\w+) top \d+\nblock 0 (\w+)$", plan, re.M):
+        bench.run("ibroute", lid_of[guid], simulated=True)
+        told = {int(lid, 16): int(port) for lid, port in re.findall(r"^(0x\w+) (\d+) ", bench.printed, re.M)}
+        same += told == {lid: port for lid, port in enumerate(bytes.fromhex(block)) if port != 255}
+    bench.check(same == plan.count("switch ") > 0, f"ibroute dumps the plan at {same} switches")
+
+
+def between(bench, name):
+    """Returns a program that runs `ibsm`, and keeps its input and output in NAME.told and NAME.printed."""
+    script = bench.path / name
+    script.write_text(f'#!/bin/sh\ntee -a {name}.told | {bench.program} "$@" | tee -a {name}.printed\n')
+    script.chmod(0o755)
+    return script
+
+
+def lines_of(path, word):
+    lines = path.read_text().splitlines() if path.exists() else []
+    return [line.split()[1:] for line in lines if line.startswith(word + " ")]
+
+
+def packets_of(path, word):
+    return [bytes.fromhex(words[0]) for words in lines_of(path, word)]
+
+
+def between_switches(bench):
+    """Returns the two ends of a cable between switches."""
+    for end, peer in bench.fabric.peers.items():
+        if bench.fabric.is_switch(end[0]) and bench.fabric.is_switch(peer[0]):
+            return end, peer
+    raise ValueError("there is none")
+
+
+def without_number(packet):
+    return packet[: NUMBER.start] + packet[NUMBER.stop :]
+
+
+def faithful(bench):
+    """Checks from both sides that what was printed went out and what came was told, but for numbers of requests."""
+    script = between(bench, "all")
+    with seated(bench, "H1", "-p", 5, "-x", program=script, packets="all.packets") as seat:
+        bench.check(seat.settles(), "a subnet is brought up by Sets as they are printed")
+        seat.end()
+    printed = [bytes.fromhex(words[0]) for words in lines_of(bench.path / "all.printed", "send")]
+    told = [bytes.fromhex(words[0]) for words in lines_of(bench.path / "all.told", "packet")]
+    sent, came = (packets_of(bench.path / "all.packets", word) for word in ("out", "in"))
+    bench.check(
+        {without_number(it) for it in sent} == {without_number(it) for it in printed},
+        f"{len(sent)} packets: those that were printed",
+    )
+    numbers = [it[NUMBER][4:] for it in sent]
+    bench.check(len(set(numbers)) == len(numbers) == len(printed) > 50, "each has a number of its own")
+    bench.check(
+        {without_number(it) for it in told} <= {without_number(it) for it in came},
+        f"{len(told)} packets told: they came",
+    )
+    asked = {it[NUMBER]: it for it in printed}
+    bench.check(
+        all(asked[it[NUMBER]][16:24] == it[16:24] for it in told),
+        "each with the number of its request, as it was printed",
+    )
+    sets = [it for it in printed if it[3] == 2 and it[16:18] == b"\0\x15"]
+    bench.check(
+        sets != [] and not any(it[64 + 36] for it in sets),
+        "a Set of PortInfo has NeighborMTU 0, as the manager prints it",
+    )
+
+
+def what_ports_hold(bench, name):
+    """Returns the GidPrefixes of end ports, and the HOQLives of other ports of switches that are Active."""
+    held(bench, name)
+    infos = live_checks.port_infos(bench.path / f"{name}.reports").values()
+    prefixes = {info[8:16].hex() for info in infos if info[16:18] != b"\0\0"}
+    return prefixes, {info[42] & 31 for info in infos if info[16:18] == b"\0\0" and info[32] & 15 == 4}
+
+
+def repeated(bench, name):
+    """Checks that a lost request is sent again as a copy, up to twice, and that a request given up is told once."""
+    sent = [bytes.fromhex(words[0]) for words in lines_of(bench.path / f"{name}.packets", "out")]
+    copies = {}
+    for packet in sent:
+        copies.setdefault(packet[NUMBER], []).append(packet)
+    bench.check(
+        all(len(set(group)) == 1 and len(group) <= 3 for group in copies.values()),
+        "what is sent again is a copy",
+    )
+    bench.check(any(len(group) == 3 for group in copies.values()), "up to twice")
+    told = [words[0] for words in lines_of(bench.path / f"{name}.told", "timeout")]
+    printed = {words[0][16:32] for words in lines_of(bench.path / f"{name}.printed", "send")}
+    bench.check(
+        0 < len(told) == len(set(told)) and set(told) <= printed,
+        f"given up: {len(told)}, each told once, as it was printed",
+    )
+    answered = {words[0][16:32] for words in lines_of(bench.path / f"{name}.told", "packet")}
+    bench.check(not answered & set(told), "and none of these had an answer")
+
+
+def repressed(bench):
+    """Checks that each trap of a link was answered by TrapRepress: a copy of the packet but for its method."""
+    came, sent = (packets_of(bench.path / "traps.packets", word) for word in ("in", "out"))
+    traps = [packet for packet in came if packet[1] == 1 and packet[3] == 5 and packet[68:70] == LINK_CHANGED]
+    answers = [packet for packet in sent if packet[3] == 7 and packet[68:70] == LINK_CHANGED]
+    bench.check(
+        answers == [packet[:3] + b"\7" + packet[4:] for packet in traps] != [],
+        f"traps: {len(traps)}, each repressed",
+    )
+
+
+def bent(bench):
+    """Checks that hop pointer 1 in an answer over no hops becomes 0, and that a refused answer is given up."""
+    with seated(bench, "H1", "-p", 5, bend="pointer") as seat:
+        bench.check(
+            seat.settles() and seat.status()["packets"]["pointers_set"] > 0,
+            "hop pointer 1 over no hops: SUBNET UP",
+        )
+    with seated(bench, "H1", "-p", 5, "-s", 0, bend="status") as seat:
+        bench.check(
+            until(lambda: seat.count("NOT WHOLE") > 0) is not None,
+            "PortInfo of port 2 is refused: NOT WHOLE",
+        )
+        told = seat.status()
+        bench.check(
+            told["packets"]["refused"] > 0 and "Get 0x0015 modifier 2" in told["silent"][0],
+            f"it is named: {told['silent'][:1]}",
+        )
+
+
+def zeros(bench):
+    """Checks that ports hold zeros after Sets as they are printed."""
+    told = what_ports_hold(bench, "printed")
+    bench.check(told == ({"0" * 16}, {0}), f"printed: GidPrefix, HOQLife {told}")
+
+
+def images(bench):
+    """Checks that after Sets that carry what was read, ports hold that, or a value if they had none."""
+    with seated(bench, "H1", "-p", 5) as seat:
+        bench.check(seat.settles(), "SUBNET UP")
+        told = seat.status()["packets"]
+        bench.check(
+            told["sets_filled"] > 20 and not told["sets_not_filled"],
+            f"each Set had an image: {told['sets_filled']}",
+        )
+    told = what_ports_hold(bench, "carried")
+    bench.check(told == ({"fe80" + "0" * 12}, {16}), f"carried: GidPrefix, HOQLife {told}")
+
+
+def cable(bench):
+    """Checks that the subnet follows traps alone when a cable between switches is cut and plugged in again."""
+    with seated(bench, "H1", "-p", 5, "-s", 0, packets="traps.packets") as seat:
+        bench.check(seat.settles(), "SUBNET UP")
+        before = held(bench, "whole")
+        (name, port), (far, back) = between_switches(bench)
+        for command, count in ((f'Unlink "{name}"[{port}]', 2), (f'Link "{name}"[{port}] "{far}"[{back}]', 3)):
+            bench.tell(command)
+            bench.check(
+                until(lambda: seat.count("SUBNET UP") >= count) is not None,
+                f"{command.split()[0]}: {seat.said().splitlines()[-1]}",
+            )
+            bench.check(seat.settles(), "and once more swept")
+            after = held(bench, f"cable{count}")
+            bench.check(lids(before) == lids(after), "LIDs stay")
+            bench.check(
+                (before == after) == (count == 3),
+                "tables are others" if count == 2 else "tables are as at first",
+            )
+        seat.end()
+    repressed(bench)
+
+
+def losses(bench):
+    """Checks that with a fifth of a port's packets lost, unanswered requests are sent again, and no gap is written."""
+    (name, port), _ = between_switches(bench)
+    bench.tell(f'Error "{name}"[{port}] 20')
+    with seated(bench, "H1", "-p", 5, "-s", 1, "-r", 10) as seat:
+        bench.check(seat.settles(), f"where packets are lost: {seat.said().splitlines()[-1]}")
+        told = seat.status()["packets"]
+        bench.check(told["sent_again"] > 0, f"sent again: {told['sent_again']}")
+    bench.tell(f'Error "{name}"[{port}] 0')
+    held(bench, "lossy")
+    end = next(end for end in bench.fabric.ends() if end[1] and end[0] not in ("H1", "H2"))
+    near = bench.fabric.peers[end]
+    bench.tell(f'Error "{near[0]}"[{near[1]}] 100')
+    words = ["-p", 5, "-s", 1, "-r", 2]
+    with seated(bench, "H1", *words, program=between(bench, "lost"), packets="lost.packets") as seat:
+        bench.check(
+            until(lambda: seat.count("NOT WHOLE") > 1) is not None,
+            f"where an adapter is silent: {seat.said().splitlines()[-2:]}",
+        )
+        told = seat.status()
+        bench.check(
+            told["writing"]["count"] == 0 and len(told["silent"]) >= 1,
+            f"nothing is written: {told['silent']}",
+        )
+        seat.end()
+    repeated(bench, "lost")
+    with seated(bench, "H1", "-p", 5, "-s", 0, "-r", 1, "--partial") as seat:
+        bench.check(until(lambda: seat.count("SUBNET UP") > 0) is not None, "with --partial it is")
+    bench.tell(f'Error "{near[0]}"[{near[1]}] 0')
+
+
+def two_seats(bench):
+    """Checks two seats: one is master; it is killed, and the other takes over with its tables; a seat of higher
+    priority then gets them."""
+    timing = ["-s", 3, "-m", 200, "-r", 1]
+    hosts = [node for node in bench.fabric.nodes if not bench.fabric.is_switch(node)]
+    first, second = hosts[0], hosts[-1]
+    with seated(bench, first, "-p", 5, *timing) as one, seated(bench, second, "-p", 3, *timing) as other:
+        bench.check(one.settles(), "two at once: one is master")
+        bench.check(until(lambda: other.status()["state"] == "standby") is not None, "the other stands by")
+        before = held(bench, "two")
+        bench.check(manager(bench, second) == (port_guid(bench, first), 5, 3), f"sminfo: {manager(bench, second)}")
+        one.end(signal.SIGKILL)
+        took = until(lambda: "SUBNET UP" in other.said())
+        bench.check(
+            took is not None and other.settles(),
+            f"the master is killed: the other has taken over after {took:.1f} s",
+        )
+        bench.check(held(bench, "taken", second) == before, "tables are as they were")
+        with seated(bench, first, "-p", 8, *timing) as greater:
+            bench.check(
+                until(lambda: "SUBNET UP" in greater.said()) is not None,
+                f"a greater one comes: {greater.said().splitlines()[-1:]}",
+            )
+            bench.check(
+                until(lambda: other.status()["state"] == "standby") is not None,
+                f"HANDOVER: {other.said().splitlines()[-2:]}",
+            )
+            bench.check(
+                "HANDOVER to %016x, priority 8\n" % port_guid(bench, first) in other.said() and greater.settles(),
+                "it is the master",
+            )
+            bench.check(held(bench, "greater") == before, "tables are as they were")
+
+
+def killed_while_it_writes(bench):
+    """Checks that if the master is killed with part of its plan written, the other one finishes the plan."""
+    timing = ["-m", 200, "-r", 1]
+    with contextlib.ExitStack() as stack:
+        one = stack.enter_context(seated(bench, "H1", "-p", 5, "-s", 0, "-n", 1, *timing))
+        other = stack.enter_context(seated(bench, "H2", "-p", 3, "-s", 0, *timing))
+        bench.check(one.settles(), "SUBNET UP")
+        (name, port), _ = between_switches(bench)
+        filled = one.status()["packets"]["sets_filled"]
+        bench.tell(f'Unlink "{name}"[{port}]')
+        until(lambda: one.status()["packets"]["sets_filled"] > filled, 5)
+        one.end(signal.SIGKILL)
+        bench.check(
+            until(lambda: "SUBNET UP" in other.said()) is not None and other.settles(),
+            "the other takes over",
+        )
+        held(bench, "finished", "H2")
+    bench.tell(f'ReLink "{name}"[{port}]')
+
+
+def beside_opensm(bench):
+    """Checks a seat beside OpenSM with `sm_key 0`, first of higher and then of lower priority: the master is killed,
+    and the other takes over."""
+    timing = ["-s", 0, "-m", 300, "-r", 1]
+    with opensm(bench, "H2", 8, "-R", "updn") as (process, log):
+        bench.check(until(lambda: "SUBNET UP" in log()) is not None, "OpenSM, priority 8, is master")
+        bench.record("-q", "-g", 1, "-T", "theirs", "theirs.reports")
+        before = (bench.path / "theirs").read_text()
+        with seated(bench, "H1", "-p", 5, *timing) as seat:
+            bench.check(until(lambda: "STANDBY" in seat.said()) is not None, "a seat of priority 5 stands by")
+            time.sleep(2)
+            bench.record("-q", "-g", 1, "-T", "still", "still.reports")
+            bench.check(bench.same("theirs", "still") and manager(bench)[1:] == (8, 3), "tables are OpenSM's")
+            process.kill()
+            process.wait()
+            took = until(lambda: "SUBNET UP" in seat.said())
+            bench.check(took is not None and seat.settles(), f"OpenSM is killed: taken over after {took or -1:.1f} s")
+            bench.check(lids(held(bench, "ours")) == lids(before), "LIDs stay")
+    with seated(bench, "H1", "-p", 5, *timing) as seat:
+        bench.check(seat.settles(), "the seat is master")
+        before = held(bench, "master")
+        with opensm(bench, "H2", 3) as (process, log):
+            bench.check(until(lambda: "Entering STANDBY" in log()) is not None, "OpenSM, priority 3, stands by")
+            time.sleep(2)
+            bench.check(held(bench, "beside") == before and manager(bench)[1:] == (5, 3), "tables are the seat's")
+            seat.end(signal.SIGKILL)
+            bench.check(until(lambda: "SUBNET UP" in log()) is not None, "the seat is killed: OpenSM takes over")
+            bench.record("-q", "-g", 1, "-T", "theirs", "theirs.reports", seat="H2")
+            bench.check(lids((bench.path / "theirs").read_text()) == lids(before), "LIDs stay")
+
+
+# The fabrics, and the checks tried on each.
+SEATED = (
+    ("triangle", sample_fabrics.triangle, (dry_run, wrong_usage, brought_up, two_seats)),
+    ("another triangle", sample_fabrics.triangle, (faithful, zeros, bent)),
+    ("a third triangle", sample_fabrics.triangle, (images,)),
+    ("a ring of 6 switches", lambda: sample_fabrics.ring(6), (by_options,)),
+    (
+        "a torus of 9 switches",
+        lambda: sample_fabrics.torus(3, 3),
+        (brought_up, cable, losses, two_seats, killed_while_it_writes, beside_opensm),
+    ),
+)

@@ -1,0 +1,371 @@
+/*
+ * Packets between the port and the process that decides: byte for byte as printed and as received, except for the
+ * TransactionID of a request. Linux halves that, so requests are numbered here, and answers get theirs back.
+ *
+ * Printed packets wait in a queue for their turn in a window. Answers to others go out at once and outside it.
+ */
+#include <errno.h>
+#include <fcntl.h>
+#include <stdlib.h>
+#include <string.h>
+#include <unistd.h>
+#include <infiniband/umad.h>
+#include "seat.h"
+
+/* The kernel gives up a request first. SMInfo may take longer than the rest: a manager answers late while it plans. */
+enum { GRACE_MS = 500, SM_INFO_TIMES = 3, AT_ONCE = 64, CLOCK_SHIFT = 12 };
+
+struct packet {
+	uint16_t lid;
+	uint8_t bytes[PACKET];
+};
+
+/* A request that is out. */
+struct out {
+	struct packet packet;	/* as it goes out, except for its number */
+	uint8_t tid[8];		/* as the manager gave it */
+	uint32_t number;
+	int tries;
+	double deadline;
+};
+
+static int umad = -1, directed, routed, issm = -1;
+static struct packet *queue;
+static size_t head, tail, room;
+static struct out outs[MOST_OUT];
+static int out_count;
+static uint32_t next_number;
+static char silent[MOST_SILENT][SILENT_TEXT];
+static size_t silent_count;
+
+/* Becomes the port's subnet manager, of which there is one: the open file tells the kernel so. */
+static void be_manager(void)
+{
+	char path[256];
+
+	if (umad_get_issm_path(own_port.adapter, own_port.number, path, sizeof path))
+		end(NO_FABRIC, "%s has no file by which it says that a subnet manager is here", own_port.name);
+	issm = open(path, O_RDWR | O_NONBLOCK | O_CLOEXEC);
+	if (issm < 0)
+		end(NO_FABRIC, "cannot open %s: %s%s", path, strerror(errno),
+		    errno == EAGAIN || errno == EBUSY ? ": another subnet manager is at this port" : "");
+}
+
+void open_seat(void)
+{
+	long methods[16 / sizeof(long)] = { 1 << GET | 1 << SET | 1 << TRAP | 1 << TRAP_REPRESS };
+
+	umad = open_own_port(&own_port);
+	fcntl(umad_get_fd(umad), F_SETFD, FD_CLOEXEC);
+	directed = umad_register(umad, DIRECTED_CLASS, 1, 0, methods);
+	routed = umad_register(umad, LID_ROUTED_CLASS, 1, 0, methods);
+	if (directed < 0 || routed < 0)
+		end(NO_FABRIC, "cannot register as a subnet manager at %s: %s", own_port.name,
+		    strerror(directed < 0 ? -directed : -routed));
+	if (!seat.dry_run)
+		be_manager();
+	/* The numbers of an earlier process are not used again soon. */
+	next_number = (uint32_t) time(NULL) << CLOCK_SHIFT | 1;
+}
+
+void close_seat(void)
+{
+	if (issm >= 0)
+		close(issm);
+	umad_unregister(umad, directed);
+	umad_unregister(umad, routed);
+	umad_close_port(umad);
+}
+
+void let_pass(void)
+{
+	double until = now() + 2 * options.timeout_ms / 1000.0;
+	static uint8_t buffer[512];
+	int length;
+
+	while (now() < until && !is_ended()) {
+		length = PACKET;
+		umad_recv(umad, buffer, &length, options.timeout_ms);
+	}
+}
+
+static int is_answer(const uint8_t *packet)
+{
+	return packet[3] & RESPONSE || packet[3] == TRAP_REPRESS;
+}
+
+static int is_directed(const uint8_t *packet)
+{
+	return packet[1] == DIRECTED_CLASS;
+}
+
+/* Sends a packet. One that cannot be sent counts as lost. */
+static void send_out(const struct packet *packet, int timeout_ms)
+{
+	static uint8_t buffer[512];
+	int fault;
+
+	memset(buffer, 0, sizeof buffer);
+	umad_set_addr(buffer, is_directed(packet->bytes) ? NO_LID : packet->lid, 0, 0, 0);
+	memcpy(umad_get_mad(buffer), packet->bytes, PACKET);
+	carried.sent++;
+	errno = 0;
+	fault = umad_send(umad, is_directed(packet->bytes) ? directed : routed, buffer, PACKET, timeout_ms, 0);
+	if (fault == -ENODEV || errno == ENODEV)
+		end(NO_FABRIC, "%s is gone", own_port.name);
+	if (fault < 0 && options.verbose)
+		note("cannot send: %s", strerror(errno ? errno : -fault));
+}
+
+static int digit(int letter)
+{
+	return letter <= '9' ? letter - '0' : letter - 'a' + 10;
+}
+
+void queue_packet(const char *hex, unsigned lid)
+{
+	struct packet packet = { .lid = lid };
+	int i;
+
+	for (i = 0; i < PACKET; i++)
+		packet.bytes[i] = digit(hex[2 * i]) << 4 | digit(hex[2 * i + 1]);
+	if (is_answer(packet.bytes)) {
+		send_out(&packet, 0);
+		return;
+	}
+	if (tail == room && head > room / 2) {
+		memmove(queue, queue + head, (tail - head) * sizeof *queue);
+		tail -= head;
+		head = 0;
+	} else if (tail == room) {
+		room = room ? 2 * room : 1024;
+		queue = more(queue, room, sizeof *queue);
+	}
+	queue[tail++] = packet;
+}
+
+static void try_out(struct out *out)
+{
+	int timeout = options.timeout_ms * (get(out->packet.bytes + 16, 2) == SM_INFO ? SM_INFO_TIMES : 1);
+
+	out->deadline = now() + (timeout + GRACE_MS) / 1000.0;
+	carried.again += out->tries++ > 0;
+	send_out(&out->packet, timeout);
+}
+
+static void fill_window(void)
+{
+	while (head < tail && out_count < options.outstanding) {
+		struct out *out = &outs[out_count++];
+
+		out->packet = queue[head++];
+		out->tries = 0;
+		out->number = next_number++;
+		memcpy(out->tid, out->packet.bytes + 8, sizeof out->tid);
+		put(out->packet.bytes + 8, 8, out->number);	/* the kernel keeps the low half */
+		fill_set(out->packet.bytes);
+		try_out(out);
+	}
+	if (head == tail)
+		head = tail = 0;
+}
+
+int is_at_rest(void)
+{
+	return head == tail && !out_count;
+}
+
+void drop_all(void)
+{
+	head = tail = 0;
+	out_count = 0;
+}
+
+void begin_silent(void)
+{
+	silent_count = 0;
+}
+
+size_t silent_requests(void)
+{
+	return silent_count;
+}
+
+const char *silent_request(size_t place)
+{
+	return silent[place];
+}
+
+/* Notes a silent path, in the form that smpquery -D takes. */
+static void note_silent(const uint8_t *packet)
+{
+	char *text = silent[silent_count];
+	int i, length = 0;
+
+	if (silent_count == MOST_SILENT)
+		return;
+	silent_count++;
+	length = snprintf(text, SILENT_TEXT, is_directed(packet) ? "path 0" : "by LID");
+	for (i = 1; is_directed(packet) && i <= packet[7] && length < SILENT_TEXT - 48; i++)
+		length += snprintf(text + length, SILENT_TEXT - length, ",%u", packet[128 + i]);
+	snprintf(text + length, SILENT_TEXT - length, " %s 0x%04x modifier %u", packet[3] == SET ? "Set" : "Get",
+		 (unsigned) get(packet + 16, 2), (unsigned) get(packet + 20, 4));
+}
+
+/* Tells the manager that a request has no answer. A later answer finds no entry. */
+static void give_up(int place)
+{
+	unsigned long long tid = get(outs[place].tid, 8);
+
+	note_silent(outs[place].packet.bytes);
+	outs[place] = outs[--out_count];
+	carried.given_up++;
+	heard_news();
+	tell("timeout %016llx", tid);
+}
+
+static void no_answer(int place)
+{
+	if (outs[place].tries < options.tries)
+		try_out(&outs[place]);
+	else
+		give_up(place);
+}
+
+static int place_of(const uint8_t *packet)
+{
+	int i;
+
+	for (i = 0; i < out_count; i++)
+		if (outs[i].number == (uint32_t) get(packet + 8, 8))
+			return i;
+	return -1;
+}
+
+/* Returns what the process says to a received packet. */
+static const char *give(const uint8_t *packet, unsigned lid)
+{
+	static const char digits[] = "0123456789abcdef";
+	char hex[2 * PACKET + 1];
+	int i;
+
+	for (i = 0; i < PACKET; i++) {
+		hex[2 * i] = digits[packet[i] >> 4];
+		hex[2 * i + 1] = digits[packet[i] & 15];
+	}
+	hex[2 * PACKET] = 0;
+	heard_news();
+	return tell("packet %s from %u", hex, is_directed(packet) ? NO_LID : lid);
+}
+
+static int answers(const uint8_t *packet, const uint8_t *request)
+{
+	return packet[1] == request[1] && get(packet + 16, 2) == get(request + 16, 2) &&
+	       get(packet + 20, 4) == get(request + 20, 4);
+}
+
+/* Ends if the node tells another GUID or port than the manager was told. */
+static void check_own_port(const uint8_t *packet)
+{
+	const uint8_t *info = packet + ATTRIBUTE;
+
+	if (!is_directed(packet) || packet[7] || get(packet + 16, 2) != NODE_INFO || get(packet + 4, 2) & 0x7fff)
+		return;
+	if (get(info + 20, 8) != own_port.guid || info[36] != own_port.number)
+		end(NO_FABRIC, "%s has GUID %016llx, and its node tells %016llx and port %u", own_port.name,
+		    (unsigned long long) own_port.guid, (unsigned long long) get(info + 20, 8), info[36]);
+}
+
+/* Passes an answer to the manager. A refused one, as with a status other than 0, gives up its request. */
+static void on_answer(uint8_t *packet, unsigned lid)
+{
+	int place = place_of(packet);
+	struct out out;
+
+	if (place >= 0)
+		out = outs[place];
+	if (place < 0 || !answers(packet, out.packet.bytes)) {
+		carried.late++;
+		return;
+	}
+	carried.answered++;
+	/* Linux leaves 1 here if a path has no hops; the standard has 0. */
+	if (is_directed(packet) && packet[7] == 0 && packet[6] == 1) {
+		packet[6] = 0;
+		carried.pointers++;
+	}
+	memcpy(packet + 8, out.tid, sizeof out.tid);
+	check_own_port(packet);
+	keep_image(packet);
+	outs[place] = outs[--out_count];
+	if (strncmp(give(packet, lid), "refused ", 8))
+		return;
+	carried.refused++;
+	note_silent(out.packet.bytes);
+	tell("timeout %016llx", (unsigned long long) get(out.tid, 8));
+}
+
+/* Tells of a trap here, since the manager knows none. */
+static void on_trap(const uint8_t *packet, unsigned lid)
+{
+	struct packet answer = { .lid = lid };
+
+	carried.traps++;
+	if (!heard_trap(get(packet + ATTRIBUTE + 4, 2), lid) || is_directed(packet))
+		return;
+	memcpy(answer.bytes, packet, PACKET);
+	answer.bytes[3] = TRAP_REPRESS;
+	carried.repressed++;
+	send_out(&answer, 0);
+}
+
+/* Takes a packet, or an unanswered request that the kernel returns with a status. */
+static void sort_in(uint8_t *packet, unsigned lid, int status)
+{
+	int place;
+
+	if (status) {
+		place = place_of(packet);
+		if (place >= 0)
+			no_answer(place);
+	} else if (packet[3] & RESPONSE) {
+		on_answer(packet, lid);
+	} else if (packet[3] == TRAP) {
+		on_trap(packet, lid);
+	} else if (packet[3] != TRAP_REPRESS) {
+		carried.requests++;
+		give(packet, lid);
+	}
+}
+
+/* Receives a packet, and returns whether there was one. */
+static int receive(int wait_ms)
+{
+	static uint8_t buffer[512];
+	int length = PACKET, fault;
+
+	errno = 0;
+	fault = umad_recv(umad, buffer, &length, wait_ms);
+	if (fault >= 0) {
+		sort_in(umad_get_mad(buffer), ntohs(umad_get_mad_addr(buffer)->lid), umad_status(buffer));
+		return 1;
+	}
+	fault = errno ? errno : -fault;
+	if (fault != EINTR && fault != ETIMEDOUT && fault != EWOULDBLOCK && fault != EAGAIN)
+		end(NO_FABRIC, "cannot receive: %s", strerror(fault));
+	return 0;
+}
+
+void carry(int wait_ms)
+{
+	int i, count;
+
+	fill_window();
+	/* Takes all that is there before anything counts as late: the process may have planned for long. */
+	for (count = 0; count < AT_ONCE && receive(count ? 0 : wait_ms); count++)
+		fill_window();
+	for (i = 0; count < AT_ONCE && i < out_count; i++)
+		if (outs[i].deadline < now())
+			no_answer(i--);
+	fill_window();
+}

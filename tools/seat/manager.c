@@ -1,0 +1,200 @@
+/* The process of `ibsm serve` that decides: a line is told, and its answer is read up to the line of a dot. */
+#include <errno.h>
+#include <signal.h>
+#include <stdarg.h>
+#include <stdlib.h>
+#include <string.h>
+#include <sys/wait.h>
+#include <unistd.h>
+#include "seat.h"
+
+enum { LONGEST_LINE = 600, MOST_WORDS = 16, USAGE_STATUS = 2, REFUSED_STATUS = 3, NOT_FOUND = 127 };
+
+static pid_t process;
+static int to = -1, from = -1, is_gone = 1;
+static char *answer, *input;
+static size_t answer_length, answer_room, input_begin, input_end, input_room;
+
+int manager_is_gone(void)
+{
+	siginfo_t told = { 0 };
+
+	if (!is_gone && !waitid(P_PID, process, &told, WEXITED | WNOHANG | WNOWAIT))
+		is_gone = told.si_pid != 0;
+	return is_gone;
+}
+
+/* Runs the program in the child, without the library loaded before libumad. */
+static void become(char **words, const int *in, const int *out)
+{
+	unsetenv("LD_PRELOAD");
+	dup2(in[0], STDIN_FILENO);
+	dup2(out[1], STDOUT_FILENO);
+	close(in[0]);
+	close(in[1]);
+	close(out[0]);
+	close(out[1]);
+	signal(SIGPIPE, SIG_DFL);
+	signal(SIGHUP, SIG_IGN);	/* it ends with its input */
+	signal(SIGINT, SIG_IGN);
+	execvp(*words, words);
+	fprintf(stderr, "%s: cannot run %s: %s\n", tool, *words, strerror(errno));
+	_exit(NOT_FOUND);
+}
+
+static void add_option(char **words, int *count, char *name, char *value)
+{
+	if (!value)
+		return;
+	words[(*count)++] = name;
+	words[(*count)++] = value;
+}
+
+void start_manager(void)
+{
+	char guid[17], port[12], priority[12], *words[MOST_WORDS] = { seat.program, "serve" };
+	int in[2], out[2], count = 2;
+
+	snprintf(guid, sizeof guid, "%016llx", (unsigned long long) own_port.guid);
+	snprintf(port, sizeof port, "%d", own_port.number);
+	snprintf(priority, sizeof priority, "%d", seat.priority);
+	add_option(words, &count, "--lmc", seat.lmc);
+	add_option(words, &count, "--routing", seat.routing);
+	add_option(words, &count, "--roots", seat.roots);
+	add_option(words, &count, "--order", seat.order);
+	words[count++] = guid;
+	words[count++] = port;
+	words[count++] = priority;
+	if (pipe(in) || pipe(out))
+		end(NO_FABRIC, "cannot make a pipe: %s", strerror(errno));
+	process = fork();
+	if (process < 0)
+		end(NO_FABRIC, "cannot start %s: %s", seat.program, strerror(errno));
+	if (!process)
+		become(words, in, out);
+	close(in[0]);
+	close(out[1]);
+	to = in[1];
+	from = out[0];
+	input_begin = input_end = 0;
+	is_gone = 0;
+}
+
+/* Closes the process's input, which ends it, and waits for that. */
+void stop_manager(void)
+{
+	int status = 0;
+
+	if (!process)
+		return;
+	close(to);
+	close(from);
+	is_gone = 1;
+	if (is_ended())
+		kill(process, SIGTERM);
+	while (waitpid(process, &status, 0) < 0 && errno == EINTR)
+		;
+	process = 0;
+	if (WIFEXITED(status) && (WEXITSTATUS(status) == USAGE_STATUS || WEXITSTATUS(status) == REFUSED_STATUS))
+		end(WEXITSTATUS(status), "%s serve takes none of these options, or not these files", seat.program);
+	if (WIFEXITED(status) && WEXITSTATUS(status) == NOT_FOUND)
+		end(NO_FABRIC, "there is no program %s; --ibsm names one", seat.program);
+	if (!is_ended())
+		note("the process of %s serve has ended with %s %d", seat.program,
+		     WIFSIGNALED(status) ? "signal" : "status",
+		     WIFSIGNALED(status) ? WTERMSIG(status) : WEXITSTATUS(status));
+}
+
+static void write_line(const char *line, size_t length)
+{
+	ssize_t count;
+
+	while (length && !is_gone) {
+		count = write(to, line, length);
+		if (count < 0 && errno == EINTR && !is_ended())
+			continue;
+		if (count < 0) {
+			is_gone = 1;
+			return;
+		}
+		line += count;
+		length -= count;
+	}
+}
+
+/* Returns the next line that the process printed, ended by 0, or NULL if it is gone. */
+static char *read_line(void)
+{
+	size_t seen = input_begin;
+	ssize_t count;
+	char *end;
+
+	for (;;) {
+		end = input_end > seen ? memchr(input + seen, '\n', input_end - seen) : NULL;
+		if (end) {
+			char *line = input + input_begin;
+
+			*end = 0;
+			input_begin = end - input + 1;
+			return line;
+		}
+		memmove(input, input + input_begin, input_end - input_begin);
+		input_end -= input_begin;
+		input_begin = 0;
+		seen = input_end;
+		if (input_room - input_end < LONGEST_LINE) {
+			input_room = input_room ? 2 * input_room : 1 << 16;
+			input = more(input, input_room, 1);
+		}
+		count = read(from, input + input_end, input_room - input_end);
+		if (count < 0 && errno == EINTR && !is_ended())
+			continue;
+		if (count <= 0)
+			return NULL;
+		input_end += count;
+	}
+}
+
+static void take_line(const char *line)
+{
+	size_t length = strlen(line);
+	const char *lid;
+
+	if (!strncmp(line, "send ", 5)) {
+		lid = strstr(line, " to ");
+		queue_packet(line + 5, lid ? strtoul(lid + 4, NULL, 10) : NO_LID);
+		return;
+	}
+	if (answer_room < answer_length + length + 2) {
+		answer_room = 2 * (answer_length + length + 2);
+		answer = more(answer, answer_room, 1);
+	}
+	memcpy(answer + answer_length, line, length);
+	answer_length += length;
+	answer[answer_length++] = '\n';
+	answer[answer_length] = 0;
+}
+
+const char *tell(const char *format, ...)
+{
+	char line[LONGEST_LINE + 2], *told;
+	va_list values;
+	int length;
+
+	va_start(values, format);
+	length = vsnprintf(line, sizeof line - 1, format, values);
+	va_end(values);
+	line[length++] = '\n';
+	answer_length = 0;
+	write_line(line, length);
+	while (!is_gone) {
+		told = read_line();
+		if (!told)
+			is_gone = 1;
+		else if (!strcmp(told, "."))
+			break;
+		else
+			take_line(told);
+	}
+	return answer_length ? answer : "";
+}

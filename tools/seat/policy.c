@@ -1,0 +1,365 @@
+/*
+ * When to tell what: a sweep if there is news or it is time for one, a writing after a sweep that has every answer and
+ * whose plan is not what was written, polls while another manager is the master.
+ *
+ * Nothing is told while a packet is queued or out.
+ */
+#include <stdlib.h>
+#include <string.h>
+#include <unistd.h>
+#include "seat.h"
+
+enum phase { RESTS, SWEEPS, WRITES, HANDS_OVER };
+enum { LINK_STATE_CHANGED = 128, CAPABILITIES_CHANGED = 144, MOST_REPEATS = 3, MOST_WAIT = 10 };
+#define SHORTEST 1.0	/* seconds from the beginning of one sweep to that of the next */
+
+static enum phase phase;
+static struct standing status;
+static char state[16], *kept_plan, *managers;
+static int has_news, is_wanted, repeats, faults, gaps;
+static unsigned left_not_active, polled;
+static uint32_t newest;
+static double earliest, next_sweep, next_poll, sweep_begun, began;
+
+void heard_news(void)
+{
+	has_news = 1;
+}
+
+/* Asks for a sweep. What failed before may succeed now, so only the shortest time is waited. */
+static void want_sweep(void)
+{
+	is_wanted = 1;
+	faults = 0;
+	earliest = sweep_begun + SHORTEST;
+}
+
+void heard_hangup(void)
+{
+	note("a sweep is asked for");
+	want_sweep();
+}
+
+int heard_trap(unsigned number, unsigned lid)
+{
+	if (options.verbose)
+		note("trap %u from LID %u", number, lid);
+	if (number == LINK_STATE_CHANGED || number == CAPABILITIES_CHANGED)
+		want_sweep();
+	return !strcmp(state, "master");
+}
+
+static int is_state(const char *word)
+{
+	return !strcmp(state, word);
+}
+
+static void keep_text(char **kept, const char *text)
+{
+	free(*kept);
+	*kept = text ? strdup(text) : NULL;
+	if (text && !*kept)
+		end(NO_MEMORY, "out of memory");
+}
+
+static size_t lines_with(const char *text, const char *word)
+{
+	size_t count = 0, length = strlen(word);
+
+	for (; text && *text; text = strchr(text, '\n') + 1)
+		count += !strncmp(text, word, length);
+	return count;
+}
+
+/* Forgets what was written: others may have changed it while this manager was not the master. */
+static void forget_written(void)
+{
+	keep_text(&kept_plan, NULL);
+	status.is_settled = 0;
+	repeats = 0;
+	left_not_active = 0;
+}
+
+static void look_at_state(void)
+{
+	char word[sizeof state] = "";
+	const char *upper;
+
+	sscanf(tell("state"), "state %15s", word);
+	if (!*word || !strcmp(word, state))
+		return;
+	upper = !strcmp(word, "master") ? "MASTER" : !strcmp(word, "standby") ? "STANDBY" :
+		!strcmp(word, "discovering") ? "DISCOVERING" : "NOT ACTIVE";
+	note("%s", upper);
+	strcpy(state, word);
+	forget_written();
+	next_poll = now();
+	is_wanted |= is_state("master") && phase == RESTS;
+	status.state_since = time(NULL);
+	write_status(&status);
+}
+
+static void begin_sweep(void)
+{
+	uint32_t clock = time(NULL);
+
+	newest = clock > newest ? clock : newest + 1;
+	is_wanted = 0;
+	sweep_begun = began = now();
+	earliest = began + SHORTEST;
+	status.generation = newest;
+	status.sweep_began = time(NULL);
+	begin_silent();
+	forget_images();
+	tell("floor %u", newest);
+	tell("sweep");
+	phase = SWEEPS;
+	status.sweeps++;
+}
+
+/* Waits before going on, the longer the more failures came in a row. */
+static void wait_longer(void)
+{
+	double wait = faults < 4 ? 1 << faults : MOST_WAIT;
+
+	faults++;
+	is_wanted = 1;
+	earliest = now() + wait;
+}
+
+static void read_progress(void)
+{
+	status.unanswered = status.too_far = status.silent = 0;
+	status.is_whole = sscanf(tell("progress"), "progress done unanswered %lu toofar %lu", &status.unanswered,
+				 &status.too_far) == 2;
+	sscanf(tell("silent"), "silent %lu", &status.silent);
+	status.is_whole &= status.unanswered == status.silent && !status.too_far;
+	status.sweep_ended = time(NULL);
+	keep_text(&managers, tell("managers"));
+	status.managers = managers;
+}
+
+/* Returns the LID that a standby polls: that of the master seen by the sweep, or 0 if it saw none with a LID. */
+static unsigned master_lid(void)
+{
+	unsigned long long node;
+	unsigned port, lid = 0;
+	char word[64], wanted[64];
+	const char *line, *facts;
+
+	for (line = managers; *line; line = strchr(line, '\n') + 1)
+		if (sscanf(line, "manager %llx/%u guid %*x priority %*u state %63s", &node, &port, word) == 3 &&
+		    !strcmp(word, "master"))
+			break;
+	if (!*line)
+		return 0;
+	snprintf(wanted, sizeof wanted, "\nclaim %016llx/%u ", node, port);
+	facts = strstr(tell("facts"), wanted);
+	if (facts)
+		lid = strtoul(facts + strlen(wanted), NULL, 10);
+	return lid;
+}
+
+static void say_silent(void)
+{
+	size_t i;
+
+	note("NOT WHOLE: %lu requests without an answer (%lu of other managers), %lu ports over %d hops away",
+	     status.unanswered, status.silent, status.too_far, MOST_HOPS);
+	for (i = 0; i < silent_requests() && (i < 5 || options.verbose); i++)
+		note("no answer: %s", silent_request(i));
+}
+
+static void write_plan(const char *plan)
+{
+	const char *answer;
+
+	keep_text(&kept_plan, plan);
+	status.is_settled = 0;
+	status.lids = lines_with(plan, "lid ");
+	status.switches = lines_with(plan, "switch ");
+	began = now();
+	answer = tell("write");
+	if (!strncmp(answer, "refused ", 8)) {
+		note("NOT WRITTEN: the manager refuses: %.40s", answer + 8);
+		forget_written();
+		wait_longer();
+		phase = RESTS;
+		return;
+	}
+	status.writings++;
+	phase = WRITES;
+}
+
+/* Hands the subnet, once written, over to a manager that wins over this one. */
+static void hand_over(void)
+{
+	if (strncmp(tell("handover"), "refused ", 8))
+		phase = HANDS_OVER;
+}
+
+/* Settles, since nothing is left to write. */
+static void settle(void)
+{
+	if (ports_not_active() > left_not_active)
+		note("%u ports stay in Initialize or Armed", ports_not_active());
+	left_not_active = ports_not_active();
+	repeats = 0;
+	faults = 0;
+	status.is_settled = 1;
+	phase = RESTS;
+	hand_over();
+}
+
+/* Writes the plan, unless this process wrote it last and no ports have come up anew. */
+static void judge_plan(void)
+{
+	const char *plan = tell("plan");
+	int is_same = kept_plan && !strcmp(plan, kept_plan);
+
+	if (!strncmp(plan, "refused ", 8)) {
+		note("NOT WRITTEN: there is no plan: %.40s", plan + 8);
+		wait_longer();
+	} else if (is_same && (ports_not_active() <= left_not_active || repeats == MOST_REPEATS)) {
+		settle();
+	} else {
+		repeats = is_same ? repeats + 1 : 0;
+		write_plan(plan);
+	}
+}
+
+static void end_dry_run(void)
+{
+	const char *plan = tell("plan");
+
+	if (manager_is_gone())
+		return;
+	fputs(plan, stdout);
+	if (fflush(stdout))
+		end(NO_FABRIC, "cannot write standard output");
+	close_seat();
+	if (!status.is_whole)
+		end(NOT_WHOLE, "NOT WHOLE: %lu requests without an answer", status.unanswered);
+	_exit(WHOLE);
+}
+
+static void after_sweep(void)
+{
+	phase = RESTS;
+	read_progress();
+	if (manager_is_gone())	/* a new process begins anew */
+		return;
+	if (options.verbose)
+		note("swept in %.3f s, %s", now() - began, status.is_whole ? "all is answered" : "not whole");
+	if (seat.dry_run) {
+		end_dry_run();
+		return;
+	}
+	next_sweep = now() + seat.sweep_seconds;
+	polled = is_state("standby") ? master_lid() : 0;
+	gaps = status.is_whole ? 0 : gaps + 1;
+	if (gaps) {
+		say_silent();
+		wait_longer();
+		if (!seat.partial || gaps <= MOST_REPEATS)
+			return;
+		note("what is known is planned all the same, since --partial says so");
+	}
+	if (is_state("master"))
+		judge_plan();
+	else
+		faults = 0;
+}
+
+/* Asks for another sweep after a writing, to see what moved meanwhile. */
+static void after_writing(void)
+{
+	phase = RESTS;
+	status.is_written = strstr(tell("written"), "yes") != NULL;
+	if (manager_is_gone())
+		return;
+	status.written_at = time(NULL);
+	if (!status.is_written) {
+		note("NOT WRITTEN: some of it was not answered");
+		forget_written();
+		wait_longer();
+		return;
+	}
+	note("SUBNET UP: %zu LIDs, %zu switches, written in %.3f s", status.lids, status.switches, now() - began);
+	is_wanted = 1;
+	hand_over();
+}
+
+/* Notes the manager that got the subnet: the greatest that the sweep saw. */
+static void after_handover(void)
+{
+	unsigned long long guid, greatest = 0;
+	unsigned priority, most = 0;
+	char word[sizeof state];
+	const char *line;
+
+	phase = RESTS;
+	for (line = managers; *line; line = strchr(line, '\n') + 1)
+		if (sscanf(line, "manager %*s guid %llx priority %u state %15s", &guid, &priority, word) == 3 &&
+		    (!strcmp(word, "standby") || !strcmp(word, "master")) &&
+		    (!greatest || priority > most || (priority == most && guid < greatest))) {
+			greatest = guid;
+			most = priority;
+		}
+	note("HANDOVER to %016llx, priority %u%s", greatest, most,
+	     is_state("master") ? ", which does not take over" : "");
+}
+
+static void rest(void)
+{
+	double time = now();
+
+	if (is_state("not-active"))
+		return;
+	if (is_state("standby") && polled && time >= next_poll) {
+		next_poll = time + seat.poll_ms / 1000.0;
+		tell("poll %u", polled);
+		heard_news();
+		return;
+	}
+	is_wanted |= is_state("discovering") || (is_state("standby") && !polled);
+	is_wanted |= is_state("master") && seat.sweep_seconds && time >= next_sweep;
+	if (is_wanted && time >= earliest)
+		begin_sweep();
+}
+
+void begin_policy(void)
+{
+	phase = RESTS;
+	*state = 0;
+	status.state = state;
+	forget_written();
+	is_wanted = 1;
+	has_news = 1;
+	polled = 0;
+	if (options.after && !newest)
+		newest = newest_in(options.after);
+}
+
+void policy(void)
+{
+	enum phase was = phase;
+
+	if (!is_at_rest())
+		return;
+	if (has_news || phase != RESTS)
+		look_at_state();
+	has_news = 0;
+	if (manager_is_gone())
+		return;
+	if (phase == SWEEPS)
+		after_sweep();
+	else if (phase == WRITES)
+		after_writing();
+	else if (phase == HANDS_OVER)
+		after_handover();
+	else
+		rest();
+	if (was != RESTS)
+		write_status(&status);
+}

@@ -1,0 +1,186 @@
+/*
+ * seat: the port, the clock and the policy of a subnet manager whose decisions are those of `ibsm serve`.
+ *
+ * It carries packets between the two, byte for byte, and says when to sweep, to write and to poll. It is no subnet
+ * administration. The manual page, seat.1, has the options and exit statuses.
+ */
+#include <errno.h>
+#include <getopt.h>
+#include <signal.h>
+#include <stdarg.h>
+#include <stdlib.h>
+#include <string.h>
+#include <unistd.h>
+#include "seat.h"
+
+enum { WAIT_MS = 20, MOST_STARTS = 3 };
+#define SHORT_LIFE 5.0	/* seconds; a process that ends sooner will do so again */
+
+const char *tool = "seat";
+struct seat_options seat = { .program = "ibsm", .sweep_seconds = 10, .poll_ms = 1000 };
+struct own_port own_port;
+struct carried carried;
+static volatile sig_atomic_t ended_by, hung_up;
+
+static const char usage_text[] =
+" [OPTION]...\n"
+"Runs `ibsm serve` as subnet manager at a port: carries its packets, and says when it sweeps, writes and polls.\n"
+"It is no subnet administration: IPoIB and rdma_cm need OpenSM or another one.\n"
+"\n"
+"  -p, --priority N       of this manager, 0 to 15 (0)\n"
+"  -l, --lmc N            an adapter's port has 2^N LIDs, 0 to 7 (0)\n"
+"  -R, --routing RULE     the rule of routing, as of `ibsm plan` (updown)\n"
+"  -f, --roots FILE       with spread: the switches from which it counts distances\n"
+"  -o, --order FILE       with spread: the order by which it grows\n"
+"  -i, --ibsm PROGRAM     the program (ibsm)\n"
+"  -s, --sweep S          as master, a sweep each S seconds, 0 for none but by traps and SIGHUP (10)\n"
+"  -m, --poll MS          as standby, the master is polled each MS milliseconds (1000)\n"
+"  -a, --after FILE       number sweeps above the newest of this recording or store, and by the clock\n"
+"  -d, --dry-run          sweep once, print the plan, and write nothing\n"
+"  -S, --status FILE      what it is at, as JSON\n"
+"  -x, --as-printed       send Sets as the program prints them, with 0 in all that it does not set\n"
+"      --partial          write also where requests have no answer, after the fourth such sweep in a row\n"
+"  -C, --ca NAME          the adapter, as mlx5_0; else the first with a port that is up\n"
+"  -P, --port N           its port\n"
+"  -n, --outstanding N    requests that are out at a time, 1 to 64 (16)\n"
+"  -t, --timeout MS       what an answer may take, in milliseconds (200); three times that of another manager\n"
+"  -r, --retries N        how often a request is sent again, 0 to 100 (3)\n"
+"  -v, --verbose          also say each sweep and trap\n"
+"  -h, --help             this text\n"
+"  -V, --version          the version\n"
+"\n"
+"It goes on until SIGTERM or SIGINT. SIGHUP makes it sweep.\n"
+"\n"
+"The exit status is 0 where a signal ended it, or a dry run had every answer; 1 where a dry run had not; 2 where\n"
+"the command line is wrong; 3 where the program refuses a file; 4 without a subnet, the program, or the right to be\n"
+"its manager; 5 without memory.\n";
+
+int is_ended(void)
+{
+	return ended_by != 0;
+}
+
+void note(const char *format, ...)
+{
+	struct timespec time;
+	char text[400], stamp[16];
+	struct tm parts;
+	va_list values;
+
+	if (options.quiet)
+		return;
+	va_start(values, format);
+	vsnprintf(text, sizeof text, format, values);
+	va_end(values);
+	clock_gettime(CLOCK_REALTIME, &time);
+	strftime(stamp, sizeof stamp, "%H:%M:%S", localtime_r(&time.tv_sec, &parts));
+	say("%s.%03ld %s", stamp, time.tv_nsec / 1000000, text);
+}
+
+static void on_signal(int number)
+{
+	if (number == SIGHUP)
+		hung_up = 1;
+	else
+		ended_by = number;
+}
+
+static void catch_signals(void)
+{
+	struct sigaction action = { .sa_handler = on_signal };	/* no SA_RESTART: waiting calls are interrupted */
+
+	sigaction(SIGINT, &action, NULL);
+	sigaction(SIGTERM, &action, NULL);
+	sigaction(SIGHUP, &action, NULL);
+	signal(SIGPIPE, SIG_IGN);
+	signal(SIGXFSZ, SIG_IGN);
+}
+
+enum { PARTIAL = 256 };
+
+static const struct option words[] = {
+	{ "priority", 1, 0, 'p' }, { "lmc", 1, 0, 'l' }, { "routing", 1, 0, 'R' }, { "roots", 1, 0, 'f' },
+	{ "order", 1, 0, 'o' }, { "ibsm", 1, 0, 'i' }, { "sweep", 1, 0, 's' }, { "poll", 1, 0, 'm' },
+	{ "after", 1, 0, 'a' }, { "dry-run", 0, 0, 'd' }, { "status", 1, 0, 'S' }, { "as-printed", 0, 0, 'x' },
+	{ "partial", 0, 0, PARTIAL }, { "ca", 1, 0, 'C' },
+	{ "port", 1, 0, 'P' }, { "outstanding", 1, 0, 'n' }, { "timeout", 1, 0, 't' }, { "retries", 1, 0, 'r' },
+	{ "quiet", 0, 0, 'q' }, { "verbose", 0, 0, 'v' }, { "help", 0, 0, 'h' }, { "version", 0, 0, 'V' }, { 0 }
+};
+
+static void take_option(int letter)
+{
+	if (take_shared_option(letter, optarg))
+		return;
+	switch (letter) {
+	case 'p': seat.priority = number_in(optarg, "--priority", 0, 15); break;
+	case 'l': seat.lmc = optarg; break;
+	case 'R': seat.routing = optarg; break;
+	case 'f': seat.roots = optarg; break;
+	case 'o': seat.order = optarg; break;
+	case 'i': seat.program = optarg; break;
+	case 's': seat.sweep_seconds = number_in(optarg, "--sweep", 0, 86400); break;
+	case 'm': seat.poll_ms = number_in(optarg, "--poll", 1, 600000); break;
+	case 'a': options.after = optarg; break;
+	case 'd': seat.dry_run = 1; break;
+	case 'S': seat.status_file = optarg; break;
+	case 'x': seat.as_printed = 1; break;
+	case PARTIAL: seat.partial = 1; break;
+	case 'h': print_usage(stdout, usage_text); exit(WHOLE);
+	case 'V': puts("ibsm-seat " VERSION); exit(WHOLE);
+	default: print_usage(stderr, usage_text); exit(USAGE);
+	}
+}
+
+static void parse(int count, char **texts)
+{
+	int letter;
+
+	called = texts[0];
+	options.timeout_ms = 200;
+	options.outstanding = 16;
+	while ((letter = getopt_long(count, texts, "p:l:R:f:o:i:s:m:a:dS:xC:P:n:t:r:qvhV", words, NULL)) != -1)
+		take_option(letter);
+	if (optind != count)
+		take_option('?');
+}
+
+/* Starts the process. Packets of an earlier one are done with before it is told the first line. */
+static void start(void)
+{
+	static double started;
+	static int short_lives;
+
+	short_lives = started && now() - started < SHORT_LIFE ? short_lives + 1 : 0;
+	if (short_lives == MOST_STARTS)
+		end(NO_FABRIC, "%s serve ends soon, each time", seat.program);
+	drop_all();
+	let_pass();
+	started = now();
+	start_manager();
+	begin_policy();
+}
+
+int main(int count, char **texts)
+{
+	parse(count, texts);
+	catch_signals();
+	open_seat();
+	note("%s, GUID %016llx, priority %d", own_port.name, (unsigned long long) own_port.guid, seat.priority);
+	start();
+	while (!is_ended()) {
+		carry(WAIT_MS);
+		if (hung_up) {
+			hung_up = 0;
+			heard_hangup();
+		}
+		policy();
+		if (manager_is_gone() && !is_ended()) {
+			stop_manager();
+			start();
+		}
+	}
+	stop_manager();
+	close_seat();
+	note("ended by signal %d", ended_by);
+	return WHOLE;
+}

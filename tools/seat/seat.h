@@ -1,0 +1,85 @@
+/* What the parts of seat share: a port, and a process of `ibsm serve` that decides what goes out by it. */
+#ifndef SEAT_H
+#define SEAT_H
+
+#include <time.h>
+#include "../record/record.h"
+
+enum { SM_INFO = 0x20, LID_ROUTED_CLASS = 0x01, DIRECTED_CLASS = 0x81, NO_LID = 0xffff };
+enum method { GET = 1, SET = 2, TRAP = 5, TRAP_REPRESS = 7, RESPONSE = 0x80 };
+
+struct seat_options {
+	char *program, *status_file, *lmc, *routing, *roots, *order;
+	int priority, sweep_seconds, poll_ms, dry_run, as_printed, partial;
+};
+
+/* Counts of what was carried since the start. */
+struct carried {
+	unsigned long sent, again, answered, given_up, late, refused, requests, traps, repressed, pointers;
+	unsigned long filled, unfilled;	/* Sets */
+};
+
+extern struct seat_options seat;
+extern struct own_port own_port;
+extern struct carried carried;
+
+/* seat.c: says a line with the time of day. */
+void note(const char *format, ...) __attribute__((format(printf, 1, 2)));
+/* Returns whether a signal has ended the program. */
+int is_ended(void);
+
+/* manager.c: the process that decides. */
+void start_manager(void);
+void stop_manager(void);
+int manager_is_gone(void);
+/* Tells the process a line. Returns its answer, until the next call, without the packets: queue_packet gets those. */
+const char *tell(const char *format, ...) __attribute__((format(printf, 1, 2)));
+
+/* carry.c: packets. */
+void open_seat(void);
+void close_seat(void);
+/* Waits, and drops what comes, until no request of an earlier process can be answered any more. */
+void let_pass(void);
+/* Queues a packet in hex digits for a LID, or for NO_LID if it goes by the path that it carries. */
+void queue_packet(const char *hex, unsigned lid);
+/* Sends, receives for `wait_ms` at most, and gives up what is late. */
+void carry(int wait_ms);
+/* Returns whether nothing is queued or out. */
+int is_at_rest(void);
+void drop_all(void);
+/* Unanswered requests since a sweep began, as texts; at most MOST_SILENT are kept. */
+enum { MOST_SILENT = 20, SILENT_TEXT = 120 };
+void begin_silent(void);
+size_t silent_requests(void);
+const char *silent_request(size_t place);
+
+/* sets.c: what Sets carry besides what the manager set. */
+void forget_images(void);
+/* Keeps what an answer to a directed request told. */
+void keep_image(const uint8_t *answer);
+void fill_set(uint8_t *packet);
+/* Counts the ports that the last sweep read as Initialize or Armed. */
+unsigned ports_not_active(void);
+
+/* policy.c: when what is told. */
+void begin_policy(void);
+void policy(void);
+/* Notes that something was told besides the policy's own lines. */
+void heard_news(void);
+/* Notes a trap, and returns whether to repress it. */
+int heard_trap(unsigned number, unsigned lid);
+void heard_hangup(void);
+
+/* status.c */
+struct standing {
+	const char *state;
+	uint32_t generation;
+	time_t sweep_began, sweep_ended, written_at, state_since;
+	unsigned long unanswered, silent, too_far, sweeps, writings;
+	int is_whole, is_written, is_settled;
+	size_t lids, switches;
+	const char *managers;
+};
+void write_status(const struct standing *status);
+
+#endif

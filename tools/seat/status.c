@@ -1,0 +1,105 @@
+/* The state of seat, as a file of JSON that is whole at any time. */
+#include <errno.h>
+#include <inttypes.h>
+#include <stdlib.h>
+#include <string.h>
+#include <unistd.h>
+#include "seat.h"
+
+static void print_time(FILE *file, const char *name, time_t at)
+{
+	if (at)
+		fprintf(file, "\"%s\": %lld", name, (long long) at);
+	else
+		fprintf(file, "\"%s\": null", name);
+}
+
+static void print_sweep(FILE *file, const struct standing *status)
+{
+	size_t i;
+
+	fprintf(file, " \"sweep\": {\"count\": %lu, \"generation\": %u, ", status->sweeps, status->generation);
+	print_time(file, "began", status->sweep_began);
+	fprintf(file, ", ");
+	print_time(file, "ended", status->sweep_ended);
+	fprintf(file,
+		", \"whole\": %s, \"unanswered\": %lu, \"managers_silent\": %lu, \"too_far\": %lu},\n \"silent\": [",
+		status->is_whole ? "true" : "false", status->unanswered, status->silent, status->too_far);
+	for (i = 0; i < silent_requests(); i++)
+		fprintf(file, "%s\"%s\"", i ? ", " : "", silent_request(i));
+	fprintf(file, "],\n");
+}
+
+static void print_managers(FILE *file, const char *line)
+{
+	char guid[17], state[16];
+	unsigned priority;
+	int count = 0;
+
+	fprintf(file, " \"managers\": [");
+	for (; line && *line; line = strchr(line, '\n') + 1)
+		if (sscanf(line, "manager %*s guid %16s priority %u state %15s", guid, &priority, state) == 3)
+			fprintf(file, "%s{\"guid\": \"%s\", \"priority\": %u, \"state\": \"%s\"}",
+				count++ ? ", " : "", guid, priority, state);
+	fprintf(file, "],\n");
+}
+
+static void print_counts(FILE *file)
+{
+	fprintf(file, " \"packets\": {\"sent\": %lu, \"sent_again\": %lu, \"answered\": %lu, \"given_up\": %lu, "
+		"\"refused\": %lu, \"late\": %lu, \"asked_by_others\": %lu, \"traps\": %lu, \"repressed\": %lu, "
+		"\"pointers_set\": %lu, \"sets_filled\": %lu, \"sets_not_filled\": %lu}\n",
+		carried.sent, carried.again, carried.answered, carried.given_up, carried.refused, carried.late,
+		carried.requests, carried.traps, carried.repressed, carried.pointers, carried.filled,
+		carried.unfilled);
+}
+
+static void print_status(FILE *file, const struct standing *status)
+{
+	fprintf(file, "{\"version\": \"%s\", \"state\": \"%s\", ", VERSION, status->state);
+	print_time(file, "since", status->state_since);
+	fprintf(file, ", \"port\": \"%s\", \"guid\": \"%016" PRIx64 "\", \"priority\": %d,\n", own_port.name,
+		own_port.guid, seat.priority);
+	print_sweep(file, status);
+	fprintf(file, " \"writing\": {\"count\": %lu, ", status->writings);
+	print_time(file, "ended", status->written_at);
+	fprintf(file, ", \"written\": %s, \"settled\": %s, \"lids\": %zu, \"switches\": %zu},\n",
+		status->is_written ? "true" : "false", status->is_settled ? "true" : "false", status->lids,
+		status->switches);
+	print_managers(file, status->managers);
+	print_counts(file);
+	fprintf(file, "}\n");
+}
+
+/* Writes the status file. A failure is said once, and the manager goes on. */
+void write_status(const struct standing *status)
+{
+	static char *temporary;
+	static int is_said;
+	size_t size;
+	FILE *file;
+	int fault;
+
+	if (!seat.status_file)
+		return;
+	if (!temporary) {
+		size = strlen(seat.status_file) + 32;
+		temporary = more(NULL, size, 1);
+		snprintf(temporary, size, "%s.%ld", seat.status_file, (long) getpid());
+	}
+	file = fopen(temporary, "w");
+	fault = !file;
+	if (file) {
+		print_status(file, status);
+		fault = ferror(file);
+		fault |= fclose(file) != 0;
+	}
+	if (!fault && !rename(temporary, seat.status_file)) {
+		is_said = 0;
+		return;
+	}
+	if (!is_said)
+		note("cannot write %s: %s", seat.status_file, strerror(errno));
+	is_said = 1;
+	unlink(temporary);
+}
