@@ -5,7 +5,9 @@ import datetime
 import fcntl
 import json
 import os
+import random
 import re
+import shutil
 import signal
 import subprocess
 import sys
@@ -13,6 +15,7 @@ import time
 
 import paths
 import record_files
+import sample_fabrics
 import tool_checks
 
 # These scripts stand in for a subnet. The folder fab has what it says and holds; a recording is the text of its facts.
@@ -31,11 +34,15 @@ for word; do last=$word; done
 case $1 in
 facts) case $last in *.store) cat fab/stored ;; *) cat "$last" ;; esac ;;
 plan) echo "$*" >>fab/planned; cat fab/plan ;;
-order) echo "$*" >>fab/ordered; echo 0x1 ;;
+order)
+    echo "$*" >>fab/ordered
+    case "$*" in *--order*) echo 0x3 ;; *) echo 0x1 ;; esac ;;
 order-of) echo "$*" >>fab/ordered; [ -f fab/told ] && cat fab/told ;;
 next)
     echo "$*" >>fab/stepped
-    case "$*" in *kept.order*) if [ -f fab/turns ]; then cat fab/turns >&2; rm fab/turns; exit 1; fi ;; esac
+    for file in kept last; do
+        case "$*" in *$file.order*) if [ -f fab/$file ]; then cat "$tables"; exit 1; fi ;; esac
+    done
     for word; do tables=$file; file=$word; done
     if [ -f fab/moves ]; then cat fab/moves >&2; exit 3; fi
     between=
@@ -87,7 +94,7 @@ def fake_opensm(room, *words):
         process.wait()
 
 
-def rounds(room):
+def rounds(room, program):
     """Checks rounds of a subnet that scripts stand in for: how each ends, and what it has written by then."""
     for name, script in (("record", FAKE_RECORD), ("ibsm", FAKE_IBSM), ("opensm", FAKE_OPENSM), ("send", FAKE_SEND)):
         (room.path / name).write_text(script)
@@ -237,9 +244,12 @@ def rounds(room):
     room.refused("round rd --ibsm ./nothing --record ./record", "no program ./nothing", 4)
     room.refused("round rd --ibsm ./ibsm --record ./nothing", "no program record", 4)
     room.refused("round rd --ibsm ./ibsm --record ./record --direct --send ./nothing", "no program send", 4)
-    wrong = "rd --lmc 8", "rd --direct --opensm 1", "rd --opensm x", "rd --routing other", "rd --keep-order --routing updown"
-    for words in ("", *wrong):
+    wrong = "--lmc 8", "--direct --opensm 1", "--opensm x", "--routing other", "--keep-order --routing updown"
+    for words in ("", *(f"rd {options}" for options in wrong)):
         room.run(f"round {words}", 2)
+    if os.access(program, os.X_OK):
+        for name in CUT_FABRICS:
+            over_cuts(room, program, name)
 
 
 def by_steps(room, fab, ends, process):
@@ -326,42 +336,87 @@ def by_a_kept_order(room, fab, ends):
     """Checks rounds that keep the order of switches by which they plan."""
     held = room.text("round.plan")
     words, holds = "--direct --keep-order --routing balance", "the subnet holds the plan"
-    fab(held=held, ordered="", planned="", stepped="")
-    ends(words, 0, "audit", holds)
     asked = "order-of rd/now.held rd/now.reports\n"
-    room.check(
-        room.text("fab/ordered") == f"{asked}order --routing balance rd/now.reports\n"
-        and room.text("rd/kept.order") == "0x1\n",
-        "the first order is that of the rule if the held tables tell none",
-    )
-    by = "--routing spread --order rd/kept.order"
-    room.check(
-        room.text("fab/planned").startswith(f"plan {by} rd/now.reports\n")
-        and room.text("fab/stepped").startswith(f"next {by} rd/now.held rd/now.reports\n"),
-        "plans and steps go by it",
-    )
-    fab(held=held, ordered="", told="0x2\n")
-    ends(words, 0, "audit", holds)
-    room.check(
-        room.text("fab/ordered") == "" and room.text("rd/kept.order") == "0x1\n",
-        "it is kept while steps by it have no credit loop",
-    )
-    fab(held=held, turns="credit loop on one lane 0000000000000010/1 0000000000000020/1\n")
-    ends(words, 0, "audit", holds)
-    room.check(
-        room.text("fab/ordered") == asked and room.text("rd/kept.order") == "0x2\n",
-        "else it becomes the one that the held tables tell",
-    )
+
+    def goes_by(name, first, what):
+        """Checks that a round goes by the order in a file, and notes it as the last one at its end."""
+        fab(held=held, ordered="", planned="", stepped="")
+        told = ends(words, 0, "audit", holds)
+        by = f"--routing spread --order rd/{name}.order"
+        room.check(list(told["seconds"])[2] == "order", f"the order is chosen behind the facts: {told['seconds']}")
+        room.check(
+            room.text("fab/ordered") == f"{first}order {by} rd/after.reports\n"
+            and room.text("fab/planned").startswith(f"plan {by} rd/now.reports\n")
+            and f"next {by} rd/now.held rd/now.reports\n" in room.text("fab/stepped")
+            and room.text("rd/last.order") == "0x3\n",
+            what,
+        )
+
+    goes_by("kept", "order --routing balance rd/now.reports\n", "at first by the rule's")
+    room.check(room.text("rd/kept.order") == "0x1\n", "which is kept")
+    goes_by("kept", "", "then by the kept one, if steps by it have no loop")
+    fab(kept="")
+    goes_by("last", "", "else by the last one")
+    fab(last="", told="0x2\n")
+    goes_by("held", asked, "else by one that the held tables have")
+    room.check(room.text("rd/kept.order") == "0x1\n", "and the kept one stays")
     (room.path / "fab/told").unlink()
-    loop = "credit loop on one lane 0000000000000010/1 0000000000000020/1\n"
-    fab(held=held, ordered="", turns=loop, loop=loop)
+    fab(held=held, ordered="")
     ends(words, 1, "next", "step 1 is not written")
     room.check(
-        room.text("fab/ordered") == asked and room.text("rd/kept.order") == "0x2\n" and room.text("fab/held") == held,
-        "and stays if they tell none",
+        room.text("fab/ordered") == asked and room.text("fab/held") == held,
+        "and if they have none by the kept one, whose step has a loop",
     )
     (room.path / "rd/kept.order").unlink()
-    fab(loop="credit loop none\n")
+    for name in ("kept", "last"):
+        (room.path / "fab" / name).unlink()
+
+
+# Fabrics whose cables are cut and repaired one after another.
+CUT_FABRICS = {
+    "torus": sample_fabrics.torus(4, 4),
+    "dragonfly": sample_fabrics.dragonfly(5, 4, 1),
+    "random fabric": sample_fabrics.random_fabric(24, 4, 24),
+    "fat tree": sample_fabrics.fat_tree(4, 2),
+    "ring": sample_fabrics.ring(9),
+}
+
+
+def over_cuts(room, program, name):
+    """Checks with the built program that rounds which keep an order go through after each of some cuts and repairs."""
+    fabric, chance, down = CUT_FABRICS[name], random.Random(7), set()
+    between = [(end, far) for end, far in fabric.peers.items() if end < far]
+    cables = [cable for cable in between if all(fabric.is_switch(name) for name, _ in cable)]
+
+    def facts():
+        """Returns a store file of the facts in which the cut cables' ports are down."""
+        ends = {f"{fabric.guid(name):016x}/{port}" for cable in down for name, port in cable}
+        lines = [line.split(" ") for line in fabric.facts().splitlines()]
+        lines = [[*line[:2], "down", *line[3:]] if line[0] == "port" and line[1] in ends else line for line in lines]
+        return record_files.store_of("".join(f"{' '.join(line)}\n" for line in lines))
+
+    (room.path / "fab/facts").write_bytes(facts())
+    words = [program, "plan", "--routing", "balance", "fab/facts"]
+    planned = subprocess.run(words, cwd=room.path, capture_output=True, check=True).stdout
+    (room.path / "fab/held").write_bytes(planned)
+    shutil.rmtree(room.path / "rc", ignore_errors=True)
+    for number in range(9):
+        if number % 4 == 3:
+            down.remove(chance.choice(sorted(down)))
+        elif number:
+            down.add(chance.choice([cable for cable in cables if cable not in down]))
+        (room.path / "fab/facts").write_bytes(facts())
+        room.run(
+            f"round rc --ibsm {program} --record ./record --send ./send --settle 0 --direct --keep-order "
+            "--routing balance --busier --holes",
+            0,
+        )
+        told = json.loads(room.text("rc/status.json"))
+        room.check(
+            told["verdict"].startswith("the subnet holds the plan")
+            and all(step["told"] == "credit loop none" for step in told["steps"]),
+            f"round {number} over a {name} with {len(down)} cables cut: {told}",
+        )
 
 
 def told_beside(room, fab, ends):
