@@ -12,6 +12,7 @@
 enum phase { RESTS, SWEEPS, WRITES, HANDS_OVER };
 enum { LINK_STATE_CHANGED = 128, CAPABILITIES_CHANGED = 144, MOST_REPEATS = 3, MOST_WAIT = 10 };
 #define SHORTEST 1.0	/* seconds from the beginning of one sweep to that of the next */
+#define ACKNOWLEDGED 1.0	/* seconds that a manager may take to acknowledge a handover, after its answer to it */
 
 static enum phase phase;
 static struct standing status;
@@ -19,7 +20,7 @@ static char state[16], *kept_plan, *managers;
 static int has_news, is_wanted, repeats, faults, gaps;
 static unsigned left_not_active, polled;
 static uint32_t newest;
-static double earliest, next_sweep, next_poll, sweep_begun, began;
+static double earliest, next_sweep, next_poll, sweep_begun, began, handed_over;
 
 void heard_news(void)
 {
@@ -196,6 +197,17 @@ static void hand_over(void)
 {
 	if (strncmp(tell("handover"), "refused ", 8))
 		phase = HANDS_OVER;
+	handed_over = 0;
+}
+
+/* Returns whether the acknowledgement may still come: the answer to a handover comes first. */
+static int may_be_acknowledged(void)
+{
+	if (!is_state("master"))
+		return 0;
+	if (!handed_over)
+		handed_over = now();
+	return now() < handed_over + ACKNOWLEDGED;
 }
 
 /* Settles, since nothing is left to write. */
@@ -350,7 +362,7 @@ void policy(void)
 	if (has_news || phase != RESTS)
 		look_at_state();
 	has_news = 0;
-	if (manager_is_gone())
+	if (manager_is_gone() || (phase == HANDS_OVER && may_be_acknowledged()))
 		return;
 	if (phase == SWEEPS)
 		after_sweep();
