@@ -3,6 +3,7 @@ import contextlib
 import json
 import os
 import pathlib
+import random
 import re
 import signal
 import subprocess
@@ -13,6 +14,8 @@ import paths
 import sample_fabrics
 
 SECONDS = 90
+# What a bring-up of the largest fabric may take.
+LONG = 300
 # OpenSM with SM_Key 0 accepts a manager whose SM_Key is 0.
 OPENSM = "sm_key 0x0\nsminfo_polling_timeout 500\npolling_retry_number 3\n"
 # The TransactionID in a packet.
@@ -245,6 +248,18 @@ def ways(bench):
         told = {int(lid, 16): int(port) for lid, port in re.findall(r"^(0x\w+) (\d+) ", bench.printed, re.M)}
         same += told == {lid: port for lid, port in enumerate(bytes.fromhex(block)) if port != 255}
     bench.check(same == plan.count("switch ") > 0, f"ibroute dumps the plan at {same} switches")
+
+
+def some_ways(bench, name, count=200):
+    """Checks that `ibtracert` finds a way between as many pairs of adapters, chosen at random, by the LIDs in a file."""
+    chance = random.Random(count)
+    lid_of = {guid: lid for lid, guid in re.findall(r"^lid (\d+) (\w+)/1$", (bench.path / name).read_text(), re.M)}
+    hosts = [lid_of[f"{bench.fabric.guid(node):016x}"] for node in bench.fabric.nodes if not bench.fabric.is_switch(node)]
+    arrive = 0
+    for _ in range(count):
+        status = bench.run("ibtracert", chance.choice(hosts), chance.choice(hosts), simulated=True)
+        arrive += status == 0 and bench.printed.strip().splitlines()[-1].startswith("To ca")
+    bench.check(arrive == count, f"ibtracert: {arrive} of {count} pairs of adapters")
 
 
 def between(bench, name):
@@ -524,6 +539,51 @@ def beside_opensm(bench):
             bench.check(lids((bench.path / "theirs").read_text()) == lids(before), "LIDs stay")
 
 
+def seat_up(bench, is_last):
+    """Returns the seconds from a seat's start to its SUBNET UP, and, the last time, checks what is then held."""
+    began = time.monotonic()
+    with seated(bench, "H1", "-p", 5) as seat:
+        until(lambda: "SUBNET UP" in seat.said(), LONG)
+        took = time.monotonic() - began
+        bench.check(seat.settles(LONG), f"seat: SUBNET UP after {took:.2f} s")
+        told = seat.status()["packets"]
+        bench.check(told["given_up"] == 0, f"packets sent: {told['sent']}, of these again {told['sent_again']}")
+        if is_last:
+            held(bench, "up")
+            bench.check(manager(bench) == (port_guid(bench, "H1"), 5, 3), f"sminfo: {manager(bench)}")
+            some_ways(bench, "up")
+    return took
+
+
+def opensm_up(bench):
+    """Returns the seconds from OpenSM's start to its SUBNET UP."""
+    began = time.monotonic()
+    with opensm(bench, "H1", 8, "-R", "updn") as (_, log):
+        is_up = until(lambda: "SUBNET UP" in log(), LONG) is not None
+        took = time.monotonic() - began
+        bench.check(is_up, f"OpenSM, updn: SUBNET UP after {took:.2f} s")
+    return took
+
+
+def side_by_side(bench, name, make, times):
+    """Checks that a seat brings a subnet up in no more time than OpenSM, in turn, the shortest of several each."""
+    print(f"== {name}", flush=True)
+    fabric, ours, theirs = make(), [], []
+    for number in range(1, times + 1):
+        with bench.simulated(fabric, f"{name}, OpenSM, {number}"):
+            theirs.append(opensm_up(bench))
+        with bench.simulated(fabric, f"{name}, seat, {number}"):
+            ours.append(seat_up(bench, number == times))
+    texts = [", ".join(f"{seconds:.2f}" for seconds in taken) for taken in (ours, theirs)]
+    bench.check(min(ours) <= min(theirs), f"seconds of the seat: {texts[0]}; of OpenSM: {texts[1]}")
+    bench.figures.append(f"{name}: seat {texts[0]} s; OpenSM {texts[1]} s; load {os.getloadavg()[0]:.1f}")
+
+
+# What is brought up side by side with OpenSM, how often, and whether without being asked for by ONLY.
+TIMED = (
+    ("bring-up of 320 switches and 640 adapters, by seat", lambda: sample_fabrics.fat_tree(16, 5), 3, True),
+    ("bring-up of 1,280 switches and 8,192 adapters", lambda: sample_fabrics.fat_tree(32, 16), 1, False),
+)
 # The fabrics, and the checks tried on each.
 SEATED = (
     ("triangle", sample_fabrics.triangle, (dry_run, wrong_usage, brought_up, two_seats)),
