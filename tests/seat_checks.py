@@ -579,6 +579,104 @@ def side_by_side(bench, name, make, times):
     bench.figures.append(f"{name}: seat {texts[0]} s; OpenSM {texts[1]} s; load {os.getloadavg()[0]:.1f}")
 
 
+class Soak:
+    """Two seats on a torus, whose cables are cut and plugged in at random, and which are killed at random."""
+
+    MOST_CUT = 3  # a torus without three cables is still in one piece
+    TIMING = ("-s", 3, "-m", 200, "-r", 1)
+
+    def __init__(self, bench, stack, chance):
+        self.bench, self.stack, self.chance = bench, stack, chance
+        adapters = [node for node in bench.fabric.nodes if not bench.fabric.is_switch(node)]
+        self.hosts, self.seats, self.done = {adapters[0]: 5, adapters[-1]: 3}, {}, []
+        used = {end for end in bench.fabric.peers if end[0] in self.hosts}
+        ends = {min(end, far) for end, far in bench.fabric.peers.items() if not {end, far} & used}
+        self.whole, self.cut = sorted(ends), []
+        for host in self.hosts:
+            self.start(host)
+
+    def start(self, host):
+        words = ["-p", self.hosts[host], *self.TIMING]
+        self.seats[host] = self.stack.enter_context(seated(self.bench, host, *words))
+
+    def move(self, one, other, end, command):
+        one.remove(end)
+        other.append(end)
+        self.bench.console.write(f'{command} "{end[0]}"[{end[1]}]\n')
+        self.bench.console.flush()
+        self.done.append(f"{command} {end[0]}/{end[1]}")
+
+    def kill(self, host):
+        self.seats[host].end(signal.SIGKILL)
+        self.done.append(f"kill {host}")
+        time.sleep(self.chance.choice((0, 1, 4)))
+        self.start(host)
+
+    def kill_child(self, host):
+        children = self.seats[host].children()
+        self.done.append(f"kill the child of {host}")
+        if children:
+            os.kill(children[0], signal.SIGKILL)
+
+    def event(self):
+        """Does one thing at random."""
+        kind, host = self.chance.random(), self.chance.choice(sorted(self.hosts))
+        if kind < 0.2:
+            self.kill(host)
+        elif kind < 0.3:
+            self.kill_child(host)
+        elif self.cut and (kind < 0.6 or len(self.cut) == self.MOST_CUT):
+            self.move(self.cut, self.whole, self.chance.choice(self.cut), "ReLink")
+        else:
+            self.move(self.whole, self.cut, self.chance.choice(self.whole), "Unlink")
+
+    def mend(self):
+        while self.cut:
+            self.move(self.cut, self.whole, self.cut[0], "ReLink")
+
+    def is_settled(self, since):
+        """Returns whether one is master and has swept, with nothing to write, since a time, and the other stands by."""
+        told = [seat.status() if seat.status_file.exists() else None for seat in self.seats.values()]
+        if None in told or sorted(it["state"] for it in told) != ["master", "standby"]:
+            return False
+        master = next(it for it in told if it["state"] == "master")
+        return master["writing"]["settled"] and (master["sweep"]["began"] or 0) > since
+
+    def end(self):
+        """Plugs all cables in, and checks that the seats settle and what is held then. Returns whether they do."""
+        self.mend()
+        time.sleep(0.5)
+        since = time.time()
+        took = until(lambda: self.is_settled(since))
+        what = f"{len(self.done)} events: {', '.join(self.done)}"
+        self.bench.check(took is not None, f"settled after {took or -1:.1f} s: {what}")
+        for host, seat in self.seats.items() if took is None else ():
+            print(f"{host}: {seat.status()}\n" + "\n".join(seat.said().splitlines()[-30:]))
+        self.done.clear()
+        return took is not None
+
+
+def soak(bench, seconds, seed):
+    """Checks two seats for some time, and each half minute what is held."""
+    name = f"soak of a torus of 16 switches, {seconds} s, by seat"
+    print(f"== {name}: SEED={seed}", flush=True)
+    with bench.simulated(sample_fabrics.torus(4, 4), name), contextlib.ExitStack() as stack:
+        soaked = Soak(bench, stack, random.Random(seed))
+        soaked.end()
+        first = held(bench, "soak0")
+        end, rounds = time.monotonic() + seconds, 0
+        while time.monotonic() < end:
+            rounds += 1
+            pause = min(end, time.monotonic() + 20)
+            while time.monotonic() < pause:
+                soaked.event()
+                time.sleep(soaked.chance.choice((0, 0.2, 1, 3)))
+            if not soaked.end():
+                return
+            bench.check(held(bench, f"soak{rounds}") == first, f"round {rounds}: tables are as at first")
+        some_ways(bench, f"soak{rounds}")
+
+
 # What is brought up side by side with OpenSM, how often, and whether without being asked for by ONLY.
 TIMED = (
     ("bring-up of 320 switches and 640 adapters, by seat", lambda: sample_fabrics.fat_tree(16, 5), 3, True),
