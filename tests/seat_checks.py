@@ -508,6 +508,31 @@ def killed_while_it_writes(bench):
     bench.tell(f'ReLink "{name}"[{port}]')
 
 
+def without_a_master(bench):
+    """Checks that two seats that both stand by find that nobody is master: a lesser master's process is killed while a
+    greater seat stands by, so the new process stands by too."""
+    with contextlib.ExitStack() as stack:
+        lesser = stack.enter_context(seated(bench, "H2", "-p", 3, "-s", 0, "-m", 200, "-r", 1))
+        bench.check(lesser.settles(), "a lesser one is master")
+        before = held(bench, "lesser")
+        greater = stack.enter_context(seated(bench, "H1", "-p", 5, "-s", 0, "-m", 200, "-r", 1))
+        bench.check(until(lambda: "STANDBY" in greater.said()) is not None, "a greater one stands by")
+        os.kill(lesser.children()[0], signal.SIGKILL)
+        took = until(lambda: "STANDBY" in lesser.said(), 20)
+        bench.check(took is not None, "the lesser one's process is killed: the new one stands by")
+        took = until(lambda: "SUBNET UP" in greater.said(), 30)
+        bench.check(
+            took is not None and greater.settles(),
+            f"the greater one is master after {took or -1:.1f} s: {greater.said().splitlines()[-3:]}",
+        )
+        time.sleep(2)
+        bench.check(
+            (greater.status()["state"], lesser.status()["state"]) == ("master", "standby"),
+            "and the lesser one stands by",
+        )
+        bench.check(held(bench, "found") == before, "tables are as they were")
+
+
 def beside_opensm(bench):
     """Checks a seat beside OpenSM with `sm_key 0`, first of higher and then of lower priority: the master is killed,
     and the other takes over."""
@@ -691,6 +716,6 @@ SEATED = (
     (
         "a torus of 9 switches",
         lambda: sample_fabrics.torus(3, 3),
-        (brought_up, cable, losses, two_seats, killed_while_it_writes, beside_opensm),
+        (brought_up, cable, losses, two_seats, killed_while_it_writes, without_a_master, beside_opensm),
     ),
 )

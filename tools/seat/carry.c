@@ -181,6 +181,16 @@ void drop_all(void)
 	out_count = 0;
 }
 
+void give_up_queued(void)
+{
+	struct packet packet;
+
+	while (head < tail) {
+		packet = queue[head++];
+		tell("timeout %016llx", (unsigned long long) get(packet.bytes + 8, 8));
+	}
+}
+
 void begin_silent(void)
 {
 	silent_count = 0;
@@ -258,6 +268,12 @@ static const char *give(const uint8_t *packet, unsigned lid)
 	return tell("packet %s from %u", hex, is_directed(packet) ? NO_LID : lid);
 }
 
+/* Returns whether an answer is that to a poll: sweeps ask by paths, and controls have a modifier. */
+static int is_poll(const uint8_t *packet)
+{
+	return !is_directed(packet) && get(packet + 16, 2) == SM_INFO && !get(packet + 20, 4);
+}
+
 static int answers(const uint8_t *packet, const uint8_t *request)
 {
 	return packet[1] == request[1] && get(packet + 16, 2) == get(request + 16, 2) &&
@@ -297,6 +313,8 @@ static void on_answer(uint8_t *packet, unsigned lid)
 	memcpy(packet + 8, out.tid, sizeof out.tid);
 	check_own_port(packet);
 	keep_image(packet);
+	if (is_poll(packet))
+		heard_poll((packet[ATTRIBUTE + 20] & 15) == MASTER);
 	outs[place] = outs[--out_count];
 	if (strncmp(give(packet, lid), "refused ", 8))
 		return;
