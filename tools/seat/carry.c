@@ -13,7 +13,7 @@
 #include "seat.h"
 
 /* The kernel gives up a request first. SMInfo may take longer than the rest: a manager answers late while it plans. */
-enum { GRACE_MS = 500, SM_INFO_TIMES = 3, AT_ONCE = 64, CLOCK_SHIFT = 12 };
+enum { GRACE_MS = 500, SM_INFO_TIMES = 3, AT_ONCE = 64, CLOCK_SHIFT = 12, IS_SM = 2 };
 
 struct packet {
 	uint16_t lid;
@@ -268,6 +268,21 @@ static const char *give(const uint8_t *packet, unsigned lid)
 	return tell("packet %s from %u", hex, is_directed(packet) ? NO_LID : lid);
 }
 
+/* Says again that a manager is here, if the port has lost that: other managers would not ask this one. ibsim takes it
+   from the port when it finds an earlier process dead. */
+static void keep_manager(const uint8_t *packet)
+{
+	uint32_t modifier = get(packet + 20, 4);
+
+	if (issm < 0 || !is_directed(packet) || packet[7] || get(packet + 16, 2) != PORT_INFO ||
+	    get(packet + 4, 2) & 0x7fff || (modifier && modifier != (uint32_t) own_port.number) ||
+	    get(packet + ATTRIBUTE + 20, 4) & IS_SM)
+		return;
+	note("the port does not say that a manager is here: it is said again");
+	close(issm);
+	be_manager();
+}
+
 /* Returns whether an answer is that to a poll: sweeps ask by paths, and controls have a modifier. */
 static int is_poll(const uint8_t *packet)
 {
@@ -312,6 +327,7 @@ static void on_answer(uint8_t *packet, unsigned lid)
 	}
 	memcpy(packet + 8, out.tid, sizeof out.tid);
 	check_own_port(packet);
+	keep_manager(packet);
 	keep_image(packet);
 	if (is_poll(packet))
 		heard_poll((packet[ATTRIBUTE + 20] & 15) == MASTER);
