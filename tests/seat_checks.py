@@ -7,6 +7,7 @@ import random
 import re
 import signal
 import subprocess
+import sys
 import time
 
 import live_checks
@@ -204,6 +205,7 @@ def brought_up(bench):
         told = seat.status()
         bench.check(told["writing"]["count"] == before == 1, "whose plan is what was written, and nothing is written")
         ways(bench)
+        seen_by_others(bench)
         begun = seat.status()["sweep"]["count"]
         os.kill(seat.children()[0], signal.SIGKILL)
         bench.check(
@@ -248,6 +250,34 @@ def ways(bench):
         told = {int(lid, 16): int(port) for lid, port in re.findall(r"^(0x\w+) (\d+) ", bench.printed, re.M)}
         same += told == {lid: port for lid, port in enumerate(bytes.fromhex(block)) if port != 255}
     bench.check(same == plan.count("switch ") > 0, f"ibroute dumps the plan at {same} switches")
+
+
+def seen_by_others(bench):
+    """Checks that what ibnetdiscover, iblinkinfo and smpquery tell is what was written."""
+    bench.run("ibnetdiscover", simulated=True)
+    (bench.path / "up.net").write_text(bench.printed)
+    words = [sys.executable, paths.TOOLS / "from-dumps", "up.net", "--cap", str(sample_fabrics.ROOM)]
+    with open(bench.path / "net.store", "wb") as store:
+        subprocess.run(words, cwd=bench.path, stdout=store, stderr=subprocess.DEVNULL)
+    bench.texts("net", "net.store")
+    bench.check(bench.same("net.facts", "up.facts"), "ibnetdiscover: the facts of a recording")
+    owners = dict(re.findall(r"^lid (\d+) (\w+/\d+)$", (bench.path / "up.plan").read_text(), re.M))
+    status = bench.run("iblinkinfo", "-l", simulated=True)
+    ends = re.findall(r'^0x\w+ +"[^"]*" +(\d+) .*Active/.*==> +0x\w+ +(\d+) +', bench.printed, re.M)
+    known = all(one in owners and other in owners for one, other in ends)
+    bench.check(
+        status == 0 and known and len(ends) == len(bench.fabric.peers),
+        f"iblinkinfo: {len(ends)} ends of cables, Active",
+    )
+    found = {}
+    for lid in owners:
+        bench.run("smpquery", "nodeinfo", lid, simulated=True)
+        guid = re.search(r"^Guid:\.*0x(\w+)$", bench.printed, re.M)
+        found[lid] = guid[1] if guid else bench.said
+    bench.check(
+        found == {lid: end.split("/")[0] for lid, end in owners.items()},
+        f"smpquery: {len(found)} LIDs with their owners",
+    )
 
 
 def some_ways(bench, name, count=200):
@@ -424,15 +454,17 @@ def cable(bench):
 
 
 def losses(bench):
-    """Checks that with a fifth of a port's packets lost, unanswered requests are sent again, and no gap is written."""
-    (name, port), _ = between_switches(bench)
-    bench.tell(f'Error "{name}"[{port}] 20')
-    with seated(bench, "H1", "-p", 5, "-s", 1, "-r", 10) as seat:
-        bench.check(seat.settles(), f"where packets are lost: {seat.said().splitlines()[-1]}")
-        told = seat.status()["packets"]
-        bench.check(told["sent_again"] > 0, f"sent again: {told['sent_again']}")
-    bench.tell(f'Error "{name}"[{port}] 0')
-    held(bench, "lossy")
+    """Checks that if packets are lost at a port, unanswered requests are sent again, and no gap is written: a fifth of
+    those between two switches, then a tenth and three tenths of all."""
+    seat_port = bench.fabric.peers["H1", 1]
+    for (name, port), lost in ((between_switches(bench)[0], 20), (seat_port, 10), (seat_port, 30)):
+        bench.tell(f'Error "{name}"[{port}] {lost}')
+        with seated(bench, "H1", "-p", 5, "-s", 1, "-r", 10) as seat:
+            bench.check(seat.settles(), f"{lost} % of packets are lost: {seat.said().splitlines()[-1]}")
+            told = seat.status()["packets"]
+            bench.check(told["sent_again"] > 0, f"sent again: {told['sent_again']} of {told['sent']}")
+        bench.tell(f'Error "{name}"[{port}] 0')
+        held(bench, f"lossy{lost}")
     end = next(end for end in bench.fabric.ends() if end[1] and end[0] not in ("H1", "H2"))
     near = bench.fabric.peers[end]
     bench.tell(f'Error "{near[0]}"[{near[1]}] 100')
