@@ -3,9 +3,11 @@ import contextlib
 import json
 import os
 import pathlib
+import random
 import re
 import signal
 import subprocess
+import sys
 import time
 
 import live_checks
@@ -13,6 +15,8 @@ import paths
 import sample_fabrics
 
 SECONDS = 90
+# What a bring-up of the largest fabric may take.
+LONG = 300
 # OpenSM with SM_Key 0 accepts a manager whose SM_Key is 0.
 OPENSM = "sm_key 0x0\nsminfo_polling_timeout 500\npolling_retry_number 3\n"
 # The TransactionID in a packet.
@@ -201,6 +205,7 @@ def brought_up(bench):
         told = seat.status()
         bench.check(told["writing"]["count"] == before == 1, "whose plan is what was written, and nothing is written")
         ways(bench)
+        seen_by_others(bench)
         begun = seat.status()["sweep"]["count"]
         os.kill(seat.children()[0], signal.SIGKILL)
         bench.check(
@@ -245,6 +250,46 @@ def ways(bench):
         told = {int(lid, 16): int(port) for lid, port in re.findall(r"^(0x\w+) (\d+) ", bench.printed, re.M)}
         same += told == {lid: port for lid, port in enumerate(bytes.fromhex(block)) if port != 255}
     bench.check(same == plan.count("switch ") > 0, f"ibroute dumps the plan at {same} switches")
+
+
+def seen_by_others(bench):
+    """Checks that what ibnetdiscover, iblinkinfo and smpquery tell is what was written."""
+    bench.run("ibnetdiscover", simulated=True)
+    (bench.path / "up.net").write_text(bench.printed)
+    words = [sys.executable, paths.TOOLS / "from-dumps", "up.net", "--cap", str(sample_fabrics.ROOM)]
+    with open(bench.path / "net.store", "wb") as store:
+        subprocess.run(words, cwd=bench.path, stdout=store, stderr=subprocess.DEVNULL)
+    bench.texts("net", "net.store")
+    bench.check(bench.same("net.facts", "up.facts"), "ibnetdiscover: the facts of a recording")
+    owners = dict(re.findall(r"^lid (\d+) (\w+/\d+)$", (bench.path / "up.plan").read_text(), re.M))
+    status = bench.run("iblinkinfo", "-l", simulated=True)
+    ends = re.findall(r'^0x\w+ +"[^"]*" +(\d+) .*Active/.*==> +0x\w+ +(\d+) +', bench.printed, re.M)
+    known = all(one in owners and other in owners for one, other in ends)
+    bench.check(
+        status == 0 and known and len(ends) == len(bench.fabric.peers),
+        f"iblinkinfo: {len(ends)} ends of cables, Active",
+    )
+    found = {}
+    for lid in owners:
+        bench.run("smpquery", "nodeinfo", lid, simulated=True)
+        guid = re.search(r"^Guid:\.*0x(\w+)$", bench.printed, re.M)
+        found[lid] = guid[1] if guid else bench.said
+    bench.check(
+        found == {lid: end.split("/")[0] for lid, end in owners.items()},
+        f"smpquery: {len(found)} LIDs with their owners",
+    )
+
+
+def some_ways(bench, name, count=200):
+    """Checks that `ibtracert` finds a way between as many pairs of adapters, chosen at random, by the LIDs in a file."""
+    chance = random.Random(count)
+    lid_of = {guid: lid for lid, guid in re.findall(r"^lid (\d+) (\w+)/1$", (bench.path / name).read_text(), re.M)}
+    hosts = [lid_of[f"{bench.fabric.guid(node):016x}"] for node in bench.fabric.nodes if not bench.fabric.is_switch(node)]
+    arrive = 0
+    for _ in range(count):
+        status = bench.run("ibtracert", chance.choice(hosts), chance.choice(hosts), simulated=True)
+        arrive += status == 0 and bench.printed.strip().splitlines()[-1].startswith("To ca")
+    bench.check(arrive == count, f"ibtracert: {arrive} of {count} pairs of adapters")
 
 
 def between(bench, name):
@@ -409,15 +454,17 @@ def cable(bench):
 
 
 def losses(bench):
-    """Checks that with a fifth of a port's packets lost, unanswered requests are sent again, and no gap is written."""
-    (name, port), _ = between_switches(bench)
-    bench.tell(f'Error "{name}"[{port}] 20')
-    with seated(bench, "H1", "-p", 5, "-s", 1, "-r", 10) as seat:
-        bench.check(seat.settles(), f"where packets are lost: {seat.said().splitlines()[-1]}")
-        told = seat.status()["packets"]
-        bench.check(told["sent_again"] > 0, f"sent again: {told['sent_again']}")
-    bench.tell(f'Error "{name}"[{port}] 0')
-    held(bench, "lossy")
+    """Checks that if packets are lost at a port, unanswered requests are sent again, and no gap is written: a fifth of
+    those between two switches, then a tenth and three tenths of all."""
+    seat_port = bench.fabric.peers["H1", 1]
+    for (name, port), lost in ((between_switches(bench)[0], 20), (seat_port, 10), (seat_port, 30)):
+        bench.tell(f'Error "{name}"[{port}] {lost}')
+        with seated(bench, "H1", "-p", 5, "-s", 1, "-r", 10) as seat:
+            bench.check(seat.settles(), f"{lost} % of packets are lost: {seat.said().splitlines()[-1]}")
+            told = seat.status()["packets"]
+            bench.check(told["sent_again"] > 0, f"sent again: {told['sent_again']} of {told['sent']}")
+        bench.tell(f'Error "{name}"[{port}] 0')
+        held(bench, f"lossy{lost}")
     end = next(end for end in bench.fabric.ends() if end[1] and end[0] not in ("H1", "H2"))
     near = bench.fabric.peers[end]
     bench.tell(f'Error "{near[0]}"[{near[1]}] 100')
@@ -493,6 +540,31 @@ def killed_while_it_writes(bench):
     bench.tell(f'ReLink "{name}"[{port}]')
 
 
+def without_a_master(bench):
+    """Checks that two seats that both stand by find that nobody is master: a lesser master's process is killed while a
+    greater seat stands by, so the new process stands by too."""
+    with contextlib.ExitStack() as stack:
+        lesser = stack.enter_context(seated(bench, "H2", "-p", 3, "-s", 0, "-m", 200, "-r", 1))
+        bench.check(lesser.settles(), "a lesser one is master")
+        before = held(bench, "lesser")
+        greater = stack.enter_context(seated(bench, "H1", "-p", 5, "-s", 0, "-m", 200, "-r", 1))
+        bench.check(until(lambda: "STANDBY" in greater.said()) is not None, "a greater one stands by")
+        os.kill(lesser.children()[0], signal.SIGKILL)
+        took = until(lambda: "STANDBY" in lesser.said(), 20)
+        bench.check(took is not None, "the lesser one's process is killed: the new one stands by")
+        took = until(lambda: "SUBNET UP" in greater.said(), 30)
+        bench.check(
+            took is not None and greater.settles(),
+            f"the greater one is master after {took or -1:.1f} s: {greater.said().splitlines()[-3:]}",
+        )
+        time.sleep(2)
+        bench.check(
+            (greater.status()["state"], lesser.status()["state"]) == ("master", "standby"),
+            "and the lesser one stands by",
+        )
+        bench.check(held(bench, "found") == before, "tables are as they were")
+
+
 def beside_opensm(bench):
     """Checks a seat beside OpenSM with `sm_key 0`, first of higher and then of lower priority: the master is killed,
     and the other takes over."""
@@ -524,6 +596,149 @@ def beside_opensm(bench):
             bench.check(lids((bench.path / "theirs").read_text()) == lids(before), "LIDs stay")
 
 
+def seat_up(bench, is_last):
+    """Returns the seconds from a seat's start to its SUBNET UP, and, the last time, checks what is then held."""
+    began = time.monotonic()
+    with seated(bench, "H1", "-p", 5) as seat:
+        until(lambda: "SUBNET UP" in seat.said(), LONG)
+        took = time.monotonic() - began
+        bench.check(seat.settles(LONG), f"seat: SUBNET UP after {took:.2f} s")
+        told = seat.status()["packets"]
+        bench.check(told["given_up"] == 0, f"packets sent: {told['sent']}, of these again {told['sent_again']}")
+        if is_last:
+            held(bench, "up")
+            bench.check(manager(bench) == (port_guid(bench, "H1"), 5, 3), f"sminfo: {manager(bench)}")
+            some_ways(bench, "up")
+    return took
+
+
+def opensm_up(bench):
+    """Returns the seconds from OpenSM's start to its SUBNET UP."""
+    began = time.monotonic()
+    with opensm(bench, "H1", 8, "-R", "updn") as (_, log):
+        is_up = until(lambda: "SUBNET UP" in log(), LONG) is not None
+        took = time.monotonic() - began
+        bench.check(is_up, f"OpenSM, updn: SUBNET UP after {took:.2f} s")
+    return took
+
+
+def side_by_side(bench, name, make, times):
+    """Checks that a seat brings a subnet up in no more time than OpenSM, in turn, the shortest of several each."""
+    print(f"== {name}", flush=True)
+    fabric, ours, theirs = make(), [], []
+    for number in range(1, times + 1):
+        with bench.simulated(fabric, f"{name}, OpenSM, {number}"):
+            theirs.append(opensm_up(bench))
+        with bench.simulated(fabric, f"{name}, seat, {number}"):
+            ours.append(seat_up(bench, number == times))
+    texts = [", ".join(f"{seconds:.2f}" for seconds in taken) for taken in (ours, theirs)]
+    bench.check(min(ours) <= min(theirs), f"seconds of the seat: {texts[0]}; of OpenSM: {texts[1]}")
+    bench.figures.append(f"{name}: seat {texts[0]} s; OpenSM {texts[1]} s; load {os.getloadavg()[0]:.1f}")
+
+
+class Soak:
+    """Two seats on a torus, whose cables are cut and plugged in at random, and which are killed at random."""
+
+    MOST_CUT = 3  # a torus without three cables is still in one piece
+    TIMING = ("-s", 3, "-m", 200, "-r", 1)
+
+    def __init__(self, bench, stack, chance):
+        self.bench, self.stack, self.chance = bench, stack, chance
+        adapters = [node for node in bench.fabric.nodes if not bench.fabric.is_switch(node)]
+        self.hosts, self.seats, self.done = {adapters[0]: 5, adapters[-1]: 3}, {}, []
+        used = {end for end in bench.fabric.peers if end[0] in self.hosts}
+        ends = {min(end, far) for end, far in bench.fabric.peers.items() if not {end, far} & used}
+        self.whole, self.cut = sorted(ends), []
+        for host in self.hosts:
+            self.start(host)
+
+    def start(self, host):
+        words = ["-p", self.hosts[host], *self.TIMING]
+        self.seats[host] = self.stack.enter_context(seated(self.bench, host, *words))
+
+    def move(self, one, other, end, command):
+        one.remove(end)
+        other.append(end)
+        self.bench.console.write(f'{command} "{end[0]}"[{end[1]}]\n')
+        self.bench.console.flush()
+        self.done.append(f"{command} {end[0]}/{end[1]}")
+
+    def kill(self, host):
+        self.seats[host].end(signal.SIGKILL)
+        self.done.append(f"kill {host}")
+        time.sleep(self.chance.choice((0, 1, 4)))
+        self.start(host)
+
+    def kill_child(self, host):
+        children = self.seats[host].children()
+        self.done.append(f"kill the child of {host}")
+        if children:
+            os.kill(children[0], signal.SIGKILL)
+
+    def event(self):
+        """Does one thing at random."""
+        kind, host = self.chance.random(), self.chance.choice(sorted(self.hosts))
+        if kind < 0.2:
+            self.kill(host)
+        elif kind < 0.3:
+            self.kill_child(host)
+        elif self.cut and (kind < 0.6 or len(self.cut) == self.MOST_CUT):
+            self.move(self.cut, self.whole, self.chance.choice(self.cut), "ReLink")
+        else:
+            self.move(self.whole, self.cut, self.chance.choice(self.whole), "Unlink")
+
+    def mend(self):
+        while self.cut:
+            self.move(self.cut, self.whole, self.cut[0], "ReLink")
+
+    def is_settled(self, since):
+        """Returns whether one is master and has swept, with nothing to write, since a time, and the other stands by."""
+        told = [seat.status() if seat.status_file.exists() else None for seat in self.seats.values()]
+        if None in told or sorted(it["state"] for it in told) != ["master", "standby"]:
+            return False
+        master = next(it for it in told if it["state"] == "master")
+        return master["writing"]["settled"] and (master["sweep"]["began"] or 0) > since
+
+    def end(self):
+        """Plugs all cables in, and checks that the seats settle and what is held then. Returns whether they do."""
+        self.mend()
+        time.sleep(0.5)
+        since = time.time()
+        took = until(lambda: self.is_settled(since))
+        what = f"{len(self.done)} events: {', '.join(self.done)}"
+        self.bench.check(took is not None, f"settled after {took or -1:.1f} s: {what}")
+        for host, seat in self.seats.items() if took is None else ():
+            print(f"{host}: {seat.status()}\n" + "\n".join(seat.said().splitlines()[-30:]))
+        self.done.clear()
+        return took is not None
+
+
+def soak(bench, seconds, seed):
+    """Checks two seats for some time, and each half minute what is held."""
+    name = f"soak of a torus of 16 switches, {seconds} s, by seat"
+    print(f"== {name}: SEED={seed}", flush=True)
+    with bench.simulated(sample_fabrics.torus(4, 4), name), contextlib.ExitStack() as stack:
+        soaked = Soak(bench, stack, random.Random(seed))
+        soaked.end()
+        first = held(bench, "soak0")
+        end, rounds = time.monotonic() + seconds, 0
+        while time.monotonic() < end:
+            rounds += 1
+            pause = min(end, time.monotonic() + 20)
+            while time.monotonic() < pause:
+                soaked.event()
+                time.sleep(soaked.chance.choice((0, 0.2, 1, 3)))
+            if not soaked.end():
+                return
+            bench.check(held(bench, f"soak{rounds}") == first, f"round {rounds}: tables are as at first")
+        some_ways(bench, f"soak{rounds}")
+
+
+# What is brought up side by side with OpenSM, how often, and whether without being asked for by ONLY.
+TIMED = (
+    ("bring-up of 320 switches and 640 adapters, by seat", lambda: sample_fabrics.fat_tree(16, 5), 3, True),
+    ("bring-up of 1,280 switches and 8,192 adapters", lambda: sample_fabrics.fat_tree(32, 16), 1, False),
+)
 # The fabrics, and the checks tried on each.
 SEATED = (
     ("triangle", sample_fabrics.triangle, (dry_run, wrong_usage, brought_up, two_seats)),
@@ -533,6 +748,6 @@ SEATED = (
     (
         "a torus of 9 switches",
         lambda: sample_fabrics.torus(3, 3),
-        (brought_up, cable, losses, two_seats, killed_while_it_writes, beside_opensm),
+        (brought_up, cable, losses, two_seats, killed_while_it_writes, without_a_master, beside_opensm),
     ),
 )

@@ -13,7 +13,7 @@
 #include "seat.h"
 
 /* The kernel gives up a request first. SMInfo may take longer than the rest: a manager answers late while it plans. */
-enum { GRACE_MS = 500, SM_INFO_TIMES = 3, AT_ONCE = 64, CLOCK_SHIFT = 12 };
+enum { GRACE_MS = 500, SM_INFO_TIMES = 3, AT_ONCE = 64, CLOCK_SHIFT = 12, IS_SM = 2 };
 
 struct packet {
 	uint16_t lid;
@@ -181,6 +181,16 @@ void drop_all(void)
 	out_count = 0;
 }
 
+void give_up_queued(void)
+{
+	struct packet packet;
+
+	while (head < tail) {
+		packet = queue[head++];
+		tell("timeout %016llx", (unsigned long long) get(packet.bytes + 8, 8));
+	}
+}
+
 void begin_silent(void)
 {
 	silent_count = 0;
@@ -258,6 +268,27 @@ static const char *give(const uint8_t *packet, unsigned lid)
 	return tell("packet %s from %u", hex, is_directed(packet) ? NO_LID : lid);
 }
 
+/* Says again that a manager is here, if the port has lost that: other managers would not ask this one. ibsim takes it
+   from the port when it finds an earlier process dead. */
+static void keep_manager(const uint8_t *packet)
+{
+	uint32_t modifier = get(packet + 20, 4);
+
+	if (issm < 0 || !is_directed(packet) || packet[7] || get(packet + 16, 2) != PORT_INFO ||
+	    get(packet + 4, 2) & 0x7fff || (modifier && modifier != (uint32_t) own_port.number) ||
+	    get(packet + ATTRIBUTE + 20, 4) & IS_SM)
+		return;
+	note("the port does not say that a manager is here: it is said again");
+	close(issm);
+	be_manager();
+}
+
+/* Returns whether an answer is that to a poll: sweeps ask by paths, and controls have a modifier. */
+static int is_poll(const uint8_t *packet)
+{
+	return !is_directed(packet) && get(packet + 16, 2) == SM_INFO && !get(packet + 20, 4);
+}
+
 static int answers(const uint8_t *packet, const uint8_t *request)
 {
 	return packet[1] == request[1] && get(packet + 16, 2) == get(request + 16, 2) &&
@@ -296,7 +327,10 @@ static void on_answer(uint8_t *packet, unsigned lid)
 	}
 	memcpy(packet + 8, out.tid, sizeof out.tid);
 	check_own_port(packet);
+	keep_manager(packet);
 	keep_image(packet);
+	if (is_poll(packet))
+		heard_poll((packet[ATTRIBUTE + 20] & 15) == MASTER);
 	outs[place] = outs[--out_count];
 	if (strncmp(give(packet, lid), "refused ", 8))
 		return;

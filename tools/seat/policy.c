@@ -10,16 +10,17 @@
 #include "seat.h"
 
 enum phase { RESTS, SWEEPS, WRITES, HANDS_OVER };
-enum { LINK_STATE_CHANGED = 128, CAPABILITIES_CHANGED = 144, MOST_REPEATS = 3, MOST_WAIT = 10 };
+enum { LINK_STATE_CHANGED = 128, CAPABILITIES_CHANGED = 144, MOST_REPEATS = 3, MOST_POLLS = 3, MOST_WAIT = 10 };
 #define SHORTEST 1.0	/* seconds from the beginning of one sweep to that of the next */
+#define ACKNOWLEDGED 1.0	/* seconds that a manager may take to acknowledge a handover, after its answer to it */
 
 static enum phase phase;
 static struct standing status;
 static char state[16], *kept_plan, *managers;
-static int has_news, is_wanted, repeats, faults, gaps;
+static int has_news, is_wanted, repeats, faults, gaps, masterless;
 static unsigned left_not_active, polled;
 static uint32_t newest;
-static double earliest, next_sweep, next_poll, sweep_begun, began;
+static double earliest, next_sweep, next_poll, sweep_begun, began, handed_over;
 
 void heard_news(void)
 {
@@ -139,11 +140,12 @@ static void read_progress(void)
 	status.managers = managers;
 }
 
-/* Returns the LID that a standby polls: that of the master seen by the sweep, or 0 if it saw none with a LID. */
-static unsigned master_lid(void)
+/* Finds the LID that a standby polls: that of the master seen by the sweep, or 0 if it saw none with a LID. Counts
+   sweeps in a row that saw none. */
+static void look_for_master(void)
 {
 	unsigned long long node;
-	unsigned port, lid = 0;
+	unsigned port;
 	char word[64], wanted[64];
 	const char *line, *facts;
 
@@ -151,13 +153,36 @@ static unsigned master_lid(void)
 		if (sscanf(line, "manager %llx/%u guid %*x priority %*u state %63s", &node, &port, word) == 3 &&
 		    !strcmp(word, "master"))
 			break;
-	if (!*line)
-		return 0;
+	if (!*line) {
+		masterless += status.is_whole;
+		return;
+	}
+	masterless = 0;
 	snprintf(wanted, sizeof wanted, "\nclaim %016llx/%u ", node, port);
 	facts = strstr(tell("facts"), wanted);
 	if (facts)
-		lid = strtoul(facts + strlen(wanted), NULL, 10);
-	return lid;
+		polled = strtoul(facts + strlen(wanted), NULL, 10);
+}
+
+void heard_poll(int is_master)
+{
+	if (!is_master)
+		polled = 0;
+}
+
+/* Makes a standby discover anew, since nobody is master: all that are left may be standbys, and each of them answers
+   polls. The manager does so if three polls in a row have no answer, so polls are given up that never go out. */
+static void leave_standby(void)
+{
+	int i;
+
+	note("nobody is master");
+	for (i = 0; i < MOST_POLLS; i++) {
+		tell("poll %d", NO_LID);
+		give_up_queued();
+	}
+	masterless = 0;
+	heard_news();
 }
 
 static void say_silent(void)
@@ -196,6 +221,17 @@ static void hand_over(void)
 {
 	if (strncmp(tell("handover"), "refused ", 8))
 		phase = HANDS_OVER;
+	handed_over = 0;
+}
+
+/* Returns whether the acknowledgement may still come: the answer to a handover comes first. */
+static int may_be_acknowledged(void)
+{
+	if (!is_state("master"))
+		return 0;
+	if (!handed_over)
+		handed_over = now();
+	return now() < handed_over + ACKNOWLEDGED;
 }
 
 /* Settles, since nothing is left to write. */
@@ -256,7 +292,9 @@ static void after_sweep(void)
 		return;
 	}
 	next_sweep = now() + seat.sweep_seconds;
-	polled = is_state("standby") ? master_lid() : 0;
+	polled = 0;
+	if (is_state("standby"))
+		look_for_master();
 	gaps = status.is_whole ? 0 : gaps + 1;
 	if (gaps) {
 		say_silent();
@@ -269,6 +307,8 @@ static void after_sweep(void)
 		judge_plan();
 	else
 		faults = 0;
+	if (is_state("standby") && masterless > MOST_REPEATS)
+		leave_standby();
 }
 
 /* Asks for another sweep after a writing, to see what moved meanwhile. */
@@ -337,6 +377,7 @@ void begin_policy(void)
 	is_wanted = 1;
 	has_news = 1;
 	polled = 0;
+	masterless = 0;
 	if (options.after && !newest)
 		newest = newest_in(options.after);
 }
@@ -350,7 +391,7 @@ void policy(void)
 	if (has_news || phase != RESTS)
 		look_at_state();
 	has_news = 0;
-	if (manager_is_gone())
+	if (manager_is_gone() || (phase == HANDS_OVER && may_be_acknowledged()))
 		return;
 	if (phase == SWEEPS)
 		after_sweep();

@@ -5,7 +5,7 @@
 #include <time.h>
 #include "../record/record.h"
 
-enum { SM_INFO = 0x20, LID_ROUTED_CLASS = 0x01, DIRECTED_CLASS = 0x81, NO_LID = 0xffff };
+enum { SM_INFO = 0x20, MASTER = 3, LID_ROUTED_CLASS = 0x01, DIRECTED_CLASS = 0x81, NO_LID = 0xffff };
 enum method { GET = 1, SET = 2, TRAP = 5, TRAP_REPRESS = 7, RESPONSE = 0x80 };
 
 struct seat_options {
@@ -47,6 +47,8 @@ void carry(int wait_ms);
 /* Returns whether nothing is queued or out. */
 int is_at_rest(void);
 void drop_all(void);
+/* Gives up the queued requests, none of which has gone out. */
+void give_up_queued(void);
 /* Unanswered requests since a sweep began, as texts; at most MOST_SILENT are kept. */
 enum { MOST_SILENT = 20, SILENT_TEXT = 120 };
 void begin_silent(void);
@@ -69,6 +71,8 @@ void heard_news(void);
 /* Notes a trap, and returns whether to repress it. */
 int heard_trap(unsigned number, unsigned lid);
 void heard_hangup(void);
+/* Notes what the answer to a poll says: whether its sender is master. */
+void heard_poll(int is_master);
 
 /* status.c */
 struct standing {
