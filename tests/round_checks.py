@@ -361,6 +361,9 @@ def by_a_kept_order(room, fab, ends):
     goes_by("held", asked, "else by one that the held tables have")
     room.check(room.text("rd/kept.order") == "0x1\n", "and the kept one stays")
     (room.path / "fab/told").unlink()
+    fab(held=held, moves="ibsm: rd/now.held: lid 4 moves\n")
+    ends(f"{words} --at-once", 0, "audit", holds)
+    (room.path / "fab/moves").unlink()
     fab(held=held, ordered="")
     ends(words, 1, "next", "step 1 is not written")
     room.check(
