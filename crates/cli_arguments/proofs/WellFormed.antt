@@ -22,9 +22,13 @@ use Rattle.clap.specs.declared.parser.matches.SubCommand.{SubCommand}
 use Rattle.std.specs.Box.{box_value}
 use Rattle.cli_arguments.specs.CommandLine.{IsReadAs, AreRoutings, command_line}
 use Rattle.cli_arguments.specs.WellFormed.{HasItsWords, IsGiven, IsNumberWithin, IsRouting, IsWellFormed, NamesFiles, NamesOrder, NamesPlanning, NamesSeat, facts, join, plan, order, audit, order_of, next, run, serve}
-use Rattle.cli_arguments.specs.Words.{has_conflict, has_conflict_behind, has_conflict_of, is_guid, order_rule, values_in, word_behind}
+use Rattle.cli_arguments.specs.Words.{has_conflict, has_conflict_behind, has_conflict_of, is_guid, is_key, is_wrong_seat, order_rule, values_in, word_behind}
 use Rattle.cli_arguments.proofs.Entered.{EachHas, IsPassed, enters, required_given, found_has, given_word, is_help, word_passes}
 use Rattle.cli_arguments.proofs.Walked.{ArePlainIn, AreTaken, level_taken, wants_some}
+
+neither : (a b : Bool) → (a || b) ≡ false → (a ≡ false) × (b ≡ false)
+neither false b e = (refl, e)
+neither true b e = absurd (cc)
 
 module _ (routings : Bor (List (Bor Text))) (known : AreRoutings routings) (c : List Rule) (name : Text) (rows : List Row) (taken : AreTaken c rows) where
   abbrev word : Text → Option Text
@@ -110,13 +114,14 @@ module _ (routings : Bor (List (Bor Text))) (known : AreRoutings routings) (c : 
   names_seat : (g p q : Rule) → arg_by_id c (codes "GUID") ≡ Some g → arg_by_id c (codes "PORT") ≡ Some p → p.parser ≡ Some (Signed (pos 1) (pos 254))
       → arg_by_id c (codes "PRIORITY") ≡ Some q → q.parser ≡ Some (Signed (pos 0) (pos 15)) → wants_some g ≡ true → wants_some p ≡ true
       → wants_some q ≡ true → is_given (codes "GUID") rows ≡ true → is_given (codes "PORT") rows ≡ true → is_given (codes "PRIORITY") rows ≡ true
-      → not (is_guid (word (codes "GUID"))) ≡ false → NamesSeat word
-  names_seat g p q is_g is_p parser_p is_q parser_q wants_g wants_p wants_q given_g given_p given_q guid = record {
-    guid = is_so (is_guid (word (codes "GUID"))) guid;
+      → is_wrong_seat word ≡ false → NamesSeat word
+  names_seat g p q is_g is_p parser_p is_q parser_q wants_g wants_p wants_q given_g given_p given_q right = record {
+    guid = is_so (is_guid (word (codes "GUID"))) (neither _ _ right).0;
     port_given = text_given (codes "PORT") p is_p wants_p given_p;
     port = number_read 1 254 p parser_p (word (codes "PORT")) (word_passes c name (codes "PORT") p rows is_p taken);
     priority_given = text_given (codes "PRIORITY") q is_q wants_q given_q;
     priority = number_read 0 15 q parser_q (word (codes "PRIORITY")) (word_passes c name (codes "PRIORITY") q rows is_q taken);
+    sm_key = is_so (is_key (word (codes "sm-key"))) (neither _ _ right).1;
   }
     where
       is_so : (b : Bool) → not b ≡ false → b ≡ true
@@ -124,10 +129,6 @@ module _ (routings : Bor (List (Bor Text))) (known : AreRoutings routings) (c : 
       is_so false e = absurd (cc)
 
 -- subcommands ---------------------------------------------------------------------------------------------
-
-neither : (a b : Bool) → (a || b) ≡ false → (a ≡ false) × (b ≡ false)
-neither false b e = (refl, e)
-neither true b e = absurd (cc)
 
 given_first : (b x : Bool) → (not b || x) ≡ false → (b ≡ true) × (x ≡ false)
 given_first true x e = (refl, e)

@@ -67,9 +67,9 @@ port_rule = record (text_rule (codes "PORT")) { parser = Some (Signed (pos 1) (p
 abbrev pub priority_rule : Rule
 priority_rule = record (text_rule (codes "PRIORITY")) { parser = Some (Signed (pos 0) (pos 15)) }
 
--- the arguments of a manager at a port
+-- the arguments of a manager at a port, and the option for its SM_Key
 abbrev pub of_seat : List Rule
-of_seat = text_rule (codes "GUID") ∷ port_rule ∷ priority_rule ∷ []
+of_seat = text_rule (codes "GUID") ∷ port_rule ∷ priority_rule ∷ option_rule (codes "sm-key") ∷ []
 
 -- the options for how switches are ordered: from roots, or by an order
 abbrev pub of_order : List Rule

@@ -5,7 +5,7 @@ use Rattle.clap.specs.Matches.{subcommand_name_of}
 use Rattle.clap.specs.Values.{IsSignedIn}
 use Rattle.clap.specs.Walk.{Text}
 use Rattle.clap.specs.declared.parser.matches.ArgMatches.{ArgMatches}
-use Rattle.cli_arguments.specs.Words.{files_named, has_conflict_of, is_guid, order_rule, word_named}
+use Rattle.cli_arguments.specs.Words.{files_named, has_conflict_of, is_guid, is_key, order_rule, word_named}
 
 -- the word, if any, is a number from `least` to `most`
 abbrev pub IsNumberWithin : ℕ → ℕ → Option Text → Type 0
@@ -39,13 +39,14 @@ pub record NamesOrder (word : Text → Option Text) : Type 0 where
   pub apart : has_conflict_of (order_rule (word (codes "routing"))) (is_some (word (codes "roots")))
       (is_some (word (codes "order"))) ≡ false
 
--- the GUID and the number of a manager's port and its priority are named
+-- the GUID and the number of a manager's port and its priority are named, and its SM_Key, if any, is one
 pub record NamesSeat (word : Text → Option Text) : Type 0 where
   pub guid : is_guid (word (codes "GUID")) ≡ true
   pub port_given : IsGiven (word (codes "PORT"))
   pub port : IsNumberWithin 1 254 (word (codes "PORT"))
   pub priority_given : IsGiven (word (codes "PRIORITY"))
   pub priority : IsNumberWithin 0 15 (word (codes "PRIORITY"))
+  pub sm_key : is_key (word (codes "sm-key")) ≡ true
 
 -- the subcommand `name` has the words that it takes
 pub data HasItsWords (word : Text → Option Text) (files : Option (List Text)) (name : Text) : Type 0 where

@@ -45,6 +45,15 @@ abbrev pub is_guid : Option (List ℕ) → Bool
 is_guid None = false
 is_guid (Some word) = is_guid_word word
 
+-- an SM_Key, if a word names one, is 1 to 16 hex digits
+abbrev pub is_key : Option (List ℕ) → Bool
+is_key None = true
+is_key (Some word) = is_guid_word word
+
+-- the GUID of a manager's port or its SM_Key is none
+abbrev pub is_wrong_seat : (List ℕ → Option (List ℕ)) → Bool
+is_wrong_seat word = not (is_guid (word (codes "GUID"))) || not (is_key (word (codes "sm-key")))
+
 -- the options of a plan or an order contradict each other in the subcommand `name`; the one that prints an order needs
 -- no word for its rule
 abbrev pub planning_conflict : List ℕ → (List ℕ → Option (List ℕ)) → Bool
@@ -52,10 +61,10 @@ planning_conflict name word =
     has_conflict_of (if bytes_eq name (codes "order") then order_rule (word (codes "routing")) else word (codes "routing"))
     (is_some (word (codes "roots"))) (is_some (word (codes "order")))
 
--- options contradict each other in the subcommand `name`, or it serves a manager and its GUID is not one
+-- options contradict each other in the subcommand `name`, or it serves a manager and its GUID or its SM_Key is none
 abbrev pub has_conflict : List ℕ → (List ℕ → Option (List ℕ)) → Bool
 has_conflict name word =
-    if bytes_eq name (codes "serve") then planning_conflict name word || not (is_guid (word (codes "GUID")))
+    if bytes_eq name (codes "serve") then planning_conflict name word || is_wrong_seat word
     else planning_conflict name word
 
 -- options contradict each other in the subcommand, if one was named

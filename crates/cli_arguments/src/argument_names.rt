@@ -33,6 +33,9 @@ pub const PORT: &str = "PORT";
 /// The argument for a manager's priority.
 pub const PRIORITY: &str = "PRIORITY";
 
+/// The option for a manager's SM_Key.
+pub const SM_KEY: &str = "sm-key";
+
 /// The argument for the report and store files of a subcommand.
 pub const FILE: &str = "FILE";
 

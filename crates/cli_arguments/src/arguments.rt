@@ -16,12 +16,14 @@ ghost use Rattle.cli_arguments.specs.CommandLine.{all_rule, files_rule, floor_ru
 ghost use Rattle.cli_arguments.specs.CommandLine.{of_report, option_rule, routing_rule};
 ghost use Rattle.cli_arguments.specs.CommandLine.{text_rule};
 ghost use Rattle.cli_arguments.specs.WellFormed.{IsWellFormed};
-ghost use Rattle.cli_arguments.specs.Words.{has_conflict, has_conflict_behind, is_guid, is_guid_word, lacks_rule, order_rule};
+ghost use Rattle.cli_arguments.specs.Words.{has_conflict, has_conflict_behind, is_guid, is_guid_word, is_key};
+ghost use Rattle.cli_arguments.specs.Words.{is_wrong_seat, lacks_rule, order_rule};
 ghost use Rattle.cli_arguments.specs.Words.{planning_conflict};
 
 use crate::argument_names::{
     ALL, AUDIT, BALANCE, FACTS, FILE, FLOOR, GUID, JOIN, LMC, MAX_LOAD, NEXT, ORDER, ORDER_OF,
-    PLAN, PORT, PRIORITY, ROOTS, ROUTING, RUN, SCHEDULE, SERVE, SPREAD, TABLES, TOPOLOGY, UPDOWN,
+    PLAN, PORT, PRIORITY, ROOTS, ROUTING, RUN, SCHEDULE, SERVE, SM_KEY, SPREAD, TABLES, TOPOLOGY,
+    UPDOWN,
 };
 use clap::error::ErrorKind;
 use clap::{Arg, ArgAction, ArgMatches, Command, Error, value_parser};
@@ -74,8 +76,8 @@ const RUN_END: &str = "Exit status:\n  0  done\n  2  the command line is wrong\n
      5  out of memory\n\nExample:\n  ibsm run triangle.topology bring_up.schedule";
 
 const SERVE_END: &str =
-    "It is no subnet administration: it has no path records and no multicast groups, knows no partitions \
-     and no lanes, and its SMInfo does not yet go together with a stock OpenSM.\n\n\
+    "It is no subnet administration: it has no path records and no multicast groups, and knows no partitions \
+     and no lanes.\n\n\
      Exit status:\n  0  done\n  2  the command line is wrong\n  3  a file is refused\n  \
      4  a file or standard input cannot be opened or read, or the output takes no more\n  \
      5  out of memory\n\nExample:\n  ibsm serve 0000000000000101 1 5";
@@ -253,14 +255,15 @@ fn serve<'a>(alloc: Global, routings: &'a [&'a str]) -> Result<Command<'a>, Allo
     with_planning(alloc, routings, of_seat(alloc, command)?)
 }
 
-/// Adds the arguments of a manager at a port: GUID, port and priority.
+/// Adds the arguments of a manager at a port: GUID, port and priority, and the option for its SM_Key.
 fn of_seat<'a>(alloc: Global, command: Command<'a>) -> Result<Command<'a>, AllocError>
     ensures { IfOk result (AddsRules of_seat command.entry) }
 {
     command
         .arg(text(alloc, GUID, "The GUID of the port, 1 to 16 hex digits"))?
         .arg(port(alloc))?
-        .arg(priority(alloc))
+        .arg(priority(alloc))?
+        .arg(sm_key(alloc))
 }
 
 /// Adds the files and the option for a floor.
@@ -352,6 +355,18 @@ fn priority<'a>(alloc: Global) -> Arg<'a>
         .help("The priority of the manager, 0 to 15")
         .required(true)
         .value_parser(value_parser!(u8).range(0..=15))
+        .action(ArgAction::Set)
+}
+
+/// Builds the option for the SM_Key of a manager.
+fn sm_key<'a>(alloc: Global) -> Arg<'a>
+    ensures rule { rule_of result ≡ option_rule (codes "sm-key") }
+    ensures own { result.global ≡ false }
+{
+    Arg::new(alloc, SM_KEY)
+        .long(SM_KEY)
+        .value_name("HEX")
+        .help("The SM_Key of the manager, 1 to 16 hex digits; OpenSM's, 1, if none is given")
         .action(ArgAction::Set)
 }
 
@@ -454,7 +469,7 @@ fn order_file<'a>(alloc: Global) -> Arg<'a>
 }
 
 /// Returns whether options contradict each other: if roots and an order are both named, or if one of them is named
-/// without the rule of routing that takes it. Also returns true if the word for a manager's GUID is not a GUID.
+/// without the rule of routing that takes it. Also returns true if a manager's GUID or SM_Key is none.
 fn has_conflict(matches: &ArgMatches<'_>) -> bool
     ensures { result ≡ has_conflict_behind (subcommand_rows_of matches.now) }
 {
@@ -464,13 +479,13 @@ fn has_conflict(matches: &ArgMatches<'_>) -> bool
     }
 }
 
-/// Returns whether the options of the subcommand `name` contradict each other, or it serves a manager and its GUID is
-/// not one.
+/// Returns whether the options of the subcommand `name` contradict each other, or it serves a manager and its GUID or
+/// SM_Key is none.
 fn has_conflict_in(name: &str, words: &ArgMatches<'_>) -> bool
     ensures { result ≡ has_conflict name.now (first_value (found_of words.now)) }
 {
     match name {
-        SERVE => planning_conflict(name, words) || !has_guid(words),
+        SERVE => planning_conflict(name, words) || has_wrong_seat(words),
         _ => planning_conflict(name, words),
     }
 }
@@ -482,6 +497,23 @@ fn planning_conflict(name: &str, words: &ArgMatches<'_>) -> bool
     let rooted = is_named(words, ROOTS);
     let ordered = is_named(words, ORDER);
     (rooted && ordered) || lacks_rule(name, words, rooted || ordered)
+}
+
+/// Returns whether the GUID of a manager's port or its SM_Key is none.
+fn has_wrong_seat(words: &ArgMatches<'_>) -> bool
+    ensures { result ≡ is_wrong_seat (first_value (found_of words.now)) }
+{
+    !has_guid(words) || !has_key(words)
+}
+
+/// Returns whether an SM_Key, if a word names one, is 1 to 16 hex digits.
+fn has_key(words: &ArgMatches<'_>) -> bool
+    ensures { result ≡ is_key (first_value (found_of words.now) (codes "sm-key")) }
+{
+    match words.get_str(SM_KEY) {
+        Some(word) => is_guid_word(word.as_bytes()),
+        None => true,
+    }
 }
 
 /// Returns whether the word for a GUID is one: 1 to 16 hex digits.
@@ -536,13 +568,16 @@ fn conflict(alloc: Global, matches: &ArgMatches<'_>) -> Result<Error, AllocError
     command.error(ErrorKind::ArgumentConflict, conflict_text(matches))
 }
 
-/// Returns the text of the error for options that contradict each other, or for a GUID that is not one.
+/// Returns the text of the error for options that contradict each other, or for a GUID or an SM_Key that is none.
 fn conflict_text(matches: &ArgMatches<'_>) -> &'static str {
     let Some((_, words)) = matches.subcommand() else {
         return "";
     };
     if is_named(words, GUID) && !has_guid(words) {
         return "invalid value for '<GUID>': 1 to 16 hex digits are wanted";
+    }
+    if !has_key(words) {
+        return "invalid value for '--sm-key <HEX>': 1 to 16 hex digits are wanted";
     }
     match (is_named(words, ROOTS), is_named(words, ORDER)) {
         (true, true) => "the argument '--roots <FILE>' cannot be used with '--order <FILE>'",

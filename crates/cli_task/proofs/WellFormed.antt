@@ -4,10 +4,10 @@ use Rattle.std.specs.Prelude.{codes, is_some, option_and_then, option_map}
 use Rattle.clap.specs.Matches.{subcommand_name_of}
 use Rattle.clap.specs.declared.parser.matches.ArgMatches.{ArgMatches}
 use Rattle.cli_arguments.specs.WellFormed.{HasItsWords, IsGiven, IsNumberWithin, IsRouting, IsWellFormed, NamesFiles, NamesOrder, NamesPlanning, NamesSeat, facts, join, plan, order, audit, order_of, next, run, serve}
-use Rattle.cli_arguments.specs.Words.{files_named, has_conflict_of, is_guid, order_rule, word_named}
+use Rattle.cli_arguments.specs.Words.{files_named, has_conflict_of, is_guid, is_key, order_rule, word_named}
 use Rattle.sm_cli.specs.declared.asked.RuleAsked.{RuleAsked}
 use Rattle.sm_cli.specs.declared.asked.RuleAsked.TheVariants.{UpDown, Spread, SpreadFromRoots, SpreadInOrder, Balance}
-use Rattle.cli_task.specs.Asked.{floor_asked, followed_by, guid_asked, lmc_asked, max_load_asked, number_in, port_asked, priority_asked, within, names_in, planning_asked, rule_asked, task_behind, texts_of_rule}
+use Rattle.cli_task.specs.Asked.{floor_asked, followed_by, guid_asked, lmc_asked, max_load_asked, number_in, port_asked, priority_asked, sm_key_asked, within, names_in, planning_asked, rule_asked, task_behind, texts_of_rule}
 use Rattle.cli_task.proofs.Guids.{guid_is_read}
 use Rattle.cli_task.proofs.Within.{number_within}
 
@@ -94,6 +94,10 @@ number_there least most (Some word) given h = number_within least most word h
 guid_there : (o : Option (List ℕ)) → is_guid o ≡ true → is_some (guid_asked o) ≡ true
 guid_there None e = absurd (cc)
 guid_there (Some word) e = guid_is_read word e
+
+key_there : (o : Option (List ℕ)) → is_key o ≡ true → is_some (sm_key_asked o) ≡ true
+key_there None e = refl
+key_there (Some word) e = guid_is_read word e
 
 -- whoever names a GUID names the lines
 lines_there : (o : Option (List ℕ)) → is_guid o ≡ true → is_some (option_map (λ guid. codes "/dev/stdin" ∷ []) o) ≡ true
@@ -187,7 +191,8 @@ module _ (word : List ℕ → Option (List ℕ)) (files : Option (List (List ℕ
       let guid = known (guid_asked (word (codes "GUID"))) (guid_there (word (codes "GUID")) s.guid) in
       let port = known (port_asked (word (codes "PORT"))) (number_there 1 254 (word (codes "PORT")) s.port_given s.port) in
       let priority = known (priority_asked (word (codes "PRIORITY"))) (number_there 0 15 (word (codes "PRIORITY")) s.priority_given s.priority) in
-      rw (by.1, guid.1, port.1, priority.1)
+      let sm_key = known (sm_key_asked (word (codes "sm-key"))) (key_there (word (codes "sm-key")) s.sm_key) in
+      rw (by.1, guid.1, port.1, priority.1, sm_key.1)
       (both_there (texts_of_rule word by.0.1) _ by.2 (both_there _ (Some []) (lines_there (word (codes "GUID")) s.guid) refl))
 
   words_ask : (name : List ℕ) → HasItsWords word files name → Asks name

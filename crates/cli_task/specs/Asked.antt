@@ -108,16 +108,22 @@ port_asked word = option_and_then (within 1 254) (option_and_then number_in word
 abbrev pub priority_asked : Option (List ℕ) → Option ℕ
 priority_asked word = option_and_then (within 0 15) (option_and_then number_in word)
 
+-- the SM_Key that 1 to 16 hex digits write, 1 if no word names one
+abbrev pub sm_key_asked : Option (List ℕ) → Option ℕ
+sm_key_asked None = Some 1
+sm_key_asked (Some word) = hex_number word
+
 -- a manager at a port, which plans by the LMC and the rule of `by`
-abbrev pub serving_by : ℕ × RuleAsked → Option ℕ → Option ℕ → Option ℕ → Option Serving
-serving_by by guid port priority =
-    option_and_then (λ g. option_and_then (λ p. option_map
-    (λ q. record { guid = g; port = p; priority = q; lmc = by.0; rule = by.1 }) priority) port) guid
+abbrev pub serving_by : ℕ × RuleAsked → Option ℕ → Option ℕ → Option ℕ → Option ℕ → Option Serving
+serving_by by guid port priority sm_key =
+    option_and_then (λ g. option_and_then (λ p. option_and_then (λ q. option_map
+    (λ k. record { guid = g; port = p; priority = q; sm_key = k; lmc = by.0; rule = by.1 }) sm_key) priority) port) guid
 
 -- the manager that is served
 abbrev pub serving_asked : (List ℕ → Option (List ℕ)) → Option Serving
 serving_asked word = option_and_then (λ by. serving_by by (guid_asked (word (codes "GUID")))
-    (port_asked (word (codes "PORT"))) (priority_asked (word (codes "PRIORITY")))) (planning_asked word)
+    (port_asked (word (codes "PORT"))) (priority_asked (word (codes "PRIORITY"))) (sm_key_asked (word (codes "sm-key"))))
+    (planning_asked word)
 
 -- what the subcommand `command` writes of files
 abbrev pub output_asked : (List ℕ → Option (List ℕ)) → List ℕ → Option Output

@@ -5,7 +5,8 @@ ghost use Rattle.cli_task.specs.Asked.{audit_asked, floor_asked, is_set, lmc_ask
 ghost use Rattle.cli_task.specs.Asked.{number_or, planning_asked, rule_asked};
 ghost use Rattle.cli_task.specs.Asked.{order_asked, output_asked, step_asked, task_asked, task_behind, within};
 ghost use Rattle.cli_task.specs.Asked.{names_asked, names_in, rule_of_task, spread_asked, takes_files, texts_asked};
-ghost use Rattle.cli_task.specs.Asked.{guid_asked, port_asked, priority_asked, serving_asked, texts_of_rule};
+ghost use Rattle.cli_task.specs.Asked.{guid_asked, port_asked, priority_asked, serving_asked, sm_key_asked};
+ghost use Rattle.cli_task.specs.Asked.{texts_of_rule};
 
 use arrayvec::ArrayVec;
 use attr_codec::{Lmc, Priority};
@@ -13,7 +14,8 @@ use audit_report::AuditAsked;
 use clap::ArgMatches;
 use cli_arguments::argument_names::{
     ALL, AUDIT, BALANCE, FACTS, FILE, FLOOR, GUID, JOIN, LMC, MAX_LOAD, NEXT, ORDER, ORDER_OF,
-    PLAN, PORT, PRIORITY, ROOTS, ROUTING, RUN, SCHEDULE, SERVE, SPREAD, TABLES, TOPOLOGY, UPDOWN,
+    PLAN, PORT, PRIORITY, ROOTS, ROUTING, RUN, SCHEDULE, SERVE, SM_KEY, SPREAD, TABLES, TOPOLOGY,
+    UPDOWN,
 };
 use next_run::StepAsked;
 use serve_lines::hex_number;
@@ -149,10 +151,12 @@ fn serving_of(words: &ArgMatches<'_>) -> Option<Serving>
     let guid = guid_of(words)?;
     let port = port_of(words)?;
     let priority = priority_of(words)?;
+    let sm_key = sm_key_of(words)?;
     Some(Serving {
         guid,
         port,
         priority,
+        sm_key,
         lmc,
         rule,
     })
@@ -185,6 +189,19 @@ fn priority_of(words: &ArgMatches<'_>) -> Option<Priority>
         return None;
     }
     Priority::new(priority as u8)
+}
+
+/// The SM_Key of OpenSM, if no other one is set in its options.
+const OPENSM_KEY: u64 = 1;
+
+/// Returns the SM_Key that `words` name, of up to 16 hex digits, or OpenSM's if they name none.
+fn sm_key_of(words: &ArgMatches<'_>) -> Option<u64>
+    ensures { result ≡ sm_key_asked (first_value (found_of words.now) (codes "sm-key")) }
+{
+    match words.get_str(SM_KEY) {
+        Some(word) => hex_number(word.as_bytes()),
+        None => Some(OPENSM_KEY),
+    }
 }
 
 /// Returns what the subcommand `command` writes of files.

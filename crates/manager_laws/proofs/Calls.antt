@@ -8,7 +8,7 @@ use Rattle.smp_bytes.specs.declared.smp_fault.SmpFault.{SmpFault}
 use Rattle.fabric_model.specs.Cables.{is_same_port}
 use Rattle.smp_bytes.specs.Header.{get, get_resp, set, done, sm_info}
 use Rattle.smp_bytes.specs.Field.{bytes_in, number_in, with_bits}
-use Rattle.smp_bytes.specs.Packet.{attribute_data, attribute_id, attribute_modifier, fault_of, is_directed, is_response, method, mgmt_class, status}
+use Rattle.smp_bytes.specs.Packet.{attribute_data, attribute_id, attribute_modifier, fault_of, is_directed, is_response, method, mgmt_class, status, transaction_id}
 use Rattle.smp_bytes.specs.Requests.{answer_packet, lid_routed, request_entries}
 use Rattle.smp_bytes.specs.ReadBack.{HoldsAnswer}
 use Rattle.smp_bytes.proofs.Answered.{answer_reads_back}
@@ -38,8 +38,9 @@ use Rattle.sm_manager.specs.Manager.{Manager}
 use Rattle.sm_manager.specs.Packets.{Called, answers, after_timeout, is_for_sweep, is_info_request, packet_taken, pending_for, request_answered}
 use Rattle.sm_manager.specs.Packets.{request_gave_up, after_request, after_packet, unless_spent}
 use Rattle.sm_manager.specs.ManagerRequests.{is_for_step, is_step, with_number}
-use Rattle.sm_manager.specs.Served.{answer_data, answer_out, answering, controlled, is_control, moved_on, replying, served, status_for}
-use Rattle.sm_state.specs.Standing.{info_of, moved_to}
+use Rattle.sm_manager.specs.Served.{acknowledged_at, answer_data, answer_out, answering, controlled, hearing, is_control, moved_on, replying, served, status_for}
+use Rattle.sm_manager.specs.Traps.{represses, repress_out, repressing, trap_repress}
+use Rattle.sm_state.specs.Standing.{after_request_heard, info_of, info_with, moved_to}
 use Rattle.sm_manager.specs.Writing.{is_done_by, is_spent, after_step, without}
 use Rattle.manager_laws.specs.Scene.{Handed, asks_manager}
 use Rattle.manager_laws.proofs.Fair.{BesideCall, IsOwnPacket, answer_own, asked_are_own, lid_own, own_more}
@@ -68,6 +69,13 @@ info_alone : (method_number modifier tid : ℕ) (payload : List ℕ) → length 
 info_alone method_number modifier tid payload whole sets =
     lid_routed_field method_number sm_info modifier tid attribute_id payload whole (omega arith)
     ∙ number_in-with_numbers 256 (request_entries 0x01 method_number sm_info modifier tid) (replicate 256 0) 5 _ refl refl refl (omega arith)
+
+-- one of another method sets nothing
+sets_not : (method_number attribute modifier tid : ℕ) (payload : List ℕ) → length payload ≡ 64 → (method_number ≡ set → ⊥)
+    → SetsInfoAlone (lid_routed method_number attribute modifier tid payload)
+sets_not method_number attribute modifier tid payload whole other sets =
+    absurd (other (sym (lid_routed_field method_number attribute modifier tid method payload whole (omega arith)
+    ∙ number_in-with_numbers 256 (request_entries 0x01 method_number attribute modifier tid) (replicate 256 0) 3 _ refl refl refl (omega arith)) ∙ sets))
 
 -- an answer sets nothing
 answers_set_nothing : (bytes : List ℕ) → number_in method bytes ≡ get_resp → SetsInfoAlone bytes
@@ -163,9 +171,6 @@ module _ (start : Simulation) (seat : NodePort) (plan : PlanValue) (g : Ground s
           side = record { port = side.port; lmc = side.lmc; sweep = side.sweep; knows = side.knows };
         }
 
-    over_still : Beside m (without m p)
-    over_still = over m.standing
-
   -- a request by LIDs goes out, and waits
   asks : (m : Manager) → SweepSide start seat old m → AreOnce m.counter m.pending → (waits : Pending) (out : Outgoing) → waits.number ≡ m.counter
       → is_step waits ≡ false
@@ -200,8 +205,8 @@ module _ (start : Simulation) (seat : NodePort) (plan : PlanValue) (g : Ground s
 
   controls : (m : Manager) → SweepSide start seat old m → AreOnce m.counter m.pending → (lid : ℕ) (control : Control) → Beside m (control_sent m lid control)
   controls m side once lid control =
-      let payload = sm_info_bytes (info_of m.standing) in
-      let whole = length-sm_info (info_of m.standing) in
+      let payload = sm_info_bytes (info_with control m.standing) in
+      let whole = length-sm_info (info_with control m.standing) in
       asks m side once _ _ refl refl (length-lid_routed set sm_info (modifier_of_control control) m.counter payload whole)
       (not_directed set sm_info (modifier_of_control control) m.counter payload whole)
       (info_alone set (modifier_of_control control) m.counter payload whole)
@@ -225,6 +230,32 @@ module _ (start : Simulation) (seat : NodePort) (plan : PlanValue) (g : Ground s
         more = [];
         outgoing = sym (append-nil m.outgoing);
         own = λ c all. tt;
+        side = record { port = side.port; lmc = side.lmc; sweep = side.sweep; knows = side.knows };
+      }
+
+  -- a trap is repressed by LIDs
+  represses_it : (m : Manager) → SweepSide start seat old m → AreOnce m.counter m.pending → (bytes : List ℕ) (lid : Option ℕ) → length bytes ≡ 256
+      → Beside m (repressing m bytes lid)
+  unfolding Beside
+  represses_it m side once bytes lid count =
+      let attribute = number_in attribute_id bytes in
+      let modifier = number_in attribute_modifier bytes in
+      let tid = number_in transaction_id bytes in
+      let data = bytes_in attribute_data bytes in
+      let whole = length-data bytes count in
+      record {
+        writing = refl;
+        steps_stay = λ q among is. among;
+        steps_were = λ q among is. among;
+        upto = omega arith;
+        once = once;
+        more = repress_out bytes lid ∷ [];
+        outgoing = refl;
+        own = λ c all. (
+          lid_own start seat plan c all handed (repress_out bytes lid) (length-lid_routed trap_repress attribute modifier tid data whole)
+              (not_directed trap_repress attribute modifier tid data whole) (sets_not trap_repress attribute modifier tid data whole (omega arith)),
+          tt,
+        );
         side = record { port = side.port; lmc = side.lmc; sweep = side.sweep; knows = side.knows };
       }
 
@@ -292,9 +323,9 @@ module _ (start : Simulation) (seat : NodePort) (plan : PlanValue) (g : Ground s
           let small : status_of move < 2 ^ 15 = cond_both move.is_refused _ _ (λ (n : ℕ). n < 2 ^ 15) (λ _. omega arith) (λ _. omega arith) in
           let two = answers_it in_state one.side one.once lid (status_of move) small in
           let answered = answering in_state h.packet.bytes lid (status_of move) in
-          both m in_state _ one (both in_state answered _ two (tells answered two.side two.once lid move.message))
+          both m in_state _ one (both in_state answered _ two (tells answered two.side two.once (acknowledged_at h.packet.bytes lid) move.message))
 
-      replies : Beside m (replying m h.packet.bytes lid)
+      replies : Beside m (answering m h.packet.bytes lid (status_for h.packet.bytes))
       replies = answers_it m side once lid (status_for h.packet.bytes) small
         where
           small : status_for h.packet.bytes < 2 ^ 15
@@ -302,13 +333,23 @@ module _ (start : Simulation) (seat : NodePort) (plan : PlanValue) (g : Ground s
               cond_both (number_in method h.packet.bytes == get) _ _ (λ (n : ℕ). n < 2 ^ 15) (λ _. omega arith)
               (λ _. cond_both (number_in method h.packet.bytes == set) _ _ (λ (n : ℕ). n < 2 ^ 15) (λ _. omega arith) (λ _. omega arith))
 
+    module _ (m : Manager) (side : SweepSide start seat old m) (once : AreOnce m.counter m.pending) (lid : Option ℕ) where
+      -- the request is counted first
+      counts : Beside m (hearing m)
+      counts = moves m side once (after_request_heard m.standing)
+
+      counted : (after : Manager) → Beside (hearing m) after → Beside m after
+      counted after rest = both m (hearing m) after counts rest
+
       pub serves : BesideCall start seat plan old handed m (unless_spent m (served m h.packet.bytes lid)).manager
       unfolding Beside
       serves =
           cond_both (is_spent (served m h.packet.bytes lid)) _ _ (λ (x : Called). BesideCall start seat plan old handed m x.manager) (λ _. stays m side once)
-          (λ _. cond_both (is_control h.packet.bytes) (controlled m h.packet.bytes lid) (replying m h.packet.bytes lid)
+          (λ _. cond_both (is_control m.standing h.packet.bytes) (controlled m h.packet.bytes lid) (replying m h.packet.bytes lid)
           (λ (x : Manager). BesideCall start seat plan old handed m x)
-          (λ _. moves_on (stepped m.standing.state (event.Control (number_in attribute_modifier h.packet.bytes)))) (λ _. replies))
+          (λ _. counted _ (moves_on (hearing m) counts.side counts.once lid
+          (stepped m.standing.conduct m.standing.state (event.Control (number_in attribute_modifier h.packet.bytes)))))
+          (λ _. counted _ (replies (hearing m) counts.side counts.once lid)))
 
   -- any packet -------------------------------------------------------------------------------------------------
 
@@ -321,7 +362,7 @@ module _ (start : Simulation) (seat : NodePort) (plan : PlanValue) (g : Ground s
         → (u : Purpose) → p.purpose ≡ u → Comes Heard (after_request m p answer u).manager
     unfolding Comes Beside
     ends Heard p there answer heard purpose.Poll e = inl (over m side once p there (ap is_for_step e) _)
-    ends Heard p there answer heard purpose.Control e = inl (over_still m side once p there (ap is_for_step e))
+    ends Heard p there answer heard purpose.Control e = inl (over m side once p there (ap is_for_step e) _)
     ends Heard p there answer heard (purpose.Step counts) e =
         inr (record { step = p; there = there; counts = counts; purpose_is = e; was_done = is_done_by answer; is = refl; heard = heard })
 
@@ -345,9 +386,11 @@ module _ (start : Simulation) (seat : NodePort) (plan : PlanValue) (g : Ground s
         by_fault None e =
             cond_both (is_info_request h.packet.bytes) _ _ (λ (x : Called). Comes (HeardBy h.packet.bytes) x.manager)
             (λ asks_it. inl (serves which h there here is asks_it m side once lid))
+            (λ _. cond_both (represses m h.packet.bytes) _ _ (λ (x : Called). Comes (HeardBy h.packet.bytes) x.manager)
+            (λ _. inl (represses_it m side once h.packet.bytes lid is.whole.count))
             (λ _. cond_both (is_for_sweep h.packet.bytes) _ _ (λ (x : Called). Comes (HeardBy h.packet.bytes) x.manager)
             (λ _. inl (beside_swept old m _ once (sweep_replied start seat g old m side h.packet.bytes is)))
-            (λ other. by_pending other (pending_for m h.packet.bytes) refl))
+            (λ other. by_pending other (pending_for m h.packet.bytes) refl)))
 
     pub time_passes : (transaction : ℕ)
         → BesideCall start seat plan old handed m (after_timeout m transaction).manager ⊎ StepEnds (λ p. ⊥) m (after_timeout m transaction).manager

@@ -36,8 +36,9 @@ use Rattle.sm_manager.specs.Packets.{request_answered, request_gave_up, after_re
 use Rattle.sm_manager.specs.Packets.{sweep_answered, sweep_gave_up, sweep_timed_out, after_packet, unless_spent}
 use Rattle.sm_manager.specs.Plans.{writing_fault}
 use Rattle.sm_manager.specs.ManagerRequests.{counts, no_step_waits, with_number, without_number}
-use Rattle.sm_manager.specs.Served.{answering, controlled, is_control, moved_on, replying, served}
-use Rattle.sm_state.specs.Standing.{moved_to}
+use Rattle.sm_manager.specs.Served.{acknowledged_at, answering, controlled, hearing, is_control, moved_on, replying, served}
+use Rattle.sm_manager.specs.Traps.{represses, repressing}
+use Rattle.sm_state.specs.Standing.{after_request_heard, moved_to}
 use Rattle.sm_manager.specs.Writing.{is_done_by, is_spent, noted, after_step, went_on_with}
 use Rattle.manager_laws.specs.Scene.{Handed, Scene}
 use Rattle.manager_laws.specs.Sweeping as sweeping
@@ -88,13 +89,14 @@ told_keeps m (Some lid) (Some message) = record { sweep = refl; store = refl }
 pub served_keeps : (m : Manager) (bytes : List ℕ) (lid : Option ℕ) → KeepsSweep m (unless_spent m (served m bytes lid)).manager
 served_keeps m bytes lid =
     cond_both (is_spent (served m bytes lid)) _ _ (λ (x : Called). KeepsSweep m x.manager) (λ _. kept m)
-    (λ _. cond_both (is_control bytes) (controlled m bytes lid) (replying m bytes lid) (KeepsSweep m)
-    (λ _. by_move (stepped m.standing.state (event.Control (number_in attribute_modifier bytes)))) (λ _. record { sweep = refl; store = refl }))
+    (λ _. cond_both (is_control m.standing bytes) (controlled m bytes lid) (replying m bytes lid) (KeepsSweep m)
+    (λ _. by_move (stepped m.standing.conduct m.standing.state (event.Control (number_in attribute_modifier bytes))))
+    (λ _. record { sweep = refl; store = refl }))
   where
-    by_move : (move : Transition) → KeepsSweep m (moved_on m bytes lid move)
+    by_move : (move : Transition) → KeepsSweep m (moved_on (hearing m) bytes lid move)
     by_move move =
-        let answered = answering (record m { standing = moved_to move.state m.standing }) bytes lid (status_of move) in
-        let keeps = told_keeps answered lid move.message in
+        let answered = answering (record m { standing = moved_to move.state (after_request_heard m.standing) }) bytes lid (status_of move) in
+        let keeps = told_keeps answered (acknowledged_at bytes lid) move.message in
         record { sweep = keeps.sweep; store = keeps.store }
 
 pub handed_keeps : (m : Manager) (lid : Option ℕ) → KeepsSweep m (handed_to m lid)
@@ -236,10 +238,12 @@ module _ (start : Simulation) (seat : NodePort) (plan : PlanValue) (ground : Gro
       by_fault same None =
           cond_both (is_info_request h.packet.bytes) _ _ (λ (x : Called). IsFollowed (record w { manager = x.manager }) u)
           (λ _. quiet _ (served_keeps w.manager h.packet.bytes (Some h.packet.slid)))
+          (λ _. cond_both (represses w.manager h.packet.bytes) _ _ (λ (x : Called). IsFollowed (record w { manager = x.manager }) u)
+          (λ _. quiet (repressing w.manager h.packet.bytes (Some h.packet.slid)) (record { sweep = refl; store = refl }))
           (λ _. cond_both (is_for_sweep h.packet.bytes) _ _ (λ (x : Called). IsFollowed (record w { manager = x.manager }) u)
           (λ _. subst (λ o. IsFollowed (record w { manager = (sweep_answered w.manager h.packet.bytes o).manager }) u) (sym f.sweep)
           (by_answer same (judged u.sweep h.packet.bytes) refl))
-          (λ _. quiet _ (by_pending (pending_for w.manager h.packet.bytes))))
+          (λ _. quiet _ (by_pending (pending_for w.manager h.packet.bytes)))))
 
       by_port : (b : Bool) → is_same_port h.at w.seat ≡ b → IsFollowed
           (cond b (record w { manager = (after_packet w.manager h.packet.bytes (Some h.packet.slid)).manager }) w) u

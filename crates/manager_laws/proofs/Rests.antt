@@ -23,10 +23,11 @@ use Rattle.manager_laws.specs.Managing.{NewManagersRest, hearing, sending, after
 use Rattle.manager_laws.specs.Written.{BeginsNoWriting, BeginsSweep, NewManagersSweepFirst, SweepsFirst}
 use Rattle.manager_laws.proofs.Before.{takes_first}
 use Rattle.manager_laws.proofs.Follows.{KeepsSweep, handed_keeps, request_keeps, served_keeps}
+use Rattle.sm_manager.specs.Traps.{represses}
 use Rattle.manager_laws.proofs.Generations.{nothing_held}
 
 pub new_managers_rest : NewManagersRest
-new_managers_rest port_guid port priority planning = record { sweep = refl; pending = refl; outgoing = refl; facts = nothing_held; floor = refl }
+new_managers_rest port_guid port priority conduct planning = record { sweep = refl; pending = refl; outgoing = refl; facts = nothing_held; floor = refl }
 
 -- a manager that never began a sweep ------------------------------------------------------------------------
 
@@ -49,9 +50,10 @@ heard m bytes lid never = by_fault (fault_of bytes)
     by_fault None =
         cond_both (is_info_request bytes) _ _ (λ (x : Called). x.manager.sweep ≡ None)
         (λ _. still m _ never (served_keeps m bytes lid))
+        (λ _. cond_both (represses m bytes) _ _ (λ (x : Called). x.manager.sweep ≡ None) (λ _. never)
         (λ _. cond_both (is_for_sweep bytes) _ _ (λ (x : Called). x.manager.sweep ≡ None)
         (λ _. subst (λ o. (sweep_answered m bytes o).manager.sweep ≡ None) (sym never) never)
-        (λ _. by_pending (pending_for m bytes)))
+        (λ _. by_pending (pending_for m bytes))))
 
 timed : (m : Manager) (transaction : ℕ) → m.sweep ≡ None → (after_timeout m transaction).manager.sweep ≡ None
 timed m transaction never =
@@ -120,4 +122,4 @@ sweeps_first (event ∷ events) w never =
     ]
 
 pub new_managers_sweep_first : NewManagersSweepFirst
-new_managers_sweep_first port_guid port priority planning w events new = sweeps_first events w (ap (λ (m : Manager). m.sweep) new)
+new_managers_sweep_first port_guid port priority conduct planning w events new = sweeps_first events w (ap (λ (m : Manager). m.sweep) new)

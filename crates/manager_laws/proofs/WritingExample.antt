@@ -38,11 +38,12 @@ use Rattle.manager_laws.proofs.Rests.{new_managers_rest}
 use Rattle.manager_laws.proofs.Computed.{all_can_be, all_keep, are_kept, fault_is, fault_with, in_pairs, joined_told, keeps_by, merged_with, no_sweeps, one_view}
 use Rattle.manager_laws.proofs.Computed.{phases_with, sweep_in, sweep_there, told_by_agents, writes_by}
 use Rattle.manager_laws.proofs.ExampleFabric.{bare, distinct_by, is_bare, port}
+use Rattle.sm_state.specs.declared.conduct.Conduct.TheVariants.{Plain}
 
 -- the manager, and its sweep ------------------------------------------------------------------------------------
 
 abbrev beginning : Managing
-beginning = record { scene = record { fabric = bare; handed = [] }; seat = port 0 1; manager = new_manager 17 1 0 in_pairs; out = [] }
+beginning = record { scene = record { fabric = bare; handed = [] }; seat = port 0 1; manager = new_manager 17 1 0 Plain in_pairs; out = [] }
 
 starts : Starts beginning
 unfolding cabled_at fresh_agent
@@ -53,7 +54,7 @@ starts =
       seat = refl;
       port = refl;
       lmc = omega arith;
-      at_rest = new_managers_rest 17 1 0 in_pairs;
+      at_rest = new_managers_rest 17 1 0 Plain in_pairs;
       out = refl;
     }
 
@@ -61,19 +62,19 @@ starts =
 abbrev sweeping_with : ℕ → Managing
 sweeping_with generation =
     record beginning {
-      manager = with_sweep (record (new_manager 17 1 0 in_pairs) {
-        standing = active_once_more (new_manager 17 1 0 in_pairs).standing;
+      manager = with_sweep (record (new_manager 17 1 0 Plain in_pairs) {
+        standing = active_once_more (new_manager 17 1 0 Plain in_pairs).standing;
         seen =
             [];
       }) (started 1 generation 1);
     }
 
-may_begin : begin_fault (new_manager 17 1 0 in_pairs) ≡ None
+may_begin : begin_fault (new_manager 17 1 0 Plain in_pairs) ≡ None
 may_begin = ap (λ n. if n == 2 ^ 32 - 1 then Some GenerationsSpent else None) nothing_newest
 
 begun : after_manager_event beginning Begin ≡ sweeping_with 1
 begun =
-    ap (λ o. record beginning { manager = if is_none o then after_begin_sweep (new_manager 17 1 0 in_pairs) else new_manager 17 1 0 in_pairs }) may_begin
+    ap (λ o. record beginning { manager = if is_none o then after_begin_sweep (new_manager 17 1 0 Plain in_pairs) else new_manager 17 1 0 Plain in_pairs }) may_begin
     ∙ ap (λ n. sweeping_with (max (n + 1) 1)) nothing_newest
 
 -- so many deliveries of a packet
@@ -223,6 +224,7 @@ some_manager_brings_up =
       port_guid = 17;
       port = 1;
       priority = 0;
+      conduct = Plain;
       planning = in_pairs;
       new = refl;
       before = [];

@@ -11,6 +11,7 @@ use Rattle.fabric_sim.specs.declared.packet.Packet.{Packet}
 use Rattle.fabric_sim.specs.Simulation.{fabric_of, is_seat_at}
 use Rattle.sm_manager.specs.declared.outgoing.Outgoing.{Outgoing}
 use Rattle.lft_blocks.specs.Planning.{Planning}
+use Rattle.sm_state.specs.declared.conduct.Conduct.{Conduct}
 use Rattle.sm_manager.specs.Manager.{Manager, Taken, is_running, new_manager, after_take_outgoing}
 use Rattle.sm_manager.specs.Calls as calls
 use Rattle.sm_manager.specs.Calls.{Call, after_call}
@@ -132,4 +133,4 @@ pub record Starts (w : Managing) : Type 0 where
 -- a new manager is at rest
 abbrev pub NewManagersRest : Type 0
 NewManagersRest =
-    (port_guid port priority : ℕ) (planning : Planning) → IsAtRest (new_manager port_guid port priority planning)
+    (port_guid port priority : ℕ) (conduct : Conduct) (planning : Planning) → IsAtRest (new_manager port_guid port priority conduct planning)

@@ -3,6 +3,7 @@ use Rattle.std.specs.Prelude.{◌≡◌, ◌≢◌, ◌≤◌, ℕ, true, List, 
 use Rattle.fact_store.specs.View.{cells_of}
 use Rattle.sweep.specs.Sweep.{Sweep}
 use Rattle.lft_blocks.specs.Planning.{Planning}
+use Rattle.sm_state.specs.declared.conduct.Conduct.{Conduct}
 use Rattle.sm_manager.specs.Manager.{begin_fault, new_manager}
 use Rattle.sm_manager.specs.Writing.{is_written}
 use Rattle.manager_laws.specs.Pings.{EachPingArrives}
@@ -50,8 +51,9 @@ pub record SomeManagerBringsUp : Type 0 where
   pub port_guid : ℕ
   pub port : ℕ
   pub priority : ℕ
+  pub conduct : Conduct
   pub planning : Planning
-  pub new : managing.manager ≡ new_manager port_guid port priority planning
+  pub new : managing.manager ≡ new_manager port_guid port priority conduct planning
   pub before : List ManagerEvent
   pub between : List ManagerEvent
   pub after : List ManagerEvent

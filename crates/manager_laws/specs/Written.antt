@@ -13,6 +13,7 @@ use Rattle.lft_blocks.specs.Arrival.{HoldsBlock}
 use Rattle.fabric_sim.specs.Simulation.{fabric_of}
 use Rattle.sweep.specs.Sweep.{Sweep, path_to}
 use Rattle.lft_blocks.specs.Planning.{Planning}
+use Rattle.sm_state.specs.declared.conduct.Conduct.{Conduct}
 use Rattle.sm_manager.specs.Manager.{begin_fault, new_manager}
 use Rattle.sm_manager.specs.Plans.{writing_fault}
 use Rattle.sm_manager.specs.Writing.{is_written, phases_by}
@@ -57,8 +58,8 @@ SweepsFirst (event ∷ events) w =
 -- a new manager begins no writing before a sweep, whatever happens to it
 abbrev pub NewManagersSweepFirst : Type 0
 NewManagersSweepFirst =
-    (port_guid port priority : ℕ) (planning : Planning) (w : Managing) (events : List ManagerEvent) → w.manager
-    ≡ new_manager port_guid port priority planning
+    (port_guid port priority : ℕ) (conduct : Conduct) (planning : Planning) (w : Managing) (events : List ManagerEvent) → w.manager
+    ≡ new_manager port_guid port priority conduct planning
     → SweepsFirst events w
 
 -- no writing begins, and each Set that an agent takes is one of the writing's own or carries the plan's values

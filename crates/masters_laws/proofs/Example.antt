@@ -51,13 +51,14 @@ use Rattle.masters_laws.specs.InForce.{AllHold, AllSweepWhole, HasWritten, Share
 use Rattle.masters_laws.proofs.Known.{after_both}
 use Rattle.masters_laws.proofs.SameParts.{IsAtSwitch, agrees_too, joined_too}
 use Rattle.masters_laws.proofs.Together.{set_elsewhere}
+use Rattle.sm_state.specs.declared.conduct.Conduct.TheVariants.{Plain}
 
 -- a manager of a port GUID at port 1 of a node
 abbrev pub seated : ℕ → Manager → Bool → Seated
 seated node m swept = record { seat = port node 1; manager = m; out = []; has_swept = swept; knows_one_sweep = swept }
 
 abbrev pub fresh : ℕ → Manager
-fresh guid = new_manager guid 1 0 its_planning
+fresh guid = new_manager guid 1 0 Plain its_planning
 
 abbrev pub beginning : Masters
 beginning = record { scene = record { fabric = network; handed = [] }; managers = seated 0 (fresh 17) false ∷ seated 2 (fresh 49) false ∷ [] }
@@ -445,7 +446,7 @@ starts_second =
       seat = refl;
       port = refl;
       lmc = omega arith;
-      at_rest = new_managers_rest 49 1 0 its_planning;
+      at_rest = new_managers_rest 49 1 0 Plain its_planning;
       out = refl;
     }
 

@@ -22,6 +22,7 @@ use Rattle.takeover_laws.specs.Claims.{HasLidsOf}
 use Rattle.takeover_laws.specs.Takeover.{IsInUse, plan_by_it}
 use Rattle.masters_laws.specs.Masters.{Seated, Masters, MastersEvent, Around, At, IsAt, seen_by, after_masters_event, after_masters_events}
 use Rattle.masters_laws.specs.Masters.{SetsInfoOnly, WritesWhole, IsWholeSweep, AllCanBe, StartTogether}
+use Rattle.sm_state.specs.declared.conduct.Conduct.TheVariants.{Plain}
 
 -- on a subnet that holds LIDs ----------------------------------------------------------------------
 
@@ -153,7 +154,7 @@ abbrev pub new_at : NodePort → ℕ → Planning → Seated
 new_at seat port_guid planning =
     record {
       seat = seat;
-      manager = new_manager port_guid seat.port 0 planning;
+      manager = new_manager port_guid seat.port 0 Plain planning;
       out = [];
       has_swept = false;
       knows_one_sweep = false;

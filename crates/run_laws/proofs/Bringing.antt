@@ -68,7 +68,7 @@ module _ (nodes : List Node) (w : WorldValue) (s : SeatedValue) (between after :
   own = IsOwnSet (fabric_of w.fabric) s.at (phases_by b.swept b.swept.sweep)
 
   abbrev start : Managing
-  start = managing_of (record { fabric = w.fabric; handed = [] }) s.at (new_manager b.port_guid s.at.port b.priority b.planning) []
+  start = managing_of (record { fabric = w.fabric; handed = [] }) s.at (new_manager b.port_guid s.at.port b.priority b.conduct b.planning) []
 
   starts_so : as_world s.name start ≡ w
   starts_so = ap (λ (ms : List SeatedValue). world_with w ms) (sym b.only)
@@ -157,7 +157,7 @@ module _ (nodes : List Node) (w : WorldValue) (s : SeatedValue) (between after :
             seat = b.seat;
             port = refl;
             lmc = b.few;
-            at_rest = new_managers_rest b.port_guid s.at.port b.priority b.planning;
+            at_rest = new_managers_rest b.port_guid s.at.port b.priority b.conduct b.planning;
             out = refl;
           };
           before_can = All-nil (CanBe s.at);

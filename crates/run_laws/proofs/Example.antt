@@ -42,6 +42,7 @@ use Rattle.schedule_world.specs.Commands.{after_ask_line, after_commands, after_
 use Rattle.schedule_world.specs.World.{SeatedValue, WorldValue, after_manager_call, after_send}
 use Rattle.run_laws.specs.Alone.{BringsUpAlone, KeepsLines, KeepsStep, KeepsSteps, SomeRunOfOne, after_first, at_end, at_first_steps, at_writing, first_serial}
 use Rattle.run_laws.proofs.WrittenLines.{written_lines_tell}
+use Rattle.sm_state.specs.declared.conduct.Conduct.TheVariants.{Plain}
 
 -- the world ------------------------------------------------------------------------------------------------------
 
@@ -52,7 +53,7 @@ abbrev world_with : Simulation → Manager → WorldValue
 world_with fabric m = record { fabric = fabric; managers = seated_with m ∷ [] }
 
 abbrev new : Manager
-new = new_manager 17 1 0 in_pairs
+new = new_manager 17 1 0 Plain in_pairs
 
 abbrev world : WorldValue
 world = world_with with_own_seat new
@@ -266,6 +267,7 @@ brings_up =
     record {
       port_guid = 17;
       priority = 0;
+      conduct = Plain;
       planning = in_pairs;
       few = omega arith;
       only = refl;

@@ -12,6 +12,7 @@ use Rattle.fact_store.specs.View.{cells_of}
 use Rattle.lft_blocks.specs.Plan.{PlanValue, plan_of}
 use Rattle.sweep.specs.Sweep.{Sweep}
 use Rattle.lft_blocks.specs.Planning.{Planning}
+use Rattle.sm_state.specs.declared.conduct.Conduct.{Conduct}
 use Rattle.sm_manager.specs.Manager.{Manager, new_manager}
 use Rattle.sm_manager.specs.Plans.{writing_fault}
 use Rattle.sm_manager.specs.Writing.{phases_by}
@@ -91,10 +92,11 @@ pub record BringsUpAlone (nodes : List Node) (w : WorldValue) (s : SeatedValue) 
     Type 0 where
   pub port_guid : ℕ
   pub priority : ℕ
+  pub conduct : Conduct
   -- an LMC of at most 7
   pub planning : Planning
   pub few : planning.lmc < 8
-  pub only : IsOnly w s (new_manager port_guid s.at.port priority planning)
+  pub only : IsOnly w s (new_manager port_guid s.at.port priority conduct planning)
   pub fabric : IsSimulation w.fabric
   pub no_packets : w.fabric.flights ≡ []
   pub distinct : AreGuidsDistinct (fabric_of w.fabric)

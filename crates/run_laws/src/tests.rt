@@ -22,7 +22,7 @@ const NO_METHOD: Status = Status(0x0008);
 fn manager(alloc: Global) -> Manager {
     let planning = Planning::new(Lmc::ZERO, Rule::UpDown);
     let info = info_in(SmState::Discovering);
-    Manager::new(alloc, info.guid, PortNum::new(1), info.priority, planning)
+    Manager::new(alloc, info.guid, PortNum::new(1), info.priority, conduct, planning)
 }
 
 /// Returns what the manager says of itself in `state`, once it has begun a sweep.

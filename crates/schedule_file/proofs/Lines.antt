@@ -26,7 +26,7 @@ use Rattle.schedule_file.specs.declared.named.PortName.{PortName}
 use Rattle.schedule_file.specs.Command.{fate_word, named_words, port_word, shown_word, which_word}
 use Rattle.schedule_file.specs.Command.{NamedCommand, ask, bare_of, bracketed_number, command_in, floor, line_in, line_of, merge}
 use Rattle.schedule_file.specs.Command.{new_manager, of_one, of_two, packet, pair, ping, plug, poll, port_name, show, to_manager}
-use Rattle.schedule_file.specs.Command.{which_of}
+use Rattle.schedule_file.specs.Command.{sm_key_in, sm_key_words, which_of}
 use Rattle.schedule_file.specs.ManagerWords.{asked_by, generation_of, number_up_to, shown_by}
 use Rattle.schedule_file.specs.ManagerName.{is_manager_name, manager_name_in}
 use Rattle.std.specs.Char.{digit_value, is_ascii_alphanumeric}
@@ -78,6 +78,7 @@ pub record IsNew (new : NewManager) : Type 0 where
   pub name : IsName new.name
   pub at : IsPort new.at
   pub priority : new.priority ≤ 15
+  pub sm_key : IfSome new.sm_key (λ key. key ≤ 2 ^ 64 - 1)
 
 abbrev pub IsLine : ScheduleLine → Type 0
 IsLine line.Empty = Unit {0}
@@ -200,13 +201,27 @@ command_range word (arg ∷ []) = one_range word arg
 command_range word (one ∷ other ∷ []) = two_range word one other
 command_range word (one ∷ other ∷ more ∷ rest) = tt
 
+-- an SM_Key has 64 bits
+abbrev IsKey : Option ℕ → Type 0
+IsKey key = IfSome key (λ n. n ≤ 2 ^ 64 - 1)
+
+key_range : (args : List (List ℕ)) → IfSome (sm_key_in args) IsKey
+key_range [] = tt
+key_range (word ∷ []) = tt
+key_range (word ∷ key ∷ []) =
+    either IsKey (bytes_eq word (codes "live")) _ None
+    (mapped (λ n. n ≤ 2 ^ 64 - 1) IsKey (number_up_to (2 ^ 64 - 1) key) (λ n. Some n) (number_range (2 ^ 64 - 1) key) (λ n few. few)) tt
+key_range (word ∷ key ∷ more ∷ rest) = tt
+
 new_range : (args : List (List ℕ)) → IfSome (new_manager args) IsNew
 new_range [] = tt
-new_range (name ∷ rest) =
-    then_some (λ _. Unit {0}) IsNew (pair rest) _ (always _) (λ x _.
+new_range (name ∷ []) = tt
+new_range (name ∷ at ∷ []) = tt
+new_range (name ∷ at ∷ priority ∷ more) =
     then_some IsName IsNew (manager_name_in name) _ (manager_range name) (λ n h.
-    then_some IsPort IsNew (port_name x.0) _ (port_range x.0) (λ p at.
-    mapped (λ q. q ≤ 15) IsNew (number_up_to 15 x.1) _ (number_range 15 x.1) (λ q few. record { name = h; at = at; priority = few }))))
+    then_some IsPort IsNew (port_name at) _ (port_range at) (λ p there.
+    then_some (λ q. q ≤ 15) IsNew (number_up_to 15 priority) _ (number_range 15 priority) (λ q few.
+    mapped IsKey IsNew (sm_key_in more) _ (key_range more) (λ k fits. record { name = h; at = there; priority = few; sm_key = fits }))))
 
 words_range : (words : List (List ℕ)) → IfSome (line_in words) IsLine
 words_range [] = tt
@@ -371,17 +386,25 @@ named_is_read named is = ap line_in (words_are_read (named_words named) (named_a
 
 -- a new manager's line
 abbrev pub new_words : NewManager → List (List ℕ)
-new_words new = codes "manager" ∷ new.name ∷ port_word new.at ∷ decimal new.priority ∷ []
+new_words new = codes "manager" ∷ new.name ∷ port_word new.at ∷ decimal new.priority ∷ sm_key_words new.sm_key
+
+key_are_words : (key : Option ℕ) → IsKey key → AllByRecursion IsWord (sm_key_words key)
+key_are_words None is = tt
+key_are_words (Some key) is = (keyword (codes "live") (omega arith) refl refl, (decimal_word key (omega (arith, is)), tt))
+
+key_is_read : (key : Option ℕ) → IsKey key → sm_key_in (sm_key_words key) ≡ Some key
+key_is_read None is = refl
+key_is_read (Some key) is = rw (number_read (2 ^ 64 - 1) key (omega arith) is) refl
 
 pub new_are_words : (new : NewManager) → IsNew new → AllByRecursion IsWord (new_words new)
 new_are_words new is =
     let few = is.priority in
     let first = keyword (codes "manager") (omega arith) refl refl in
-    (first, (manager_word new.name is.name, (port_is_word new.at is.at, (decimal_word new.priority (omega arith), tt))))
+    (first, (manager_word new.name is.name, (port_is_word new.at is.at, (decimal_word new.priority (omega arith), key_are_words new.sm_key is.sm_key))))
 
 pub new_is_read : (new : NewManager) → IsNew new → line_of (line_text (new_words new)) ≡ Some (line.Manager new)
 unfolding line_of
 new_is_read new is =
     let few = is.priority in
     ap line_in (words_are_read (new_words new) (new_are_words new is))
-    ∙ rw (manager_read new.name is.name, port_read new.at is.at, number_read 15 new.priority (omega arith) few) refl
+    ∙ rw (manager_read new.name is.name, port_read new.at is.at, number_read 15 new.priority (omega arith) few, key_is_read new.sm_key is.sm_key) refl

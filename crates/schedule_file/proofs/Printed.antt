@@ -24,7 +24,7 @@ use Rattle.schedule_file.specs.declared.line.ScheduleLine.{ScheduleLine}
 use Rattle.schedule_file.specs.declared.line.ScheduleLine.TheVariants as line
 use Rattle.schedule_file.specs.declared.named.PortName.{PortName}
 use Rattle.schedule_file.specs.declared.schedule.Seat.{Seat}
-use Rattle.schedule_file.specs.Command.{NamedCommand, line_of, named_words, port_word}
+use Rattle.schedule_file.specs.Command.{NamedCommand, line_of, named_words, port_word, sm_key_words}
 use Rattle.schedule_file.specs.Printed.{PrintedSchedulesAreRead, command_words, manager_at, port_at, seat_words}
 use Rattle.schedule_file.specs.Schedule.{◌>>=◌, Script, SeatCommand, command_of, is_free, new_seat, port_of, schedule_of, schedule_of_lines, seat_at}
 use Rattle.schedule_file.specs.Schedule.{seat_of, where_known, with_command, with_line, with_lines, with_seat}
@@ -107,13 +107,14 @@ record IsSeatOf (nodes : List Node) (seats : List Seat) (new : NewManager) (seat
   at : port_of nodes new.at ≡ Some seat.at
   name : seat.name ≡ new.name
   priority : seat.priority ≡ new.priority
+  sm_key : seat.sm_key ≡ new.sm_key
   any : (m : ℕ) → new_seat nodes seats m new ≡ Ok seat
 
 seated : (nodes : List Node) (seats : List Seat) (n : ℕ) (new : NewManager) (seat : Seat) → new_seat nodes seats n new ≡ Ok seat → IsSeatOf nodes seats new seat
 seated nodes seats n new seat e = by_name (is_some (seat_of seats new.name)) (port_of nodes new.at) refl refl e
   where
     made : NodePort → Seat
-    made p = record { name = new.name; at = p; priority = new.priority }
+    made p = record { name = new.name; at = p; priority = new.priority; sm_key = new.sm_key }
 
     by_free : (p : NodePort) (b : Bool) → is_some (seat_of seats new.name) ≡ false → port_of nodes new.at ≡ Some p → is_free nodes seats p ≡ b
         → cond b (Ok (made p)) (Err (fault.Seat n)) ≡ Ok seat → IsSeatOf nodes seats new seat
@@ -124,6 +125,7 @@ seated nodes seats n new seat e = by_name (is_some (seat_of seats new.name)) (po
           at = there ∙ ap (λ (s : Seat). Some s.at) same;
           name = ap (λ (s : Seat). s.name) (sym same);
           priority = ap (λ (s : Seat). s.priority) (sym same);
+          sm_key = ap (λ (s : Seat). s.sm_key) (sym same);
           any = λ m. ap (λ b. cond b (Err (fault.Name m)) (seat_at nodes seats m new (port_of nodes new.at))) unknown
               ∙ ap (seat_at nodes seats m new) there ∙ ap (λ b. cond b (Ok (made p)) (Err (fault.Seat m))) free ∙ ap Ok same;
         }
@@ -157,9 +159,7 @@ manager_again nodes n before script new seat is e rest =
     let all : script.seats ≡ before.seats ++ seat ∷ rest.more = rest.seats ∙ append_assoc before.seats (seat ∷ []) rest.more in
     let here : command_words nodes script.seats (command.Manager k) ≡ new_words new =
     ap (λ ss. command_words nodes ss (command.Manager k)) all ∙ ap (λ o. option_map_or (seat_words nodes) o []) (at_seam before.seats rest.more seat)
-    ∙ ap (λ name. codes "manager" ∷ name ∷ port_word (port_at nodes seat.at) ∷ decimal seat.priority ∷ []) told.name
-    ∙ ap (λ p. codes "manager" ∷ new.name ∷ port_word p ∷ decimal seat.priority ∷ []) (port_found nodes new.at seat.at told.at)
-    ∙ ap (λ priority. codes "manager" ∷ new.name ∷ port_word new.at ∷ decimal priority ∷ []) told.priority in
+    ∙ (λ i. codes "manager" ∷ told.name i ∷ port_word (port_found nodes new.at seat.at told.at i) ∷ decimal (told.priority i) ∷ sm_key_words (told.sm_key i)) in
     let later = printed (map (command_words nodes script.seats) rest.added) in
     record {
       more = seat ∷ rest.more;

@@ -48,13 +48,20 @@ port_name word =
     (λ name. option_map (λ port. record { node = name; port = port }) (bracketed_number x.1)) (name_in x.0))
     (enclosed 34 34 word)
 
--- a new manager: its name, its port and its priority
+-- what follows the priority of a new manager: nothing, or the SM_Key of one by the live conduct
+abbrev pub sm_key_in : List (List ℕ) → Option (Option ℕ)
+sm_key_in [] = Some None
+sm_key_in (word ∷ key ∷ []) =
+    if bytes_eq word (codes "live") then option_map (λ k. Some k) (number_up_to (2 ^ 64 - 1) key) else None
+sm_key_in _ = None
+
+-- a new manager: its name, its port, its priority and its SM_Key
 abbrev pub new_manager : List (List ℕ) → Option NewManager
-new_manager [] = None
-new_manager (name ∷ rest) =
-    option_and_then (λ x. option_and_then
-    (λ n. option_and_then (λ p. option_map (λ q. record { name = n; at = p; priority = q })
-    (number_up_to 15 x.1)) (port_name x.0)) (manager_name_in name)) (pair rest)
+new_manager (name ∷ at ∷ priority ∷ more) =
+    option_and_then (λ n. option_and_then (λ p. option_and_then
+    (λ q. option_map (λ k. record { name = n; at = p; priority = q; sm_key = k }) (sm_key_in more))
+    (number_up_to 15 priority)) (port_name at)) (manager_name_in name)
+new_manager _ = None
 
 -- commands of one word -----------------------------------------------------------------------
 
@@ -150,6 +157,11 @@ ask_words Sweep name = codes "sweep" ∷ name ∷ []
 ask_words Write name = codes "write" ∷ name ∷ []
 ask_words Handover name = codes "handover" ∷ name ∷ []
 ask_words (Poll lid) name = codes "poll" ∷ name ∷ decimal lid ∷ []
+
+-- the words behind the priority of a new manager
+abbrev pub sm_key_words : Option ℕ → List (List ℕ)
+sm_key_words None = []
+sm_key_words (Some key) = codes "live" ∷ decimal key ∷ []
 
 -- the words of a command; a new manager's line has more words
 abbrev pub named_words : NamedCommand → List (List ℕ)

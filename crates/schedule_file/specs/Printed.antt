@@ -8,7 +8,7 @@ use Rattle.topo_file.specs.Printed.{name_at}
 use Rattle.schedule_file.specs.declared.command.Command.TheVariants as command
 use Rattle.schedule_file.specs.declared.named.PortName.{PortName}
 use Rattle.schedule_file.specs.declared.schedule.Seat.{Seat}
-use Rattle.schedule_file.specs.Command.{named_words, port_word}
+use Rattle.schedule_file.specs.Command.{named_words, port_word, sm_key_words}
 use Rattle.schedule_file.specs.Schedule.{Script, SeatCommand, schedule_of}
 
 -- the name of the manager at an index
@@ -19,7 +19,7 @@ abbrev pub port_at : List Node → NodePort → PortName
 port_at nodes p = record { node = name_at nodes p.node; port = p.port }
 
 abbrev pub seat_words : List Node → Seat → List (List ℕ)
-seat_words nodes s = codes "manager" ∷ s.name ∷ port_word (port_at nodes s.at) ∷ decimal s.priority ∷ []
+seat_words nodes s = codes "manager" ∷ s.name ∷ port_word (port_at nodes s.at) ∷ decimal s.priority ∷ sm_key_words s.sm_key
 
 -- the words of a command as it is run
 abbrev pub command_words : List Node → List Seat → SeatCommand → List (List ℕ)

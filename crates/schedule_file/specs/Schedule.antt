@@ -91,7 +91,7 @@ with_command before command = record before { commands = before.commands ++ comm
 -- the seat of a new manager at a port, if a manager may sit there and none does
 abbrev pub seat_at : List Node → List Seat → ℕ → NewManager → Option NodePort → Result Seat ScheduleFault
 seat_at nodes seats number new (Some p) =
-    if is_free nodes seats p then Ok (record { name = new.name; at = p; priority = new.priority })
+    if is_free nodes seats p then Ok (record { name = new.name; at = p; priority = new.priority; sm_key = new.sm_key })
     else Err (fault.Seat number)
 seat_at nodes seats number new None = Err (fault.Name number)
 

@@ -1,11 +1,11 @@
 ghost use Rattle.std.specs.Prelude.{◌≡◌};
 ghost use Rattle.text_words.specs.Text.{words};
-ghost use Rattle.schedule_file.specs.Command.{line_of, new_manager};
+ghost use Rattle.schedule_file.specs.Command.{line_of, new_manager, sm_key_in};
 ghost use Rattle.schedule_file.specs.ManagerWords.{number_up_to};
 
 use crate::manager_name::ManagerName;
 use crate::named::{NamedCommand, PortName, named_command, pair, port_name};
-use crate::numbers::number_up_to;
+use crate::numbers::{number_up_to, serial};
 use attr_codec::Priority;
 use text_words::{is_word, split_word};
 
@@ -23,6 +23,8 @@ pub(crate) struct NewManager {
     pub(crate) name: ManagerName,
     pub(crate) at: PortName,
     pub(crate) priority: Priority,
+    /// The SM_Key of a manager by the live conduct.
+    pub(crate) sm_key: Option<u64>,
 }
 
 #[tactic(auto, unfolding(crate::specs::Command::line_of))]
@@ -45,12 +47,29 @@ fn new_manager(line: &[u8]) -> Option<NewManager>
     ensures { result ≡ new_manager (words line.now) }
 {
     let (name, line) = split_word(line)?;
-    let (at, priority) = pair(line)?;
+    let (at, line) = split_word(line)?;
+    let (priority, line) = split_word(line)?;
     Some(NewManager {
         name: ManagerName::new(name)?,
         at: port_name(at)?,
         priority: priority_of(priority)?,
+        sm_key: sm_key_in(line)?,
     })
+}
+
+/// Parses what follows the priority of a new manager: nothing, or `live` and an SM_Key in decimal.
+fn sm_key_in(line: &[u8]) -> Option<Option<u64>>
+    ensures { result ≡ sm_key_in (words line.now) }
+{
+    if split_word(line).is_none() {
+        return Some(None);
+    }
+    let (word, key) = pair(line)?;
+    if is_word(word, "live") {
+        Some(Some(serial(key)?))
+    } else {
+        None
+    }
 }
 
 /// Parses a priority up to 15, in decimal.

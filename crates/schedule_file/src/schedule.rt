@@ -26,6 +26,8 @@ pub struct Seat {
     /// The port that it sits at.
     pub at: NodePort,
     pub priority: Priority,
+    /// The SM_Key of a manager by the live conduct; `None` for a plain manager.
+    pub sm_key: Option<u64>,
 }
 
 /// The value of the unused slots of a vector of fixed capacity.
@@ -38,6 +40,7 @@ impl Default for Seat {
                 port: PortNum::MANAGEMENT,
             },
             priority: Priority::new(0).unwrap(),
+            sm_key: None,
         }
     }
 }
@@ -125,7 +128,12 @@ pub(crate) fn new_seat(
 ) -> Result<Seat, ScheduleFault>
     ensures { result ≡ new_seat topology.now.nodes seats.now line new }
 {
-    let NewManager { name, at, priority } = new;
+    let NewManager {
+        name,
+        at,
+        priority,
+        sm_key,
+    } = new;
     if seat(seats, &name).is_some() {
         return Err(ScheduleFault::Name { line });
     }
@@ -135,7 +143,12 @@ pub(crate) fn new_seat(
     if !is_free(topology, seats, &at) {
         return Err(ScheduleFault::Seat { line });
     }
-    Ok(Seat { name, at, priority })
+    Ok(Seat {
+        name,
+        at,
+        priority,
+        sm_key,
+    })
 }
 
 #[tactic(auto, using(crate::proofs::Scripts::told_is_script), unfolding(crate::specs::Schedule::schedule_of))]
@@ -150,7 +163,7 @@ pub(crate) fn new_seat(
 ///
 /// | Command | Numbers |
 /// |---|---|
-/// | `manager NAME "node"[port] PRIORITY` | priority 0 to 15 |
+/// | `manager NAME "node"[port] PRIORITY`, `manager NAME "node"[port] PRIORITY live KEY` | priority 0 to 15, SM_Key of 64 bits |
 /// | `sweep NAME`, `write NAME`, `handover NAME`, `timeout NAME` | |
 /// | `poll NAME LID` | LID 0 to 65,535 |
 /// | `floor NAME GENERATION` | generation 1 to 4,294,967,295 |

@@ -6,6 +6,7 @@ use Rattle.std.proofs.lemmas.List.{map-append, take_more}
 use Rattle.topo_file.specs.declared.node.Node.{Node}
 use Rattle.schedule_file.specs.declared.schedule.Seat.{Seat}
 use Rattle.lft_blocks.specs.Planning.{Planning}
+use Rattle.sm_state.specs.Conducts.{conduct_with}
 use Rattle.sm_manager.specs.Manager.{Manager, new_manager}
 use Rattle.schedule_world.specs.Commands.{new_seated}
 use Rattle.schedule_world.specs.World.{SeatedValue}
@@ -17,12 +18,12 @@ told f (Some x) n e = let same : f x ≡ n = cc in sym same
 -- a manager as it is made
 pub is_seated : (planning : Planning) (nodes : List Node) (seat : Seat) (guid : ℕ) (m : Manager)
     → option_map (λ (node : Node). node.guid + seat.at.port) (slice_get nodes seat.at.node) ≡ Some guid → m
-    ≡ new_manager guid seat.at.port seat.priority planning
+    ≡ new_manager guid seat.at.port seat.priority (conduct_with seat.sm_key) planning
     → record { name = seat.name; at = seat.at; manager = m } ≡ new_seated planning nodes seat
 is_seated planning nodes seat guid m e same =
     let Value : Type 0 = SeatedValue in
     let made : Manager → Value = λ m. record { name = seat.name; at = seat.at; manager = m } in
-    ap made (same ∙ ap (λ g. new_manager g seat.at.port seat.priority planning) (told (λ (node : Node). node.guid
+    ap made (same ∙ ap (λ g. new_manager g seat.at.port seat.priority (conduct_with seat.sm_key) planning) (told (λ (node : Node). node.guid
     + seat.at.port) (slice_get nodes seat.at.node) guid e))
 
 -- one seat more

@@ -38,6 +38,7 @@ use Rattle.schedule_lines.specs.Lines.{flight_line, ping_line}
 use Rattle.schedule_lines.specs.Refusals.{refusal_line}
 use Rattle.schedule_lines.specs.Tables.{tables_text}
 use Rattle.schedule_lines.specs.Outcome.{Outcome, and_then, quiet, shows}
+use Rattle.sm_state.specs.Conducts.{conduct_with}
 use Rattle.schedule_world.specs.World.{SeatedValue, WorldValue, after_ask, at_seat, after_fabric_call, after_send, with_manager}
 
 -- managers -----------------------------------------------------------------------------------------
@@ -187,11 +188,11 @@ after_commands nodes w [] = quiet w
 after_commands nodes w (command ∷ later) =
     and_then (after_command nodes w command) (λ now. after_commands nodes now later)
 
--- the manager of a seat, and how it plans: an adapter's port has its node's GUID plus the port's number
+-- the manager of a seat, and how it plans; it is live if it has an SM_Key: an adapter's port has its node's GUID plus the port's number
 abbrev pub new_seated : Planning → List Node → Seat → SeatedValue
 new_seated planning nodes seat =
     let guid = option_map_or (λ node. node.guid + seat.at.port) (slice_get nodes seat.at.node) 0 in
-    record { name = seat.name; at = seat.at; manager = new_manager guid seat.at.port seat.priority planning }
+    record { name = seat.name; at = seat.at; manager = new_manager guid seat.at.port seat.priority (conduct_with seat.sm_key) planning }
 
 -- the fabric of a topology, whose first packet has the serial number 1, and a manager for each seat
 abbrev pub world_of : Planning → Layout → List Seat → WorldValue

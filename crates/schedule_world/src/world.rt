@@ -16,6 +16,7 @@ use lft_blocks::Planning;
 use schedule_file::Seat;
 use schedule_lines::{RunFault, refuse_fabric};
 use sm_manager::{Manager, Outgoing};
+use sm_state::Conduct;
 use smp_bytes::{Guid, Lid};
 use std::alloc::{AllocError, Global};
 use topo_file::Topology;
@@ -58,7 +59,8 @@ impl<'s> World<'s> {
         for seat in seats {
             let guid = port_guid(topology, &seat.at);
             let own = planning.try_clone(alloc)?;
-            let manager = Manager::new(alloc, guid, seat.at.port, seat.priority, own);
+            let conduct = Conduct::with(seat.sm_key);
+            let manager = Manager::new(alloc, guid, seat.at.port, seat.priority, conduct, own);
             managers.push(Seated { seat, manager })?;
         }
         Ok(World { fabric, managers })

@@ -4,6 +4,7 @@ use Rattle.fact_store.specs.Seen.{HaveSameMembers}
 use Rattle.fact_store.specs.View.{cells_of}
 use Rattle.record_file.specs.FactsText.{facts_text}
 use Rattle.lft_blocks.specs.Planning.{Planning}
+use Rattle.sm_state.specs.declared.conduct.Conduct.{Conduct}
 use Rattle.schedule_lines.specs.Asked.{plan_or_refusal}
 use Rattle.sm_manager.specs.Calls.{KnowTheSame, after_calls}
 use Rattle.sm_manager.specs.Manager.{Manager, new_manager}
@@ -22,7 +23,7 @@ use Rattle.std.specs.List.{flat_map}
 pub knows_what_it_was_told : KnowsWhatItWasTold
 knows_what_it_was_told who lines =
     ap (λ (m : Manager). m.store) (served_lives (new_by who) lines)
-    ∙ knows_what_it_took_in who.port_guid who.port who.priority who.planning (calls_of lines (new_by who))
+    ∙ knows_what_it_took_in who.port_guid who.port who.priority who.conduct who.planning (calls_of lines (new_by who))
 
 -- nothing is queued between lines
 nothing_queued : (m : Manager) (lines : List ServeLine) → m.outgoing ≡ [] → (served_all m lines).now.outgoing ≡ []
@@ -50,18 +51,18 @@ plans_alike one other facts plannings none none' =
     ++ flat_map send_line out) ++ end_line) (sym none')
 
 -- under one planning
-alike : (guid port priority guid' port' priority' : ℕ) (planning : Planning) (lines lines' : List ServeLine)
-    → (let who : Who = record { port_guid = guid; port = port; priority = priority; planning = planning } in
-    let who' : Who = record { port_guid = guid'; port = port'; priority = priority'; planning = planning } in
+alike : (guid port priority guid' port' priority' : ℕ) (conduct conduct' : Conduct) (planning : Planning) (lines lines' : List ServeLine)
+    → (let who : Who = record { port_guid = guid; port = port; priority = priority; conduct = conduct; planning = planning } in
+    let who' : Who = record { port_guid = guid'; port = port'; priority = priority'; conduct = conduct'; planning = planning } in
     floor_by who lines ≡ floor_by who' lines' → HaveSameMembers (told_by who lines) (told_by who' lines')
     → TellTheSame (served_all (new_by who) lines).now (served_all (new_by who') lines').now)
-alike guid port priority guid' port' priority' planning lines lines' floors same =
-    let one = new_manager guid port priority planning in
-    let other = new_manager guid' port' priority' planning in
+alike guid port priority guid' port' priority' conduct conduct' planning lines lines' floors same =
+    let one = new_manager guid port priority conduct planning in
+    let other = new_manager guid' port' priority' conduct' planning in
     let know : KnowTheSame (served_all one lines).now (served_all other lines').now =
     subst (λ m. KnowTheSame m (served_all other lines').now) (sym (served_lives one lines))
     (subst (λ m. KnowTheSame (after_calls (calls_of lines one) one) m) (sym (served_lives other lines'))
-    (same_taken_in_same_plan guid port priority guid' port' priority' planning (calls_of lines one) (calls_of lines' other) floors same)) in
+    (same_taken_in_same_plan guid port priority guid' port' priority' conduct conduct' planning (calls_of lines one) (calls_of lines' other) floors same)) in
     record {
       facts = facts_alike (served_all one lines).now (served_all other lines').now know.facts (nothing_queued one lines refl)
           (nothing_queued other lines' refl);
@@ -78,4 +79,4 @@ same_told_same_texts who who' lines lines' plannings floors same =
     let law = λ (x : Who). floor_by who lines ≡ floor_by x lines' → HaveSameMembers (told_by who lines) (told_by x lines')
     → TellTheSame (served_all (new_by who) lines).now (served_all (new_by x) lines').now in
     subst law e
-    (alike who.port_guid who.port who.priority who'.port_guid who'.port who'.priority who.planning lines lines') floors same
+    (alike who.port_guid who.port who.priority who'.port_guid who'.port who'.priority who.conduct who'.conduct who.planning lines lines') floors same

@@ -45,6 +45,7 @@ use Rattle.serve_laws.specs.Told.{Who}
 use Rattle.serve_laws.specs.Live.{CanLive, LiveEvent, Around, Tell, Hear, Send, after_live, events_by, events_of}
 use Rattle.serve_laws.specs.LivePings.{AllKeepLive, BringsUpLive, SomeProcessServes, TellsNoSweep, all_live, sweep_line, write_line}
 use Rattle.serve_laws.proofs.Managed.{tell_so}
+use Rattle.sm_state.specs.declared.conduct.Conduct.TheVariants.{Live}
 
 -- events that are no lines --------------------------------------------------------------------------------------
 
@@ -109,10 +110,10 @@ module _ (plan : PlanValue) (own : OwnSets) where
 -- the process, and its sweep ------------------------------------------------------------------------------------
 
 abbrev me : Manager
-me = new_manager 17 1 0 in_pairs
+me = new_manager 17 1 0 (Live 1) in_pairs
 
 abbrev who : Who
-who = record { port_guid = 17; port = 1; priority = 0; planning = in_pairs }
+who = record { port_guid = 17; port = 1; priority = 0; conduct = Live 1; planning = in_pairs }
 
 abbrev beginning : Managing
 beginning = record { scene = record { fabric = bare; handed = [] }; seat = port 0 1; manager = me; out = [] }
@@ -126,7 +127,7 @@ starts =
       seat = refl;
       port = refl;
       lmc = omega arith;
-      at_rest = new_managers_rest 17 1 0 in_pairs;
+      at_rest = new_managers_rest 17 1 0 (Live 1) in_pairs;
       out = refl;
     }
 

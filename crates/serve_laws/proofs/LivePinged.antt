@@ -171,7 +171,7 @@ module _ (who : Who) (w : Managing) (before between after : List LiveEvent) (b :
             after_can = All-append (CanBe w.seat) (takes_of (given_by writes.manager (Ask ask.Write)))
                 (events_of after began)
                 (takes_can w.seat (given_by writes.manager (Ask ask.Write))) (all_can w.seat began after b.after_can);
-            sweeps_first = new_managers_sweep_first who.port_guid who.port who.priority who.planning w first b.new;
+            sweeps_first = new_managers_sweep_first who.port_guid who.port who.priority who.conduct who.planning w first b.new;
             sweep_begins = b.sweep_begins;
             writing_begins = subst (λ (x : Managing). writing_fault x.manager ≡ None) (sym at_writing_so) b.writing_begins;
             keep = subst (λ (x : Managing). AllKeep (plan_at x) (own_sets w x) third (after_manager_event x managing.Write))

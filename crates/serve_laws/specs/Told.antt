@@ -10,6 +10,7 @@ use Rattle.sm_manager.specs.declared.outgoing.Outgoing.{Outgoing}
 use Rattle.serve_lines.specs.declared.line.ServeLine.{ServeLine}
 use Rattle.serve_lines.specs.declared.line.ServeLine.TheVariants.{Ask, Floor, Packet, Timeout, GiveUp}
 use Rattle.lft_blocks.specs.Planning.{Planning}
+use Rattle.sm_state.specs.declared.conduct.Conduct.{Conduct}
 use Rattle.serve_run.specs.Served.{after_line, served}
 
 -- the call for what a manager is asked
@@ -46,16 +47,17 @@ abbrev pub calls_of : List ServeLine → Manager → List Call
 calls_of [] m = []
 calls_of (line ∷ later) m = calls_of_line m line ++ calls_of later (served m line).now
 
--- who a manager is, and how it plans
+-- who a manager is, how it deals with others, and how it plans
 pub record Who : Type 0 where
   pub port_guid : ℕ
   pub port : ℕ
   pub priority : ℕ
+  pub conduct : Conduct
   pub planning : Planning
 
 -- the new manager
 abbrev pub new_by : Who → Manager
-new_by who = new_manager who.port_guid who.port who.priority who.planning
+new_by who = new_manager who.port_guid who.port who.priority who.conduct who.planning
 
 -- the sightings that a process took in by these lines: those of the reports that it accepted
 abbrev pub told_by : Who → List ServeLine → Sightings

@@ -7,6 +7,7 @@ use Rattle.sm_cli.specs.Asked.{texts_for}
 use Rattle.sm_cli.specs.Inputs.{AreInputs, IsInputFault, Reader}
 use Rattle.sm_cli.specs.declared.fault.Fault.{Fault}
 use Rattle.sm_cli.specs.declared.fault.Fault.TheVariants.{File, Write, Memory}
+use Rattle.sm_state.specs.declared.conduct.Conduct.TheVariants.{Live}
 use Rattle.sm_manager.specs.Manager.{Manager, new_manager}
 use Rattle.serve_run.specs.Serving.{HasServed, StopsServing}
 use Rattle.serve_run.specs.declared.serve_fault.ServeFault.{ServeFault}
@@ -23,9 +24,10 @@ pub record Inputs {S : Type 0} (inputs : List S) : Type 0 where
   pub lines : S
   pub are : inputs ≡ texts ++ lines ∷ []
 
--- the manager that is asked for, as it begins
+-- the manager that is asked for, as it begins; it is live
 abbrev pub manager_asked : Serving → RuleValue → Manager
-manager_asked asked rule = new_manager asked.guid asked.port asked.priority (record { lmc = asked.lmc; rule = rule })
+manager_asked asked rule =
+    new_manager asked.guid asked.port asked.priority (Live asked.sm_key) (record { lmc = asked.lmc; rule = rule })
 
 -- the text that the rule takes was read, and `holds` holds of the lines and of the manager that is asked for
 pub record WithManager {S : Type 0} (state : S → SourceState) (asked : Serving) (olds news : List S)

@@ -14,6 +14,7 @@ use record_file::FileFault;
 use serve_run::{ServeFault, serve};
 use sm_cli::{Fault, RuleAsked, read_inputs};
 use sm_manager::Manager;
+use sm_state::Conduct;
 use smp_bytes::{Guid, PortNum};
 use std::alloc::Global;
 
@@ -25,6 +26,7 @@ pub struct Serving {
     /// The number of the port that it sits at.
     pub port: PortNum,
     pub priority: Priority,
+    pub sm_key: u64,
     /// The LMC of its plans: 2^LMC LIDs for each adapter port.
     pub lmc: Lmc,
     pub rule: RuleAsked,
@@ -59,7 +61,15 @@ pub fn run_serve<S: Source, W: Sink>(
         Err(fault) => return Err(fault),
     };
     let planning = Planning::new(asked.lmc, rule);
-    let manager = Manager::new(alloc, asked.guid, asked.port, asked.priority, planning);
+    let conduct = Conduct::Live(asked.sm_key);
+    let manager = Manager::new(
+        alloc,
+        asked.guid,
+        asked.port,
+        asked.priority,
+        conduct,
+        planning,
+    );
     match serve(alloc, manager, &mut lines[0], sink) {
         Ok(()) => Ok(()),
         Err(fault) => Err(fault_of_serving(first, fault)),

@@ -40,7 +40,8 @@ use Rattle.sm_manager.specs.Packets.{Called, answered_by, answers, after_timeout
 use Rattle.sm_manager.specs.Packets.{done as done_call, request_gave_up, after_request, sweep_answered, sweep_gave_up, sweep_timed_out, unless_spent}
 use Rattle.sm_manager.specs.Plans.{writing_fault}
 use Rattle.sm_manager.specs.ManagerRequests.{counts, how_many, is_step, no_step_waits, none_counts, with_number, without_number}
-use Rattle.sm_manager.specs.Served.{answering, controlled, is_control, moved_on, replying, served}
+use Rattle.sm_manager.specs.Served.{acknowledged_at, answering, controlled, hearing, is_control, moved_on, replying, served}
+use Rattle.sm_manager.specs.Traps.{represses, repressing}
 use Rattle.sm_state.specs.Standing.{is_in, moved_to}
 use Rattle.sm_manager.specs.Writing.{is_done_by, is_spent, is_written, is_written_by, next_pending, next_phase, noted, numbered, without_empty_phases}
 use Rattle.sm_manager.specs.Writing.{phase_sent, phases_by, after_step, went_on_with, write_fault, write_fault_with, after_write_steps}
@@ -220,14 +221,15 @@ tells_beside m (Some lid) (Some message) =
 moves_beside : (m : Manager) (bytes : List ℕ) (from : Option ℕ) (move : Transition) → Beside m (moved_on m bytes from move)
 moves_beside m bytes from move =
     let answered = answering (record m { standing = moved_to move.state m.standing }) bytes from (status_of move) in
-    beside_both m answered _ (record { writing = refl; many = refl; rising = λ r. r }) (tells_beside answered from move.message)
+    beside_both m answered _ (record { writing = refl; many = refl; rising = λ r. r }) (tells_beside answered (acknowledged_at bytes from) move.message)
 
 serves_beside : (m : Manager) (bytes : List ℕ) (from : Option ℕ) → Beside m (unless_spent m (served m bytes from)).manager
 serves_beside m bytes from =
     cond_both (is_spent (served m bytes from)) (refused m SequenceSpent) (done_call (served m bytes from)) (λ (x : Called). Beside m x.manager)
     (λ _. nothing m)
-    (λ _. cond_both (is_control bytes) (controlled m bytes from) (replying m bytes from) (Beside m)
-    (λ _. moves_beside m bytes from (stepped m.standing.state (event.Control (number_in attribute_modifier bytes))))
+    (λ _. cond_both (is_control m.standing bytes) (controlled m bytes from) (replying m bytes from) (Beside m)
+    (λ _. beside_both m (hearing m) _ (record { writing = refl; many = refl; rising = λ r. r })
+    (moves_beside (hearing m) bytes from (stepped m.standing.conduct m.standing.state (event.Control (number_in attribute_modifier bytes)))))
     (λ _. record { writing = refl; many = refl; rising = λ r. r }))
 
 hands_beside : (m : Manager) (lid : Option ℕ) → Beside m (handed_to m lid)
@@ -294,20 +296,23 @@ request_rises m p answer (purpose.Step c) rising =
 packet_rises : (m : Manager) (bytes : List ℕ) (from : Option ℕ) (why : Option SmpFault) → Rising m.counter m.pending
     → Rising (packet_taken m bytes from why).manager.counter (packet_taken m bytes from why).manager.pending
 packet_rises m bytes from (Some why) rising = rising
-packet_rises m bytes from None rising = by_tests (is_info_request bytes) (is_for_sweep bytes)
+packet_rises m bytes from None rising = by_tests (is_info_request bytes) (represses m bytes) (is_for_sweep bytes)
   where
     by_pending : (o : Option Pending) → Rising (request_answered m bytes o).manager.counter (request_answered m bytes o).manager.pending
     by_pending None = rising
     by_pending (Some p) = request_rises m p (Some (status bytes)) p.purpose rising
 
-    by_tests : (a b : Bool)
-        → Rising (cond a (unless_spent m (served m bytes from))
-        (cond b (sweep_answered m bytes m.sweep) (request_answered m bytes (pending_for m bytes)))).manager.counter
-        (cond a (unless_spent m (served m bytes from))
-        (cond b (sweep_answered m bytes m.sweep) (request_answered m bytes (pending_for m bytes)))).manager.pending
-    by_tests true b = (serves_beside m bytes from).rising rising
-    by_tests false true = (sweep_beside m bytes m.sweep).rising rising
-    by_tests false false = by_pending (pending_for m bytes)
+    taken_by : (a t b : Bool) → Called
+    taken_by a t b =
+        cond a (unless_spent m (served m bytes from))
+        (cond t (done_call (repressing m bytes from))
+        (cond b (sweep_answered m bytes m.sweep) (request_answered m bytes (pending_for m bytes))))
+
+    by_tests : (a t b : Bool) → Rising (taken_by a t b).manager.counter (taken_by a t b).manager.pending
+    by_tests true t b = (serves_beside m bytes from).rising rising
+    by_tests false true b = rising
+    by_tests false false true = (sweep_beside m bytes m.sweep).rising rising
+    by_tests false false false = by_pending (pending_for m bytes)
 
 timeout_rises : (m : Manager) (transaction : ℕ) → Rising m.counter m.pending
     → Rising (after_timeout m transaction).manager.counter (after_timeout m transaction).manager.pending
@@ -487,19 +492,20 @@ module _ (m : Manager) (w : Writing) (writing : m.writing ≡ Some w) (first : C
   packet_ends : (bytes : List ℕ) (from : Option ℕ) (why : Option SmpFault)
       → StepsOn w m (packet_taken m bytes from why).manager (one_if (does_by_packet m bytes why))
   packet_ends bytes from (Some why) = from_beside m (nothing m)
-  packet_ends bytes from None = by_tests (is_info_request bytes) (is_for_sweep bytes)
+  packet_ends bytes from None = by_tests (is_info_request bytes) (represses m bytes) (is_for_sweep bytes)
     where
       by_pending : (o : Option Pending) → pending_for m bytes ≡ o → StepsOn w m (request_answered m bytes o).manager (one_if (does_request m bytes o))
       by_pending None e = from_beside m (nothing m)
       by_pending (Some p) e = request_ends p (found_there (answers bytes) m.pending p e).0 (Some (status bytes))
 
-      by_tests : (a b : Bool)
-          → StepsOn w m (cond a (unless_spent m (served m bytes from))
-          (cond b (sweep_answered m bytes m.sweep) (request_answered m bytes (pending_for m bytes)))).manager
-          (one_if (cond a false (cond b false (does_request m bytes (pending_for m bytes)))))
-      by_tests true b = from_beside _ (serves_beside m bytes from)
-      by_tests false true = from_beside _ (sweep_beside m bytes m.sweep)
-      by_tests false false = by_pending (pending_for m bytes) refl
+      by_tests : (a t b : Bool)
+          → StepsOn w m (cond a (unless_spent m (served m bytes from)) (cond t (done_call (repressing m bytes from))
+          (cond b (sweep_answered m bytes m.sweep) (request_answered m bytes (pending_for m bytes))))).manager
+          (one_if (cond a false (cond t false (cond b false (does_request m bytes (pending_for m bytes))))))
+      by_tests true t b = from_beside _ (serves_beside m bytes from)
+      by_tests false true b = from_beside _ (record { writing = refl; many = refl; rising = λ r. r })
+      by_tests false false true = from_beside _ (sweep_beside m bytes m.sweep)
+      by_tests false false false = by_pending (pending_for m bytes) refl
 
   timeout_ends : (transaction : ℕ) → StepsOn w m (after_timeout m transaction).manager 0
   timeout_ends transaction =
@@ -661,9 +667,9 @@ begins_balanced m rising e =
     }
 
 pub written_is_each_step_done : WrittenIsEachStepDone
-written_is_each_step_done port_guid port priority planning before after begins none =
-    let m = after_calls before (new_manager port_guid port priority planning) in
-    let rising = calls_rise before (new_manager port_guid port priority planning) (omega arith) in
+written_is_each_step_done port_guid port priority conduct planning before after begins none =
+    let m = after_calls before (new_manager port_guid port priority conduct planning) in
+    let rising = calls_rise before (new_manager port_guid port priority conduct planning) (omega arith) in
     let total = counting_in (phases_by m m.sweep) in
     let all = balanced_calls total 0 after (after_write_steps m) (begins_balanced m rising begins) none in
     let same : 0 + steps_done after (after_write_steps m) ≡ steps_done after (after_write_steps m) = omega arith in

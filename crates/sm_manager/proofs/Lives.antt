@@ -26,7 +26,8 @@ use Rattle.sm_manager.specs.Packets.{Called, refused, done, answered_by, sweep_a
 use Rattle.sm_manager.specs.declared.pending.Purpose.{Purpose}
 use Rattle.sm_manager.specs.declared.pending.Purpose.TheVariants as purpose
 use Rattle.sm_manager.specs.Election.{after_handover, handed_to, handover_fault, handover_move, successor_lid, poll_fault, after_poll, after_message}
-use Rattle.sm_manager.specs.Served.{answering, controlled, is_control, moved_on, served, status_for}
+use Rattle.sm_manager.specs.Served.{acknowledged_at, answering, controlled, hearing, is_control, moved_on, replying, served}
+use Rattle.sm_manager.specs.Traps.{represses, repressing}
 use Rattle.sm_state.specs.Standing.{moved_to}
 use Rattle.sm_manager.specs.Plans.{writing_fault}
 use Rattle.sm_manager.specs.ManagerRequests.{counts, no_step_waits, with_number, without_number}
@@ -92,6 +93,12 @@ telling_keeps m None message = record { store = refl; planning = refl }
 telling_keeps m (Some lid) None = record { store = refl; planning = refl }
 telling_keeps m (Some lid) (Some message) = record { store = refl; planning = refl }
 
+moving_keeps : (m : Manager) (bytes : List ℕ) (from : Option ℕ) (move : Transition) → Keeps m (moved_on m bytes from move)
+moving_keeps m bytes from move =
+    let k = telling_keeps (answering (record m { standing = moved_to move.state m.standing }) bytes from (status_of move)) (acknowledged_at bytes from)
+    move.message in
+    record { store = k.store; planning = k.planning }
+
 module _ (m : Manager) where
   ending_keeps : (p : Pending) (answer : Option ℕ) (why : Purpose) → Keeps m (after_request m p answer why).manager
   ending_keeps p answer purpose.Poll = record { store = refl; planning = refl }
@@ -102,29 +109,24 @@ module _ (m : Manager) where
   answer_keeps bytes None = record { store = refl; planning = refl }
   answer_keeps bytes (Some p) = ending_keeps p (Some (status bytes)) p.purpose
 
-  moving_keeps : (bytes : List ℕ) (from : Option ℕ) (move : Transition) → Keeps m (moved_on m bytes from move)
-  moving_keeps bytes from move =
-      let k = telling_keeps (answering (record m { standing = moved_to move.state m.standing }) bytes from (status_of move)) from move.message in
-      record { store = k.store; planning = k.planning }
-
   serving_keeps : (bytes : List ℕ) (from : Option ℕ) → Keeps m (served m bytes from)
   serving_keeps bytes from =
-      cond_both (is_control bytes) (controlled m bytes from) (answering m bytes from (status_for bytes)) (λ (x : Manager). Keeps m x)
-      (λ _. moving_keeps bytes from (stepped m.standing.state (event.Control (number_in attribute_modifier bytes)))) (λ _. record {
-        store = refl;
-        planning =
-            refl;
-      })
+      cond_both (is_control m.standing bytes) (controlled m bytes from) (replying m bytes from) (λ (x : Manager). Keeps m x)
+      (λ _. let k = moving_keeps (hearing m) bytes from (stepped m.standing.conduct m.standing.state (event.Control (number_in attribute_modifier bytes))) in
+      record { store = k.store; planning = k.planning })
+      (λ _. record { store = refl; planning = refl })
 
   takes_packet : (bytes : List ℕ) (from : Option ℕ) (why : Option SmpFault) → Takes m (sightings_of_packet m bytes why) (packet_taken m bytes from why).manager
   takes_packet bytes from (Some why) = nothing_taken m m (same m)
-  takes_packet bytes from None = by_tests (is_info_request bytes) (is_for_sweep bytes)
+  takes_packet bytes from None = by_tests (is_info_request bytes) (represses m bytes) (is_for_sweep bytes)
     where
-      by_tests : (a b : Bool) → Takes m (cond a [] (cond b (sightings_of_reply bytes m.sweep) []))
-          (cond a (unless_spent m (served m bytes from)) (cond b (sweep_answered m bytes m.sweep) (request_answered m bytes (pending_for m bytes)))).manager
-      by_tests true b = nothing_taken m _ (unless_keeps m _ (serving_keeps bytes from))
-      by_tests false true = takes_reply m bytes m.sweep
-      by_tests false false = nothing_taken m _ (answer_keeps bytes (pending_for m bytes))
+      by_tests : (a t b : Bool) → Takes m (cond a [] (cond t [] (cond b (sightings_of_reply bytes m.sweep) [])))
+          (cond a (unless_spent m (served m bytes from)) (cond t (done (repressing m bytes from))
+          (cond b (sweep_answered m bytes m.sweep) (request_answered m bytes (pending_for m bytes))))).manager
+      by_tests true t b = nothing_taken m _ (unless_keeps m _ (serving_keeps bytes from))
+      by_tests false true b = nothing_taken m _ (record { store = refl; planning = refl })
+      by_tests false false true = takes_reply m bytes m.sweep
+      by_tests false false false = nothing_taken m _ (answer_keeps bytes (pending_for m bytes))
 
   sweep_timeout_keeps : (transaction : ℕ) (s : Option Sweep) → Keeps m (sweep_gave_up m transaction s).manager
   sweep_timeout_keeps transaction None = record { store = refl; planning = refl }
@@ -224,21 +226,21 @@ planning_of_calls [] m = refl
 planning_of_calls (call ∷ calls) m = planning_of_calls calls (after_call m call) ∙ planning_stays m call
 
 pub knows_what_it_took_in : KnowsWhatItTookIn
-knows_what_it_took_in port_guid port priority planning calls =
-    let m = new_manager port_guid port priority planning in
+knows_what_it_took_in port_guid port priority conduct planning calls =
+    let m = new_manager port_guid port priority conduct planning in
     knows calls m 1 [] refl ∙ at_same_floor (max 1 (greatest_floor calls)) (greatest_floor calls) (seen (taken_in calls m)) (omega arith)
 
 pub same_taken_in_same_plan : SameTakenInSamePlan
-same_taken_in_same_plan guid port priority guid' port' priority' planning calls calls' floors same =
+same_taken_in_same_plan guid port priority guid' port' priority' conduct conduct' planning calls calls' floors same =
     let facts =
-    knows_what_it_took_in guid port priority planning calls
-    ∙ members_decide_view (greatest_floor calls) (taken_in calls (new_manager guid port priority planning))
-    (taken_in calls' (new_manager guid' port' priority' planning)) same
-    ∙ ap (λ floor. view_at floor (taken_in calls' (new_manager guid' port' priority' planning))) floors
-    ∙ sym (knows_what_it_took_in guid' port' priority' planning calls') in
-    let one = after_calls calls (new_manager guid port priority planning) in
-    let plannings = planning_of_calls calls (new_manager guid port priority planning)
-    ∙ sym (planning_of_calls calls' (new_manager guid' port' priority' planning)) in
+    knows_what_it_took_in guid port priority conduct planning calls
+    ∙ members_decide_view (greatest_floor calls) (taken_in calls (new_manager guid port priority conduct planning))
+    (taken_in calls' (new_manager guid' port' priority' conduct' planning)) same
+    ∙ ap (λ floor. view_at floor (taken_in calls' (new_manager guid' port' priority' conduct' planning))) floors
+    ∙ sym (knows_what_it_took_in guid' port' priority' conduct' planning calls') in
+    let one = after_calls calls (new_manager guid port priority conduct planning) in
+    let plannings = planning_of_calls calls (new_manager guid port priority conduct planning)
+    ∙ sym (planning_of_calls calls' (new_manager guid' port' priority' conduct' planning)) in
     record {
       facts = facts;
       plan = λ i. plan_of (plannings i).rule (plannings i).lmc (cells_of (facts i));

@@ -7,13 +7,13 @@ use Rattle.smp_bytes.specs.Packet.{attribute_modifier}
 use Rattle.sm_state.specs.declared.event.Event.TheVariants as event
 use Rattle.sm_state.specs.declared.event.Message.{Message}
 use Rattle.sm_state.specs.declared.transition.Transition.{Transition}
-use Rattle.sm_state.specs.Standing.{moved_to}
+use Rattle.sm_state.specs.Standing.{after_request_heard, moved_to}
 use Rattle.sm_state.specs.Steps.{status_of, stepped}
 use Rattle.sm_manager.specs.Election.{after_message, message_count, message_out, message_pending}
 use Rattle.sm_manager.specs.Manager.{Manager}
 use Rattle.sm_manager.specs.Packets.{done, refused, unless_spent}
 use Rattle.sm_manager.specs.Plans.{number_fault}
-use Rattle.sm_manager.specs.Served.{answering, controlled}
+use Rattle.sm_manager.specs.Served.{acknowledged_at, answering, controlled}
 use Rattle.sm_manager.specs.declared.fault.ManagerFault.TheVariants as fault
 
 -- no number, no request and no packet more
@@ -57,12 +57,15 @@ pub none_taken : (before m after : Manager) → before ≡ m → after.counter �
 none_taken before m after same kept = let number = kept ∙ ap (λ (x : Manager). x.counter) (sym same) in omega (arith, number)
 
 -- a control that is obeyed takes the numbers of its message
-pub numbers_taken : (before m : Manager) (packet : List ℕ) (from : Option ℕ) (modifier count : ℕ) (move : Transition) → before ≡ m
-    → modifier ≡ number_in attribute_modifier packet → move ≡ stepped before.standing.state (event.Control modifier)
-    → count ≡ message_count from move.message → (controlled m packet from).counter ≡ before.counter + count
-numbers_taken before m packet from modifier count move same is moves counts =
-    let next : Transition = stepped m.standing.state (event.Control (number_in attribute_modifier packet)) in
-    let steps : move ≡ next = moves ∙ (λ i. stepped (same i).standing.state (event.Control (is i))) in
-    let numbers : count ≡ message_count from next.message = counts ∙ (λ i. message_count from (steps i).message) in
-    message_counter (answering (record m { standing = moved_to next.state m.standing }) packet from (status_of next)) from next.message
+pub numbers_taken : (before m : Manager) (packet : List ℕ) (from to : Option ℕ) (modifier count : ℕ) (move : Transition) → before ≡ m
+    → to ≡ acknowledged_at packet from
+    → modifier ≡ number_in attribute_modifier packet
+    → move ≡ stepped before.standing.conduct before.standing.state (event.Control modifier)
+    → count ≡ message_count to move.message → (controlled m packet from).counter ≡ before.counter + count
+numbers_taken before m packet from to modifier count move same goes is moves counts =
+    let next : Transition = stepped m.standing.conduct m.standing.state (event.Control (number_in attribute_modifier packet)) in
+    let steps : move ≡ next = moves ∙ (λ i. stepped (same i).standing.conduct (same i).standing.state (event.Control (is i))) in
+    let numbers : count ≡ message_count (acknowledged_at packet from) next.message = counts ∙ (λ i. message_count (goes i) (steps i).message) in
+    message_counter (answering (record m { standing = moved_to next.state (after_request_heard m.standing) }) packet from (status_of next))
+    (acknowledged_at packet from) next.message
     ∙ sym (λ i. (same i).counter + numbers i)

@@ -18,6 +18,7 @@ use Rattle.sm_manager.specs.ManagerRequests.{with_number}
 use Rattle.sm_manager.specs.Packets.{Called, after_packet, after_request, after_timeout, answered_by, done, is_for_sweep, is_info_request, packet_taken}
 use Rattle.sm_manager.specs.Packets.{pending_for, refused, request_answered, request_gave_up, sweep_answered, sweep_gave_up, sweep_timed_out, unless_spent}
 use Rattle.sm_manager.specs.Served.{served}
+use Rattle.sm_manager.specs.Traps.{represses, repressing}
 use Rattle.sm_manager.specs.Writing.{is_spent}
 
 -- a refusal leaves this manager
@@ -70,4 +71,5 @@ module _ (m : Manager) where
     packet_leaves from (Some fault) = λ why e. refl
     packet_leaves from None =
         cond_both (is_info_request bytes) _ _ (RefusalLeaves m) (λ _. unless_leaves m (served m bytes from))
-        (λ _. cond_both (is_for_sweep bytes) _ _ (RefusalLeaves m) (λ _. reply_leaves m.sweep) (λ _. request_leaves (pending_for m bytes)))
+        (λ _. cond_both (represses m bytes) _ _ (RefusalLeaves m) (λ _. done_leaves m (repressing m bytes from))
+        (λ _. cond_both (is_for_sweep bytes) _ _ (RefusalLeaves m) (λ _. reply_leaves m.sweep) (λ _. request_leaves (pending_for m bytes))))

@@ -9,8 +9,10 @@ use Rattle.sm_manager.specs.Calls.{Call, BeginSweep, WriteSteps, Take, Packet, T
 use Rattle.sm_manager.specs.Manager.{Manager, new_manager}
 use Rattle.sm_manager.specs.Packets.{is_for_sweep, is_info_request, pending_for, request_answered}
 use Rattle.lft_blocks.specs.Planning.{Planning}
+use Rattle.sm_state.specs.declared.conduct.Conduct.{Conduct}
 use Rattle.sm_manager.specs.Plans.{writing_fault}
 use Rattle.sm_manager.specs.ManagerRequests.{counts}
+use Rattle.sm_manager.specs.Traps.{represses}
 use Rattle.sm_manager.specs.Writing.{is_written, phases_by, after_write_steps}
 
 -- the request that the packet answers is a step that counts, the answer's status is 0, and the answer is taken
@@ -23,6 +25,7 @@ abbrev pub does_by_packet : Manager → List ℕ → Option SmpFault → Bool
 does_by_packet m packet (Some why) = false
 does_by_packet m packet None =
     if is_info_request packet then false
+    else if represses m packet then false
     else if is_for_sweep packet then false
     else does_request m packet (pending_for m packet)
 
@@ -65,11 +68,11 @@ counting_in (p ∷ phases) = (if p.counts then length p.steps else 0) + counting
 -- was answered as done
 abbrev pub WrittenIsEachStepDone : Type 0
 WrittenIsEachStepDone =
-    (port_guid port priority : ℕ) (planning : Planning) (before after : List Call)
-    → writing_fault (after_calls before (new_manager port_guid port priority planning)) ≡ None
-    → BeginNone after (after_write_steps (after_calls before (new_manager port_guid port priority planning)))
+    (port_guid port priority : ℕ) (conduct : Conduct) (planning : Planning) (before after : List Call)
+    → writing_fault (after_calls before (new_manager port_guid port priority conduct planning)) ≡ None
+    → BeginNone after (after_write_steps (after_calls before (new_manager port_guid port priority conduct planning)))
     → (is_written (after_calls after
-    (after_write_steps (after_calls before (new_manager port_guid port priority planning)))) ≡ true)
-    ↔ (steps_done after (after_write_steps (after_calls before (new_manager port_guid port priority planning)))
-    ≡ counting_in (phases_by (after_calls before (new_manager port_guid port priority planning))
-    (after_calls before (new_manager port_guid port priority planning)).sweep))
+    (after_write_steps (after_calls before (new_manager port_guid port priority conduct planning)))) ≡ true)
+    ↔ (steps_done after (after_write_steps (after_calls before (new_manager port_guid port priority conduct planning)))
+    ≡ counting_in (phases_by (after_calls before (new_manager port_guid port priority conduct planning))
+    (after_calls before (new_manager port_guid port priority conduct planning)).sweep))

@@ -16,6 +16,8 @@ use Rattle.sm_manager.specs.Manager.{Manager, new_manager, begin_fault, after_be
 use Rattle.sm_manager.specs.Election.{after_handover, handover_fault, poll_fault, after_poll}
 use Rattle.sm_manager.specs.Packets.{after_packet, after_timeout, is_for_sweep, is_info_request}
 use Rattle.lft_blocks.specs.Planning.{Planning}
+use Rattle.sm_state.specs.declared.conduct.Conduct.{Conduct}
+use Rattle.sm_manager.specs.Traps.{represses}
 use Rattle.sm_manager.specs.Plans.{writing_fault}
 use Rattle.sm_manager.specs.Writing.{after_write_steps}
 
@@ -61,6 +63,7 @@ abbrev pub sightings_of_packet : Manager → List ℕ → Option SmpFault → Si
 sightings_of_packet m bytes (Some why) = []
 sightings_of_packet m bytes None =
     if is_info_request bytes then []
+    else if represses m bytes then []
     else if is_for_sweep bytes then sightings_of_reply bytes m.sweep
     else []
 
@@ -100,9 +103,9 @@ greatest_floor (call ∷ calls) = max (floor_in call) (greatest_floor calls)
 
 -- a manager knows the view of all that it took in, at the greatest floor, whatever else was asked of it
 abbrev pub KnowsWhatItTookIn : Type 0
-KnowsWhatItTookIn = (port_guid port priority : ℕ) (planning : Planning) (calls : List Call) →
-    (after_calls calls (new_manager port_guid port priority planning)).store
-    ≡ view_at (greatest_floor calls) (taken_in calls (new_manager port_guid port priority planning))
+KnowsWhatItTookIn = (port_guid port priority : ℕ) (conduct : Conduct) (planning : Planning) (calls : List Call) →
+    (after_calls calls (new_manager port_guid port priority conduct planning)).store
+    ≡ view_at (greatest_floor calls) (taken_in calls (new_manager port_guid port priority conduct planning))
 
 -- two managers know the same and plan the same if they took in the same, in whatever order and however often, and have
 -- one greatest floor, one LMC and one rule of routing; and if that plan has room and is in force in what an end port is
@@ -116,9 +119,9 @@ pub record KnowTheSame (one other : Manager) : Type 0 where
       (plan_of one.planning.rule one.planning.lmc (cells_of one.store))
 
 abbrev pub SameTakenInSamePlan : Type 0
-SameTakenInSamePlan = (guid port priority guid' port' priority' : ℕ) (planning : Planning) (calls calls' : List Call) →
+SameTakenInSamePlan = (guid port priority guid' port' priority' : ℕ) (conduct conduct' : Conduct) (planning : Planning) (calls calls' : List Call) →
     greatest_floor calls ≡ greatest_floor calls' →
-    HaveSameMembers (taken_in calls (new_manager guid port priority planning))
-    (taken_in calls' (new_manager guid' port' priority' planning)) →
-    KnowTheSame (after_calls calls (new_manager guid port priority planning))
-    (after_calls calls' (new_manager guid' port' priority' planning))
+    HaveSameMembers (taken_in calls (new_manager guid port priority conduct planning))
+    (taken_in calls' (new_manager guid' port' priority' conduct' planning)) →
+    KnowTheSame (after_calls calls (new_manager guid port priority conduct planning))
+    (after_calls calls' (new_manager guid' port' priority' conduct' planning))

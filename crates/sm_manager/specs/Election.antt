@@ -27,7 +27,7 @@ use Rattle.sm_state.specs.declared.standing.Standing.{Standing}
 use Rattle.sm_manager.specs.Manager.{Manager}
 use Rattle.sm_manager.specs.Plans.{number_fault, or_else, plan_fault}
 use Rattle.sm_state.specs.Election.{successor_of}
-use Rattle.sm_state.specs.Standing.{info_of, is_in, moved_to}
+use Rattle.sm_state.specs.Standing.{info_of, info_with, is_in, moved_to}
 
 -- requests for SMInfo ---------------------------------------------------------------------------
 
@@ -40,11 +40,11 @@ info_pending number purpose modifier =
 abbrev pub poll_out : ℕ → ℕ → Outgoing
 poll_out number lid = record { packet = lid_routed get sm_info 0 number (replicate 64 0); to = Some lid }
 
--- a control: a Set with the SMInfo of its sender
+-- a control: a Set with the SMInfo that its sender sends with it
 abbrev pub control_out : Standing → ℕ → ℕ → Control → Outgoing
 control_out s number lid control =
     record {
-      packet = lid_routed set sm_info (modifier_of_control control) number (sm_info_bytes (info_of s));
+      packet = lid_routed set sm_info (modifier_of_control control) number (sm_info_bytes (info_with control s));
       to =
           Some lid;
     }
@@ -97,7 +97,7 @@ poll_fault m = if is_in Standby m.standing then number_fault (m.counter + 1) els
 
 -- the move of the table of states if another manager is to be master
 abbrev pub handover_move : Manager → Transition
-handover_move m = stepped m.standing.state HandoverWanted
+handover_move m = stepped m.standing.conduct m.standing.state HandoverWanted
 
 -- the one of the managers seen by the last sweep that is to take over
 abbrev pub successor : Manager → Option SeenManager

@@ -9,4 +9,5 @@ pub mod NotedManagers
 pub mod Packets
 pub mod Plans
 pub mod Served
+pub mod Traps
 pub mod Writing

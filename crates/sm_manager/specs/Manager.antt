@@ -13,6 +13,7 @@ use Rattle.sm_manager.specs.declared.outgoing.Outgoing.{Outgoing}
 use Rattle.sm_manager.specs.declared.pending.Pending.{Pending}
 use Rattle.sm_manager.specs.declared.progress.Progress.{Progress}
 use Rattle.sm_manager.specs.declared.progress.Progress.TheVariants.{Never, Running, Done}
+use Rattle.sm_state.specs.declared.conduct.Conduct.{Conduct}
 use Rattle.sm_state.specs.declared.election.SeenManager.{SeenManager}
 use Rattle.sm_state.specs.declared.standing.Standing.{Standing}
 use Rattle.lft_blocks.specs.Planning.{Planning}
@@ -42,10 +43,10 @@ pub record Manager : Type 0 where
   pub outgoing : List Outgoing
 
 -- a manager that knows nothing and has done nothing
-abbrev pub new_manager : ℕ → ℕ → ℕ → Planning → Manager
-new_manager port_guid port priority planning =
+abbrev pub new_manager : ℕ → ℕ → ℕ → Conduct → Planning → Manager
+new_manager port_guid port priority conduct planning =
     record {
-      standing = new_standing port_guid priority;
+      standing = new_standing port_guid priority conduct;
       port = port;
       planning = planning;
       store = no_facts;

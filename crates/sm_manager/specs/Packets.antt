@@ -25,7 +25,12 @@ use Rattle.sm_manager.specs.Manager.{Manager, with_sweep, after_sweep}
 use Rattle.sm_manager.specs.ManagerRequests.{with_number}
 use Rattle.sm_manager.specs.NotedManagers.{with_seen}
 use Rattle.sm_manager.specs.Served.{served}
-use Rattle.sm_state.specs.Standing.{poll_answered, poll_lost}
+use Rattle.sm_manager.specs.Traps.{represses, repressing}
+use Rattle.sm_state.specs.declared.control.Control.TheVariants as control
+use Rattle.sm_state.specs.declared.event.Event.TheVariants as event
+use Rattle.sm_state.specs.Conducts.{is_live}
+use Rattle.sm_state.specs.Controls.{modifier_of_control}
+use Rattle.sm_state.specs.Standing.{moved_by, poll_answered, poll_lost}
 use Rattle.sm_manager.specs.Writing.{is_done_by, is_spent, after_step, without}
 
 -- a call's outcome: the manager afterwards, and why the call was refused, if it was
@@ -82,6 +87,19 @@ abbrev pub after_poll_end : Bool → Standing → Standing
 after_poll_end true s = poll_answered s
 after_poll_end false s = poll_lost s
 
+-- the request is a handover
+abbrev pub is_handover : Pending → Bool
+is_handover p = p.modifier == modifier_of_control control.Handover
+
+-- the answer says that the other manager took over, which is enough by the live conduct
+abbrev pub is_relieved : Standing → Pending → Option ℕ → Bool
+is_relieved s p answer = is_live s.conduct && (is_handover p && is_done_by answer)
+
+-- a control has ended; a manager that is relieved moves as by an acknowledgement
+abbrev pub after_control_end : Bool → Standing → Standing
+after_control_end is_relieved s =
+    if is_relieved then moved_by (event.Control (modifier_of_control control.Acknowledge)) s else s
+
 -- the number of a status
 abbrev pub status_number : Option Status → Option ℕ
 status_number status = option_map (λ s. s.0) status
@@ -90,7 +108,8 @@ status_number status = option_map (λ s. s.0) status
 -- phase may go out
 abbrev pub after_request : Manager → Pending → Option ℕ → Purpose → Called
 after_request m p answer Poll = done (record (without m p) { standing = after_poll_end (is_some answer) m.standing })
-after_request m p answer Control = done (without m p)
+after_request m p answer Control =
+    done (record (without m p) { standing = after_control_end (is_relieved m.standing p answer) m.standing })
 after_request m p answer (Step counts) = unless_spent m (after_step m p (is_done_by answer))
 
 abbrev pub request_answered : Manager → List ℕ → Option Pending → Called
@@ -112,6 +131,7 @@ abbrev pub packet_taken : Manager → List ℕ → Option ℕ → Option SmpFaul
 packet_taken m packet from (Some why) = refused m (fault.Sweep (Bad (Smp why)))
 packet_taken m packet from None =
     if is_info_request packet then unless_spent m (served m packet from)
+    else if represses m packet then done (repressing m packet from)
     else if is_for_sweep packet then sweep_answered m packet m.sweep
     else request_answered m packet (pending_for m packet)
 

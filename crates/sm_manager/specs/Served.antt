@@ -1,6 +1,6 @@
 -- What a manager answers if another one asks for its SMInfo or wants to control it.
 -- InfiniBand Architecture Specification, Volume 1: subnet management, SMInfo; management methods and status.
-use Rattle.std.specs.Prelude.{ℕ, Bool, ◌&&◌, not, List, [], ◌∷◌, ◌++◌, ◌==◌, if◌then◌else◌, Option, None}
+use Rattle.std.specs.Prelude.{ℕ, Bool, ◌&&◌, ◌||◌, not, List, [], ◌∷◌, ◌++◌, ◌==◌, if◌then◌else◌, Option, None}
 use Rattle.smp_bytes.specs.Field.{bytes_in, number_in}
 use Rattle.smp_bytes.specs.Header.{get, set, done, invalid_field, method_not_supported}
 use Rattle.smp_bytes.specs.Packet.{method, attribute_modifier, attribute_data, is_directed}
@@ -13,7 +13,8 @@ use Rattle.sm_manager.specs.declared.outgoing.Outgoing.{Outgoing}
 use Rattle.sm_state.specs.declared.standing.Standing.{Standing}
 use Rattle.sm_manager.specs.Election.{after_message}
 use Rattle.sm_manager.specs.Manager.{Manager}
-use Rattle.sm_state.specs.Standing.{info_of, moved_to}
+use Rattle.sm_state.specs.Conducts.{is_live}
+use Rattle.sm_state.specs.Standing.{after_request_heard, info_of, moved_to}
 
 -- answers ---------------------------------------------------------------------------------------
 
@@ -33,22 +34,31 @@ answer_out s packet from status =
 abbrev pub answering : Manager → List ℕ → Option ℕ → ℕ → Manager
 answering m packet from status = record m { outgoing = m.outgoing ++ answer_out m.standing packet from status ∷ [] }
 
+-- the request is counted before it is answered
+abbrev pub hearing : Manager → Manager
+hearing m = record m { standing = after_request_heard m.standing }
+
 -- controls ----------------------------------------------------------------------------------------
 
--- a Set by LIDs may be obeyed
-abbrev pub is_control : List ℕ → Bool
-is_control packet = number_in method packet == set && not (is_directed packet)
+-- a Set by LIDs may be obeyed, and by the live conduct also one over a directed route
+abbrev pub is_control : Standing → List ℕ → Bool
+is_control s packet = number_in method packet == set && (is_live s.conduct || not (is_directed packet))
+
+-- the LID to which a control is acknowledged: that of its sender, or none if it came over a directed route
+abbrev pub acknowledged_at : List ℕ → Option ℕ → Option ℕ
+acknowledged_at packet from = if is_directed packet then None else from
 
 -- the state moves, the answer goes out, and then the message to the sender, if any
 abbrev pub moved_on : Manager → List ℕ → Option ℕ → Transition → Manager
 moved_on m packet from move =
-    after_message (answering (record m { standing = moved_to move.state m.standing }) packet from (status_of move)) from
-    move.message
+    after_message (answering (record m { standing = moved_to move.state m.standing }) packet from (status_of move))
+    (acknowledged_at packet from) move.message
 
 -- the state moves by the table of states
 abbrev pub controlled : Manager → List ℕ → Option ℕ → Manager
 controlled m packet from =
-    moved_on m packet from (stepped m.standing.state (event.Control (number_in attribute_modifier packet)))
+    moved_on (hearing m) packet from
+    (stepped m.standing.conduct m.standing.state (event.Control (number_in attribute_modifier packet)))
 
 -- any request for SMInfo --------------------------------------------------------------------------
 
@@ -60,7 +70,8 @@ status_for packet =
     else method_not_supported
 
 abbrev pub replying : Manager → List ℕ → Option ℕ → Manager
-replying m packet from = answering m packet from (status_for packet)
+replying m packet from = answering (hearing m) packet from (status_for packet)
 
 abbrev pub served : Manager → List ℕ → Option ℕ → Manager
-served m packet from = if is_control packet then controlled m packet from else replying m packet from
+served m packet from =
+    if is_control m.standing packet then controlled m packet from else replying m packet from

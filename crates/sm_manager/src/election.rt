@@ -61,7 +61,7 @@ impl Manager {
     /// Tells the successor to take over: the greatest of the managers that the last sweep saw in Standby or Master and
     /// that win over this one, of equals the first that was seen. Sends the control to the LID that the plan gives the
     /// port where the successor was seen. The state moves by the table of states: it stays Master until the successor
-    /// acknowledges. Plans LIDs, and walks what the sweep saw.
+    /// acknowledges or, by the live conduct, answers that it took over. Plans LIDs, and walks what the sweep saw.
     ///
     /// # Errors
     ///
@@ -72,7 +72,11 @@ impl Manager {
         ensures ok { OnOk result (self.new ≡ after_handover self.old) }
         ensures err { OnErr result (self.new ≡ self.old) }
     {
-        let transition = step(self.standing.state, Event::HandoverWanted);
+        let transition = step(
+            self.standing.conduct,
+            self.standing.state,
+            Event::HandoverWanted,
+        );
         let Some(message) = transition.message else {
             return Err(ManagerFault::NotMaster);
         };
@@ -215,7 +219,7 @@ fn send_control(
         ≡ outgoing.old.items ++ control_out standing.now requests.old.counter to control ∷ [] }
 {
     let modifier = control.modifier();
-    let data = standing.info().encode();
+    let data = standing.info_with(control).encode();
     let packet = requests.send_info(Purpose::Control, Method::SET, modifier, &data);
     outgoing.push_back_reserved(Outgoing {
         packet,

@@ -3,14 +3,15 @@ ghost use Rattle.std.specs.Prelude.{◌≡◌, ◌<◌, OnOk, OnErr, length, sli
 ghost use Rattle.smp_bytes.specs.Judges.{JudgesButFor};
 ghost use Rattle.sm_manager.specs.declared.pending.Pending.{Pending};
 ghost use Rattle.sm_manager.specs.Fault.{is_memory};
-ghost use Rattle.sm_manager.specs.Packets.{pending_for, after_poll_end, request_answered, after_request};
+ghost use Rattle.sm_manager.specs.Packets.{after_control_end, after_poll_end, after_request, is_handover};
+ghost use Rattle.sm_manager.specs.Packets.{is_relieved, pending_for, request_answered};
 ghost use Rattle.sm_manager.specs.Packets.{status_number};
 ghost use Rattle.sm_manager.specs.Writing.{is_done_by};
 
 use crate::fault::ManagerFault;
 use crate::manager::Manager;
-use crate::pending::Purpose;
-use sm_state::Standing;
+use crate::pending::{Pending, Purpose};
+use sm_state::{Control, Event, Standing};
 use smp_bytes::{Smp, Status};
 
 impl Manager {
@@ -51,7 +52,9 @@ impl Manager {
                 Ok(())
             }
             Purpose::Control => {
-                self.requests.end(index);
+                let ended = self.requests.end(index);
+                let is_relieved = is_relieved(&self.standing, &ended, answer);
+                end_control(&mut self.standing, is_relieved);
                 Ok(())
             }
         }
@@ -76,5 +79,29 @@ fn end_poll(standing: &mut Standing, was_answered: bool)
         standing.hear_poll();
     } else {
         standing.lose_poll();
+    }
+}
+
+/// Returns whether the manager hands over by the ended control: by the live conduct, if the other manager answered a
+/// handover as done.
+fn is_relieved(standing: &Standing, ended: &Pending, answer: Option<Status>) -> bool
+    ensures { result ≡ is_relieved standing.now ended.now (status_number answer) }
+{
+    standing.conduct.is_live() && is_handover(ended) && is_done_by(answer)
+}
+
+/// Returns whether a request is a handover.
+fn is_handover(ended: &Pending) -> bool
+    ensures { result ≡ is_handover ended.now }
+{
+    ended.modifier == Control::Handover.modifier()
+}
+
+/// Ends a control. A manager that is relieved moves as by an acknowledgement.
+fn end_control(standing: &mut Standing, is_relieved: bool)
+    ensures { standing.new ≡ after_control_end is_relieved standing.old }
+{
+    if is_relieved {
+        standing.move_by(Event::Control(Control::Acknowledge.modifier()));
     }
 }

@@ -15,6 +15,7 @@ mod outgoing;
 mod pending;
 mod progress;
 mod sm_info_requests;
+mod traps;
 mod write_steps;
 mod writing;
 

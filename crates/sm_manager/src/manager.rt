@@ -18,7 +18,7 @@ use crate::writing::Writing;
 use attr_codec::Priority;
 use fact_store::Store;
 use lft_blocks::{Plan, PlanFault, Planning};
-use sm_state::{SeenManager, SmState, Standing};
+use sm_state::{Conduct, SeenManager, SmState, Standing};
 use smp_bytes::{Generation, Guid, PortNum};
 use std::alloc::Global;
 use std::collections::VecDeque;
@@ -75,13 +75,14 @@ impl Manager {
         port_guid: Guid,
         port: PortNum,
         priority: Priority,
+        conduct: Conduct,
         planning: Planning,
     ) -> Self
-        ensures { result ≡ new_manager port_guid port priority planning }
+        ensures { result ≡ new_manager port_guid port priority conduct planning }
     {
         Manager {
             alloc,
-            standing: Standing::new(port_guid, priority),
+            standing: Standing::new(port_guid, priority, conduct),
             port,
             planning,
             store: Store::new(alloc),

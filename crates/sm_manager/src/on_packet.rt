@@ -23,15 +23,15 @@ impl Manager {
     /// A reply to the sweep adds its facts, or notes another manager, and queues the next requests. If that ends the
     /// sweep, the state changes by what the sweep saw. An answer to a poll, a control or a step of a writing ends that
     /// request; the last one of a phase queues the next phase. A request for SMInfo is answered, and a control is
-    /// obeyed if the table of states has a move for it.
+    /// obeyed if the table of states has a move for it. By the live conduct a trap by LIDs is repressed.
     ///
     /// The work does not grow with what is known, except for searches and, at the end of a sweep, for the managers that
     /// it saw.
     ///
     /// # Errors
     ///
-    /// `Sweep` with the fault of bytes that are not a packet; `Unasked` if the packet answers no request and is not a
-    /// request for SMInfo; `Sweep` if the sweep refuses the reply; `SequenceSpent` if no numbers are left for what goes
+    /// `Sweep` with the fault of bytes that are not a packet; `Unasked` if the packet answers no request, is not a
+    /// request for SMInfo and is not repressed; `Sweep` if the sweep refuses the reply; `SequenceSpent` if no numbers are left for what goes
     /// out; `Memory`.
     pub fn on_packet(&mut self, bytes: &[u8; 256], from: Option<Lid>) -> Result<(), ManagerFault>
         requires { HasSender bytes.now from }
@@ -47,6 +47,8 @@ impl Manager {
         };
         if is_info_request(&smp) {
             self.serve(&smp, from)
+        } else if self.represses(&smp) {
+            self.repress(&smp, from)
         } else if is_for_sweep(&smp) {
             self.take_reply(&smp)
         } else {

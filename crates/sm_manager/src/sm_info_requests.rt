@@ -4,7 +4,8 @@ ghost use Rattle.smp_bytes.specs.Judges.{JudgesButFor};
 ghost use Rattle.sm_manager.specs.Election.{message_count};
 ghost use Rattle.sm_manager.specs.Fault.{is_memory};
 ghost use Rattle.sm_manager.specs.Packets.{unless_spent};
-ghost use Rattle.sm_manager.specs.Served.{answer_data, answer_out, controlled, is_control, replying, served};
+ghost use Rattle.sm_manager.specs.Served.{acknowledged_at, answer_data, answer_out, controlled, is_control};
+ghost use Rattle.sm_manager.specs.Served.{replying, served};
 ghost use Rattle.sm_manager.specs.Served.{status_for};
 ghost use Rattle.sm_state.specs.Standing.{moved_to};
 ghost use Rattle.sm_state.specs.Steps.{status_of};
@@ -29,7 +30,7 @@ impl Manager {
             ≡ (unless_spent self.old (served self.old smp.now from)).manager) }
         ensures err { OnErr result (self.new ≡ self.old) }
     {
-        if is_control(smp) {
+        if is_control(&self.standing, smp) {
             self.answer_control(smp, from)
         } else {
             self.reply(smp, from)
@@ -45,6 +46,7 @@ impl Manager {
         ensures err { OnErr result (self.new ≡ self.old) }
     {
         make_room(0, 1, &mut self.requests, &mut self.outgoing)?;
+        self.standing.count_request();
         let answer = answer(smp, &from, status_for(smp), &self.standing);
         self.outgoing.push_back_reserved(answer);
         Ok(())
@@ -59,16 +61,19 @@ impl Manager {
         ensures err { OnErr result (self.new ≡ self.old) }
     {
         let transition = step(
+            self.standing.conduct,
             self.standing.state,
             Event::Control(smp.attribute_modifier()),
         );
         let message = transition.message;
-        let count = message_count(&from, &message);
+        let to = acknowledged_at(smp, from);
+        let count = message_count(&to, &message);
         make_room(count, count + 1, &mut self.requests, &mut self.outgoing)?;
+        self.standing.count_request();
         let answer = move_on(&transition, smp, &from, &mut self.standing);
         self.outgoing.push_back_reserved(answer);
         send_message(
-            &from,
+            &to,
             &message,
             &self.standing,
             &mut self.requests,
@@ -106,6 +111,16 @@ fn answer(smp: &Smp, from: &Option<Lid>, status: Status, standing: &Standing) ->
     Outgoing { packet, to }
 }
 
+/// Returns the LID to which a control is acknowledged: that of its sender, or `None` if it came over a directed route.
+fn acknowledged_at(smp: &Smp, from: Option<Lid>) -> Option<Lid>
+    ensures { result ≡ acknowledged_at smp.now from }
+{
+    match smp.class() {
+        SmpClass::DirectedRoute => None,
+        SmpClass::LidRouted => from,
+    }
+}
+
 /// Returns the data of an answer: the manager's SMInfo, or in a refusal the data of the request.
 fn answer_data(smp: &Smp, status: Status, standing: &Standing) -> [u8; 64]
     ensures { result ≡ answer_data standing.now smp.now status.0 }
@@ -117,11 +132,12 @@ fn answer_data(smp: &Smp, status: Status, standing: &Standing) -> [u8; 64]
     }
 }
 
-/// Returns whether a request may be a control to be obeyed: a Set by LIDs.
-fn is_control(smp: &Smp) -> bool
-    ensures { result ≡ is_control smp.now }
+/// Returns whether a request may be a control to be obeyed: a Set by LIDs, or by the live conduct any Set.
+fn is_control(standing: &Standing, smp: &Smp) -> bool
+    ensures { result ≡ is_control standing.now smp.now }
 {
-    smp.method() == Method::SET && smp.class() == SmpClass::LidRouted
+    smp.method() == Method::SET
+        && (standing.conduct.is_live() || smp.class() == SmpClass::LidRouted)
 }
 
 /// Returns the status of the answer to a request that is not a control.

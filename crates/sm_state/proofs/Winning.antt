@@ -1,5 +1,5 @@
 -- Who wins over whom is a strict order.
-use Rattle.std.proofs.Common.{◌≡◌, ◌<◌, ◌≤◌, ℕ, Bool, true, false, ◌&&◌, ◌||◌, ◌==◌, inl, inr, arith, sym, ◌∙◌}
+use Rattle.std.proofs.Common.{◌≡◌, ◌<◌, true, ◌&&◌, ◌==◌, inl, inr, arith, sym, ◌∙◌}
 use Rattle.std.proofs.lemmas.Bool.{and_from, and_parts, and_right, cases_order, eq-eqb, eqb-true, le-ltb, lt-ltb, ltb-true, or_cases, or_from, or_left, or_right}
 use Rattle.std.specs.Prelude.{◌⊎◌, nat_lt}
 use Rattle.attr_codec.specs.declared.sm_info.SmInfo.{SmInfo}

@@ -1,12 +1,13 @@
 -- The managers that a sweep saw: which of them outrank a manager, and which it hands over to.
 -- InfiniBand Architecture Specification, Volume 1: subnet management, subnet manager (states, priorities).
-use Rattle.std.specs.Prelude.{◌≡◌, ℕ, Bool, true, false, ◌&&◌, ◌||◌, not, List, [], ◌∷◌, ◌++◌, filter, ◌==◌, if◌then◌else◌, Option, Some, None}
+use Rattle.std.specs.Prelude.{◌≡◌, Bool, true, false, ◌&&◌, ◌||◌, not, List, [], ◌∷◌, ◌++◌, filter, ◌==◌, if◌then◌else◌, Option, Some, None}
 use Rattle.std.specs.List.{AllByRecursion, list_any}
 use Rattle.attr_codec.specs.declared.sm_info.SmInfo.{SmInfo}
 use Rattle.sm_state.specs.declared.event.Event.{Event}
 use Rattle.sm_state.specs.declared.event.Event.TheVariants.{Outranked, Unrivalled}
 use Rattle.sm_state.specs.declared.state.SmState.{SmState}
 use Rattle.sm_state.specs.declared.state.SmState.TheVariants.{NotActive, Standby, Master}
+use Rattle.sm_state.specs.Conducts.{is_heard}
 use Rattle.sm_state.specs.Ranks.{wins}
 use Rattle.sm_state.specs.States.{number_of_state}
 use Rattle.sm_state.specs.declared.election.SeenManager.{SeenManager}
@@ -17,9 +18,9 @@ says state info = info.state == number_of_state state
 
 -- after a sweep ------------------------------------------------------------------------------------
 
--- `other` is a master, or wins over `own` and is not inactive
+-- `other` is heard, and is a master, or wins over `own` and is not inactive
 abbrev pub outranks : SmInfo → SmInfo → Bool
-outranks own other = says Master other || (not (says NotActive other) && wins other own)
+outranks own other = is_heard own other && (says Master other || (not (says NotActive other) && wins other own))
 
 abbrev pub any_outranks : SmInfo → List SeenManager → Bool
 any_outranks own seen = list_any (λ s. outranks own s.info) seen
@@ -30,9 +31,9 @@ sweep_verdict own seen = if any_outranks own seen then Outranked else Unrivalled
 
 -- whom to hand over to -----------------------------------------------------------------------------
 
--- the manager `s` is in standby or master, and wins over `own`
+-- the manager `s` is heard, is in standby or master, and wins over `own`
 abbrev pub is_candidate : SmInfo → SeenManager → Bool
-is_candidate own s = (says Standby s.info || says Master s.info) && wins s.info own
+is_candidate own s = is_heard own s.info && ((says Standby s.info || says Master s.info) && wins s.info own)
 
 abbrev pub better : Option SeenManager → SeenManager → SeenManager
 better None s = s

@@ -1,3 +1,4 @@
+pub mod Conducts
 pub mod Controls
 pub mod Election
 pub mod Ranks

@@ -1,6 +1,6 @@
 -- Which of two subnet managers wins.
 -- InfiniBand Architecture Specification, Volume 1: subnet management, subnet manager (priorities).
-use Rattle.std.specs.Prelude.{◌≡◌, ◌⊎◌, ℕ, Bool, true, false, ◌&&◌, ◌||◌, ◌==◌, nat_lt}
+use Rattle.std.specs.Prelude.{◌≡◌, ◌⊎◌, Bool, true, false, ◌&&◌, ◌||◌, ◌==◌, nat_lt}
 use Rattle.attr_codec.specs.declared.sm_info.SmInfo.{SmInfo}
 
 -- `a` has the greater priority or, at equal priority, the lesser GUID

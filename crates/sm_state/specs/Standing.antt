@@ -1,30 +1,51 @@
 -- A manager among the managers of its subnet: who it is, and how its state moves.
 -- InfiniBand Architecture Specification, Volume 1: subnet management, subnet manager (states, priorities); SMInfo.
-use Rattle.std.specs.Prelude.{ℕ, ◌+◌, ◌-◌, ◌^◌, Bool, min, nat_le, ◌==◌, if◌then◌else◌}
+use Rattle.std.specs.Prelude.{ℕ, ◌+◌, ◌-◌, ◌^◌, Bool, ◌&&◌, min, nat_le, ◌==◌, if◌then◌else◌}
 use Rattle.attr_codec.specs.declared.sm_info.SmInfo.{SmInfo}
+use Rattle.sm_state.specs.declared.conduct.Conduct.{Conduct}
+use Rattle.sm_state.specs.declared.control.Control.{Control}
+use Rattle.sm_state.specs.declared.control.Control.TheVariants.{Acknowledge}
 use Rattle.sm_state.specs.declared.event.Event.{Event}
 use Rattle.sm_state.specs.declared.event.Event.TheVariants.{PollsUnanswered}
 use Rattle.sm_state.specs.declared.state.SmState.{SmState}
-use Rattle.sm_state.specs.declared.state.SmState.TheVariants.{Discovering}
+use Rattle.sm_state.specs.declared.state.SmState.TheVariants.{Discovering, Standby}
+use Rattle.sm_state.specs.Conducts.{is_live, key_of}
+use Rattle.sm_state.specs.Controls.{modifier_of_control}
 use Rattle.sm_state.specs.States.{number_of_state}
 use Rattle.sm_state.specs.Steps.{stepped}
 use Rattle.sm_state.specs.declared.standing.Standing.{Standing}
 
 -- a manager at the port with this GUID, which has done nothing
-abbrev pub new_standing : ℕ → ℕ → Standing
-new_standing guid priority =
-    record { guid = guid; priority = priority; state = Discovering; act_count = 0; polls_lost = 0 }
+abbrev pub new_standing : ℕ → ℕ → Conduct → Standing
+new_standing guid priority conduct =
+    record {
+      guid = guid;
+      priority = priority;
+      conduct = conduct;
+      state = Discovering;
+      act_count = 0;
+      polls_lost = 0;
+    }
 
--- the SMInfo that the manager answers with; its SM_Key is 0
+-- the SMInfo that the manager answers with
 abbrev pub info_of : Standing → SmInfo
 info_of s = record {
   guid = s.guid;
-  sm_key = 0;
+  sm_key = key_of s.conduct;
   act_count = s.act_count;
   priority = s.priority;
   state =
       number_of_state s.state;
 }
+
+abbrev pub is_acknowledge : Control → Bool
+is_acknowledge control = modifier_of_control control == modifier_of_control Acknowledge
+
+-- the SMInfo that the manager sends with a control; by the live conduct an acknowledgement comes from a standby
+abbrev pub info_with : Control → Standing → SmInfo
+info_with control s =
+    if is_live s.conduct && is_acknowledge control then record (info_of s) { state = number_of_state Standby }
+    else info_of s
 
 abbrev pub is_in : SmState → Standing → Bool
 is_in state s = number_of_state s.state == number_of_state state
@@ -37,6 +58,10 @@ one_more n = min (n + 1) (2 ^ 32 - 1)
 abbrev pub active_once_more : Standing → Standing
 active_once_more s = record s { act_count = one_more s.act_count }
 
+-- a request for SMInfo is answered: by the live conduct it counts like a sweep
+abbrev pub after_request_heard : Standing → Standing
+after_request_heard s = if is_live s.conduct then active_once_more s else s
+
 -- how the state moves --------------------------------------------------------------------------
 
 -- a change of state resets the count of lost polls
@@ -45,7 +70,7 @@ moved_to state s = if is_in state s then s else record s { state = state; polls_
 
 -- the state moves by the table of states
 abbrev pub moved_by : Event → Standing → Standing
-moved_by e s = moved_to (stepped s.state e).state s
+moved_by e s = moved_to (stepped s.conduct s.state e).state s
 
 -- polls -----------------------------------------------------------------------------------------
 

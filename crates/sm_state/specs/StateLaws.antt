@@ -1,5 +1,6 @@
 -- What is so of the moves of managers, in words.
-use Rattle.std.specs.Prelude.{◌≡◌, ◌↔◌, ◌⊎◌, ℕ, Bool, true, false, Option, Some, None}
+use Rattle.std.specs.Prelude.{◌≡◌, ◌⊎◌, ℕ, Some, None}
+use Rattle.sm_state.specs.declared.conduct.Conduct.{Conduct}
 use Rattle.sm_state.specs.declared.control.Control.{Control}
 use Rattle.sm_state.specs.declared.control.Control.TheVariants as control
 use Rattle.sm_state.specs.declared.event.Event.{Event}
@@ -9,7 +10,8 @@ use Rattle.sm_state.specs.declared.state.SmState.{SmState}
 use Rattle.sm_state.specs.declared.state.SmState.TheVariants.{NotActive, Discovering, Standby, Master}
 use Rattle.sm_state.specs.Controls.{control_of_modifier}
 use Rattle.sm_state.specs.States.{number_of_state, state_of_number}
-use Rattle.sm_state.specs.Steps.{stepped}
+use Rattle.smp_bytes.specs.Header.{done}
+use Rattle.sm_state.specs.Steps.{status_of, stepped}
 
 -- the event `e` is the control `which`
 abbrev pub Is : Control → Event → Type 0
@@ -27,21 +29,27 @@ IsNamed Master e =
 -- an event that the table does not name changes nothing
 abbrev pub NothingElseMoves : Type 0
 NothingElseMoves =
-    (state : SmState) (e : Event) → (IsNamed state e → ⊥)
-    → ((stepped state e).state ≡ state) × ((stepped state e).message ≡ None)
+    (conduct : Conduct) (state : SmState) (e : Event) → (IsNamed state e → ⊥)
+    → ((stepped conduct state e).state ≡ state) × ((stepped conduct state e).message ≡ None)
 
 -- a master steps down only for an acknowledgement and for the control to discover
 abbrev pub MastersStay : Type 0
 MastersStay =
-    (e : Event) → ((stepped Master e).state ≡ Master → ⊥)
-    → (Is control.Acknowledge e × ((stepped Master e).state ≡ Standby))
-    ⊎ (Is control.Discover e × ((stepped Master e).state ≡ Discovering))
+    (conduct : Conduct) (e : Event) → ((stepped conduct Master e).state ≡ Master → ⊥)
+    → (Is control.Acknowledge e × ((stepped conduct Master e).state ≡ Standby))
+    ⊎ (Is control.Discover e × ((stepped conduct Master e).state ≡ Discovering))
 
 -- an acknowledgement goes out only for a handover, and its sender is master then
 abbrev pub OthersAreTold : Type 0
 OthersAreTold =
-    (state : SmState) (e : Event) → (stepped state e).message ≡ Some message.Acknowledge
-    → Is control.Handover e × ((stepped state e).state ≡ Master)
+    (conduct : Conduct) (state : SmState) (e : Event) → (stepped conduct state e).message ≡ Some message.Acknowledge
+    → Is control.Handover e × ((stepped conduct state e).state ≡ Master)
+
+-- a manager that answers a handover with status 0 is master then
+abbrev pub HandoversAreTaken : Type 0
+HandoversAreTaken =
+    (conduct : Conduct) (state : SmState) (e : Event) → Is control.Handover e → status_of (stepped conduct state e) ≡ done
+    → (stepped conduct state e).state ≡ Master
 
 -- a state's number is read as that state
 abbrev pub StatesAreNumbered : Type 0

@@ -1,7 +1,9 @@
 -- How a subnet manager moves between its states: a case for each row of the table.
 -- InfiniBand Architecture Specification, Volume 1: subnet management, SMInfo states.
-use Rattle.std.specs.Prelude.{ℕ, Bool, true, false, Option, Some, None, if◌then◌else◌}
+use Rattle.std.specs.Prelude.{ℕ, true, false, Option, Some, None, if◌then◌else◌}
 use Rattle.smp_bytes.specs.Header.{done, invalid_field}
+use Rattle.sm_state.specs.declared.conduct.Conduct.{Conduct}
+use Rattle.sm_state.specs.declared.conduct.Conduct.TheVariants.{Plain, Live}
 use Rattle.sm_state.specs.declared.control.Control.{Control}
 use Rattle.sm_state.specs.declared.control.Control.TheVariants as control
 use Rattle.sm_state.specs.declared.event.Event.{Event}
@@ -21,25 +23,32 @@ to state sends = record { state = state; message = sends; is_refused = false }
 abbrev pub refused : SmState → Transition
 refused state = record { state = state; message = None; is_refused = true }
 
+-- what a manager in standby does about an acknowledgement: by the live conduct the answer to its handover made it a
+-- standby, and the acknowledgement comes later
+abbrev pub acknowledged_late : Conduct → Transition
+acknowledged_late Plain = refused Standby
+acknowledged_late (Live key) = to Standby None
+
 -- what a manager in the state does about a control
-abbrev pub after_control : SmState → Option Control → Transition
-after_control Standby (Some control.Handover) = to Master (Some message.Acknowledge)
-after_control Standby (Some control.Disable) = to NotActive None
-after_control Standby (Some control.Discover) = to Discovering None
-after_control NotActive (Some control.Standby) = to Standby None
-after_control Master (Some control.Acknowledge) = to Standby None
-after_control Master (Some control.Handover) = to Master (Some message.Acknowledge)
-after_control Master (Some control.Discover) = to Discovering None
-after_control state other = refused state
+abbrev pub after_control : Conduct → SmState → Option Control → Transition
+after_control conduct Standby (Some control.Handover) = to Master (Some message.Acknowledge)
+after_control conduct Standby (Some control.Acknowledge) = acknowledged_late conduct
+after_control conduct Standby (Some control.Disable) = to NotActive None
+after_control conduct Standby (Some control.Discover) = to Discovering None
+after_control conduct NotActive (Some control.Standby) = to Standby None
+after_control conduct Master (Some control.Acknowledge) = to Standby None
+after_control conduct Master (Some control.Handover) = to Master (Some message.Acknowledge)
+after_control conduct Master (Some control.Discover) = to Discovering None
+after_control conduct state other = refused state
 
 -- what a manager in the state does about an event
-abbrev pub stepped : SmState → Event → Transition
-stepped state (event.Control modifier) = after_control state (control_of_modifier modifier)
-stepped Discovering event.Outranked = to Standby None
-stepped Discovering event.Unrivalled = to Master None
-stepped Standby event.PollsUnanswered = to Discovering None
-stepped Master event.HandoverWanted = to Master (Some message.Handover)
-stepped state other = to state None
+abbrev pub stepped : Conduct → SmState → Event → Transition
+stepped conduct state (event.Control modifier) = after_control conduct state (control_of_modifier modifier)
+stepped conduct Discovering event.Outranked = to Standby None
+stepped conduct Discovering event.Unrivalled = to Master None
+stepped conduct Standby event.PollsUnanswered = to Discovering None
+stepped conduct Master event.HandoverWanted = to Master (Some message.Handover)
+stepped conduct state other = to state None
 
 -- the status of the answer to a control
 abbrev pub status_of : Transition → ℕ

@@ -1,5 +1,6 @@
 //! The choice among the managers that a sweep saw.
 ghost use Rattle.std.specs.Prelude.{◌≡◌, Some, if◌then◌else◌};
+ghost use Rattle.sm_state.specs.Conducts.{is_heard};
 ghost use Rattle.sm_state.specs.Election.{any_outranks, better, next_best, successor_of, is_candidate};
 ghost use Rattle.sm_state.specs.Election.{outranks, says, sweep_verdict};
 
@@ -35,8 +36,8 @@ fn any_outranks(own: &SmInfo, seen: &[SeenManager]) -> bool
     seen.iter().any(|other| outranks(own, &other.info))
 }
 
-/// Returns the manager to hand over to: of those in Standby or Master that win over `own` the greatest, of equals the
-/// first. Walks all of them.
+/// Returns the manager to hand over to: of those that are heard, in Standby or Master, and win over `own` the greatest,
+/// of equals the first. Walks all of them.
 pub fn successor(own: &SmInfo, seen: &[SeenManager]) -> Option<SeenManager>
     ensures { result ≡ successor_of own.now seen.now }
 {
@@ -79,14 +80,23 @@ fn is_candidate(own: &SmInfo, other: &SeenManager) -> bool
     ensures { result ≡ is_candidate own.now other.now }
 {
     let is_ready = says(SmState::Standby, &other.info) || says(SmState::Master, &other.info);
-    is_ready && wins(&other.info, own)
+    is_heard(own, &other.info) && is_ready && wins(&other.info, own)
 }
 
-/// Returns whether `other` is a master, or wins over `own` and is not inactive.
+/// Returns whether `other` is heard, and is a master, or wins over `own` and is not inactive.
 fn outranks(own: &SmInfo, other: &SmInfo) -> bool
     ensures { result ≡ outranks own.now other.now }
 {
-    says(SmState::Master, other) || (!says(SmState::NotActive, other) && wins(other, own))
+    is_heard(own, other)
+        && (says(SmState::Master, other) || (!says(SmState::NotActive, other) && wins(other, own)))
+}
+
+/// Returns whether the manager whose SMInfo is `own` takes `other` for a manager of its subnet: its own SM_Key is 0, or
+/// both have the same one.
+fn is_heard(own: &SmInfo, other: &SmInfo) -> bool
+    ensures { result ≡ is_heard own.now other.now }
+{
+    own.sm_key == 0 || other.sm_key == own.sm_key
 }
 
 /// Returns whether a manager says that it is in `state`. A reserved number is none of the states.

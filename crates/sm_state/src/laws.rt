@@ -1,7 +1,8 @@
 //! The laws of managers' states.
 ghost use Rattle.sm_state.specs.Ranks.{WinsIsAnOrder};
 ghost use Rattle.sm_state.specs.Election.{SuccessorLaw};
-ghost use Rattle.sm_state.specs.StateLaws.{MastersStay, NothingElseMoves, OthersAreTold, StatesAreNumbered};
+ghost use Rattle.sm_state.specs.StateLaws.{HandoversAreTaken, MastersStay, NothingElseMoves, OthersAreTold};
+ghost use Rattle.sm_state.specs.StateLaws.{StatesAreNumbered};
 
 /// One of two managers wins if their priorities or GUIDs differ. No manager wins over itself. A manager that wins over
 /// another also wins over all that the other wins over.
@@ -23,6 +24,12 @@ pub fn masters_stay()
 /// A manager that sends an acknowledgement is master then, since another one handed over to it.
 pub fn others_are_told()
     ensures { OthersAreTold }
+{}
+
+/// A manager that answers a handover with status 0 is master then, so no handover that is answered so leaves the subnet
+/// without a master.
+pub fn handovers_are_taken()
+    ensures { HandoversAreTaken }
 {}
 
 /// A state's number is read as that state.

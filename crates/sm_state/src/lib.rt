@@ -1,6 +1,7 @@
 //! The states of a subnet manager: how it moves between them, and which of two managers wins.
 #![tactic(auto)]
 
+mod conduct;
 mod control;
 mod election;
 mod event;
@@ -11,6 +12,7 @@ mod state;
 mod transition;
 mod transitions;
 
+pub use conduct::Conduct;
 pub use control::Control;
 pub use election::{SeenManager, successor, sweep_verdict};
 pub use event::{Event, Message};

@@ -1,8 +1,9 @@
 ghost use Rattle.std.specs.Prelude.{◌≡◌};
-ghost use Rattle.sm_state.specs.Standing.{active_once_more, info_of, is_in, moved_by, moved_to, new_standing};
+ghost use Rattle.sm_state.specs.Standing.{active_once_more, after_request_heard, info_of, info_with, is_acknowledge};
+ghost use Rattle.sm_state.specs.Standing.{is_in, moved_by, moved_to, new_standing};
 ghost use Rattle.sm_state.specs.Standing.{poll_answered, poll_lost};
 
-use crate::{Event, SmState, step};
+use crate::{Conduct, Control, Event, SmState, step};
 use attr_codec::{Priority, SmInfo};
 use smp_bytes::Guid;
 
@@ -12,20 +13,24 @@ pub struct Standing {
     /// The GUID of the port that it sits at.
     pub guid: Guid,
     pub priority: Priority,
+    /// How it deals with other managers.
+    pub conduct: Conduct,
     pub state: SmState,
-    /// The number of sweeps that it began; stays at its greatest value.
+    /// The number of sweeps that it began and, by the live conduct, of requests for SMInfo that it answered; stays at
+    /// its greatest value.
     pub act_count: u32,
     /// The number of polls in a row that were not answered, since it entered its state.
     pub polls_lost: u32,
 }
 
 impl Standing {
-    pub fn new(guid: Guid, priority: Priority) -> Self
-        ensures { result ≡ new_standing guid priority }
+    pub fn new(guid: Guid, priority: Priority, conduct: Conduct) -> Self
+        ensures { result ≡ new_standing guid priority conduct }
     {
         Standing {
             guid,
             priority,
+            conduct,
             state: SmState::Discovering,
             act_count: 0,
             polls_lost: 0,
@@ -38,10 +43,26 @@ impl Standing {
     {
         SmInfo {
             guid: self.guid,
-            sm_key: 0,
+            sm_key: self.conduct.sm_key(),
             act_count: self.act_count,
             priority: self.priority,
             state: self.state.number(),
+        }
+    }
+
+    /// Returns the SMInfo that it sends with `control`. By the live conduct an acknowledgement says that its sender is
+    /// a standby, as it was when the handover came.
+    pub fn info_with(&self, control: Control) -> SmInfo
+        ensures { result ≡ info_with control self.now }
+    {
+        let info = self.info();
+        if self.conduct.is_live() && is_acknowledge(control) {
+            SmInfo {
+                state: SmState::Standby.number(),
+                ..info
+            }
+        } else {
+            info
         }
     }
 
@@ -58,6 +79,15 @@ impl Standing {
         self.act_count = self.act_count.saturating_add(1);
     }
 
+    /// Counts a request for SMInfo that is answered, by the live conduct.
+    pub fn count_request(&mut self)
+        ensures { self.new ≡ after_request_heard self.old }
+    {
+        if self.conduct.is_live() {
+            self.count_sweep();
+        }
+    }
+
     /// Enters `state`. A change of state resets the count of lost polls.
     pub fn move_to(&mut self, state: SmState)
         ensures { self.new ≡ moved_to state self.old }
@@ -72,7 +102,7 @@ impl Standing {
     pub fn move_by(&mut self, event: Event)
         ensures { self.new ≡ moved_by event self.old }
     {
-        self.move_to(step(self.state, event).state);
+        self.move_to(step(self.conduct, self.state, event).state);
     }
 
     /// Notes that a poll was answered.
@@ -91,4 +121,11 @@ impl Standing {
             self.move_by(Event::PollsUnanswered);
         }
     }
+}
+
+/// Returns whether a control is an acknowledgement.
+fn is_acknowledge(control: Control) -> bool
+    ensures { result ≡ is_acknowledge control }
+{
+    control.modifier() == Control::Acknowledge.modifier()
 }

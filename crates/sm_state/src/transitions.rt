@@ -1,6 +1,7 @@
 ghost use Rattle.std.specs.Prelude.{◌≡◌};
-ghost use Rattle.sm_state.specs.Steps.{after_control, stepped, to};
+ghost use Rattle.sm_state.specs.Steps.{acknowledged_late, after_control, refused, stepped, to};
 
+use crate::conduct::Conduct;
 use crate::control::Control;
 use crate::event::{Event, Message};
 use crate::state::SmState;
@@ -17,13 +18,26 @@ fn goes_to(state: SmState, message: Option<Message>) -> Transition
     }
 }
 
+/// Returns the refusal of a control without a move from `state`.
+fn refuses(state: SmState) -> Transition
+    ensures { result ≡ refused state }
+{
+    Transition {
+        state,
+        message: None,
+        is_refused: true,
+    }
+}
+
 /// Returns what a manager in `state` does about `event` (subnet management, SMInfo states). An event without a move
 /// from the state changes nothing; if it is a control, it is refused.
-pub fn step(state: SmState, event: Event) -> Transition
-    ensures { result ≡ stepped state event }
+pub fn step(conduct: Conduct, state: SmState, event: Event) -> Transition
+    ensures { result ≡ stepped conduct state event }
 {
     match (state, event) {
-        (_, Event::Control(modifier)) => after_control(state, Control::from_modifier(modifier)),
+        (_, Event::Control(modifier)) => {
+            after_control(conduct, state, Control::from_modifier(modifier))
+        }
         (SmState::Discovering, Event::Outranked) => goes_to(SmState::Standby, None),
         (SmState::Discovering, Event::Unrivalled) => goes_to(SmState::Master, None),
         (SmState::Standby, Event::PollsUnanswered) => goes_to(SmState::Discovering, None),
@@ -35,23 +49,32 @@ pub fn step(state: SmState, event: Event) -> Transition
 }
 
 /// Returns what a manager in `state` does about `control`, which is `None` if the modifier is not a control's.
-fn after_control(state: SmState, control: Option<Control>) -> Transition
-    ensures { result ≡ after_control state control }
+fn after_control(conduct: Conduct, state: SmState, control: Option<Control>) -> Transition
+    ensures { result ≡ after_control conduct state control }
 {
     match (state, control) {
         (SmState::Standby | SmState::Master, Some(Control::Handover)) => {
             goes_to(SmState::Master, Some(Message::Acknowledge))
         }
         (SmState::Master, Some(Control::Acknowledge)) => goes_to(SmState::Standby, None),
+        (SmState::Standby, Some(Control::Acknowledge)) => acknowledged_late(conduct),
         (SmState::Standby, Some(Control::Disable)) => goes_to(SmState::NotActive, None),
         (SmState::NotActive, Some(Control::Standby)) => goes_to(SmState::Standby, None),
         (SmState::Standby | SmState::Master, Some(Control::Discover)) => {
             goes_to(SmState::Discovering, None)
         }
-        (_, _) => Transition {
-            state,
-            message: None,
-            is_refused: true,
-        },
+        (_, _) => refuses(state),
+    }
+}
+
+/// Returns what a standby does about an acknowledgement. By the live conduct the answer to its handover made it a
+/// standby, so the acknowledgement changes nothing.
+fn acknowledged_late(conduct: Conduct) -> Transition
+    ensures { result ≡ acknowledged_late conduct }
+{
+    if conduct.is_live() {
+        goes_to(SmState::Standby, None)
+    } else {
+        refuses(SmState::Standby)
     }
 }

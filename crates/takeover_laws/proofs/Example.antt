@@ -60,6 +60,7 @@ use Rattle.takeover_laws.proofs.Takeover.{found_agrees}
 use Rattle.manager_laws.specs.Managing.{CanBe, Starts, after_manager_event, after_manager_events}
 use Rattle.manager_laws.proofs.ExampleFabric.{port}
 use Rattle.takeover_laws.proofs.ExampleFabric.{bare_agent, distinct, is_network, network, table, with_lid}
+use Rattle.sm_state.specs.declared.conduct.Conduct.TheVariants.{Plain}
 
 -- the manager, and its sweep ------------------------------------------------------------------------------------
 
@@ -67,7 +68,7 @@ abbrev pub its_planning : Planning
 its_planning = record { lmc = 0; rule = up_and_down }
 
 abbrev pub beginning : Managing
-beginning = record { scene = record { fabric = network; handed = [] }; seat = port 0 1; manager = new_manager 17 1 0 its_planning; out = [] }
+beginning = record { scene = record { fabric = network; handed = [] }; seat = port 0 1; manager = new_manager 17 1 0 Plain its_planning; out = [] }
 
 pub starts : Starts beginning
 unfolding cabled_at fresh_agent
@@ -78,7 +79,7 @@ starts =
       seat = refl;
       port = refl;
       lmc = omega arith;
-      at_rest = new_managers_rest 17 1 0 its_planning;
+      at_rest = new_managers_rest 17 1 0 Plain its_planning;
       out = refl;
     }
 
@@ -86,19 +87,19 @@ starts =
 abbrev sweeping_with : ℕ → Managing
 sweeping_with generation =
     record beginning {
-      manager = with_sweep (record (new_manager 17 1 0 its_planning) {
-        standing = active_once_more (new_manager 17 1 0 its_planning).standing;
+      manager = with_sweep (record (new_manager 17 1 0 Plain its_planning) {
+        standing = active_once_more (new_manager 17 1 0 Plain its_planning).standing;
         seen =
             [];
       }) (started 1 generation 1);
     }
 
-pub may_begin : begin_fault (new_manager 17 1 0 its_planning) ≡ None
+pub may_begin : begin_fault (new_manager 17 1 0 Plain its_planning) ≡ None
 may_begin = ap (λ n. if n == 2 ^ 32 - 1 then Some GenerationsSpent else None) nothing_newest
 
 begun : after_manager_event beginning Begin ≡ sweeping_with 1
 begun =
-    ap (λ o. record beginning { manager = if is_none o then after_begin_sweep (new_manager 17 1 0 its_planning) else new_manager 17 1 0 its_planning })
+    ap (λ o. record beginning { manager = if is_none o then after_begin_sweep (new_manager 17 1 0 Plain its_planning) else new_manager 17 1 0 Plain its_planning })
     may_begin
     ∙ ap (λ n. sweeping_with (max (n + 1) 1)) nothing_newest
 
@@ -420,6 +421,7 @@ some_manager_takes_over =
       port_guid = 17;
       port = 1;
       priority = 0;
+      conduct = Plain;
       planning = its_planning;
       new = refl;
       held = swept.manager.store;

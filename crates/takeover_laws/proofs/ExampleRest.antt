@@ -28,6 +28,7 @@ use Rattle.manager_laws.proofs.Computed.{one}
 use Rattle.takeover_laws.proofs.Example.{after, all_told, at_is, beginning, between, its_planning, planning_is, sweeps}
 use Rattle.manager_laws.proofs.ExampleFabric.{port}
 use Rattle.takeover_laws.proofs.ExampleFabric.{bare_agent, network, table, with_lid}
+use Rattle.sm_state.specs.declared.conduct.Conduct.TheVariants.{Plain}
 
 -- of before the cut: an adapter that has LID 9
 abbrev before_cut : Sightings
@@ -106,6 +107,7 @@ some_manager_serves_the_rest =
       port_guid = 17;
       port = 1;
       priority = 0;
+      conduct = Plain;
       planning = its_planning;
       new = refl;
       held = view before_cut;

@@ -44,6 +44,7 @@ use Rattle.takeover_laws.specs.Claims.{HasLidsOf, LidsStay}
 use Rattle.takeover_laws.proofs.Seen.{SeenKeeping, nothing_seen, event_seen, asks_lids}
 use Rattle.manager_laws.proofs.Generations.{AreOf, answer_of, of_both}
 use Rattle.manager_laws.proofs.Goes.{Goes}
+use Rattle.sm_manager.specs.Traps.{represses, repressing}
 use Rattle.manager_laws.proofs.WritingSweeps.{Ground}
 
 kept : (m : Manager) → KeepsSweep m m
@@ -170,10 +171,12 @@ module _ (fab : Fabric) (start : Simulation) (seat : NodePort) (plan : PlanValue
       by_fault same None =
           cond_both (is_info_request h.packet.bytes) _ _ (λ (x : Called). IsFollowed fab (record w { manager = x.manager }) u)
           (λ _. quiet _ (served_keeps w.manager h.packet.bytes (Some h.packet.slid)))
+          (λ _. cond_both (represses w.manager h.packet.bytes) _ _ (λ (x : Called). IsFollowed fab (record w { manager = x.manager }) u)
+          (λ _. quiet (repressing w.manager h.packet.bytes (Some h.packet.slid)) (record { sweep = refl; store = refl }))
           (λ _. cond_both (is_for_sweep h.packet.bytes) _ _ (λ (x : Called). IsFollowed fab (record w { manager = x.manager }) u)
           (λ _. subst (λ o. IsFollowed fab (record w { manager = (sweep_answered w.manager h.packet.bytes o).manager }) u) (sym f.sweep)
           (by_answer same (judged u.sweep h.packet.bytes) refl))
-          (λ _. quiet _ (by_pending (pending_for w.manager h.packet.bytes))))
+          (λ _. quiet _ (by_pending (pending_for w.manager h.packet.bytes)))))
 
       by_port : (b : Bool) → is_same_port h.at w.seat ≡ b → IsFollowed fab
           (cond b (record w { manager = (after_packet w.manager h.packet.bytes (Some h.packet.slid)).manager }) w) u

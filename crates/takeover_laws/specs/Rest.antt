@@ -14,6 +14,7 @@ use Rattle.subnet_view.specs.Agreement.{IsEndPortIn, TellsEndPort}
 use Rattle.lid_assign.specs.Lids.{IsNoRoom, lids, lid_of, range_of, room, top_of}
 use Rattle.sm_manager.specs.Manager.{new_manager, newest_held, next_generation}
 use Rattle.lft_blocks.specs.Planning.{Planning}
+use Rattle.sm_state.specs.declared.conduct.Conduct.{Conduct}
 use Rattle.sm_manager.specs.Writing.{is_written}
 use Rattle.manager_laws.specs.Pings.{EachPingArrives}
 use Rattle.manager_laws.specs.Managing.{Managing, ManagerEvent, Raise, after_manager_event}
@@ -88,8 +89,9 @@ pub record SomeManagerServesTheRest : Type 0 where
   pub port_guid : ℕ
   pub port : ℕ
   pub priority : ℕ
+  pub conduct : Conduct
   pub planning : Planning
-  pub new : managing.manager ≡ new_manager port_guid port priority planning
+  pub new : managing.manager ≡ new_manager port_guid port priority conduct planning
   pub held : Facts
   pub before : List ManagerEvent
   pub between : List ManagerEvent

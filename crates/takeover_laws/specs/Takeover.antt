@@ -11,6 +11,7 @@ use Rattle.lft_blocks.specs.Arrival.{HoldsPlan}
 use Rattle.sweep.specs.Sweep.{Sweep}
 use Rattle.sm_manager.specs.Manager.{new_manager}
 use Rattle.lft_blocks.specs.Planning.{Planning}
+use Rattle.sm_state.specs.declared.conduct.Conduct.{Conduct}
 use Rattle.sm_manager.specs.Writing.{is_written}
 use Rattle.manager_laws.specs.Pings.{EachPingArrives}
 use Rattle.manager_laws.specs.Complete.{IsWhole}
@@ -138,8 +139,9 @@ pub record SomeManagerTakesOver : Type 0 where
   pub port_guid : ℕ
   pub port : ℕ
   pub priority : ℕ
+  pub conduct : Conduct
   pub planning : Planning
-  pub new : managing.manager ≡ new_manager port_guid port priority planning
+  pub new : managing.manager ≡ new_manager port_guid port priority conduct planning
   pub held : Facts
   pub before : List ManagerEvent
   pub between : List ManagerEvent

@@ -8,6 +8,7 @@ use Rattle.sm_manager.specs.Manager.{Manager, new_manager}
 use Rattle.serve_run.specs.Serving.{HasServed, StopsServing}
 use Rattle.serve_task.specs.RunServe.{fault_of_serving, manager_asked}
 use Rattle.serve_task.proofs.Parts.{inputs_are, inputs_of, inputs_were, one_behind, the_one}
+use Rattle.sm_state.specs.declared.conduct.Conduct.TheVariants.{Live}
 use Rattle.serve_task.proofs.serving.run_serve.Goals as goal
 
 pub returns-in-Err-clause-refused : goal.returns-in-Err-clause-refused
@@ -34,7 +35,7 @@ returns-in-Ok-serve-clause-done g c =
     let n = one_behind inputs front back (texts_for asked.rule) c.split_at_mut-texts.ensures.value
     (c.split_at_mut-texts.ensures.front_len ∙ c.texts-first.ensures) c.requires in
     let is : c.new-manager.result ≡ manager_asked asked (value_of c.in-Ok.rule) =
-    c.new-manager.ensures ∙ ap (new_manager asked.guid asked.port asked.priority) c.new-planning.ensures in
+    c.new-manager.ensures ∙ ap (new_manager asked.guid asked.port asked.priority (Live asked.sm_key)) c.new-planning.ensures in
     let were = inputs_were inputs front back c.index-lines-0.result c.split_at_mut-texts.ensures.value n in
     record {
       were = were;
@@ -54,7 +55,7 @@ returns-in-Err-serve-clause-refused g c =
     let n = one_behind inputs front back (texts_for asked.rule) c.split_at_mut-texts.ensures.value
     (c.split_at_mut-texts.ensures.front_len ∙ c.texts-first.ensures) c.requires in
     let is : c.new-manager.result ≡ manager_asked asked (value_of c.in-Ok.rule) =
-    c.new-manager.ensures ∙ ap (new_manager asked.guid asked.port asked.priority) c.new-planning.ensures in
+    c.new-manager.ensures ∙ ap (new_manager asked.guid asked.port asked.priority (Live asked.sm_key)) c.new-planning.ensures in
     let were = inputs_were inputs front back c.index-lines-0.result c.split_at_mut-texts.ensures.value n in
     inr (record {
       were = were;

@@ -16,7 +16,7 @@ loop-seat-preserved c =
     ∙ seated_more c.args.planning.now nodes c.args.seats.now c.loop-seat.seat-index seat (map seated_value c.loop-seat.managers.items) _ c.loop-seat-test.true
     c.seat-item.is
     c.loop-seat.invariant (is_seated c.args.planning.now nodes seat c.port_guid-guid.result c.new-manager.result c.port_guid-guid.ensures
-    (c.new-manager.ensures ∙ ap (new_manager c.port_guid-guid.result seat.at.port seat.priority) c.in_ok-own.ensures))
+    (c.new-manager.ensures ∙ (λ i. new_manager c.port_guid-guid.result seat.at.port seat.priority (c.with-conduct.ensures i) (c.in_ok-own.ensures i))))
 
 pub returns : goal.returns
 returns c =

@@ -1,6 +1,7 @@
 -- What is left is the manager that has answered.
 use Rattle.std.proofs.Common.{◌≡◌, ◌++◌, ◌∷◌, [], refl, sym, ap, ◌∙◌}
 use Rattle.std.proofs.lemmas.Result.{err_from_is_err_and}
+use Rattle.sm_state.specs.Standing.{after_request_heard}
 use Rattle.sm_manager.specs.Manager.{Manager}
 use Rattle.sm_manager.specs.Served.{answer_out, replying, status_for}
 use Rattle.sm_manager.proofs.Messages.{none_taken, spent_fault, unspent}
@@ -30,9 +31,11 @@ returns-clause-ok c =
     let counter = room.counter ∙ ap (λ (x : Manager). x.counter) c.self.view_is in
     let pending = room.pending ∙ ap (λ (x : Manager). x.pending) c.self.view_is in
     let outgoing = room.outgoing ∙ ap (λ (x : Manager). x.outgoing) c.self.view_is in
-    let answers : c.answer-answer.result ≡ answer_out m.standing packet from (status_for packet) =
-    c.answer-answer.ensures ∙ (λ i. answer_out (c.self.view_is i).standing packet from (c.status_for.ensures.status i)) in
+    let counted : c.count_request.new.self ≡ after_request_heard m.standing =
+    c.count_request.ensures ∙ (λ i. after_request_heard (c.self.view_is i).standing) in
+    let answers : c.answer-answer.result ≡ answer_out (after_request_heard m.standing) packet from (status_for packet) =
+    c.answer-answer.ensures ∙ (λ i. answer_out (counted i) packet from (c.status_for.ensures.status i)) in
     let goes = c.push_back_reserved.ensures.items ∙ (λ i. outgoing i ++ answers i ∷ []) in
-    (λ i. record (c.self.view_is i) { counter = counter i; pending = pending i; outgoing = goes i })
+    (λ i. record (c.self.view_is i) { standing = counted i; counter = counter i; pending = pending i; outgoing = goes i })
     ∙ unspent m after (sym (spent_fault m after m.counter refl) ∙ spent_fault m after _ (none_taken _ m after c.self.view_is refl)
     ∙ c.in_ok-make_room.ensures.judged)

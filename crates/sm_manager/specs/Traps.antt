@@ -1,0 +1,31 @@
+-- Traps: what a manager by the live conduct answers, so that the agent does not send the trap again.
+-- InfiniBand Architecture Specification, Volume 1: subnet management, traps; management methods (TrapRepress).
+use Rattle.std.specs.Prelude.{ℕ, Bool, ◌&&◌, not, List, [], ◌∷◌, ◌++◌, ◌==◌, Option}
+use Rattle.smp_bytes.specs.Field.{bytes_in, number_in}
+use Rattle.smp_bytes.specs.Packet.{attribute_data, attribute_id, attribute_modifier, is_directed, method, transaction_id}
+use Rattle.smp_bytes.specs.Requests.{lid_routed}
+use Rattle.sm_manager.specs.declared.outgoing.Outgoing.{Outgoing}
+use Rattle.sm_manager.specs.Manager.{Manager}
+use Rattle.sm_state.specs.Conducts.{is_live}
+
+abbrev pub trap : ℕ
+trap = 0x05
+
+abbrev pub trap_repress : ℕ
+trap_repress = 0x07
+
+-- by the live conduct a trap that came by LIDs is repressed
+abbrev pub represses : Manager → List ℕ → Bool
+represses m packet = is_live m.standing.conduct && (number_in method packet == trap && not (is_directed packet))
+
+-- the attribute, its modifier, the TransactionID and the data of the trap go back to its sender
+abbrev pub repress_out : List ℕ → Option ℕ → Outgoing
+repress_out packet from =
+    record {
+      packet = lid_routed trap_repress (number_in attribute_id packet) (number_in attribute_modifier packet)
+          (number_in transaction_id packet) (bytes_in attribute_data packet);
+      to = from;
+    }
+
+abbrev pub repressing : Manager → List ℕ → Option ℕ → Manager
+repressing m packet from = record m { outgoing = m.outgoing ++ repress_out packet from ∷ [] }

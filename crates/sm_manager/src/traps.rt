@@ -1,0 +1,48 @@
+//! The answers to traps.
+ghost use Rattle.std.specs.Prelude.{◌≡◌, Err, OnErr, OnOk};
+ghost use Rattle.sm_manager.specs.Traps.{represses, repress_out, repressing};
+
+use crate::fault::ManagerFault;
+use crate::manager::Manager;
+use crate::outgoing::Outgoing;
+use smp_bytes::{Lid, Method, Smp, SmpClass};
+
+/// The method of a trap, and the one by which it is repressed (management methods).
+const TRAP: Method = Method(0x05);
+const TRAP_REPRESS: Method = Method(0x07);
+
+impl Manager {
+    /// Returns whether a packet is a trap that the manager represses: by the live conduct, one that came by LIDs.
+    pub(crate) fn represses(&self, smp: &Smp) -> bool
+        ensures { result ≡ represses self.now smp.now }
+    {
+        self.standing.conduct.is_live()
+            && smp.method() == TRAP
+            && smp.class() == SmpClass::LidRouted
+    }
+
+    /// Queues the answer to a trap, so that its sender does not send it again.
+    pub(crate) fn repress(&mut self, smp: &Smp, from: Option<Lid>) -> Result<(), ManagerFault>
+        ensures ok { OnOk result (self.new ≡ repressing self.old smp.now from) }
+        ensures err { OnErr result (self.new ≡ self.old) }
+        ensures memory { OnErr result (result ≡ Err ManagerFault.Memory) }
+    {
+        self.outgoing.reserve(1)?;
+        self.outgoing.push_back_reserved(repress_out(smp, from));
+        Ok(())
+    }
+}
+
+/// Builds the answer to a trap: its attribute, modifier, TransactionID and data go back to its sender.
+fn repress_out(smp: &Smp, from: Option<Lid>) -> Outgoing
+    ensures { result ≡ repress_out smp.now from }
+{
+    let packet = Smp::lid_routed(
+        TRAP_REPRESS,
+        smp.attribute_id(),
+        smp.attribute_modifier(),
+        smp.transaction_id(),
+        &smp.attribute_data(),
+    );
+    Outgoing { packet, to: from }
+}

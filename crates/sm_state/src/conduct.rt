@@ -1,0 +1,46 @@
+ghost use Rattle.std.specs.Prelude.{◌≡◌};
+ghost use Rattle.sm_state.specs.Conducts.{conduct_with, is_live, key_of};
+
+/// How a manager deals with the other managers of its subnet.
+#[derive(Clone, Copy, Debug, PartialEq, Eq)]
+pub enum Conduct {
+    /// Obeys controls that come by LIDs. A master that hands over stays Master until the other manager acknowledges.
+    /// The SM_Key is 0.
+    Plain,
+    /// Gets along with the managers of a live subnet, such as OpenSM. Also obeys controls that come over a directed
+    /// route. A master that hands over is Standby as soon as the other manager answers that it took over. Represses
+    /// traps. The number is its SM_Key.
+    Live(u64),
+}
+
+impl Conduct {
+    /// Returns the live conduct with an SM_Key, or the plain one if there is no key.
+    pub fn with(sm_key: Option<u64>) -> Self
+        ensures { result ≡ conduct_with sm_key }
+    {
+        match sm_key {
+            None => Conduct::Plain,
+            Some(key) => Conduct::Live(key),
+        }
+    }
+
+    /// Returns the SM_Key.
+    pub fn sm_key(self) -> u64
+        ensures { result ≡ key_of self }
+    {
+        match self {
+            Conduct::Plain => 0,
+            Conduct::Live(key) => key,
+        }
+    }
+
+    /// Returns whether the conduct is the live one.
+    pub fn is_live(self) -> bool
+        ensures { result ≡ is_live self }
+    {
+        match self {
+            Conduct::Plain => false,
+            Conduct::Live(_) => true,
+        }
+    }
+}
