@@ -38,7 +38,7 @@ use Rattle.sm_manager.specs.Manager.{Manager}
 use Rattle.sm_manager.specs.Packets.{Called, answers, after_timeout, is_for_sweep, is_info_request, packet_taken, pending_for, request_answered}
 use Rattle.sm_manager.specs.Packets.{request_gave_up, after_request, after_packet, unless_spent}
 use Rattle.sm_manager.specs.ManagerRequests.{is_for_step, is_step, with_number}
-use Rattle.sm_manager.specs.Served.{acknowledged_at, answer_data, answer_out, answering, controlled, hearing, is_control, moved_on, replying, served, status_for}
+use Rattle.sm_manager.specs.Served.{acknowledged_at, answer_data, answer_out, answering, controlled, is_control, moved_on, replying, request_counted, served, status_for}
 use Rattle.sm_manager.specs.Traps.{represses, repress_out, repressing, trap_repress}
 use Rattle.sm_state.specs.Standing.{after_request_heard, info_of, info_with, moved_to}
 use Rattle.sm_manager.specs.Writing.{is_done_by, is_spent, after_step, without}
@@ -71,11 +71,11 @@ info_alone method_number modifier tid payload whole sets =
     ∙ number_in-with_numbers 256 (request_entries 0x01 method_number sm_info modifier tid) (replicate 256 0) 5 _ refl refl refl (omega arith)
 
 -- one of another method sets nothing
-sets_not : (method_number attribute modifier tid : ℕ) (payload : List ℕ) → length payload ≡ 64 → (method_number ≡ set → ⊥)
+sets_not : (method_number attribute modifier tid : ℕ) (payload : List ℕ) → length payload ≡ 64 → method_number < 256 → (method_number ≡ set → ⊥)
     → SetsInfoAlone (lid_routed method_number attribute modifier tid payload)
-sets_not method_number attribute modifier tid payload whole other sets =
+sets_not method_number attribute modifier tid payload whole small other sets =
     absurd (other (sym (lid_routed_field method_number attribute modifier tid method payload whole (omega arith)
-    ∙ number_in-with_numbers 256 (request_entries 0x01 method_number attribute modifier tid) (replicate 256 0) 3 _ refl refl refl (omega arith)) ∙ sets))
+    ∙ number_in-with_numbers 256 (request_entries 0x01 method_number attribute modifier tid) (replicate 256 0) 3 _ refl refl refl (omega (arith, small))) ∙ sets))
 
 -- an answer sets nothing
 answers_set_nothing : (bytes : List ℕ) → number_in method bytes ≡ get_resp → SetsInfoAlone bytes
@@ -241,7 +241,7 @@ module _ (start : Simulation) (seat : NodePort) (plan : PlanValue) (g : Ground s
       let attribute = number_in attribute_id bytes in
       let modifier = number_in attribute_modifier bytes in
       let tid = number_in transaction_id bytes in
-      let data = bytes_in attribute_data bytes in
+      let payload = bytes_in attribute_data bytes in
       let whole = length-data bytes count in
       record {
         writing = refl;
@@ -252,8 +252,9 @@ module _ (start : Simulation) (seat : NodePort) (plan : PlanValue) (g : Ground s
         more = repress_out bytes lid ∷ [];
         outgoing = refl;
         own = λ c all. (
-          lid_own start seat plan c all handed (repress_out bytes lid) (length-lid_routed trap_repress attribute modifier tid data whole)
-              (not_directed trap_repress attribute modifier tid data whole) (sets_not trap_repress attribute modifier tid data whole (omega arith)),
+          lid_own start seat plan c all handed (repress_out bytes lid) (length-lid_routed trap_repress attribute modifier tid payload whole)
+              (not_directed trap_repress attribute modifier tid payload whole) (sets_not trap_repress attribute modifier tid payload whole (omega arith)
+              (λ same. omega (arith, same))),
           tt,
         );
         side = record { port = side.port; lmc = side.lmc; sweep = side.sweep; knows = side.knows };
@@ -335,11 +336,11 @@ module _ (start : Simulation) (seat : NodePort) (plan : PlanValue) (g : Ground s
 
     module _ (m : Manager) (side : SweepSide start seat old m) (once : AreOnce m.counter m.pending) (lid : Option ℕ) where
       -- the request is counted first
-      counts : Beside m (hearing m)
+      counts : Beside m (request_counted m)
       counts = moves m side once (after_request_heard m.standing)
 
-      counted : (after : Manager) → Beside (hearing m) after → Beside m after
-      counted after rest = both m (hearing m) after counts rest
+      counted : (after : Manager) → Beside (request_counted m) after → Beside m after
+      counted after rest = both m (request_counted m) after counts rest
 
       pub serves : BesideCall start seat plan old handed m (unless_spent m (served m h.packet.bytes lid)).manager
       unfolding Beside
@@ -347,9 +348,9 @@ module _ (start : Simulation) (seat : NodePort) (plan : PlanValue) (g : Ground s
           cond_both (is_spent (served m h.packet.bytes lid)) _ _ (λ (x : Called). BesideCall start seat plan old handed m x.manager) (λ _. stays m side once)
           (λ _. cond_both (is_control m.standing h.packet.bytes) (controlled m h.packet.bytes lid) (replying m h.packet.bytes lid)
           (λ (x : Manager). BesideCall start seat plan old handed m x)
-          (λ _. counted _ (moves_on (hearing m) counts.side counts.once lid
+          (λ _. counted _ (moves_on (request_counted m) counts.side counts.once lid
           (stepped m.standing.conduct m.standing.state (event.Control (number_in attribute_modifier h.packet.bytes)))))
-          (λ _. counted _ (replies (hearing m) counts.side counts.once lid)))
+          (λ _. counted _ (replies (request_counted m) counts.side counts.once lid)))
 
   -- any packet -------------------------------------------------------------------------------------------------
 

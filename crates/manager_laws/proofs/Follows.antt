@@ -36,7 +36,7 @@ use Rattle.sm_manager.specs.Packets.{request_answered, request_gave_up, after_re
 use Rattle.sm_manager.specs.Packets.{sweep_answered, sweep_gave_up, sweep_timed_out, after_packet, unless_spent}
 use Rattle.sm_manager.specs.Plans.{writing_fault}
 use Rattle.sm_manager.specs.ManagerRequests.{counts, no_step_waits, with_number, without_number}
-use Rattle.sm_manager.specs.Served.{acknowledged_at, answering, controlled, hearing, is_control, moved_on, replying, served}
+use Rattle.sm_manager.specs.Served.{acknowledged_at, answering, controlled, is_control, moved_on, replying, request_counted, served}
 use Rattle.sm_manager.specs.Traps.{represses, repressing}
 use Rattle.sm_state.specs.Standing.{after_request_heard, moved_to}
 use Rattle.sm_manager.specs.Writing.{is_done_by, is_spent, noted, after_step, went_on_with}
@@ -93,7 +93,7 @@ served_keeps m bytes lid =
     (λ _. by_move (stepped m.standing.conduct m.standing.state (event.Control (number_in attribute_modifier bytes))))
     (λ _. record { sweep = refl; store = refl }))
   where
-    by_move : (move : Transition) → KeepsSweep m (moved_on (hearing m) bytes lid move)
+    by_move : (move : Transition) → KeepsSweep m (moved_on (request_counted m) bytes lid move)
     by_move move =
         let answered = answering (record m { standing = moved_to move.state (after_request_heard m.standing) }) bytes lid (status_of move) in
         let keeps = told_keeps answered (acknowledged_at bytes lid) move.message in

@@ -2,11 +2,12 @@
 use attr_codec::{Attribute, Lmc, Priority, SmInfo};
 use lft_blocks::{Planning, Rule};
 use sm_manager::Manager;
-use sm_state::SmState;
+use sm_state::{Conduct, SmState};
 use smp_bytes::{AttributeId, Guid, Lid, Method, Path, PortNum, Smp, Status};
 use std::alloc::Global;
 
 mod controls;
+mod live;
 mod ranks;
 mod sweeps;
 mod texts;
@@ -18,11 +19,17 @@ const INVALID_FIELD: Status = Status(0x001C);
 
 const NO_METHOD: Status = Status(0x0008);
 
-/// Returns a manager of priority 3 at port 1 of an adapter, with the port GUID 0x101.
+/// Returns a plain manager of priority 3 at port 1 of an adapter, with the port GUID 0x101.
 fn manager(alloc: Global) -> Manager {
+    manager_by(alloc, Conduct::Plain)
+}
+
+/// Returns such a manager of any conduct.
+fn manager_by(alloc: Global, conduct: Conduct) -> Manager {
     let planning = Planning::new(Lmc::ZERO, Rule::UpDown);
     let info = info_in(SmState::Discovering);
-    Manager::new(alloc, info.guid, PortNum::new(1), info.priority, conduct, planning)
+    let port = PortNum::new(1);
+    Manager::new(alloc, info.guid, port, info.priority, conduct, planning)
 }
 
 /// Returns what the manager says of itself in `state`, once it has begun a sweep.

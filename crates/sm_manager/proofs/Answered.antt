@@ -40,7 +40,7 @@ use Rattle.sm_manager.specs.Packets.{Called, answered_by, answers, after_timeout
 use Rattle.sm_manager.specs.Packets.{done as done_call, request_gave_up, after_request, sweep_answered, sweep_gave_up, sweep_timed_out, unless_spent}
 use Rattle.sm_manager.specs.Plans.{writing_fault}
 use Rattle.sm_manager.specs.ManagerRequests.{counts, how_many, is_step, no_step_waits, none_counts, with_number, without_number}
-use Rattle.sm_manager.specs.Served.{acknowledged_at, answering, controlled, hearing, is_control, moved_on, replying, served}
+use Rattle.sm_manager.specs.Served.{acknowledged_at, answering, controlled, request_counted, is_control, moved_on, replying, request_counted, served}
 use Rattle.sm_manager.specs.Traps.{represses, repressing}
 use Rattle.sm_state.specs.Standing.{is_in, moved_to}
 use Rattle.sm_manager.specs.Writing.{is_done_by, is_spent, is_written, is_written_by, next_pending, next_phase, noted, numbered, without_empty_phases}
@@ -228,8 +228,8 @@ serves_beside m bytes from =
     cond_both (is_spent (served m bytes from)) (refused m SequenceSpent) (done_call (served m bytes from)) (λ (x : Called). Beside m x.manager)
     (λ _. nothing m)
     (λ _. cond_both (is_control m.standing bytes) (controlled m bytes from) (replying m bytes from) (Beside m)
-    (λ _. beside_both m (hearing m) _ (record { writing = refl; many = refl; rising = λ r. r })
-    (moves_beside (hearing m) bytes from (stepped m.standing.conduct m.standing.state (event.Control (number_in attribute_modifier bytes)))))
+    (λ _. beside_both m (request_counted m) _ (record { writing = refl; many = refl; rising = λ r. r })
+    (moves_beside (request_counted m) bytes from (stepped m.standing.conduct m.standing.state (event.Control (number_in attribute_modifier bytes)))))
     (λ _. record { writing = refl; many = refl; rising = λ r. r }))
 
 hands_beside : (m : Manager) (lid : Option ℕ) → Beside m (handed_to m lid)

@@ -26,7 +26,7 @@ use Rattle.sm_manager.specs.Packets.{Called, refused, done, answered_by, sweep_a
 use Rattle.sm_manager.specs.declared.pending.Purpose.{Purpose}
 use Rattle.sm_manager.specs.declared.pending.Purpose.TheVariants as purpose
 use Rattle.sm_manager.specs.Election.{after_handover, handed_to, handover_fault, handover_move, successor_lid, poll_fault, after_poll, after_message}
-use Rattle.sm_manager.specs.Served.{acknowledged_at, answering, controlled, hearing, is_control, moved_on, replying, served}
+use Rattle.sm_manager.specs.Served.{acknowledged_at, answering, controlled, request_counted, is_control, moved_on, replying, served}
 use Rattle.sm_manager.specs.Traps.{represses, repressing}
 use Rattle.sm_state.specs.Standing.{moved_to}
 use Rattle.sm_manager.specs.Plans.{writing_fault}
@@ -112,7 +112,7 @@ module _ (m : Manager) where
   serving_keeps : (bytes : List ℕ) (from : Option ℕ) → Keeps m (served m bytes from)
   serving_keeps bytes from =
       cond_both (is_control m.standing bytes) (controlled m bytes from) (replying m bytes from) (λ (x : Manager). Keeps m x)
-      (λ _. let k = moving_keeps (hearing m) bytes from (stepped m.standing.conduct m.standing.state (event.Control (number_in attribute_modifier bytes))) in
+      (λ _. let k = moving_keeps (request_counted m) bytes from (stepped m.standing.conduct m.standing.state (event.Control (number_in attribute_modifier bytes))) in
       record { store = k.store; planning = k.planning })
       (λ _. record { store = refl; planning = refl })
 

@@ -35,8 +35,8 @@ abbrev pub answering : Manager → List ℕ → Option ℕ → ℕ → Manager
 answering m packet from status = record m { outgoing = m.outgoing ++ answer_out m.standing packet from status ∷ [] }
 
 -- the request is counted before it is answered
-abbrev pub hearing : Manager → Manager
-hearing m = record m { standing = after_request_heard m.standing }
+abbrev pub request_counted : Manager → Manager
+request_counted m = record m { standing = after_request_heard m.standing }
 
 -- controls ----------------------------------------------------------------------------------------
 
@@ -57,7 +57,7 @@ moved_on m packet from move =
 -- the state moves by the table of states
 abbrev pub controlled : Manager → List ℕ → Option ℕ → Manager
 controlled m packet from =
-    moved_on (hearing m) packet from
+    moved_on (request_counted m) packet from
     (stepped m.standing.conduct m.standing.state (event.Control (number_in attribute_modifier packet)))
 
 -- any request for SMInfo --------------------------------------------------------------------------
@@ -70,7 +70,7 @@ status_for packet =
     else method_not_supported
 
 abbrev pub replying : Manager → List ℕ → Option ℕ → Manager
-replying m packet from = answering (hearing m) packet from (status_for packet)
+replying m packet from = answering (request_counted m) packet from (status_for packet)
 
 abbrev pub served : Manager → List ℕ → Option ℕ → Manager
 served m packet from =

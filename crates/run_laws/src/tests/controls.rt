@@ -2,9 +2,9 @@
 use super::*;
 
 /// The modifiers of controls.
-const HANDOVER: u32 = 1;
+pub(super) const HANDOVER: u32 = 1;
 
-const ACKNOWLEDGE: u32 = 2;
+pub(super) const ACKNOWLEDGE: u32 = 2;
 
 const DISABLE: u32 = 3;
 
@@ -52,7 +52,7 @@ fn control(modifier: u32) -> Smp {
 }
 
 /// Returns whether a new manager is master once its only sweep met nobody.
-fn becomes_master(manager: &mut Manager) -> bool {
+pub(super) fn becomes_master(manager: &mut Manager) -> bool {
     if manager.begin_sweep().is_err() {
         return false;
     }
@@ -63,7 +63,7 @@ fn becomes_master(manager: &mut Manager) -> bool {
 }
 
 /// Returns whether a master gets to `state` by controls, with nothing left to send.
-fn comes_to(manager: &mut Manager, state: SmState) -> bool {
+pub(super) fn comes_to(manager: &mut Manager, state: SmState) -> bool {
     let controls = match state {
         SmState::Master => [].as_slice(),
         SmState::Standby => &[ACKNOWLEDGE],

@@ -46,7 +46,7 @@ fn told(attribute: AttributeId, is_far: bool, other: &SmInfo) -> [u8; 64] {
 
 /// Returns whether a manager sweeps. It asks its own node and port, the adapter across and its port, and the manager
 /// there.
-fn sweeps(manager: &mut Manager, other: &SmInfo) -> bool {
+pub(super) fn sweeps(manager: &mut Manager, other: &SmInfo) -> bool {
     if manager.begin_sweep().is_err() {
         return false;
     }
@@ -70,7 +70,7 @@ fn is_then(alloc: Global, other: &SmInfo, state: SmState) -> bool {
 }
 
 /// Returns what the other manager says of itself.
-fn other(priority: u8, guid: u64, state: SmState) -> SmInfo {
+pub(super) fn other(priority: u8, guid: u64, state: SmState) -> SmInfo {
     let mut info = info_in(state);
     info.guid = Guid::new(guid);
     info.priority = Priority::new(priority).unwrap_or(info.priority);
