@@ -14,7 +14,7 @@ COMMANDS = {
     "order-of": FLOOR,
     "next": f"{FLOOR} {PLANS}",
     "run": PLANS,
-    "serve": PLANS,
+    "serve": f"--sm-key {PLANS}",
     "help": "",
 }
 RULES = "updown spread balance"

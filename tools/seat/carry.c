@@ -109,6 +109,7 @@ static void send_out(const struct packet *packet, int timeout_ms)
 	umad_set_addr(buffer, is_directed(packet->bytes) ? NO_LID : packet->lid, 0, 0, 0);
 	memcpy(umad_get_mad(buffer), packet->bytes, PACKET);
 	carried.sent++;
+	carried.repressed += packet->bytes[3] == TRAP_REPRESS;
 	errno = 0;
 	fault = umad_send(umad, is_directed(packet->bytes) ? directed : routed, buffer, PACKET, timeout_ms, 0);
 	if (fault == -ENODEV || errno == ENODEV)
@@ -339,18 +340,12 @@ static void on_answer(uint8_t *packet, unsigned lid)
 	tell("timeout %016llx", (unsigned long long) get(out.tid, 8));
 }
 
-/* Tells of a trap here, since the manager knows none. */
+/* Notes a trap. The process, as master, represses it if it came by a LID. */
 static void on_trap(const uint8_t *packet, unsigned lid)
 {
-	struct packet answer = { .lid = lid };
-
 	carried.traps++;
-	if (!heard_trap(get(packet + ATTRIBUTE + 4, 2), lid) || is_directed(packet))
-		return;
-	memcpy(answer.bytes, packet, PACKET);
-	answer.bytes[3] = TRAP_REPRESS;
-	carried.repressed++;
-	send_out(&answer, 0);
+	if (heard_trap(get(packet + ATTRIBUTE + 4, 2), lid) && !is_directed(packet))
+		give(packet, lid);
 }
 
 /* Takes a packet, or an unanswered request that the kernel returns with a status. */

@@ -58,6 +58,7 @@ void start_manager(void)
 	snprintf(guid, sizeof guid, "%016llx", (unsigned long long) own_port.guid);
 	snprintf(port, sizeof port, "%d", own_port.number);
 	snprintf(priority, sizeof priority, "%d", seat.priority);
+	add_option(words, &count, "--sm-key", seat.sm_key);
 	add_option(words, &count, "--lmc", seat.lmc);
 	add_option(words, &count, "--routing", seat.routing);
 	add_option(words, &count, "--roots", seat.roots);

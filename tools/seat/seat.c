@@ -28,6 +28,7 @@ static const char usage_text[] =
 "It is no subnet administration: IPoIB and rdma_cm need OpenSM or another one.\n"
 "\n"
 "  -p, --priority N       of this manager, 0 to 15 (0)\n"
+"      --sm-key HEX       its SM_Key, 1 to 16 hex digits (1, as OpenSM)\n"
 "  -l, --lmc N            an adapter's port has 2^N LIDs, 0 to 7 (0)\n"
 "  -R, --routing RULE     the rule of routing, as of `ibsm plan` (updown)\n"
 "  -f, --roots FILE       with spread: the switches from which it counts distances\n"
@@ -96,10 +97,10 @@ static void catch_signals(void)
 	signal(SIGXFSZ, SIG_IGN);
 }
 
-enum { PARTIAL = 256 };
+enum { PARTIAL = 256, SM_KEY };
 
 static const struct option words[] = {
-	{ "priority", 1, 0, 'p' }, { "lmc", 1, 0, 'l' }, { "routing", 1, 0, 'R' }, { "roots", 1, 0, 'f' },
+	{ "priority", 1, 0, 'p' }, { "sm-key", 1, 0, SM_KEY }, { "lmc", 1, 0, 'l' }, { "routing", 1, 0, 'R' }, { "roots", 1, 0, 'f' },
 	{ "order", 1, 0, 'o' }, { "ibsm", 1, 0, 'i' }, { "sweep", 1, 0, 's' }, { "poll", 1, 0, 'm' },
 	{ "after", 1, 0, 'a' }, { "dry-run", 0, 0, 'd' }, { "status", 1, 0, 'S' }, { "as-printed", 0, 0, 'x' },
 	{ "partial", 0, 0, PARTIAL }, { "ca", 1, 0, 'C' },
@@ -107,12 +108,25 @@ static const struct option words[] = {
 	{ "quiet", 0, 0, 'q' }, { "verbose", 0, 0, 'v' }, { "help", 0, 0, 'h' }, { "version", 0, 0, 'V' }, { 0 }
 };
 
+/* Returns the text of an SM_Key if it is 1 to 16 hex digits, and else ends. */
+static char *key_in(char *text)
+{
+	size_t digits = strspn(text, "0123456789abcdefABCDEF");
+
+	if (text[digits] || !digits || digits > 16) {
+		fprintf(stderr, "%s: --sm-key takes 1 to 16 hex digits, not %s\n", called, text);
+		exit(USAGE);
+	}
+	return text;
+}
+
 static void take_option(int letter)
 {
 	if (take_shared_option(letter, optarg))
 		return;
 	switch (letter) {
 	case 'p': seat.priority = number_in(optarg, "--priority", 0, 15); break;
+	case SM_KEY: seat.sm_key = key_in(optarg); break;
 	case 'l': seat.lmc = optarg; break;
 	case 'R': seat.routing = optarg; break;
 	case 'f': seat.roots = optarg; break;

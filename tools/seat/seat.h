@@ -9,7 +9,7 @@ enum { SM_INFO = 0x20, MASTER = 3, LID_ROUTED_CLASS = 0x01, DIRECTED_CLASS = 0x8
 enum method { GET = 1, SET = 2, TRAP = 5, TRAP_REPRESS = 7, RESPONSE = 0x80 };
 
 struct seat_options {
-	char *program, *status_file, *lmc, *routing, *roots, *order;
+	char *program, *status_file, *sm_key, *lmc, *routing, *roots, *order;
 	int priority, sweep_seconds, poll_ms, dry_run, as_printed, partial;
 };
 
@@ -68,7 +68,7 @@ void begin_policy(void);
 void policy(void);
 /* Notes that something was told besides the policy's own lines. */
 void heard_news(void);
-/* Notes a trap, and returns whether to repress it. */
+/* Notes a trap, and returns whether this manager is master, so that it is told. */
 int heard_trap(unsigned number, unsigned lid);
 void heard_hangup(void);
 /* Notes what the answer to a poll says: whether its sender is master. */
