@@ -17,8 +17,8 @@ import sample_fabrics
 SECONDS = 90
 # What a bring-up of the largest fabric may take.
 LONG = 300
-# OpenSM with SM_Key 0 accepts a manager whose SM_Key is 0.
-OPENSM = "sm_key 0x0\nsminfo_polling_timeout 500\npolling_retry_number 3\n"
+# A stock OpenSM, but that it polls twice a second.
+OPENSM = "sminfo_polling_timeout 500\npolling_retry_number 3\n"
 # The TransactionID in a packet.
 NUMBER = slice(8, 16)
 # The number of a trap for a changed link: 128.
@@ -96,11 +96,12 @@ def seated(bench, host, *words, program=None, packets=None, bend=None):
 
 @contextlib.contextmanager
 def opensm(bench, host, priority, *words):
-    """Runs OpenSM with SM_Key 0 at another adapter, and yields it with its log."""
+    """Runs OpenSM at another adapter, and yields it with its log."""
     (bench.path / "opensm.conf").write_text(OPENSM)
     log = bench.path / f"opensm-{host}.log"
     log.unlink(missing_ok=True)
     environment = bench.environment() | {"SIM_HOST": host}
+    environment["LD_PRELOAD"] = f"{bench.room}/out/repressed_traps.so:{bench.library}"
     words = ["-e", "-p", priority, "-d", "2", "-s", "2", "-D", "0x43", "-f", log, "-F", "opensm.conf", *words]
     quiet = {"stdout": subprocess.DEVNULL, "stderr": subprocess.DEVNULL, "stdin": subprocess.DEVNULL}
     words = ["opensm", *map(str, words)]
@@ -566,8 +567,8 @@ def without_a_master(bench):
 
 
 def beside_opensm(bench):
-    """Checks a seat beside OpenSM with `sm_key 0`, first of higher and then of lower priority: the master is killed,
-    and the other takes over."""
+    """Checks a seat beside OpenSM, first of higher and then of lower priority: the master is killed, and the other
+    takes over."""
     timing = ["-s", 0, "-m", 300, "-r", 1]
     with opensm(bench, "H2", 8, "-R", "updn") as (process, log):
         bench.check(until(lambda: "SUBNET UP" in log()) is not None, "OpenSM, priority 8, is master")
@@ -594,6 +595,52 @@ def beside_opensm(bench):
             bench.check(until(lambda: "SUBNET UP" in log()) is not None, "the seat is killed: OpenSM takes over")
             bench.record("-q", "-g", 1, "-T", "theirs", "theirs.reports", seat="H2")
             bench.check(lids((bench.path / "theirs").read_text()) == lids(before), "LIDs stay")
+
+
+def handovers(bench):
+    """Checks that a seat and OpenSM hand the subnet over to each other, and that one of them is master then."""
+    timing = ["-s", 3, "-m", 300, "-r", 1]
+    with opensm(bench, "H2", 3, "-R", "updn") as (process, log):
+        bench.check(until(lambda: "SUBNET UP" in log()) is not None, "OpenSM, priority 3, is master")
+        bench.record("-q", "-g", 1, "-T", "theirs", "theirs.reports")
+        before = (bench.path / "theirs").read_text()
+        with seated(bench, "H1", "-p", 8, *timing) as seat:
+            took = until(lambda: "SUBNET UP" in seat.said(), 40)
+            bench.check(took is not None and seat.settles(), f"it hands over to a seat of priority 8: {took or -1:.1f} s")
+            bench.check(until(lambda: "Entering STANDBY" in log(), 20) is not None, "OpenSM stands by")
+            bench.check(lids(held(bench, "ours")) == lids(before), "LIDs stay")
+            time.sleep(4)
+            bench.check(manager(bench)[1:] == (8, 3) and seat.status()["state"] == "master", "one is master")
+    with seated(bench, "H1", "-p", 5, *timing) as seat:
+        bench.check(seat.settles(), "a seat of priority 5 is master")
+        before = held(bench, "master")
+        with opensm(bench, "H2", 8, "-R", "updn") as (process, log):
+            took = until(lambda: "STANDBY" in seat.said(), 40)
+            bench.check(took is not None, f"it hands over to OpenSM, priority 8: {took or -1:.1f} s")
+            bench.check(until(lambda: "Entering MASTER" in log(), 20) is not None, "OpenSM is master")
+            time.sleep(4)
+            bench.check(seat.status()["state"] == "standby", "the seat stands by")
+            process.kill()
+            process.wait()
+            took = until(lambda: seat.count("SUBNET UP") > 1, 40)
+            bench.check(took is not None and seat.settles(), f"OpenSM is killed: taken back after {took or -1:.1f} s")
+            bench.check(lids(held(bench, "back")) == lids(before), "LIDs stay")
+
+
+def both_at_once(bench):
+    """Checks that one is master and the other stands by if a seat and OpenSM are started at the same moment."""
+    for ours, theirs in ((5, 3), (3, 5)):
+        with contextlib.ExitStack() as stack:
+            _, log = stack.enter_context(opensm(bench, "H2", theirs, "-R", "updn"))
+            seat = stack.enter_context(seated(bench, "H1", "-p", ours, "-s", 3, "-m", 300, "-r", 1))
+            wins = ours > theirs
+            stands_by = (lambda: "Entering STANDBY" in log()) if wins else (lambda: "STANDBY" in seat.said())
+            is_up = (lambda: "SUBNET UP" in seat.said()) if wins else (lambda: "SUBNET UP" in log())
+            took = until(lambda: is_up() and stands_by(), 40)
+            bench.check(took is not None, f"a seat of priority {ours} and OpenSM of {theirs} at once: {took or -1:.1f} s")
+            time.sleep(3)
+            bench.check(manager(bench)[1:] == (max(ours, theirs), 3), "the greater one is master")
+            bench.check(seat.status()["state"] == ("master" if wins else "standby"), "as the seat sees it")
 
 
 def seat_up(bench, is_last):
@@ -748,6 +795,7 @@ SEATED = (
     (
         "a torus of 9 switches",
         lambda: sample_fabrics.torus(3, 3),
-        (brought_up, cable, losses, two_seats, killed_while_it_writes, without_a_master, beside_opensm),
+        (brought_up, cable, losses, two_seats, killed_while_it_writes, without_a_master),
     ),
+    ("a torus of 9 switches beside OpenSM", lambda: sample_fabrics.torus(3, 3), (beside_opensm, handovers, both_at_once)),
 )

@@ -39,16 +39,27 @@ static char silent[MOST_SILENT][SILENT_TEXT];
 static size_t silent_count;
 
 /* Becomes the port's subnet manager, of which there is one: the open file tells the kernel so. */
-static void be_manager(void)
+void be_manager(void)
 {
 	char path[256];
 
+	if (issm >= 0)
+		return;
 	if (umad_get_issm_path(own_port.adapter, own_port.number, path, sizeof path))
 		end(NO_FABRIC, "%s has no file by which it says that a subnet manager is here", own_port.name);
 	issm = open(path, O_RDWR | O_NONBLOCK | O_CLOEXEC);
 	if (issm < 0)
 		end(NO_FABRIC, "cannot open %s: %s%s", path, strerror(errno),
 		    errno == EAGAIN || errno == EBUSY ? ": another subnet manager is at this port" : "");
+}
+
+void announce_manager(void)
+{
+	if (issm < 0)
+		return;
+	close(issm);
+	issm = -1;
+	be_manager();
 }
 
 void open_seat(void)
@@ -62,8 +73,6 @@ void open_seat(void)
 	if (directed < 0 || routed < 0)
 		end(NO_FABRIC, "cannot register as a subnet manager at %s: %s", own_port.name,
 		    strerror(directed < 0 ? -directed : -routed));
-	if (!seat.dry_run)
-		be_manager();
 	/* The numbers of an earlier process are not used again soon. */
 	next_number = (uint32_t) time(NULL) << CLOCK_SHIFT | 1;
 }
@@ -280,8 +289,7 @@ static void keep_manager(const uint8_t *packet)
 	    get(packet + ATTRIBUTE + 20, 4) & IS_SM)
 		return;
 	note("the port does not say that a manager is here: it is said again");
-	close(issm);
-	be_manager();
+	announce_manager();
 }
 
 /* Returns whether an answer is that to a poll: sweeps ask by paths, and controls have a modifier. */

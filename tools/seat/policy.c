@@ -17,7 +17,7 @@ enum { LINK_STATE_CHANGED = 128, CAPABILITIES_CHANGED = 144, MOST_REPEATS = 3, M
 static enum phase phase;
 static struct standing status;
 static char state[16], *kept_plan, *managers;
-static int has_news, is_wanted, repeats, faults, gaps, masterless;
+static int has_news, is_wanted, repeats, faults, gaps, masterless, is_announced;
 static unsigned left_not_active, polled;
 static uint32_t newest;
 static double earliest, next_sweep, next_poll, sweep_begun, began, handed_over;
@@ -94,6 +94,7 @@ static void look_at_state(void)
 	note("%s", upper);
 	strcpy(state, word);
 	forget_written();
+	is_announced = 0;
 	next_poll = now();
 	is_wanted |= is_state("master") && phase == RESTS;
 	status.state_since = time(NULL);
@@ -141,23 +142,30 @@ static void read_progress(void)
 }
 
 /* Finds the LID that a standby polls: that of the master seen by the sweep, or 0 if it saw none with a LID. Counts
-   sweeps in a row that saw none. */
+   sweeps in a row that saw none. A master that this manager wins over swept before this one stood by, or it would have
+   handed over: so this one is announced anew, once, and the master sweeps. */
 static void look_for_master(void)
 {
-	unsigned long long node;
-	unsigned port;
+	unsigned long long node, guid;
+	unsigned port, priority;
 	char word[64], wanted[64];
 	const char *line, *facts;
 
 	for (line = managers; *line; line = strchr(line, '\n') + 1)
-		if (sscanf(line, "manager %llx/%u guid %*x priority %*u state %63s", &node, &port, word) == 3 &&
-		    !strcmp(word, "master"))
+		if (sscanf(line, "manager %llx/%u guid %llx priority %u state %63s", &node, &port, &guid, &priority,
+			   word) == 5 && !strcmp(word, "master"))
 			break;
 	if (!*line) {
 		masterless += status.is_whole;
 		return;
 	}
 	masterless = 0;
+	if (!is_announced && ((int) priority < seat.priority ||
+			      ((int) priority == seat.priority && guid > own_port.guid))) {
+		note("the master %016llx, priority %u, is to hand over", guid, priority);
+		announce_manager();
+		is_announced = 1;
+	}
 	snprintf(wanted, sizeof wanted, "\nclaim %016llx/%u ", node, port);
 	facts = strstr(tell("facts"), wanted);
 	if (facts)

@@ -171,6 +171,8 @@ static void start(void)
 	let_pass();
 	started = now();
 	start_manager();
+	if (!seat.dry_run)
+		be_manager();
 	begin_policy();
 }
 

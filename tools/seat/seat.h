@@ -38,6 +38,10 @@ const char *tell(const char *format, ...) __attribute__((format(printf, 1, 2)));
 /* carry.c: packets. */
 void open_seat(void);
 void close_seat(void);
+/* Has the port say that a manager is here: others then ask it, so its process has to be there. */
+void be_manager(void);
+/* Has the port say anew that a manager is here: its agent then sends trap 144, and the master sweeps. */
+void announce_manager(void);
 /* Waits, and drops what comes, until no request of an earlier process can be answered any more. */
 void let_pass(void);
 /* Queues a packet in hex digits for a LID, or for NO_LID if it goes by the path that it carries. */

@@ -1,3 +1,4 @@
+pub mod Handovers
 pub mod Lives
 pub mod Numbers
 pub mod Over

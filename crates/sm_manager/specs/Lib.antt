@@ -3,6 +3,7 @@ pub mod Calls
 pub mod Coded
 pub mod Election
 pub mod Fault
+pub mod HandoverLaws
 pub mod Manager
 pub mod ManagerRequests
 pub mod NotedManagers

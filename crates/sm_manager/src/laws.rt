@@ -1,4 +1,5 @@
 //! What is so of a manager's whole life.
+ghost use Rattle.sm_manager.specs.HandoverLaws.{HandoversLeaveAMaster};
 ghost use Rattle.sm_manager.specs.Answered.{WrittenIsEachStepDone};
 ghost use Rattle.sm_manager.specs.Calls.{KnowsWhatItTookIn, SameTakenInSamePlan};
 
@@ -24,4 +25,10 @@ pub fn same_taken_in_same_plan()
 /// is counted twice.
 pub fn written_is_each_step_done()
     ensures { WrittenIsEachStepDone }
+{}
+
+/// After a handover one of both managers is master, once its sender knows how it was answered: the sender stays master
+/// unless the answer has status 0, and whoever answers so took over.
+pub fn handovers_leave_a_master()
+    ensures { HandoversLeaveAMaster }
 {}

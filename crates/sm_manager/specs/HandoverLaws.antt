@@ -1,0 +1,20 @@
+-- What a handover leaves behind.
+use Rattle.std.specs.Prelude.{◌≡◌, ◌⊎◌, true, Some}
+use Rattle.sm_state.specs.declared.event.Event.TheVariants as event
+use Rattle.sm_state.specs.declared.standing.Standing.{Standing}
+use Rattle.sm_state.specs.declared.state.SmState.TheVariants.{Master}
+use Rattle.sm_state.specs.declared.transition.Transition.{Transition}
+use Rattle.sm_state.specs.Steps.{status_of, stepped}
+use Rattle.sm_manager.specs.declared.pending.Pending.{Pending}
+use Rattle.sm_manager.specs.Packets.{after_control_end, is_handover, is_relieved}
+
+-- what the manager `other` does about the control
+abbrev pub move_of : Standing → Pending → Transition
+move_of other control = stepped other.conduct other.state (event.Control control.modifier)
+
+-- once a master knows how its handover was answered, it or the other manager is master
+abbrev pub HandoversLeaveAMaster : Type 0
+HandoversLeaveAMaster =
+    (own other : Standing) (control : Pending) → own.state ≡ Master → is_handover control ≡ true
+    → ((move_of other control).state ≡ Master)
+    ⊎ ((after_control_end (is_relieved own control (Some (status_of (move_of other control)))) own).state ≡ Master)
