@@ -627,20 +627,26 @@ def handovers(bench):
             bench.check(lids(held(bench, "back")) == lids(before), "LIDs stay")
 
 
-def both_at_once(bench):
+def both_at_once(bench, ours, theirs):
     """Checks that one is master and the other stands by if a seat and OpenSM are started at the same moment."""
-    for ours, theirs in ((5, 3), (3, 5)):
-        with contextlib.ExitStack() as stack:
-            _, log = stack.enter_context(opensm(bench, "H2", theirs, "-R", "updn"))
-            seat = stack.enter_context(seated(bench, "H1", "-p", ours, "-s", 3, "-m", 300, "-r", 1))
-            wins = ours > theirs
-            stands_by = (lambda: "Entering STANDBY" in log()) if wins else (lambda: "STANDBY" in seat.said())
-            is_up = (lambda: "SUBNET UP" in seat.said()) if wins else (lambda: "SUBNET UP" in log())
-            took = until(lambda: is_up() and stands_by(), 40)
-            bench.check(took is not None, f"a seat of priority {ours} and OpenSM of {theirs} at once: {took or -1:.1f} s")
-            time.sleep(3)
-            bench.check(manager(bench)[1:] == (max(ours, theirs), 3), "the greater one is master")
-            bench.check(seat.status()["state"] == ("master" if wins else "standby"), "as the seat sees it")
+    with contextlib.ExitStack() as stack:
+        _, log = stack.enter_context(opensm(bench, "H2", theirs, "-R", "updn"))
+        seat = stack.enter_context(seated(bench, "H1", "-p", ours, "-s", 3, "-m", 300, "-r", 1))
+        wins = ours > theirs
+        said, told = ("SUBNET UP", "Entering STANDBY") if wins else ("STANDBY", "SUBNET UP")
+        took = until(lambda: said in seat.said() and told in log(), 40)
+        bench.check(took is not None, f"a seat of priority {ours} and OpenSM of {theirs} at once: {took or -1:.1f} s")
+        time.sleep(3)
+        bench.check(manager(bench)[1:] == (max(ours, theirs), 3), "the greater one is master")
+        bench.check(seat.status()["state"] == ("master" if wins else "standby"), "as the seat sees it")
+
+
+def above_at_once(bench):
+    both_at_once(bench, 5, 3)
+
+
+def below_at_once(bench):
+    both_at_once(bench, 3, 5)
 
 
 def seat_up(bench, is_last):
@@ -797,5 +803,8 @@ SEATED = (
         lambda: sample_fabrics.torus(3, 3),
         (brought_up, cable, losses, two_seats, killed_while_it_writes, without_a_master),
     ),
-    ("a torus of 9 switches beside OpenSM", lambda: sample_fabrics.torus(3, 3), (beside_opensm, handovers, both_at_once)),
+    ("a torus of 9 switches beside OpenSM", lambda: sample_fabrics.torus(3, 3), (beside_opensm, handovers)),
+    # A fabric of its own for each: ibsim clears IsSM of a port late, when it finds an earlier process of it dead.
+    ("a torus beside a lesser OpenSM", lambda: sample_fabrics.torus(3, 3), (above_at_once,)),
+    ("a torus beside a greater OpenSM", lambda: sample_fabrics.torus(3, 3), (below_at_once,)),
 )
