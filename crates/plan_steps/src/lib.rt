@@ -3,6 +3,7 @@
 
 mod block_steps;
 mod bound;
+mod carried;
 pub mod laws;
 mod lid_steps;
 mod phase;

@@ -3,6 +3,7 @@ ghost use Rattle.fact_store.specs.View.{cells_of};
 ghost use Rattle.plan_steps.specs.Lids.{is_own_port, own_lid, port_data};
 ghost use Rattle.plan_steps.specs.Lids.{lid_step, lid_steps, owner_step};
 
+use crate::carried::carried_port;
 use crate::step::{Step, step_at};
 use attr_codec::{Attribute, Lmc, PortInfo, PortState};
 use fact_store::Store;
@@ -70,15 +71,28 @@ fn lid_step(sweep: &Sweep, master: Lid, lid: Lid, lmc: Lmc, end: EndPort) -> Opt
         end.port,
         AttributeId::PORT_INFO,
         u32::from(end.port.number()),
-        port_data(lid, lmc, master, PortState::NoChange),
+        port_data(
+            sweep.port_image(end.node, end.port),
+            lid,
+            lmc,
+            master,
+            PortState::NoChange,
+        ),
     )
 }
 
-/// Returns the PortInfo with a LID and an LMC, the manager's LID and the state that is asked for, and 0 elsewhere.
-pub(crate) fn port_data(lid: Lid, lmc: Lmc, master: Lid, state: PortState) -> [u8; 64]
-    ensures { result ≡ port_data (lid, lmc) master state }
+/// Returns the PortInfo with a LID and an LMC, the manager's LID and the state that is asked for. Carries all else over
+/// from what was read.
+pub(crate) fn port_data(
+    read: Option<PortInfo>,
+    lid: Lid,
+    lmc: Lmc,
+    master: Lid,
+    state: PortState,
+) -> [u8; 64]
+    ensures { result ≡ port_data read (lid, lmc) master state }
 {
-    let mut info = PortInfo::decode(&[0; 64]);
+    let mut info = carried_port(read);
     info.set_base_lid(lid);
     info.set_master_sm_lid(master);
     info.set_lmc(lmc);

@@ -11,7 +11,7 @@ use sweep::{Answer, Sweep, SweepFault};
 /// Starts a sweep by port 1, whose first request has the number `first`.
 fn start(alloc: Global, first: u32) -> Option<Sweep> {
     let generation = Generation::new(1)?;
-    Sweep::start(alloc, PortNum::new(1), generation, first).ok()
+    Sweep::start(alloc, PortNum::new(1), generation, first, false).ok()
 }
 
 /// Returns the NodeInfo of a switch with ten ports.
