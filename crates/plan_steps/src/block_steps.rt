@@ -74,6 +74,7 @@ pub(crate) fn top_steps(alloc: Global, sweep: &Sweep, plan: &Plan) -> Result<Vec
 }
 
 /// Builds the step of the greatest LID `top` for each switch that was reached, by rising GUID.
+#[tactic(auto, using(crate::proofs::Walked::walked_some, crate::proofs::Walked::walked_none))]
 fn steps_with_top(
     alloc: Global,
     sweep: &Sweep,

@@ -24,20 +24,17 @@ pub fn phases_are_bounded()
 
 /// Whatever was read of a port or a switch, a Set says what the plan asks for: LID, LMC, the manager's LID and the
 /// state, or the greatest LID.
-#[tactic(auto, using(crate::proofs::SetLaws::sets_say_the_plan))]
 pub fn sets_say_the_plan()
     ensures { SetsSayThePlan }
 {}
 
 /// A Set leaves what was read as it is, but for what the plan asks for, "no change" in some bits, and defaults for what
 /// no manager has set.
-#[tactic(auto, using(crate::proofs::SetLaws::sets_change_nothing_else))]
 pub fn sets_change_nothing_else()
     ensures { SetsChangeNothingElse }
 {}
 
 /// The Set of a state at an end port says what the Set of its LID says, but for the state.
-#[tactic(auto, using(crate::proofs::SetLaws::lid_and_state_agree))]
 pub fn lid_and_state_agree()
     ensures { LidAndStateAgree }
 {}
