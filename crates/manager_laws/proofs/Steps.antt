@@ -36,9 +36,10 @@ use Rattle.lft_blocks.specs.Entries.{Next, attachment_of_lid, entry, block, bloc
 use Rattle.lft_blocks.specs.Plan.{PlanValue, SwitchTable, plan_of, block_at, switches_of}
 use Rattle.lft_blocks.proofs.BlockLaws.{made_from}
 use Rattle.lft_blocks.specs.Rules.{RuleValue, routing_by}
-use Rattle.sweep.specs.Sweep.{Sweep, path_to, port_image, seen_state, switch_image}
+use Rattle.sweep.specs.Sweep.{Sweep, path_to, seen_state, switch_image}
 use Rattle.plan_steps.specs.declared.step.Step.{Step}
-use Rattle.plan_steps.specs.Carried.{carried_switch}
+use Rattle.plan_steps.specs.declared.carried.PortRead.{PortRead}
+use Rattle.plan_steps.specs.Carried.{carried_switch, port_read}
 use Rattle.plan_steps.specs.Step.{step_at}
 use Rattle.plan_steps.specs.Lids.{port_data, lid_step, owner_step, lid_steps}
 use Rattle.plan_steps.specs.Tables.{block_step, switch_steps, block_steps, top_data, top_step, top_steps}
@@ -126,7 +127,7 @@ making sweep guid vertex attribute modifier payload path there =
 
 -- payloads ----------------------------------------------------------------------------------------
 
-length-port_data : (read : Option (List ℕ)) (range : ℕ × ℕ) (master : ℕ) (state : PortState) → length (port_data read range master state) ≡ 64
+length-port_data : (read : Option PortRead) (range : ℕ × ℕ) (master : ℕ) (state : PortState) → length (port_data read range master state) ≡ 64
 length-port_data read range master state = (port_data_whole read range master state).count
 
 length-top_data : (read : Option (List ℕ)) (top : ℕ) → length (top_data read top) ≡ 64
@@ -183,15 +184,15 @@ module _ (rule : RuleValue) (lmc : ℕ) (few_lmc : lmc < 8) (facts : Facts) (has
     pub e : EndPort
     pub lid : ℕ
     pub has : lid_of (lids lmc (cells_of facts)) e ≡ Some lid
-    pub is_made : IsMade sweep e.node e.port port_info e.port (port_data (port_image sweep e.node e.port) (lid, lmc_of (lids lmc (cells_of facts)) e) master NoChange) s
+    pub is_made : IsMade sweep e.node e.port port_info e.port (port_data (port_read (cells_of facts) sweep e.node e.port) (lid, lmc_of (lids lmc (cells_of facts)) e) master NoChange) s
 
-  from_lid_step : (s : Step) → Contains (lid_steps sweep master (lids lmc (cells_of facts))) s → LidStep s
+  from_lid_step : (s : Step) → Contains (lid_steps (cells_of facts) sweep master (lids lmc (cells_of facts))) s → LidStep s
   from_lid_step s there =
-      let (lid, risen, e) = taken_from (owner_step sweep master (lids lmc (cells_of facts))) (rising_lids (lids lmc (cells_of facts))) s there in
+      let (lid, risen, e) = taken_from (owner_step (cells_of facts) sweep master (lids lmc (cells_of facts))) (rising_lids (lids lmc (cells_of facts))) s there in
       by_owner lid risen (owner_of (lids lmc (cells_of facts)) lid) refl e
     where
       by_owner : (lid : ℕ) → Contains (rising_lids (lids lmc (cells_of facts))) lid → (m : Option EndPort) → owner_of (lids lmc (cells_of facts)) lid ≡ m
-          → option_and_then (λ e. lid_step sweep master (lid, lmc_of (lids lmc (cells_of facts)) e) e) m ≡ Some s
+          → option_and_then (λ e. lid_step (cells_of facts) sweep master (lid, lmc_of (lids lmc (cells_of facts)) e) e) m ≡ Some s
           → LidStep s
       by_owner lid risen None owns h = absurd (cc)
       by_owner lid risen (Some e) owns h =
@@ -199,7 +200,7 @@ module _ (rule : RuleValue) (lmc : ℕ) (few_lmc : lmc < 8) (facts : Facts) (has
             e = e;
             lid = lid;
             has = has_first e lid risen owns;
-            is_made = made sweep e.node e.port port_info e.port (port_data (port_image sweep e.node e.port) (lid, lmc_of (lids lmc (cells_of facts)) e) master NoChange) s h;
+            is_made = made sweep e.node e.port port_info e.port (port_data (port_read (cells_of facts) sweep e.node e.port) (lid, lmc_of (lids lmc (cells_of facts)) e) master NoChange) s h;
           }
 
   -- an end port with a LID has its LMC with it
@@ -221,7 +222,7 @@ module _ (rule : RuleValue) (lmc : ℕ) (few_lmc : lmc < 8) (facts : Facts) (has
   lmc_fits : (e : EndPort) → lmc_of (lids lmc (cells_of facts)) e < 8
   lmc_fits e = cond_both (e.port == 0) 0 lmc (λ (n : ℕ). n < 8) (λ _. omega arith) (λ _. few_lmc)
 
-  value_in : (read : Option (List ℕ)) (state : PortState) (e : EndPort) (range : ℕ × ℕ) → range_of (lids lmc (cells_of facts)) e ≡ Some range
+  value_in : (read : Option PortRead) (state : PortState) (e : EndPort) (range : ℕ × ℕ) → range_of (lids lmc (cells_of facts)) e ≡ Some range
       → range_in (port_data read range master state) ≡ range
   value_in read state e range has =
       let (lid_is, lmc_is) = range_parts e range has in
@@ -229,8 +230,8 @@ module _ (rule : RuleValue) (lmc : ℕ) (few_lmc : lmc < 8) (facts : Facts) (has
       range-port_data read range master state (omega (arith, small)) (omega (arith, lmc_is, lmc_fits e))
 
   pub range_value : (e : EndPort) (range : ℕ × ℕ) → range_of (lids lmc (cells_of facts)) e ≡ Some range
-      → range_in (port_data (port_image sweep e.node e.port) range master NoChange) ≡ range
-  range_value e range has = value_in (port_image sweep e.node e.port) NoChange e range has
+      → range_in (port_data (port_read (cells_of facts) sweep e.node e.port) range master NoChange) ≡ range
+  range_value e range has = value_in (port_read (cells_of facts) sweep e.node e.port) NoChange e range has
 
   lid_step_is : (s : Step) → LidStep s → IsStep (plan_of rule lmc (cells_of facts)) sweep s × IsPlanned (plan_of rule lmc (cells_of facts)) sweep s
   lid_step_is s l =
@@ -238,7 +239,7 @@ module _ (rule : RuleValue) (lmc : ℕ) (few_lmc : lmc < 8) (facts : Facts) (has
       let port = few l.e.node l.e.port s.path m.goes.path in
       let range : ℕ × ℕ = (l.lid, lmc_of (lids lmc (cells_of facts)) l.e) in
       let has_it = has_range l.e l.lid l.has in
-      let value : range_in s.payload ≡ range = ap range_in m.payload_is ∙ value_in (port_image sweep l.e.node l.e.port) NoChange l.e range has_it in
+      let value : range_in s.payload ≡ range = ap range_in m.payload_is ∙ value_in (port_read (cells_of facts) sweep l.e.node l.e.port) NoChange l.e range has_it in
       let is_port = m.attribute_is in (
         record {
           guid = l.e.node;
@@ -248,7 +249,7 @@ module _ (rule : RuleValue) (lmc : ℕ) (few_lmc : lmc < 8) (facts : Facts) (has
             attribute = omega (arith, is_port);
             no_manager = λ e. omega (arith, is_port, e);
             modifier = let same = m.modifier_is in omega (arith, same, port);
-            whole = ap length m.payload_is ∙ length-port_data (port_image sweep l.e.node l.e.port) range master NoChange;
+            whole = ap length m.payload_is ∙ length-port_data (port_read (cells_of facts) sweep l.e.node l.e.port) range master NoChange;
           };
           planned = record {
             lids = λ _ other has. value ∙ same_Some _ _ (sym has_it
@@ -273,14 +274,14 @@ module _ (rule : RuleValue) (lmc : ℕ) (few_lmc : lmc < 8) (facts : Facts) (has
       )
 
   to_lid_step : (e : EndPort) (lid : ℕ) (path : List ℕ) → lid_of (lids lmc (cells_of facts)) e ≡ Some lid → path_to sweep e.node e.port ≡ Some path
-      → Contains (lid_steps sweep master (lids lmc (cells_of facts)))
-      (record { path = path; attribute = port_info; modifier = e.port; payload = port_data (port_image sweep e.node e.port) (lid, lmc_of (lids lmc (cells_of facts)) e) master NoChange })
+      → Contains (lid_steps (cells_of facts) sweep master (lids lmc (cells_of facts)))
+      (record { path = path; attribute = port_info; modifier = e.port; payload = port_data (port_read (cells_of facts) sweep e.node e.port) (lid, lmc_of (lids lmc (cells_of facts)) e) master NoChange })
   to_lid_step e lid path has there =
       let held = given-from_lid (lids lmc (cells_of facts)) e lid has in
       let risen : Contains (rising_lids (lids lmc (cells_of facts))) lid = ((rising_lids_law (lids lmc (cells_of facts))).0 lid).1 (e, held) in
-      is_taken (owner_step sweep master (lids lmc (cells_of facts))) (rising_lids (lids lmc (cells_of facts))) lid _ risen
-      (ap (option_and_then (λ x. lid_step sweep master (lid, lmc_of (lids lmc (cells_of facts)) x) x)) (owns_first e lid has)
-      ∙ making sweep e.node e.port port_info e.port (port_data (port_image sweep e.node e.port) (lid, lmc_of (lids lmc (cells_of facts)) e) master NoChange) path there)
+      is_taken (owner_step (cells_of facts) sweep master (lids lmc (cells_of facts))) (rising_lids (lids lmc (cells_of facts))) lid _ risen
+      (ap (option_and_then (λ x. lid_step (cells_of facts) sweep master (lid, lmc_of (lids lmc (cells_of facts)) x) x)) (owns_first e lid has)
+      ∙ making sweep e.node e.port port_info e.port (port_data (port_read (cells_of facts) sweep e.node e.port) (lid, lmc_of (lids lmc (cells_of facts)) e) master NoChange) path there)
 
   -- blocks
   record BlockThere (guid b : ℕ) (payload : List ℕ) : Type 0 where
@@ -473,7 +474,7 @@ module _ (rule : RuleValue) (lmc : ℕ) (few_lmc : lmc < 8) (facts : Facts) (has
       let (at, wired, e) = taken_from (state_step (cells_of facts) sweep (lids lmc (cells_of facts)) master state) (wired_ports (cells_of facts)) s there in
       by_due at (seen_state sweep at.0 at.1) refl e
     where
-      whole : (read : Option (List ℕ)) (at : ℕ × ℕ) → length (state_data read (lids lmc (cells_of facts)) master state at) ≡ 64
+      whole : (read : Option PortRead) (at : ℕ × ℕ) → length (state_data read (lids lmc (cells_of facts)) master state at) ≡ 64
       whole read at = by_range (range_of (lids lmc (cells_of facts)) (record { node = at.0; port = at.1 }))
         where
           by_range : (m : Option (ℕ × ℕ)) → length (option_map_or (λ range. port_data read range master state) m (port_data read (0, 0) 0 state)) ≡ 64
@@ -482,11 +483,11 @@ module _ (rule : RuleValue) (lmc : ℕ) (few_lmc : lmc < 8) (facts : Facts) (has
 
       by_step : (at : ℕ × ℕ) → at.1 ≤ 254 → (b : Bool)
           → (if b then step_at sweep at.0 (vertex_port (cells_of facts) at) port_info at.1
-          (state_data (port_image sweep at.0 at.1) (lids lmc (cells_of facts)) master state at) else None) ≡ Some s
+          (state_data (port_read (cells_of facts) sweep at.0 at.1) (lids lmc (cells_of facts)) master state at) else None) ≡ Some s
           → IsStep (plan_of rule lmc (cells_of facts)) sweep s
       by_step at small false h = absurd (cc)
       by_step at small true h =
-          let m = made sweep at.0 (vertex_port (cells_of facts) at) port_info at.1 (state_data (port_image sweep at.0 at.1) (lids lmc (cells_of facts)) master state at) s h in
+          let m = made sweep at.0 (vertex_port (cells_of facts) at) port_info at.1 (state_data (port_read (cells_of facts) sweep at.0 at.1) (lids lmc (cells_of facts)) master state at) s h in
           let is_port = m.attribute_is in
           record {
             guid = at.0;
@@ -496,12 +497,12 @@ module _ (rule : RuleValue) (lmc : ℕ) (few_lmc : lmc < 8) (facts : Facts) (has
               attribute = omega (arith, is_port);
               no_manager = λ e. omega (arith, is_port, e);
               modifier = let same = m.modifier_is in omega (arith, same, small);
-              whole = ap length m.payload_is ∙ whole (port_image sweep at.0 at.1) at;
+              whole = ap length m.payload_is ∙ whole (port_read (cells_of facts) sweep at.0 at.1) at;
             };
             planned = record {
               lids = λ _ range has. let known = ap (λ n. range_of (lids lmc (cells_of facts)) (record { node = at.0; port = n })) (sym m.modifier_is) ∙ has in
-                  ap range_in (m.payload_is ∙ ap (λ o. option_map_or (λ n. port_data (port_image sweep at.0 at.1) n master state) o (port_data (port_image sweep at.0 at.1) (0, 0) 0 state)) known)
-                  ∙ value_in (port_image sweep at.0 at.1) state (record { node = at.0; port = at.1 }) range known;
+                  ap range_in (m.payload_is ∙ ap (λ o. option_map_or (λ n. port_data (port_read (cells_of facts) sweep at.0 at.1) n master state) o (port_data (port_read (cells_of facts) sweep at.0 at.1) (0, 0) 0 state)) known)
+                  ∙ value_in (port_read (cells_of facts) sweep at.0 at.1) state (record { node = at.0; port = at.1 }) range known;
               top = λ f. absurd (omega (arith, is_port, f));
               block = λ f. absurd (omega (arith, is_port, f));
             };
@@ -510,7 +511,7 @@ module _ (rule : RuleValue) (lmc : ℕ) (few_lmc : lmc < 8) (facts : Facts) (has
 
       by_due : (at : ℕ × ℕ) (m : Option PortState) → seen_state sweep at.0 at.1 ≡ m
           → (if option_map_or (is_due state) m false
-          then step_at sweep at.0 (vertex_port (cells_of facts) at) port_info at.1 (state_data (port_image sweep at.0 at.1) (lids lmc (cells_of facts)) master state at) else None) ≡ Some s
+          then step_at sweep at.0 (vertex_port (cells_of facts) at) port_info at.1 (state_data (port_read (cells_of facts) sweep at.0 at.1) (lids lmc (cells_of facts)) master state at) else None) ≡ Some s
           → IsStep (plan_of rule lmc (cells_of facts)) sweep s
       by_due at None seen h = absurd (cc)
       by_due at (Some now) seen h = by_step at (seen_few at.0 at.1 now seen) (is_due state now) h
@@ -547,15 +548,15 @@ module _ (rule : RuleValue) (lmc : ℕ) (few_lmc : lmc < 8) (facts : Facts) (has
   pub range_is_set : (e : EndPort) (range : ℕ × ℕ) (path : List ℕ) → range_of (lids lmc (cells_of facts)) e ≡ Some range → path_to sweep e.node e.port
       ≡ Some path
       → IsOf (phases_by (plan_of rule lmc (cells_of facts)) (cells_of facts) sweep master) true
-      (record { path = path; attribute = port_info; modifier = e.port; payload = port_data (port_image sweep e.node e.port) range master NoChange })
+      (record { path = path; attribute = port_info; modifier = e.port; payload = port_data (port_read (cells_of facts) sweep e.node e.port) range master NoChange })
   range_is_set e range path has there =
       let (lid_is, lmc_is) = range_parts e range has in
       record {
-        phase = record { counts = true; steps = lid_steps sweep master (lids lmc (cells_of facts)) };
+        phase = record { counts = true; steps = lid_steps (cells_of facts) sweep master (lids lmc (cells_of facts)) };
         there = (0, omega arith, refl);
         counts_is = refl;
-        step = subst (λ (n : ℕ). Contains (lid_steps sweep master (lids lmc (cells_of facts)))
-            (record { path = path; attribute = port_info; modifier = e.port; payload = port_data (port_image sweep e.node e.port) (range.0, n) master NoChange })) (sym lmc_is)
+        step = subst (λ (n : ℕ). Contains (lid_steps (cells_of facts) sweep master (lids lmc (cells_of facts)))
+            (record { path = path; attribute = port_info; modifier = e.port; payload = port_data (port_read (cells_of facts) sweep e.node e.port) (range.0, n) master NoChange })) (sym lmc_is)
             (to_lid_step e range.0 path lid_is there);
       }
 

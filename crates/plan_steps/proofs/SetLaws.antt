@@ -1,6 +1,6 @@
 -- Sets say what the plan asks for, and carry all else as it was read.
 use Rattle.std.proofs.Common.{◌≡◌, ℕ, ◌+◌, ◌%◌, ◌/◌, ◌^◌, ◌<◌, ◌≤◌, List, [], ◌∷◌, refl, sym, ap, ◌∙◌, subst, arith, Bool, true, false, get_or, drop, length, ⊎_elim}
-use Rattle.std.specs.Prelude.{Contains, Option, Some, None, option_map, ◌==◌, ◌&&◌, if◌then◌else◌}
+use Rattle.std.specs.Prelude.{Contains, Option, Some, None, option_map, ◌==◌, ◌&&◌, if◌then◌else◌, min}
 use Rattle.std.specs.Option.{option_map_or}
 use Rattle.std.proofs.lemmas.Bool.{and_parts, cond-true, cond-false}
 use Rattle.std.proofs.lemmas.List.{get_or-drop}
@@ -17,10 +17,10 @@ use Rattle.attr_codec.specs.SwitchInfo.{life_time_value, linear_fdb_top, port_st
 use Rattle.attr_codec.specs.declared.port_state.PortState.{PortState}
 use Rattle.attr_codec.specs.declared.port_state.PortState.TheVariants.{NoChange}
 use Rattle.smp_bytes.specs.Header.{port_info}
-use Rattle.sweep.specs.Sweep.{Sweep, path_to, port_image, seen_state}
+use Rattle.sweep.specs.Sweep.{Sweep, path_to, seen_state}
 use Rattle.plan_steps.specs.declared.step.Step.{Step}
 use Rattle.attr_codec.proofs.PortStates.{state_small}
-use Rattle.plan_steps.specs.Carried.{Change, carried_port, carried_switch, changed, client_reregister, copied, hoq_life, link_local_prefix, link_speed_enabled, link_speed_ext_enabled, link_width_enabled, or_default, port_changes, subnet_timeout, switch_changes}
+use Rattle.plan_steps.specs.Carried.{Change, carried_port, carried_switch, changed, client_reregister, copied, hoq_life, link_local_prefix, link_speed_enabled, link_speed_ext_enabled, link_width_enabled, or_default, port_changes, subnet_timeout, switch_changes, mtu_cap, mtu_of, neighbor_mtu, port_read}
 use Rattle.plan_steps.specs.Lids.{port_data}
 use Rattle.plan_steps.specs.States.{is_due, state_data, vertex_port}
 use Rattle.plan_steps.specs.Step.{step_at}
@@ -28,6 +28,7 @@ use Rattle.plan_steps.specs.SetLaws.{CarriesPort, CarriesSwitch, LidAndStateAgre
 use Rattle.plan_steps.specs.Tables.{top_data}
 use Rattle.plan_steps.proofs.Changed.{AllFit, Fits, bits_in-changed, bits_in-changed_apart, bits_in-with_number, number_in-changed_apart, whole-changed}
 use Rattle.plan_steps.proofs.Whole.{IsWhole, copied_is, copied_whole, whole-with_bits, whole-with_number, whole_zeros}
+use Rattle.plan_steps.specs.declared.carried.PortRead.{PortRead}
 
 -- numbers fit their bits ---------------------------------------------------------------------------
 
@@ -46,14 +47,22 @@ read_fits b otherwise read less some =
 small : (b : Bits) (number : ℕ) → b.at < 64 → b.shift + b.width ≤ 8 → number < 2 ^ b.width → Fits (record { bits = b; number = number })
 small b number at room fits = record { at = at; room = room; number = fits }
 
-port_fit : (read : List ℕ) → AllFit (port_changes read)
+mtu_fits : (own : List ℕ) (far : Option (List ℕ)) → mtu_of own far < 16
+mtu_fits own None = mod-lt (get_or own 36 0 / 2 ^ 4) (omega arith)
+mtu_fits own (Some far) =
+    let as_read : bits_in neighbor_mtu own < 16 = mod-lt (get_or own 36 0 / 2 ^ 4) (omega arith) in
+    let one : bits_in mtu_cap own < 16 = mod-lt (get_or own 41 0 / 2 ^ 0) (omega arith) in
+    default_fits (bits_in neighbor_mtu own) (min (bits_in mtu_cap own) (bits_in mtu_cap far)) 16 as_read (omega (arith, one))
+
+port_fit : (read : PortRead) → AllFit (port_changes read)
 port_fit read =
     (small link_width_enabled 0 (omega arith) (omega arith) (omega arith), (small link_speed_enabled 0 (omega arith) (omega arith) (omega arith),
     (small link_speed_ext_enabled 0 (omega arith) (omega arith) (omega arith), (small port_physical_state 0 (omega arith) (omega arith) (omega arith),
     (small link_down_default_state 0 (omega arith) (omega arith) (omega arith),
-    (small hoq_life _ (omega arith) (omega arith) (read_fits hoq_life 16 read (omega arith) (omega arith)),
-    (small subnet_timeout _ (omega arith) (omega arith) (read_fits subnet_timeout 18 read (omega arith) (omega arith)),
-    (small client_reregister 0 (omega arith) (omega arith) (omega arith), tt))))))))
+    (small neighbor_mtu (mtu_of read.own read.far) (omega arith) (omega arith) (mtu_fits read.own read.far),
+    (small hoq_life _ (omega arith) (omega arith) (read_fits hoq_life 16 read.own (omega arith) (omega arith)),
+    (small subnet_timeout _ (omega arith) (omega arith) (read_fits subnet_timeout 18 read.own (omega arith) (omega arith)),
+    (small client_reregister 0 (omega arith) (omega arith) (omega arith), tt)))))))))
 
 switch_fit : (read : List ℕ) → AllFit (switch_changes read)
 switch_fit read =
@@ -62,11 +71,11 @@ switch_fit read =
 
 -- what is carried is whole -------------------------------------------------------------------------
 
-pub carried_port_whole : (read : Option (List ℕ)) → IsWhole (carried_port read)
+pub carried_port_whole : (read : Option PortRead) → IsWhole (carried_port read)
 carried_port_whole None = whole_zeros
 carried_port_whole (Some read) =
-    whole-changed (port_changes read) (with_number gid_prefix (or_default link_local_prefix (number_in gid_prefix read)) (copied read)) (port_fit read)
-    (whole-with_number gid_prefix (or_default link_local_prefix (number_in gid_prefix read)) (copied read) (omega arith) (copied_whole read))
+    whole-changed (port_changes read) (with_number gid_prefix (or_default link_local_prefix (number_in gid_prefix read.own)) (copied read.own)) (port_fit read)
+    (whole-with_number gid_prefix (or_default link_local_prefix (number_in gid_prefix read.own)) (copied read.own) (omega arith) (copied_whole read.own))
 
 pub carried_switch_whole : (read : Option (List ℕ)) → IsWhole (carried_switch read)
 carried_switch_whole None = whole_zeros
@@ -159,12 +168,12 @@ module _ (base : List ℕ) (whole : IsWhole base) (range : ℕ × ℕ) (few : ra
       ∙ number_in-with_number_apart gid_prefix base_lid range.0 base (omega (arith, n)) refl
 
 -- of any Set: it is whole, and its LID and LMC are those that it is made with
-pub port_data_whole : (read : Option (List ℕ)) (range : ℕ × ℕ) (master : ℕ) (state : PortState) → IsWhole (port_data read range master state)
+pub port_data_whole : (read : Option PortRead) (range : ℕ × ℕ) (master : ℕ) (state : PortState) → IsWhole (port_data read range master state)
 port_data_whole read range master state =
     whole-with_bits port_state (number_of_state state) _ (omega arith) (whole-with_bits lmc range.1 _ (omega arith)
     (whole-with_number master_sm_lid master _ (omega arith) (whole-with_number base_lid range.0 (carried_port read) (omega arith) (carried_port_whole read))))
 
-pub range-port_data : (read : Option (List ℕ)) (range : ℕ × ℕ) (master : ℕ) (state : PortState) → range.0 < 2 ^ 16 → range.1 < 8
+pub range-port_data : (read : Option PortRead) (range : ℕ × ℕ) (master : ℕ) (state : PortState) → range.0 < 2 ^ 16 → range.1 < 8
     → range_in (port_data read range master state) ≡ range
 range-port_data read range master state fits few =
     λ i. (lid_there (carried_port read) (carried_port_whole read) range few master state fits i,
@@ -217,21 +226,21 @@ is_kept b =
     (are_apart (record { at = b.at; len = 1 }) base_lid && are_apart (record { at = b.at; len = 1 }) master_sm_lid)
     && (are_bits_apart b port_state && are_bits_apart b lmc)
 
-module _ (read : List ℕ) (are : Are64Bytes read) (range : ℕ × ℕ) (few : range.1 < 8) (master : ℕ) (state : PortState) where
+module _ (read : PortRead) (are : Are64Bytes read.own) (range : ℕ × ℕ) (few : range.1 < 8) (master : ℕ) (state : PortState) where
   payload : List ℕ
   payload = port_data (Some read) range master state
 
   prefix : ℕ
-  prefix = or_default link_local_prefix (number_in gid_prefix read)
+  prefix = or_default link_local_prefix (number_in gid_prefix read.own)
 
-  copy : copied read ≡ read
-  copy = copied_is read (read_whole read are)
+  copy : copied read.own ≡ read.own
+  copy = copied_is read.own (read_whole read.own are)
 
   prefixed : List ℕ
-  prefixed = with_number gid_prefix prefix (copied read)
+  prefixed = with_number gid_prefix prefix (copied read.own)
 
-  whole_prefixed : IsWhole (with_number gid_prefix (or_default link_local_prefix (number_in gid_prefix read)) (copied read))
-  whole_prefixed = whole-with_number gid_prefix (or_default link_local_prefix (number_in gid_prefix read)) (copied read) (omega arith) (copied_whole read)
+  whole_prefixed : IsWhole (with_number gid_prefix (or_default link_local_prefix (number_in gid_prefix read.own)) (copied read.own))
+  whole_prefixed = whole-with_number gid_prefix (or_default link_local_prefix (number_in gid_prefix read.own)) (copied read.own) (omega arith) (copied_whole read.own)
 
   stays : (b : Bits) → is_kept b ≡ true → bits_in b (port_data (Some read) range master state) ≡ bits_in b (carried_port (Some read))
   unfolding is_kept
@@ -245,9 +254,9 @@ module _ (read : List ℕ) (are : Are64Bytes read) (range : ℕ × ℕ) (few : r
   unfolding passes_each is_kept
   carries_port =
       let whole = carried_port_whole (Some read) in
-      let fits : or_default link_local_prefix (number_in gid_prefix read) < 256 ^ 8 =
-      default_fits link_local_prefix (number_in gid_prefix read) (256 ^ 8) (omega arith) (field_fits gid_prefix read (read_whole read are)) in
-      let long = (copied_whole read).count in
+      let fits : or_default link_local_prefix (number_in gid_prefix read.own) < 256 ^ 8 =
+      default_fits link_local_prefix (number_in gid_prefix read.own) (256 ^ 8) (omega arith) (field_fits gid_prefix read.own (read_whole read.own are)) in
+      let long = (copied_whole read.own).count in
       record {
         others = λ b outside apart.
             let lids = and_parts _ _ outside in
@@ -257,14 +266,14 @@ module _ (read : List ℕ) (are : Are64Bytes read) (range : ℕ × ℕ) (few : r
             let second = and_parts _ _ first.1 in
             bits_stay (carried_port (Some read)) whole range few master state b lids.0 more.0 first.0 second.0
             ∙ bits_in-changed_apart b (port_changes read) _ (port_fit read) whole_prefixed second.1
-            ∙ bits_in-with_number b gid_prefix (or_default link_local_prefix (number_in gid_prefix read)) (copied read) (omega arith) (copied_whole read) rest.0
+            ∙ bits_in-with_number b gid_prefix (or_default link_local_prefix (number_in gid_prefix read.own)) (copied read.own) (omega arith) (copied_whole read.own) rest.0
             ∙ ap (bits_in b) copy;
         changes = λ c there.
             stays c.bits (passed (λ x. is_kept x.bits) (port_changes read) refl c there)
             ∙ bits_in-changed (port_changes read) _ (port_fit read) refl whole_prefixed c there;
         prefix = prefix_stays (carried_port (Some read)) whole range few master state
             ∙ number_in-changed_apart gid_prefix (port_changes read) _ (port_fit read) whole_prefixed refl
-            ∙ number_in-with_number gid_prefix (or_default link_local_prefix (number_in gid_prefix read)) (copied read) (omega (arith, long)) fits;
+            ∙ number_in-with_number gid_prefix (or_default link_local_prefix (number_in gid_prefix read.own)) (copied read.own) (omega (arith, long)) fits;
       }
 
 carries_switch : (read : List ℕ) (top : ℕ) → Are64Bytes read → CarriesSwitch read (top_data (Some read) top)
@@ -307,7 +316,7 @@ state_alone base before after whole =
     ∙ with_number-twice (record { at = 32; len = 1 }) (replaced port_state (number_of_state after) (get_or base 32 0))
     (replaced port_state (number_of_state before) (get_or base 32 0)) base (omega (arith, n))
 
-pub state_sets_alike : (read : Option (List ℕ)) (range : ℕ × ℕ) (master : ℕ) (before after : PortState)
+pub state_sets_alike : (read : Option PortRead) (range : ℕ × ℕ) (master : ℕ) (before after : PortState)
     → with_bits port_state (number_of_state after) (port_data read range master before) ≡ port_data read range master after
 state_sets_alike read range master before after =
     let base = with_bits lmc range.1 (with_number master_sm_lid master (with_number base_lid range.0 (carried_port read))) in
@@ -338,7 +347,7 @@ chosen false m s h = absurd (cc)
 
 pub lid_and_state_agree : LidAndStateAgree
 lid_and_state_agree cells sweep given master state e range of_lid of_state has lid_made state_made =
-    let read = port_image sweep e.node e.port in
+    let read = port_read cells sweep e.node e.port in
     let lid_is = payload_at sweep e.node e.port port_info e.port (port_data read range master NoChange) of_lid lid_made in
     let state_is = payload_at sweep e.node (vertex_port cells (e.node, e.port)) port_info e.port (state_data read given master state (e.node, e.port)) of_state
     (chosen (option_map_or (is_due state) (seen_state sweep e.node e.port) false) _ of_state state_made) in

@@ -10,6 +10,7 @@ use Rattle.subnet_view.specs.declared.end_port.EndPort.{EndPort}
 use Rattle.lid_assign.specs.Lids.{Given, range_of}
 use Rattle.sweep.specs.Sweep.{Sweep}
 use Rattle.plan_steps.specs.declared.step.Step.{Step}
+use Rattle.plan_steps.specs.declared.carried.PortRead.{PortRead}
 use Rattle.plan_steps.specs.Carried.{Change, link_local_prefix, or_default, port_changes, switch_changes}
 use Rattle.plan_steps.specs.Lids.{lid_step, port_data}
 use Rattle.plan_steps.specs.States.{state_step}
@@ -31,7 +32,7 @@ pub record SaysTop (top : ℕ) (payload : List ℕ) : Type 0 where
 
 -- whatever was read, a Set says what the plan asks for
 pub record SetsSayThePlan : Type 0 where
-  pub port : (read : Option (List ℕ)) (range : ℕ × ℕ) (master : ℕ) (state : PortState) → range.0 < 2 ^ 16 → range.1 < 8 → master < 2 ^ 16
+  pub port : (read : Option PortRead) (range : ℕ × ℕ) (master : ℕ) (state : PortState) → range.0 < 2 ^ 16 → range.1 < 8 → master < 2 ^ 16
       → SaysPort range master state (port_data read range master state)
   pub switch : (read : Option (List ℕ)) (top : ℕ) → top < 2 ^ 16 → SaysTop top (top_data read top)
 
@@ -54,14 +55,15 @@ bits_of changes = map (λ c. c.bits) changes
 abbrev pub port_fields : List Field
 port_fields = base_lid ∷ master_sm_lid ∷ gid_prefix ∷ []
 
-abbrev pub port_bits : List ℕ → List Bits
+abbrev pub port_bits : PortRead → List Bits
 port_bits read = port_state ∷ lmc ∷ bits_of (port_changes read)
 
 -- what a Set of PortInfo has of what was read
-pub record CarriesPort (read payload : List ℕ) : Type 0 where
-  pub others : (b : Bits) → are_outside port_fields b ≡ true → are_apart_from (port_bits read) b ≡ true → bits_in b payload ≡ bits_in b read
+pub record CarriesPort (read : PortRead) (payload : List ℕ) : Type 0 where
+  pub others : (b : Bits) → are_outside port_fields b ≡ true → are_apart_from (port_bits read) b ≡ true
+      → bits_in b payload ≡ bits_in b read.own
   pub changes : (c : Change) → Contains (port_changes read) c → bits_in c.bits payload ≡ c.number
-  pub prefix : number_in gid_prefix payload ≡ or_default link_local_prefix (number_in gid_prefix read)
+  pub prefix : number_in gid_prefix payload ≡ or_default link_local_prefix (number_in gid_prefix read.own)
 
 -- what a Set of SwitchInfo has of what was read
 pub record CarriesSwitch (read payload : List ℕ) : Type 0 where
@@ -71,7 +73,7 @@ pub record CarriesSwitch (read payload : List ℕ) : Type 0 where
 
 -- a Set leaves what was read as it is, but for what the plan asks for and for the changes
 pub record SetsChangeNothingElse : Type 0 where
-  pub port : (read : List ℕ) (range : ℕ × ℕ) (master : ℕ) (state : PortState) → Are64Bytes read → range.1 < 8
+  pub port : (read : PortRead) (range : ℕ × ℕ) (master : ℕ) (state : PortState) → Are64Bytes read.own → range.1 < 8
       → CarriesPort read (port_data (Some read) range master state)
   pub switch : (read : List ℕ) (top : ℕ) → Are64Bytes read → CarriesSwitch read (top_data (Some read) top)
 
@@ -82,6 +84,6 @@ pub record SetsChangeNothingElse : Type 0 where
 abbrev pub LidAndStateAgree : Type 0
 LidAndStateAgree =
     (cells : Cells) (sweep : Sweep) (given : Given) (master : ℕ) (state : PortState) (e : EndPort) (range : ℕ × ℕ)
-    (of_lid of_state : Step) → range_of given e ≡ Some range → lid_step sweep master range e ≡ Some of_lid
+    (of_lid of_state : Step) → range_of given e ≡ Some range → lid_step cells sweep master range e ≡ Some of_lid
     → state_step cells sweep given master state (e.node, e.port) ≡ Some of_state
     → of_state.payload ≡ with_bits port_state (number_of_state state) of_lid.payload

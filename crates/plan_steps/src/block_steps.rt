@@ -97,13 +97,14 @@ fn steps_with_top(
 fn top_step(sweep: &Sweep, top: Lid, guid: Guid) -> Option<Step>
     ensures { result ≡ top_step sweep.now top guid }
 {
+    let read = sweep.switch_image(guid);
     step_at(
         sweep,
         guid,
         PortNum::MANAGEMENT,
         AttributeId::SWITCH_INFO,
         0,
-        top_data(sweep.switch_image(guid), top),
+        top_data(read, top),
     )
 }
 

@@ -11,5 +11,6 @@ mod state_steps;
 mod step;
 
 pub use bound::most_steps;
+pub use carried::PortRead;
 pub use phase::{Phase, phases};
 pub use step::Step;

@@ -6,9 +6,10 @@ ghost use Rattle.sweep.specs.Sweep.{seen_state};
 ghost use Rattle.plan_steps.specs.States.{is_due, state_data, state_step, vertex_port};
 ghost use Rattle.plan_steps.specs.States.{wired_port, wired_ports};
 
+use crate::carried::{PortRead, port_read};
 use crate::lid_steps::port_data;
 use crate::step::{Step, step_at};
-use attr_codec::{Lmc, PortInfo, PortState};
+use attr_codec::{Lmc, PortState};
 use fact_store::{Key, Sighting, Store};
 use lid_assign::LidMap;
 use smp_bytes::{AttributeId, Guid, Lid, PortNum};
@@ -84,20 +85,14 @@ fn state_step(
     if !is_still_due(sweep, state, guid, port) {
         return None;
     }
+    let read = port_read(store, sweep, guid, port);
     step_at(
         sweep,
         guid,
         vertex_port(store, guid, port),
         AttributeId::PORT_INFO,
         u32::from(port.number()),
-        state_data(
-            sweep.port_image(guid, port),
-            lids,
-            master,
-            state,
-            guid,
-            port,
-        ),
+        state_data(read, lids, master, state, guid, port),
     )
 }
 
@@ -135,7 +130,7 @@ fn vertex_port(store: &Store, guid: Guid, port: PortNum) -> PortNum
 
 /// Returns the PortInfo that sets `state`, with an end port's LIDs; a switch's other ports have none.
 fn state_data(
-    read: Option<PortInfo>,
+    read: Option<PortRead>,
     lids: &LidMap,
     master: Lid,
     state: PortState,
