@@ -264,8 +264,13 @@ module _ (w : Managing) (before between after : List ManagerEvent) (run : IsWrit
           let facts = (at_writing w before between).manager.store in
           let x = range_is_set (at_writing w before between).manager.planning.rule (at_writing w before between).manager.planning.lmc swept_before.fair.side.lmc
           facts may.has_room sweep master few seen_few e range path has there in
-          let (a, at, held, whole) = set_is_held (record { path = path; attribute = port_info; modifier = e.port; payload = port_data (port_read (cells_of facts) sweep e.node e.port) range master NoChange }) x
-          e.node e.port there port.node named.node named.node_there named.guid_is in
+          let (a, at, held, whole) = set_is_held (record {
+            path = path;
+            attribute = port_info;
+            modifier = e.port;
+            payload =
+                port_data (port_read (cells_of facts) sweep e.node e.port) range master NoChange;
+          }) x e.node e.port there port.node named.node named.node_there named.guid_is in
           ap (λ o. (option_map_or (λ y. base_lid_at y port.port) o 0, option_map_or (λ y. lmc_at y port.port) o 0)) at
           ∙ ap (range_at a) named.port_is ∙ held.lids refl
           ∙ range_value (at_writing w before between).manager.planning.rule (at_writing w before between).manager.planning.lmc swept_before.fair.side.lmc facts
@@ -281,7 +286,8 @@ module _ (w : Managing) (before between after : List ManagerEvent) (run : IsWrit
           let facts = (at_writing w before between).manager.store in
           let x = top_is_set (at_writing w before between).manager.planning.rule (at_writing w before between).manager.planning.lmc swept_before.fair.side.lmc
           facts may.has_room sweep master few seen_few guid top path is_top is_switch there in
-          let (a, at, held, whole) = set_is_held (record { path = path; attribute = switch_info; modifier = 0; payload = top_data (switch_image sweep guid) top }) x guid 0 there id
+          let (a, at, held, whole) = set_is_held
+          (record { path = path; attribute = switch_info; modifier = 0; payload = top_data (switch_image sweep guid) top }) x guid 0 there id
           node has.there has.named in
           ap (λ o. option_map_or (λ (y : Agent). y.top) o 0) at ∙ held.top refl
           ∙ top_value (at_writing w before between).manager.planning.rule (at_writing w before between).manager.planning.lmc swept_before.fair.side.lmc

@@ -153,6 +153,10 @@ module _ (rule : RuleValue) (lmc : ℕ) (few_lmc : lmc < 8) (facts : Facts) (has
   plan : PlanValue
   plan = plan_of rule lmc (cells_of facts)
 
+  -- what the sweep read of a port, and of the port across
+  abbrev pub read_of : ℕ → ℕ → Option PortRead
+  read_of guid port = port_read (cells_of facts) sweep guid port
+
   pub lid_fits : (e : EndPort) (lid : ℕ) → Contains (lids lmc (cells_of facts)).ports (e, lid) → lid < 0xC000
   lid_fits e lid there =
       let fits = ((lids_law lmc facts has_room).each_fits e lid there).in_room in
@@ -184,11 +188,13 @@ module _ (rule : RuleValue) (lmc : ℕ) (few_lmc : lmc < 8) (facts : Facts) (has
     pub e : EndPort
     pub lid : ℕ
     pub has : lid_of (lids lmc (cells_of facts)) e ≡ Some lid
-    pub is_made : IsMade sweep e.node e.port port_info e.port (port_data (port_read (cells_of facts) sweep e.node e.port) (lid, lmc_of (lids lmc (cells_of facts)) e) master NoChange) s
+    pub is_made : IsMade sweep e.node e.port port_info e.port
+        (port_data (read_of e.node e.port) (lid, lmc_of (lids lmc (cells_of facts)) e) master NoChange) s
 
   from_lid_step : (s : Step) → Contains (lid_steps (cells_of facts) sweep master (lids lmc (cells_of facts))) s → LidStep s
   from_lid_step s there =
-      let (lid, risen, e) = taken_from (owner_step (cells_of facts) sweep master (lids lmc (cells_of facts))) (rising_lids (lids lmc (cells_of facts))) s there in
+      let (lid, risen, e) = taken_from (owner_step (cells_of facts) sweep master (lids lmc (cells_of facts)))
+      (rising_lids (lids lmc (cells_of facts))) s there in
       by_owner lid risen (owner_of (lids lmc (cells_of facts)) lid) refl e
     where
       by_owner : (lid : ℕ) → Contains (rising_lids (lids lmc (cells_of facts))) lid → (m : Option EndPort) → owner_of (lids lmc (cells_of facts)) lid ≡ m
@@ -200,7 +206,8 @@ module _ (rule : RuleValue) (lmc : ℕ) (few_lmc : lmc < 8) (facts : Facts) (has
             e = e;
             lid = lid;
             has = has_first e lid risen owns;
-            is_made = made sweep e.node e.port port_info e.port (port_data (port_read (cells_of facts) sweep e.node e.port) (lid, lmc_of (lids lmc (cells_of facts)) e) master NoChange) s h;
+            is_made = made sweep e.node e.port port_info e.port
+                (port_data (read_of e.node e.port) (lid, lmc_of (lids lmc (cells_of facts)) e) master NoChange) s h;
           }
 
   -- an end port with a LID has its LMC with it
@@ -230,8 +237,8 @@ module _ (rule : RuleValue) (lmc : ℕ) (few_lmc : lmc < 8) (facts : Facts) (has
       range-port_data read range master state (omega (arith, small)) (omega (arith, lmc_is, lmc_fits e))
 
   pub range_value : (e : EndPort) (range : ℕ × ℕ) → range_of (lids lmc (cells_of facts)) e ≡ Some range
-      → range_in (port_data (port_read (cells_of facts) sweep e.node e.port) range master NoChange) ≡ range
-  range_value e range has = value_in (port_read (cells_of facts) sweep e.node e.port) NoChange e range has
+      → range_in (port_data (read_of e.node e.port) range master NoChange) ≡ range
+  range_value e range has = value_in (read_of e.node e.port) NoChange e range has
 
   lid_step_is : (s : Step) → LidStep s → IsStep (plan_of rule lmc (cells_of facts)) sweep s × IsPlanned (plan_of rule lmc (cells_of facts)) sweep s
   lid_step_is s l =
@@ -239,7 +246,7 @@ module _ (rule : RuleValue) (lmc : ℕ) (few_lmc : lmc < 8) (facts : Facts) (has
       let port = few l.e.node l.e.port s.path m.goes.path in
       let range : ℕ × ℕ = (l.lid, lmc_of (lids lmc (cells_of facts)) l.e) in
       let has_it = has_range l.e l.lid l.has in
-      let value : range_in s.payload ≡ range = ap range_in m.payload_is ∙ value_in (port_read (cells_of facts) sweep l.e.node l.e.port) NoChange l.e range has_it in
+      let value : range_in s.payload ≡ range = ap range_in m.payload_is ∙ value_in (read_of l.e.node l.e.port) NoChange l.e range has_it in
       let is_port = m.attribute_is in (
         record {
           guid = l.e.node;
@@ -249,7 +256,7 @@ module _ (rule : RuleValue) (lmc : ℕ) (few_lmc : lmc < 8) (facts : Facts) (has
             attribute = omega (arith, is_port);
             no_manager = λ e. omega (arith, is_port, e);
             modifier = let same = m.modifier_is in omega (arith, same, port);
-            whole = ap length m.payload_is ∙ length-port_data (port_read (cells_of facts) sweep l.e.node l.e.port) range master NoChange;
+            whole = ap length m.payload_is ∙ length-port_data (read_of l.e.node l.e.port) range master NoChange;
           };
           planned = record {
             lids = λ _ other has. value ∙ same_Some _ _ (sym has_it
@@ -275,13 +282,20 @@ module _ (rule : RuleValue) (lmc : ℕ) (few_lmc : lmc < 8) (facts : Facts) (has
 
   to_lid_step : (e : EndPort) (lid : ℕ) (path : List ℕ) → lid_of (lids lmc (cells_of facts)) e ≡ Some lid → path_to sweep e.node e.port ≡ Some path
       → Contains (lid_steps (cells_of facts) sweep master (lids lmc (cells_of facts)))
-      (record { path = path; attribute = port_info; modifier = e.port; payload = port_data (port_read (cells_of facts) sweep e.node e.port) (lid, lmc_of (lids lmc (cells_of facts)) e) master NoChange })
+      (record {
+        path = path;
+        attribute = port_info;
+        modifier = e.port;
+        payload =
+            port_data (read_of e.node e.port) (lid, lmc_of (lids lmc (cells_of facts)) e) master NoChange;
+      })
   to_lid_step e lid path has there =
       let held = given-from_lid (lids lmc (cells_of facts)) e lid has in
       let risen : Contains (rising_lids (lids lmc (cells_of facts))) lid = ((rising_lids_law (lids lmc (cells_of facts))).0 lid).1 (e, held) in
       is_taken (owner_step (cells_of facts) sweep master (lids lmc (cells_of facts))) (rising_lids (lids lmc (cells_of facts))) lid _ risen
       (ap (option_and_then (λ x. lid_step (cells_of facts) sweep master (lid, lmc_of (lids lmc (cells_of facts)) x) x)) (owns_first e lid has)
-      ∙ making sweep e.node e.port port_info e.port (port_data (port_read (cells_of facts) sweep e.node e.port) (lid, lmc_of (lids lmc (cells_of facts)) e) master NoChange) path there)
+      ∙ making sweep e.node e.port port_info e.port
+      (port_data (read_of e.node e.port) (lid, lmc_of (lids lmc (cells_of facts)) e) master NoChange) path there)
 
   -- blocks
   record BlockThere (guid b : ℕ) (payload : List ℕ) : Type 0 where
@@ -416,13 +430,20 @@ module _ (rule : RuleValue) (lmc : ℕ) (few_lmc : lmc < 8) (facts : Facts) (has
       by_top None is_top h = absurd (contains_none s h)
       by_top (Some top) is_top h =
           let (guid, is_switch, e) = taken_from (top_step sweep top) (switches_of (plan_of rule lmc (cells_of facts))) s h in
-          record { guid = guid; top = top; is_top = is_top; switch = is_switch; is_made = made sweep guid 0 switch_info 0 (top_data (switch_image sweep guid) top) s e }
+          record {
+            guid = guid;
+            top = top;
+            is_top = is_top;
+            switch = is_switch;
+            is_made = made sweep guid 0 switch_info 0 (top_data (switch_image sweep guid) top) s e;
+          }
 
   top_step_is : (s : Step) → TopStep s → IsStep (plan_of rule lmc (cells_of facts)) sweep s × IsPlanned (plan_of rule lmc (cells_of facts)) sweep s
   top_step_is s l =
       let m = l.is_made in
       let small = top_fits l.top l.is_top in
-      let value : number_in linear_fdb_top s.payload ≡ l.top = ap (number_in linear_fdb_top) m.payload_is ∙ top-top_data (switch_image sweep l.guid) l.top (omega (arith, small)) in
+      let value : number_in linear_fdb_top s.payload ≡ l.top = ap (number_in linear_fdb_top) m.payload_is
+      ∙ top-top_data (switch_image sweep l.guid) l.top (omega (arith, small)) in
       let is_info = m.attribute_is in (
         record {
           guid = l.guid;
@@ -456,7 +477,8 @@ module _ (rule : RuleValue) (lmc : ℕ) (few_lmc : lmc < 8) (facts : Facts) (has
 
   to_top_step : (guid top : ℕ) (path : List ℕ) → top_of (lids lmc (cells_of facts)) ≡ Some top → Contains (switches_of (plan_of rule lmc (cells_of facts))) guid
       → path_to sweep guid 0 ≡ Some path
-      → Contains (top_steps sweep (plan_of rule lmc (cells_of facts))) (record { path = path; attribute = switch_info; modifier = 0; payload = top_data (switch_image sweep guid) top })
+      → Contains (top_steps sweep (plan_of rule lmc (cells_of facts)))
+      (record { path = path; attribute = switch_info; modifier = 0; payload = top_data (switch_image sweep guid) top })
   to_top_step guid top path is_top is_switch there =
       subst (λ m. Contains (option_map_or (λ t. filter_map (top_step sweep t) (switches_of (plan_of rule lmc (cells_of facts)))) m [])
       (record { path = path; attribute = switch_info; modifier = 0; payload = top_data (switch_image sweep guid) top }))
@@ -483,11 +505,12 @@ module _ (rule : RuleValue) (lmc : ℕ) (few_lmc : lmc < 8) (facts : Facts) (has
 
       by_step : (at : ℕ × ℕ) → at.1 ≤ 254 → (b : Bool)
           → (if b then step_at sweep at.0 (vertex_port (cells_of facts) at) port_info at.1
-          (state_data (port_read (cells_of facts) sweep at.0 at.1) (lids lmc (cells_of facts)) master state at) else None) ≡ Some s
+          (state_data (read_of at.0 at.1) (lids lmc (cells_of facts)) master state at) else None) ≡ Some s
           → IsStep (plan_of rule lmc (cells_of facts)) sweep s
       by_step at small false h = absurd (cc)
       by_step at small true h =
-          let m = made sweep at.0 (vertex_port (cells_of facts) at) port_info at.1 (state_data (port_read (cells_of facts) sweep at.0 at.1) (lids lmc (cells_of facts)) master state at) s h in
+          let m = made sweep at.0 (vertex_port (cells_of facts) at) port_info at.1
+          (state_data (read_of at.0 at.1) (lids lmc (cells_of facts)) master state at) s h in
           let is_port = m.attribute_is in
           record {
             guid = at.0;
@@ -497,12 +520,13 @@ module _ (rule : RuleValue) (lmc : ℕ) (few_lmc : lmc < 8) (facts : Facts) (has
               attribute = omega (arith, is_port);
               no_manager = λ e. omega (arith, is_port, e);
               modifier = let same = m.modifier_is in omega (arith, same, small);
-              whole = ap length m.payload_is ∙ whole (port_read (cells_of facts) sweep at.0 at.1) at;
+              whole = ap length m.payload_is ∙ whole (read_of at.0 at.1) at;
             };
             planned = record {
               lids = λ _ range has. let known = ap (λ n. range_of (lids lmc (cells_of facts)) (record { node = at.0; port = n })) (sym m.modifier_is) ∙ has in
-                  ap range_in (m.payload_is ∙ ap (λ o. option_map_or (λ n. port_data (port_read (cells_of facts) sweep at.0 at.1) n master state) o (port_data (port_read (cells_of facts) sweep at.0 at.1) (0, 0) 0 state)) known)
-                  ∙ value_in (port_read (cells_of facts) sweep at.0 at.1) state (record { node = at.0; port = at.1 }) range known;
+                  ap range_in (m.payload_is
+                  ∙ ap (λ o. option_map_or (λ n. port_data (read_of at.0 at.1) n master state) o (port_data (read_of at.0 at.1) (0, 0) 0 state)) known)
+                  ∙ value_in (read_of at.0 at.1) state (record { node = at.0; port = at.1 }) range known;
               top = λ f. absurd (omega (arith, is_port, f));
               block = λ f. absurd (omega (arith, is_port, f));
             };
@@ -511,7 +535,8 @@ module _ (rule : RuleValue) (lmc : ℕ) (few_lmc : lmc < 8) (facts : Facts) (has
 
       by_due : (at : ℕ × ℕ) (m : Option PortState) → seen_state sweep at.0 at.1 ≡ m
           → (if option_map_or (is_due state) m false
-          then step_at sweep at.0 (vertex_port (cells_of facts) at) port_info at.1 (state_data (port_read (cells_of facts) sweep at.0 at.1) (lids lmc (cells_of facts)) master state at) else None) ≡ Some s
+          then step_at sweep at.0 (vertex_port (cells_of facts) at) port_info at.1
+          (state_data (read_of at.0 at.1) (lids lmc (cells_of facts)) master state at) else None) ≡ Some s
           → IsStep (plan_of rule lmc (cells_of facts)) sweep s
       by_due at None seen h = absurd (cc)
       by_due at (Some now) seen h = by_step at (seen_few at.0 at.1 now seen) (is_due state now) h
@@ -548,7 +573,7 @@ module _ (rule : RuleValue) (lmc : ℕ) (few_lmc : lmc < 8) (facts : Facts) (has
   pub range_is_set : (e : EndPort) (range : ℕ × ℕ) (path : List ℕ) → range_of (lids lmc (cells_of facts)) e ≡ Some range → path_to sweep e.node e.port
       ≡ Some path
       → IsOf (phases_by (plan_of rule lmc (cells_of facts)) (cells_of facts) sweep master) true
-      (record { path = path; attribute = port_info; modifier = e.port; payload = port_data (port_read (cells_of facts) sweep e.node e.port) range master NoChange })
+      (record { path = path; attribute = port_info; modifier = e.port; payload = port_data (read_of e.node e.port) range master NoChange })
   range_is_set e range path has there =
       let (lid_is, lmc_is) = range_parts e range has in
       record {
@@ -556,7 +581,8 @@ module _ (rule : RuleValue) (lmc : ℕ) (few_lmc : lmc < 8) (facts : Facts) (has
         there = (0, omega arith, refl);
         counts_is = refl;
         step = subst (λ (n : ℕ). Contains (lid_steps (cells_of facts) sweep master (lids lmc (cells_of facts)))
-            (record { path = path; attribute = port_info; modifier = e.port; payload = port_data (port_read (cells_of facts) sweep e.node e.port) (range.0, n) master NoChange })) (sym lmc_is)
+            (record { path = path; attribute = port_info; modifier = e.port; payload = port_data (read_of e.node e.port) (range.0, n) master NoChange }))
+            (sym lmc_is)
             (to_lid_step e range.0 path lid_is there);
       }
 

@@ -7,7 +7,7 @@ use Rattle.smp_bytes.proofs.BitLaws.{bits_in-with_bits, bits_in-with_bits_apart,
 use Rattle.smp_bytes.proofs.FieldLaws.{number_in-with_number_apart}
 use Rattle.smp_bytes.proofs.Members.{contains_cases, contains_none}
 use Rattle.plan_steps.specs.Carried.{Change, changed}
-use Rattle.plan_steps.specs.SetLaws.{are_apart_from, are_outside, bits_of}
+use Rattle.plan_steps.specs.SetLaws.{are_apart_from, bits_of}
 use Rattle.plan_steps.proofs.Whole.{IsWhole, whole-with_bits}
 
 -- the bits of a change are in the 64 bytes, and its number fits them

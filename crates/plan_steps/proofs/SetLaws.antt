@@ -1,5 +1,5 @@
 -- Sets say what the plan asks for, and carry all else as it was read.
-use Rattle.std.proofs.Common.{◌≡◌, ℕ, ◌+◌, ◌%◌, ◌/◌, ◌^◌, ◌<◌, ◌≤◌, List, [], ◌∷◌, refl, sym, ap, ◌∙◌, subst, arith, Bool, true, false, get_or, drop, length, ⊎_elim}
+use Rattle.std.proofs.Common.{◌≡◌, ℕ, ◌+◌, ◌/◌, ◌^◌, ◌<◌, ◌≤◌, List, [], ◌∷◌, refl, sym, ap, ◌∙◌, subst, arith, Bool, true, false, get_or, drop, ⊎_elim}
 use Rattle.std.specs.Prelude.{Contains, Option, Some, None, option_map, ◌==◌, ◌&&◌, if◌then◌else◌, min}
 use Rattle.std.specs.Option.{option_map_or}
 use Rattle.std.proofs.lemmas.Bool.{and_parts, cond-true, cond-false}
@@ -20,11 +20,11 @@ use Rattle.smp_bytes.specs.Header.{port_info}
 use Rattle.sweep.specs.Sweep.{Sweep, path_to, seen_state}
 use Rattle.plan_steps.specs.declared.step.Step.{Step}
 use Rattle.attr_codec.proofs.PortStates.{state_small}
-use Rattle.plan_steps.specs.Carried.{Change, carried_port, carried_switch, changed, client_reregister, copied, hoq_life, link_local_prefix, link_speed_enabled, link_speed_ext_enabled, link_width_enabled, or_default, port_changes, subnet_timeout, switch_changes, mtu_cap, mtu_of, neighbor_mtu, port_read}
+use Rattle.plan_steps.specs.Carried.{Change, carried_port, carried_switch, client_reregister, copied, hoq_life, link_local_prefix, link_speed_enabled, link_speed_ext_enabled, link_width_enabled, or_default, port_changes, subnet_timeout, switch_changes, mtu_cap, mtu_of, neighbor_mtu, port_read}
 use Rattle.plan_steps.specs.Lids.{port_data}
 use Rattle.plan_steps.specs.States.{is_due, state_data, vertex_port}
 use Rattle.plan_steps.specs.Step.{step_at}
-use Rattle.plan_steps.specs.SetLaws.{CarriesPort, CarriesSwitch, LidAndStateAgree, SaysPort, SaysTop, SetsChangeNothingElse, SetsSayThePlan, are_apart_from, are_outside, bits_of, port_bits, port_fields}
+use Rattle.plan_steps.specs.SetLaws.{CarriesPort, CarriesSwitch, LidAndStateAgree, SaysPort, SaysTop, SetsChangeNothingElse, SetsSayThePlan}
 use Rattle.plan_steps.specs.Tables.{top_data}
 use Rattle.plan_steps.proofs.Changed.{AllFit, Fits, bits_in-changed, bits_in-changed_apart, bits_in-with_number, number_in-changed_apart, whole-changed}
 use Rattle.plan_steps.proofs.Whole.{IsWhole, copied_is, copied_whole, whole-with_bits, whole-with_number, whole_zeros}
@@ -55,19 +55,37 @@ mtu_fits own (Some far) =
     default_fits (bits_in neighbor_mtu own) (min (bits_in mtu_cap own) (bits_in mtu_cap far)) 16 as_read (omega (arith, one))
 
 port_fit : (read : PortRead) → AllFit (port_changes read)
-port_fit read =
-    (small link_width_enabled 0 (omega arith) (omega arith) (omega arith), (small link_speed_enabled 0 (omega arith) (omega arith) (omega arith),
-    (small link_speed_ext_enabled 0 (omega arith) (omega arith) (omega arith), (small port_physical_state 0 (omega arith) (omega arith) (omega arith),
-    (small link_down_default_state 0 (omega arith) (omega arith) (omega arith),
-    (small neighbor_mtu (mtu_of read.own read.far) (omega arith) (omega arith) (mtu_fits read.own read.far),
-    (small hoq_life _ (omega arith) (omega arith) (read_fits hoq_life 16 read.own (omega arith) (omega arith)),
-    (small subnet_timeout _ (omega arith) (omega arith) (read_fits subnet_timeout 18 read.own (omega arith) (omega arith)),
-    (small client_reregister 0 (omega arith) (omega arith) (omega arith), tt)))))))))
+port_fit read = (
+  small link_width_enabled 0 (omega arith) (omega arith) (omega arith),
+  (
+    small link_speed_enabled 0 (omega arith) (omega arith) (omega arith),
+    (
+      small link_speed_ext_enabled 0 (omega arith) (omega arith) (omega arith),
+      (
+        small port_physical_state 0 (omega arith) (omega arith) (omega arith),
+        (
+          small link_down_default_state 0 (omega arith) (omega arith) (omega arith),
+          (
+            small neighbor_mtu (mtu_of read.own read.far) (omega arith) (omega arith) (mtu_fits read.own read.far),
+            (
+              small hoq_life _ (omega arith) (omega arith) (read_fits hoq_life 16 read.own (omega arith) (omega arith)),
+              (
+                small subnet_timeout _ (omega arith) (omega arith) (read_fits subnet_timeout 18 read.own (omega arith) (omega arith)),
+                (small client_reregister 0 (omega arith) (omega arith) (omega arith), tt),
+              ),
+            ),
+          ),
+        ),
+      ),
+    ),
+  ),
+)
 
 switch_fit : (read : List ℕ) → AllFit (switch_changes read)
-switch_fit read =
-    (small life_time_value _ (omega arith) (omega arith) (read_fits life_time_value 18 read (omega arith) (omega arith)),
-    (small port_state_change 1 (omega arith) (omega arith) (omega arith), tt))
+switch_fit read = (
+  small life_time_value _ (omega arith) (omega arith) (read_fits life_time_value 18 read (omega arith) (omega arith)),
+  (small port_state_change 1 (omega arith) (omega arith) (omega arith), tt),
+)
 
 -- what is carried is whole -------------------------------------------------------------------------
 
@@ -176,8 +194,10 @@ port_data_whole read range master state =
 pub range-port_data : (read : Option PortRead) (range : ℕ × ℕ) (master : ℕ) (state : PortState) → range.0 < 2 ^ 16 → range.1 < 8
     → range_in (port_data read range master state) ≡ range
 range-port_data read range master state fits few =
-    λ i. (lid_there (carried_port read) (carried_port_whole read) range few master state fits i,
-    lmc_there (carried_port read) (carried_port_whole read) range few master state i)
+    λ i. (
+      lid_there (carried_port read) (carried_port_whole read) range few master state fits i,
+      lmc_there (carried_port read) (carried_port_whole read) range few master state i,
+    )
 
 -- the laws ---------------------------------------------------------------------------------------------
 
@@ -240,7 +260,8 @@ module _ (read : PortRead) (are : Are64Bytes read.own) (range : ℕ × ℕ) (few
   prefixed = with_number gid_prefix prefix (copied read.own)
 
   whole_prefixed : IsWhole (with_number gid_prefix (or_default link_local_prefix (number_in gid_prefix read.own)) (copied read.own))
-  whole_prefixed = whole-with_number gid_prefix (or_default link_local_prefix (number_in gid_prefix read.own)) (copied read.own) (omega arith) (copied_whole read.own)
+  whole_prefixed =
+      whole-with_number gid_prefix (or_default link_local_prefix (number_in gid_prefix read.own)) (copied read.own) (omega arith) (copied_whole read.own)
 
   stays : (b : Bits) → is_kept b ≡ true → bits_in b (port_data (Some read) range master state) ≡ bits_in b (carried_port (Some read))
   unfolding is_kept
@@ -266,7 +287,8 @@ module _ (read : PortRead) (are : Are64Bytes read.own) (range : ℕ × ℕ) (few
             let second = and_parts _ _ first.1 in
             bits_stay (carried_port (Some read)) whole range few master state b lids.0 more.0 first.0 second.0
             ∙ bits_in-changed_apart b (port_changes read) _ (port_fit read) whole_prefixed second.1
-            ∙ bits_in-with_number b gid_prefix (or_default link_local_prefix (number_in gid_prefix read.own)) (copied read.own) (omega arith) (copied_whole read.own) rest.0
+            ∙ bits_in-with_number b gid_prefix (or_default link_local_prefix (number_in gid_prefix read.own)) (copied read.own) (omega arith)
+            (copied_whole read.own) rest.0
             ∙ ap (bits_in b) copy;
         changes = λ c there.
             stays c.bits (passed (λ x. is_kept x.bits) (port_changes read) refl c there)
@@ -298,7 +320,8 @@ sets_change_nothing_else =
 -- the state alone --------------------------------------------------------------------------------------
 
 -- of two states that are written the last one stands
-replaced_twice : (before after byte : ℕ) → before < 16 → after < 16 → byte < 256 → replaced port_state after (replaced port_state before byte) ≡ replaced port_state after byte
+replaced_twice : (before after byte : ℕ) → before < 16 → after < 16 → byte < 256
+    → replaced port_state after (replaced port_state before byte) ≡ replaced port_state after byte
 replaced_twice before after byte small_before small_after small_byte = omega arith
 
 pub state_alone : (base : List ℕ) (before after : PortState) → IsWhole base

@@ -1,5 +1,5 @@
 -- Sixty-four bytes that stay such as fields and bits are written.
-use Rattle.std.proofs.Common.{◌≡◌, ℕ, zero, suc, ◌+◌, ◌-◌, ◌/◌, ◌%◌, ◌^◌, ◌<◌, ◌≤◌, List, ◌++◌, ⊎_elim, inl, inr, sym, ap, ◌∙◌, subst, arith, length, take, drop, get_or, append-nil}
+use Rattle.std.proofs.Common.{◌≡◌, ℕ, zero, suc, ◌+◌, ◌-◌, ◌/◌, ◌^◌, ◌<◌, ◌≤◌, List, ◌++◌, ⊎_elim, inl, inr, sym, ap, ◌∙◌, subst, arith, length, get_or, append-nil}
 use Rattle.std.specs.Prelude.{replicate}
 use Rattle.std.specs.Int.{byte_at}
 use Rattle.std.proofs.lemmas.Bool.{cases_lt}
@@ -45,10 +45,10 @@ whole-with_number f number bytes lies whole =
     λ k same. subst (λ (n : ℕ). n < 256) (sym same) (whole.small k) in
     let inside : (k : ℕ) → f.at ≤ k → k < f.at + f.len → get_or (with_number f number bytes) k 0 < 256 =
     λ k from before.
-        let there = get_or-with_bytes_inside f.at (big_bytes f.len number) bytes (k - f.at) (omega (arith, ends, long)) (omega (arith, from, before, long)) in
-        let at : f.at + (k - f.at) ≡ k = omega (arith, from) in
-        let byte = small_bytes f.len number (k - f.at) in
-        subst (λ (n : ℕ). get_or (with_number f number bytes) n 0 < 256) at (omega (arith, there, byte)) in
+    let there = get_or-with_bytes_inside f.at (big_bytes f.len number) bytes (k - f.at) (omega (arith, ends, long)) (omega (arith, from, before, long)) in
+    let at : f.at + (k - f.at) ≡ k = omega (arith, from) in
+    let byte = small_bytes f.len number (k - f.at) in
+    subst (λ (n : ℕ). get_or (with_number f number bytes) n 0 < 256) at (omega (arith, there, byte)) in
     record {
       count = length-with_number f number bytes ends ∙ count;
       small = λ k. ⊎_elim (λ before. apart k (get_or-with_number f number bytes k ends (inl before)))

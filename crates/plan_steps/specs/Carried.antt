@@ -66,7 +66,8 @@ quarter_second = 16
 abbrev pub one_second : ℕ
 one_second = 18
 
--- the MTU of a port on a wire: the lesser of those that its two ends can take, if both say one; otherwise as it was read
+-- the MTU of a port on a wire: the lesser of those that its two ends can take, if both say one, and otherwise as it was
+-- read
 abbrev pub mtu_of : List ℕ → Option (List ℕ) → ℕ
 mtu_of own None = bits_in neighbor_mtu own
 mtu_of own (Some far) = or_default (bits_in neighbor_mtu own) (min (bits_in mtu_cap own) (bits_in mtu_cap far))

@@ -1,5 +1,5 @@
 -- What Sets of PortInfo and SwitchInfo say and carry, in words.
-use Rattle.std.specs.Prelude.{◌≡◌, ℕ, ◌<◌, ◌^◌, Bool, true, ◌&&◌, List, [], ◌∷◌, ◌++◌, Contains, Option, Some, length, map}
+use Rattle.std.specs.Prelude.{◌≡◌, ℕ, ◌<◌, ◌^◌, Bool, true, ◌&&◌, List, [], ◌∷◌, Contains, Option, Some, length, map}
 use Rattle.smp_bytes.specs.Field.{Bits, Field, are_apart, are_bits_apart, bits_in, number_in, with_bits}
 use Rattle.attr_codec.specs.PortInfo.{base_lid, gid_prefix, lmc, master_sm_lid, number_of_state, port_state, range_in}
 use Rattle.attr_codec.specs.Spelling.{Are64Bytes}
@@ -32,7 +32,8 @@ pub record SaysTop (top : ℕ) (payload : List ℕ) : Type 0 where
 
 -- whatever was read, a Set says what the plan asks for
 pub record SetsSayThePlan : Type 0 where
-  pub port : (read : Option PortRead) (range : ℕ × ℕ) (master : ℕ) (state : PortState) → range.0 < 2 ^ 16 → range.1 < 8 → master < 2 ^ 16
+  pub port : (read : Option PortRead) (range : ℕ × ℕ) (master : ℕ) (state : PortState)
+      → range.0 < 2 ^ 16 → range.1 < 8 → master < 2 ^ 16
       → SaysPort range master state (port_data read range master state)
   pub switch : (read : Option (List ℕ)) (top : ℕ) → top < 2 ^ 16 → SaysTop top (top_data read top)
 
@@ -67,7 +68,8 @@ pub record CarriesPort (read : PortRead) (payload : List ℕ) : Type 0 where
 
 -- what a Set of SwitchInfo has of what was read
 pub record CarriesSwitch (read payload : List ℕ) : Type 0 where
-  pub others : (b : Bits) → are_outside (linear_fdb_top ∷ []) b ≡ true → are_apart_from (bits_of (switch_changes read)) b ≡ true
+  pub others : (b : Bits) → are_outside (linear_fdb_top ∷ []) b ≡ true
+      → are_apart_from (bits_of (switch_changes read)) b ≡ true
       → bits_in b payload ≡ bits_in b read
   pub changes : (c : Change) → Contains (switch_changes read) c → bits_in c.bits payload ≡ c.number
 

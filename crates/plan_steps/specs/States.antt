@@ -53,7 +53,7 @@ abbrev pub state_step : Cells → Sweep → Given → ℕ → PortState → ℕ 
 state_step cells sweep given master state at =
     if option_map_or (is_due state) (seen_state sweep at.0 at.1) false
     then step_at sweep at.0 (vertex_port cells at) port_info at.1
-        (state_data (port_read cells sweep at.0 at.1) given master state at)
+    (state_data (port_read cells sweep at.0 at.1) given master state at)
     else None
 
 -- the steps that set `state` at each port on a wire that was reached and is to come to it, by node GUID and port

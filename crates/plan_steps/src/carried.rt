@@ -40,12 +40,7 @@ pub struct PortRead {
 
 /// Returns what was read of a port, if it is kept, and of the port across. Takes some ten searches if images are kept,
 /// otherwise one.
-pub(crate) fn port_read(
-    store: &Store,
-    sweep: &Sweep,
-    guid: Guid,
-    port: PortNum,
-) -> Option<PortRead>
+pub(crate) fn port_read(store: &Store, sweep: &Sweep, guid: Guid, port: PortNum) -> Option<PortRead>
     ensures { result ≡ port_read (cells_of store.now) sweep.now guid port }
 {
     let own = sweep.port_image(guid, port)?;

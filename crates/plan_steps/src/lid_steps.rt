@@ -55,13 +55,7 @@ pub(crate) fn lid_steps(
 }
 
 /// Builds the step of the end port that owns `lid`.
-fn owner_step(
-    store: &Store,
-    sweep: &Sweep,
-    master: Lid,
-    lids: &LidMap,
-    lid: Lid,
-) -> Option<Step>
+fn owner_step(store: &Store, sweep: &Sweep, master: Lid, lids: &LidMap, lid: Lid) -> Option<Step>
     ensures { result ≡ owner_step (cells_of store.now) sweep.now master lids.now lid }
 {
     let end = lids.owner(lid)?;

@@ -1,5 +1,5 @@
 -- A sweep that is not asked to keep images keeps none.
-use Rattle.std.proofs.Common.{◌≡◌, ℕ, List, [], ◌∷◌, refl, sym, ap, ◌∙◌, subst, false}
+use Rattle.std.proofs.Common.{◌≡◌, ℕ, List, [], ◌∷◌, refl, ap, ◌∙◌, false}
 use Rattle.std.specs.Prelude.{Option, Some, None, Result, Ok, Err}
 use Rattle.sweep.specs.declared.answer.Answer.{Answer}
 use Rattle.sweep.specs.declared.fault.SweepFault.{SweepFault}
@@ -9,7 +9,7 @@ use Rattle.sweep.specs.declared.request.Request.{Request}
 use Rattle.reply_facts.specs.Report.{about_of, payload_of}
 use Rattle.sweep.specs.Images.{Images, image_at, images_about, images_of, images_with, no_images}
 use Rattle.sweep.specs.Replies.{after_reply_to, judged, request_of}
-use Rattle.sweep.specs.Runs.{Event, Sends, Hears, TimesOut, HasNoImage, NoImageUnasked, after, heard, step}
+use Rattle.sweep.specs.Runs.{Event, Sends, Hears, TimesOut, NoImageUnasked, after, heard, step}
 use Rattle.sweep.specs.Sweep.{Sweep, after_next_request_of, after_timeout_of, request_with, started}
 
 -- images stay as none

@@ -129,4 +129,5 @@ pub record HasNoImage (s : Sweep) : Type 0 where
 
 abbrev pub NoImageUnasked : Type 0
 NoImageUnasked =
-    (origin generation first : ℕ) (events : List Event) → HasNoImage (after (started origin generation first false) events)
+    (origin generation first : ℕ) (events : List Event)
+    → HasNoImage (after (started origin generation first false) events)

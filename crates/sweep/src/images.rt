@@ -51,7 +51,7 @@ impl Model for Images {
     } };
 
     ghost invariant = { λ a. AreImages
-      (record { keeps = a.keeps; ports = a.ports.items; switches = a.switches.items }) };
+        (record { keeps = a.keeps; ports = a.ports.items; switches = a.switches.items }) };
 }
 
 impl Images {

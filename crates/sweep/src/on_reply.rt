@@ -98,11 +98,7 @@ impl Sweep {
         }
         self.requests.take(accepted.index, &accepted.finding);
         self.found.put(accepted.finding);
-        self.images.put(
-            accepted.question,
-            &accepted.context,
-            &smp.attribute_data(),
-        );
+        self.images.put(accepted.question, &accepted.context, &smp.attribute_data());
         Ok(accepted.answer)
     }
 
