@@ -275,7 +275,7 @@ one_view all (told ∷ later) = ap (λ x. merged_with x later) (sym (view_of_bot
 -- what a manager writes by what it knows -------------------------------------------------------------------------------------
 
 abbrev pub sweep_in : Option Sweep → Sweep
-sweep_in None = started 1 1 1
+sweep_in None = started 1 1 1 false
 sweep_in (Some s) = s
 
 pub sweep_there : (o : Option Sweep) → is_some o ≡ true → o ≡ Some (sweep_in o)

@@ -25,6 +25,7 @@ use Rattle.sweep.specs.declared.request.Question.{Question}
 use Rattle.sweep.specs.declared.request.Question.TheVariants as ask
 use Rattle.sweep.specs.declared.request.Request.{Request}
 use Rattle.sweep.specs.declared.vertex.Vertex.{Vertex}
+use Rattle.sweep.specs.Images.{Images}
 use Rattle.sweep.specs.Sweep.{Sweep, Asking, AreRising, first_question, first_vertex}
 use Rattle.sweep.specs.Finding.{is_start}
 use Rattle.manager_laws.specs.Truth.{HasNode}
@@ -148,6 +149,17 @@ module _ (f : Fabric) (seat : NodePort) where
     pub vertices : AllByRecursion (Covers (having s told)) s.reached
     pub joined : AllByRecursion IsJoinedSighting told
     pub start : (IsPending (s.outstanding ++ s.queued) first_question × (s.reached ≡ [])) ⊎ Has IsOrigin s.reached
+
+  -- whatever the sweep keeps of what it reads
+  pub covered_with_images : (images : Images) {s : Sweep} {told : Sightings} → Covered s told → Covered (record s { images = images }) told
+  covered_with_images images c =
+      record {
+        rising = c.rising;
+        rooted = c.rooted;
+        vertices = c.vertices;
+        joined = c.joined;
+        start = c.start;
+      }
 
   -- what goes on ------------------------------------------------------------------------------------------
 

@@ -1,5 +1,5 @@
 -- Whatever happens, a sweep that has every answer has found the part of the fabric that is joined to its seat.
-use Rattle.std.proofs.Common.{◌≡◌, ◌≤◌, inl, inr, ℕ, false, List, [], ◌∷◌, refl, sym, ap, ◌∙◌, subst, arith}
+use Rattle.std.proofs.Common.{◌≡◌, ◌≤◌, inl, inr, ℕ, Bool, false, List, [], ◌∷◌, refl, sym, ap, ◌∙◌, subst, arith}
 use Rattle.std.proofs.lemmas.Option.{slice_get-map}
 use Rattle.std.proofs.lemmas.List.Elements.{All-head, All-tail, recursion_from_All}
 use Rattle.std.specs.Prelude.{All, option_map, MatchBool}
@@ -44,8 +44,8 @@ true_told f (report ∷ reports) all =
     (true_told f reports (All-tail (λ x. All (IsTrueSighting f) (sightings_of x)) report reports all))
 
 -- at the beginning there is one request
-covers_first : (f : Fabric) (w : Sweeping) (generation first : ℕ) → Covered f w.seat (started w.seat.port generation first) []
-covers_first f w generation first =
+covers_first : (f : Fabric) (w : Sweeping) (generation first : ℕ) (keeps : Bool) → Covered f w.seat (started w.seat.port generation first keeps) []
+covers_first f w generation first keeps =
     record {
       rising = (omega arith, omega arith);
       rooted = (tt, tt);
@@ -88,8 +88,8 @@ module _ (w : Sweeping) (generation first : ℕ) (begins : Begins w generation f
         let (node, there, number) = seat_end in
         let at_first : Covered f w.seat w.sweep (told_in w.reports) =
         subst (λ (s : Sweep). Covered f w.seat s (told_in w.reports)) (sym begins.sweep)
-        (subst (λ reports. Covered f w.seat (started w.seat.port generation first) (told_in reports)) (sym begins.reports)
-        (covers_first f w generation first)) in
+        (subst (λ reports. Covered f w.seat (started w.seat.port generation first begins.keeps) (told_in reports)) (sym begins.reports)
+        (covers_first f w generation first begins.keeps)) in
         let ended = after_sweep_events events w in
         let few : w.sweep.silent_managers ≤ w.sweep.unanswered =
         subst (λ (s : Sweep). s.silent_managers ≤ s.unanswered) (sym begins.sweep) (omega arith) in

@@ -1,6 +1,6 @@
 -- A sweep that has every answer: on an adapter, a switch with a loop in its third port, and an adapter that has a port
 -- without a cable and at its other port a manager, which is asked for SMInfo.
-use Rattle.std.proofs.Common.{◌≡◌, ℕ, zero, suc, ◌+◌, ◌*◌, ◌^◌, List, [], ◌∷◌, ◌++◌, replicate, refl, ap, ◌∙◌, arith}
+use Rattle.std.proofs.Common.{◌≡◌, ℕ, zero, suc, ◌+◌, ◌*◌, ◌^◌, false, List, [], ◌∷◌, ◌++◌, replicate, refl, ap, ◌∙◌, arith}
 use Rattle.std.proofs.lemmas.Option.{slice_get-map}
 use Rattle.std.proofs.lemmas.List.Elements.{All-from_recursion}
 use Rattle.std.specs.Prelude.{Some, All, flat_map, option_map, slice_get}
@@ -101,7 +101,7 @@ distinct here there one other a b same = one_id here there other.guid (guid_ther
 -- the sweep ---------------------------------------------------------------------------------------------------
 
 abbrev beginning : Sweeping
-beginning = record { scene = record { fabric = network; handed = [] }; seat = port 0 1; sweep = started 1 1 0; asked = []; reports = [] }
+beginning = record { scene = record { fabric = network; handed = [] }; seat = port 0 1; sweep = started 1 1 0 false; asked = []; reports = [] }
 
 begins : Begins beginning 1 0
 unfolding cabled_at fresh_agent
@@ -116,6 +116,7 @@ begins =
       seat = refl;
       generation = (omega arith, omega arith);
       first = omega arith;
+      keeps = false;
       sweep = refl;
       asked = refl;
       reports = refl;

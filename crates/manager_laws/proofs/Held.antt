@@ -22,8 +22,9 @@ use Rattle.subnet_view.specs.Agreement.{IsPortNamed}
 use Rattle.lid_assign.specs.Lids.{range_of, top_of}
 use Rattle.lft_blocks.specs.Arrival.{HoldsBlock}
 use Rattle.lft_blocks.specs.Plan.{PlanValue, plan_of, block_at, switches_of}
-use Rattle.sweep.specs.Sweep.{Sweep, path_to, seen_state}
+use Rattle.sweep.specs.Sweep.{Sweep, path_to, seen_state, switch_image}
 use Rattle.plan_steps.specs.declared.step.Step.{Step}
+use Rattle.plan_steps.specs.Carried.{port_read}
 use Rattle.plan_steps.specs.Lids.{own_lid, port_data}
 use Rattle.plan_steps.specs.Tables.{top_data}
 use Rattle.plan_steps.specs.Phases.{Phase, phases_of}
@@ -263,8 +264,13 @@ module _ (w : Managing) (before between after : List ManagerEvent) (run : IsWrit
           let facts = (at_writing w before between).manager.store in
           let x = range_is_set (at_writing w before between).manager.planning.rule (at_writing w before between).manager.planning.lmc swept_before.fair.side.lmc
           facts may.has_room sweep master few seen_few e range path has there in
-          let (a, at, held, whole) = set_is_held (record { path = path; attribute = port_info; modifier = e.port; payload = port_data range master NoChange }) x
-          e.node e.port there port.node named.node named.node_there named.guid_is in
+          let (a, at, held, whole) = set_is_held (record {
+            path = path;
+            attribute = port_info;
+            modifier = e.port;
+            payload =
+                port_data (port_read (cells_of facts) sweep e.node e.port) range master NoChange;
+          }) x e.node e.port there port.node named.node named.node_there named.guid_is in
           ap (λ o. (option_map_or (λ y. base_lid_at y port.port) o 0, option_map_or (λ y. lmc_at y port.port) o 0)) at
           ∙ ap (range_at a) named.port_is ∙ held.lids refl
           ∙ range_value (at_writing w before between).manager.planning.rule (at_writing w before between).manager.planning.lmc swept_before.fair.side.lmc facts
@@ -280,11 +286,12 @@ module _ (w : Managing) (before between after : List ManagerEvent) (run : IsWrit
           let facts = (at_writing w before between).manager.store in
           let x = top_is_set (at_writing w before between).manager.planning.rule (at_writing w before between).manager.planning.lmc swept_before.fair.side.lmc
           facts may.has_room sweep master few seen_few guid top path is_top is_switch there in
-          let (a, at, held, whole) = set_is_held (record { path = path; attribute = switch_info; modifier = 0; payload = top_data top }) x guid 0 there id
+          let (a, at, held, whole) = set_is_held
+          (record { path = path; attribute = switch_info; modifier = 0; payload = top_data (switch_image sweep guid) top }) x guid 0 there id
           node has.there has.named in
           ap (λ o. option_map_or (λ (y : Agent). y.top) o 0) at ∙ held.top refl
           ∙ top_value (at_writing w before between).manager.planning.rule (at_writing w before between).manager.planning.lmc swept_before.fair.side.lmc
-          facts may.has_room sweep master few seen_few top is_top
+          facts may.has_room sweep master few seen_few (switch_image sweep guid) top is_top
 
       blocks_held : (guid b id : ℕ) (block : List ℕ) (node : Node) → block_at (plan_at (at_writing w before between)) guid b ≡ Some block
           → IsReached sweep guid 0

@@ -21,6 +21,7 @@ use Rattle.sweep.specs.declared.request.Question.{Question}
 use Rattle.sweep.specs.declared.request.Question.TheVariants as ask
 use Rattle.sweep.specs.declared.request.Request.{Request}
 use Rattle.sweep.specs.declared.vertex.Vertex.{Vertex}
+use Rattle.sweep.specs.Images.{Images}
 use Rattle.sweep.specs.Order.{is_before, placed}
 use Rattle.sweep.specs.Sweep.{Sweep, Asking, numbered, first_vertex, vertex_at, vertex_key}
 use Rattle.sweep.specs.Finding.{asks_manager, vertex_of, found_again, is_start, is_way_on, goes_by, leads_on, onward, port_finding_of, port_found_of, port_questions, vertex_questions, manager_questions, onward_questions, questions, with_vertex}
@@ -101,6 +102,18 @@ module _ (f : Fabric) (seat : NodePort) where
     pub queued : AreSound s.queued
     pub outstanding : AreSound s.outstanding
     pub reached : AreFound s.reached
+
+  -- whatever it keeps of what it reads
+  pub sound_with_images : (images : Images) {s : Sweep} → IsSoundSweep s → IsSoundSweep (record s { images = images })
+  sound_with_images images is =
+      record {
+        origin = is.origin;
+        generation = is.generation;
+        next = is.next;
+        queued = is.queued;
+        outstanding = is.outstanding;
+        reached = is.reached;
+      }
 
   -- lists ----------------------------------------------------------------------------------------
 

@@ -36,13 +36,16 @@ use Rattle.lft_blocks.specs.Entries.{Next, attachment_of_lid, entry, block, bloc
 use Rattle.lft_blocks.specs.Plan.{PlanValue, SwitchTable, plan_of, block_at, switches_of}
 use Rattle.lft_blocks.proofs.BlockLaws.{made_from}
 use Rattle.lft_blocks.specs.Rules.{RuleValue, routing_by}
-use Rattle.sweep.specs.Sweep.{Sweep, path_to, seen_state}
+use Rattle.sweep.specs.Sweep.{Sweep, path_to, seen_state, switch_image}
 use Rattle.plan_steps.specs.declared.step.Step.{Step}
+use Rattle.plan_steps.specs.declared.carried.PortRead.{PortRead}
+use Rattle.plan_steps.specs.Carried.{carried_switch, port_read}
 use Rattle.plan_steps.specs.Step.{step_at}
 use Rattle.plan_steps.specs.Lids.{port_data, lid_step, owner_step, lid_steps}
 use Rattle.plan_steps.specs.Tables.{block_step, switch_steps, block_steps, top_data, top_step, top_steps}
 use Rattle.plan_steps.specs.States.{wired_ports, is_due, vertex_port, state_data, state_step, state_steps}
 use Rattle.plan_steps.specs.Phases.{Phase, phases_by}
+use Rattle.plan_steps.proofs.SetLaws.{carried_switch_whole, port_data_whole, range-port_data, says_top}
 use Rattle.manager_laws.proofs.AgentSets.{IsOfPlan}
 use Rattle.manager_laws.proofs.WritingLists.{in_flat_map, from_flat_map, in_range_from_0}
 
@@ -124,72 +127,17 @@ making sweep guid vertex attribute modifier payload path there =
 
 -- payloads ----------------------------------------------------------------------------------------
 
-length-port_lids : (lid master : ℕ) → length (with_number master_sm_lid master (with_number base_lid lid (replicate 64 0))) ≡ 64
-length-port_lids lid master =
-    let blank = length-replicate {A = ℕ} 64 0 in
-    let one = length-with_number base_lid lid (replicate 64 0) (omega (arith, blank)) in
-    length-with_number master_sm_lid master (with_number base_lid lid (replicate 64 0)) (omega (arith, blank, one)) ∙ one ∙ blank
+length-port_data : (read : Option PortRead) (range : ℕ × ℕ) (master : ℕ) (state : PortState) → length (port_data read range master state) ≡ 64
+length-port_data read range master state = (port_data_whole read range master state).count
 
--- the LIDs, and then the LMC
-abbrev two_lids : ℕ → ℕ → List ℕ
-two_lids lid master = with_number master_sm_lid master (with_number base_lid lid (replicate 64 0))
+length-top_data : (read : Option (List ℕ)) (top : ℕ) → length (top_data read top) ≡ 64
+length-top_data read top =
+    let whole = carried_switch_whole read in
+    let long = whole.count in
+    length-with_number linear_fdb_top top (carried_switch read) (omega (arith, long)) ∙ long
 
-abbrev ranged : ℕ × ℕ → ℕ → List ℕ
-ranged range master = with_bits ids.lmc range.1 (two_lids range.0 master)
-
-length-ranged : (range : ℕ × ℕ) (master : ℕ) → length (ranged range master) ≡ 64
-length-ranged range master =
-    let before = length-port_lids range.0 master in
-    length-with_number (record { at = 34; len = 1 }) _ (two_lids range.0 master) (omega (arith, before)) ∙ before
-
-length-port_data : (range : ℕ × ℕ) (master : ℕ) (state : PortState) → length (port_data range master state) ≡ 64
-length-port_data range master state =
-    let before = length-ranged range master in
-    length-with_number (record { at = 32; len = 1 }) _ (ranged range master) (omega (arith, before)) ∙ before
-
--- behind the LIDs nothing is written yet
-blank_there : (lid master i : ℕ) → 20 ≤ i → i < 64 → get_or (two_lids lid master) i 0 ≡ 0
-blank_there lid master i from below =
-    let blank = length-replicate {A = ℕ} 64 0 in
-    let one = length-with_number base_lid lid (replicate 64 0) (omega (arith, blank)) in
-    get_or-with_number master_sm_lid master (with_number base_lid lid (replicate 64 0)) i (omega (arith, blank, one)) (inr (omega (arith, from)))
-    ∙ get_or-with_number base_lid lid (replicate 64 0) i (omega (arith, blank)) (inr (omega (arith, from)))
-    ∙ get_or-replicate 64 i 0 0 below
-
--- what is spelled is read
-range-port_data : (range : ℕ × ℕ) (master : ℕ) (state : PortState) → range.0 < 2 ^ 16 → range.1 < 8 → range_in (port_data range master state) ≡ range
-range-port_data range master state small few = λ i. (lid i, lmc_is i)
-  where
-    lid : number_in base_lid (port_data range master state) ≡ range.0
-    lid =
-        let blank = length-replicate {A = ℕ} 64 0 in
-        let one = length-with_number base_lid range.0 (replicate 64 0) (omega (arith, blank)) in
-        let before = length-port_lids range.0 master in
-        let whole = length-ranged range master in
-        number_in-with_number_apart base_lid (record { at = 32; len = 1 }) _ (ranged range master) (omega (arith, whole)) refl
-        ∙ number_in-with_number_apart base_lid (record { at = 34; len = 1 }) _ (two_lids range.0 master) (omega (arith, before)) refl
-        ∙ number_in-with_number_apart base_lid master_sm_lid master (with_number base_lid range.0 (replicate 64 0)) (omega (arith, blank, one)) refl
-        ∙ number_in-with_number base_lid range.0 (replicate 64 0) (omega (arith, blank)) (omega (arith, small))
-
-    lmc_is : bits_in ids.lmc (port_data range master state) ≡ range.1
-    lmc_is =
-        let before = length-port_lids range.0 master in
-        let whole = length-ranged range master in
-        let at_32 = blank_there range.0 master 32 (omega arith) (omega arith) in
-        let at_34 = blank_there range.0 master 34 (omega arith) (omega arith) in
-        let apart : get_or (ranged range master) 32 0 ≡ get_or (two_lids range.0 master) 32 0 =
-        get_or-with_number (record { at = 34; len = 1 }) _ (two_lids range.0 master) 32 (omega (arith, before)) (inl (omega arith)) in
-        bits_in-with_bits_apart ids.lmc port_state (number_of_state state) (ranged range master) (omega (arith, whole)) (omega (arith, apart, at_32))
-        (omega arith)
-        (state_small state) refl
-        ∙ bits_in-with_bits ids.lmc range.1 (two_lids range.0 master) (omega (arith, before)) (omega (arith, at_34)) (omega arith) few
-
-length-top_data : (top : ℕ) → length (top_data top) ≡ 64
-length-top_data top = let blank = length-replicate {A = ℕ} 64 0 in length-with_number linear_fdb_top top (replicate 64 0) (omega (arith, blank)) ∙ blank
-
-top-top_data : (top : ℕ) → top < 2 ^ 16 → number_in linear_fdb_top (top_data top) ≡ top
-top-top_data top small = let blank = length-replicate {A = ℕ} 64 0 in number_in-with_number linear_fdb_top top (replicate 64 0) (omega (arith, blank))
-    (omega (arith, small))
+top-top_data : (read : Option (List ℕ)) (top : ℕ) → top < 2 ^ 16 → number_in linear_fdb_top (top_data read top) ≡ top
+top-top_data read top small = (says_top read top small).top_is
 
 -- the steps -----------------------------------------------------------------------------------------
 
@@ -204,6 +152,10 @@ module _ (rule : RuleValue) (lmc : ℕ) (few_lmc : lmc < 8) (facts : Facts) (has
 
   plan : PlanValue
   plan = plan_of rule lmc (cells_of facts)
+
+  -- what the sweep read of a port, and of the port across
+  abbrev pub read_of : ℕ → ℕ → Option PortRead
+  read_of guid port = port_read (cells_of facts) sweep guid port
 
   pub lid_fits : (e : EndPort) (lid : ℕ) → Contains (lids lmc (cells_of facts)).ports (e, lid) → lid < 0xC000
   lid_fits e lid there =
@@ -236,15 +188,17 @@ module _ (rule : RuleValue) (lmc : ℕ) (few_lmc : lmc < 8) (facts : Facts) (has
     pub e : EndPort
     pub lid : ℕ
     pub has : lid_of (lids lmc (cells_of facts)) e ≡ Some lid
-    pub is_made : IsMade sweep e.node e.port port_info e.port (port_data (lid, lmc_of (lids lmc (cells_of facts)) e) master NoChange) s
+    pub is_made : IsMade sweep e.node e.port port_info e.port
+        (port_data (read_of e.node e.port) (lid, lmc_of (lids lmc (cells_of facts)) e) master NoChange) s
 
-  from_lid_step : (s : Step) → Contains (lid_steps sweep master (lids lmc (cells_of facts))) s → LidStep s
+  from_lid_step : (s : Step) → Contains (lid_steps (cells_of facts) sweep master (lids lmc (cells_of facts))) s → LidStep s
   from_lid_step s there =
-      let (lid, risen, e) = taken_from (owner_step sweep master (lids lmc (cells_of facts))) (rising_lids (lids lmc (cells_of facts))) s there in
+      let (lid, risen, e) = taken_from (owner_step (cells_of facts) sweep master (lids lmc (cells_of facts)))
+      (rising_lids (lids lmc (cells_of facts))) s there in
       by_owner lid risen (owner_of (lids lmc (cells_of facts)) lid) refl e
     where
       by_owner : (lid : ℕ) → Contains (rising_lids (lids lmc (cells_of facts))) lid → (m : Option EndPort) → owner_of (lids lmc (cells_of facts)) lid ≡ m
-          → option_and_then (λ e. lid_step sweep master (lid, lmc_of (lids lmc (cells_of facts)) e) e) m ≡ Some s
+          → option_and_then (λ e. lid_step (cells_of facts) sweep master (lid, lmc_of (lids lmc (cells_of facts)) e) e) m ≡ Some s
           → LidStep s
       by_owner lid risen None owns h = absurd (cc)
       by_owner lid risen (Some e) owns h =
@@ -252,7 +206,8 @@ module _ (rule : RuleValue) (lmc : ℕ) (few_lmc : lmc < 8) (facts : Facts) (has
             e = e;
             lid = lid;
             has = has_first e lid risen owns;
-            is_made = made sweep e.node e.port port_info e.port (port_data (lid, lmc_of (lids lmc (cells_of facts)) e) master NoChange) s h;
+            is_made = made sweep e.node e.port port_info e.port
+                (port_data (read_of e.node e.port) (lid, lmc_of (lids lmc (cells_of facts)) e) master NoChange) s h;
           }
 
   -- an end port with a LID has its LMC with it
@@ -274,16 +229,16 @@ module _ (rule : RuleValue) (lmc : ℕ) (few_lmc : lmc < 8) (facts : Facts) (has
   lmc_fits : (e : EndPort) → lmc_of (lids lmc (cells_of facts)) e < 8
   lmc_fits e = cond_both (e.port == 0) 0 lmc (λ (n : ℕ). n < 8) (λ _. omega arith) (λ _. few_lmc)
 
-  value_in : (state : PortState) (e : EndPort) (range : ℕ × ℕ) → range_of (lids lmc (cells_of facts)) e ≡ Some range
-      → range_in (port_data range master state) ≡ range
-  value_in state e range has =
+  value_in : (read : Option PortRead) (state : PortState) (e : EndPort) (range : ℕ × ℕ) → range_of (lids lmc (cells_of facts)) e ≡ Some range
+      → range_in (port_data read range master state) ≡ range
+  value_in read state e range has =
       let (lid_is, lmc_is) = range_parts e range has in
       let small = lid_fits e range.0 (given-from_lid (lids lmc (cells_of facts)) e range.0 lid_is) in
-      range-port_data range master state (omega (arith, small)) (omega (arith, lmc_is, lmc_fits e))
+      range-port_data read range master state (omega (arith, small)) (omega (arith, lmc_is, lmc_fits e))
 
   pub range_value : (e : EndPort) (range : ℕ × ℕ) → range_of (lids lmc (cells_of facts)) e ≡ Some range
-      → range_in (port_data range master NoChange) ≡ range
-  range_value e range has = value_in NoChange e range has
+      → range_in (port_data (read_of e.node e.port) range master NoChange) ≡ range
+  range_value e range has = value_in (read_of e.node e.port) NoChange e range has
 
   lid_step_is : (s : Step) → LidStep s → IsStep (plan_of rule lmc (cells_of facts)) sweep s × IsPlanned (plan_of rule lmc (cells_of facts)) sweep s
   lid_step_is s l =
@@ -291,7 +246,7 @@ module _ (rule : RuleValue) (lmc : ℕ) (few_lmc : lmc < 8) (facts : Facts) (has
       let port = few l.e.node l.e.port s.path m.goes.path in
       let range : ℕ × ℕ = (l.lid, lmc_of (lids lmc (cells_of facts)) l.e) in
       let has_it = has_range l.e l.lid l.has in
-      let value : range_in s.payload ≡ range = ap range_in m.payload_is ∙ value_in NoChange l.e range has_it in
+      let value : range_in s.payload ≡ range = ap range_in m.payload_is ∙ value_in (read_of l.e.node l.e.port) NoChange l.e range has_it in
       let is_port = m.attribute_is in (
         record {
           guid = l.e.node;
@@ -301,7 +256,7 @@ module _ (rule : RuleValue) (lmc : ℕ) (few_lmc : lmc < 8) (facts : Facts) (has
             attribute = omega (arith, is_port);
             no_manager = λ e. omega (arith, is_port, e);
             modifier = let same = m.modifier_is in omega (arith, same, port);
-            whole = ap length m.payload_is ∙ length-port_data range master NoChange;
+            whole = ap length m.payload_is ∙ length-port_data (read_of l.e.node l.e.port) range master NoChange;
           };
           planned = record {
             lids = λ _ other has. value ∙ same_Some _ _ (sym has_it
@@ -326,14 +281,21 @@ module _ (rule : RuleValue) (lmc : ℕ) (few_lmc : lmc < 8) (facts : Facts) (has
       )
 
   to_lid_step : (e : EndPort) (lid : ℕ) (path : List ℕ) → lid_of (lids lmc (cells_of facts)) e ≡ Some lid → path_to sweep e.node e.port ≡ Some path
-      → Contains (lid_steps sweep master (lids lmc (cells_of facts)))
-      (record { path = path; attribute = port_info; modifier = e.port; payload = port_data (lid, lmc_of (lids lmc (cells_of facts)) e) master NoChange })
+      → Contains (lid_steps (cells_of facts) sweep master (lids lmc (cells_of facts)))
+      (record {
+        path = path;
+        attribute = port_info;
+        modifier = e.port;
+        payload =
+            port_data (read_of e.node e.port) (lid, lmc_of (lids lmc (cells_of facts)) e) master NoChange;
+      })
   to_lid_step e lid path has there =
       let held = given-from_lid (lids lmc (cells_of facts)) e lid has in
       let risen : Contains (rising_lids (lids lmc (cells_of facts))) lid = ((rising_lids_law (lids lmc (cells_of facts))).0 lid).1 (e, held) in
-      is_taken (owner_step sweep master (lids lmc (cells_of facts))) (rising_lids (lids lmc (cells_of facts))) lid _ risen
-      (ap (option_and_then (λ x. lid_step sweep master (lid, lmc_of (lids lmc (cells_of facts)) x) x)) (owns_first e lid has)
-      ∙ making sweep e.node e.port port_info e.port (port_data (lid, lmc_of (lids lmc (cells_of facts)) e) master NoChange) path there)
+      is_taken (owner_step (cells_of facts) sweep master (lids lmc (cells_of facts))) (rising_lids (lids lmc (cells_of facts))) lid _ risen
+      (ap (option_and_then (λ x. lid_step (cells_of facts) sweep master (lid, lmc_of (lids lmc (cells_of facts)) x) x)) (owns_first e lid has)
+      ∙ making sweep e.node e.port port_info e.port
+      (port_data (read_of e.node e.port) (lid, lmc_of (lids lmc (cells_of facts)) e) master NoChange) path there)
 
   -- blocks
   record BlockThere (guid b : ℕ) (payload : List ℕ) : Type 0 where
@@ -458,7 +420,7 @@ module _ (rule : RuleValue) (lmc : ℕ) (few_lmc : lmc < 8) (facts : Facts) (has
     pub top : ℕ
     pub is_top : top_of (lids lmc (cells_of facts)) ≡ Some top
     pub switch : Contains (switches_of (plan_of rule lmc (cells_of facts))) guid
-    pub is_made : IsMade sweep guid 0 switch_info 0 (top_data top) s
+    pub is_made : IsMade sweep guid 0 switch_info 0 (top_data (switch_image sweep guid) top) s
 
   from_top_step : (s : Step) → Contains (top_steps sweep (plan_of rule lmc (cells_of facts))) s → TopStep s
   from_top_step s there = by_top (top_of (lids lmc (cells_of facts))) refl there
@@ -468,13 +430,20 @@ module _ (rule : RuleValue) (lmc : ℕ) (few_lmc : lmc < 8) (facts : Facts) (has
       by_top None is_top h = absurd (contains_none s h)
       by_top (Some top) is_top h =
           let (guid, is_switch, e) = taken_from (top_step sweep top) (switches_of (plan_of rule lmc (cells_of facts))) s h in
-          record { guid = guid; top = top; is_top = is_top; switch = is_switch; is_made = made sweep guid 0 switch_info 0 (top_data top) s e }
+          record {
+            guid = guid;
+            top = top;
+            is_top = is_top;
+            switch = is_switch;
+            is_made = made sweep guid 0 switch_info 0 (top_data (switch_image sweep guid) top) s e;
+          }
 
   top_step_is : (s : Step) → TopStep s → IsStep (plan_of rule lmc (cells_of facts)) sweep s × IsPlanned (plan_of rule lmc (cells_of facts)) sweep s
   top_step_is s l =
       let m = l.is_made in
       let small = top_fits l.top l.is_top in
-      let value : number_in linear_fdb_top s.payload ≡ l.top = ap (number_in linear_fdb_top) m.payload_is ∙ top-top_data l.top (omega (arith, small)) in
+      let value : number_in linear_fdb_top s.payload ≡ l.top = ap (number_in linear_fdb_top) m.payload_is
+      ∙ top-top_data (switch_image sweep l.guid) l.top (omega (arith, small)) in
       let is_info = m.attribute_is in (
         record {
           guid = l.guid;
@@ -484,7 +453,7 @@ module _ (rule : RuleValue) (lmc : ℕ) (few_lmc : lmc < 8) (facts : Facts) (has
             attribute = omega (arith, is_info);
             no_manager = λ e. omega (arith, is_info, e);
             modifier = let same = m.modifier_is in omega (arith, same);
-            whole = ap length m.payload_is ∙ length-top_data l.top;
+            whole = ap length m.payload_is ∙ length-top_data (switch_image sweep l.guid) l.top;
           };
           planned = record {
             lids = λ f. absurd (omega (arith, is_info, f));
@@ -508,16 +477,17 @@ module _ (rule : RuleValue) (lmc : ℕ) (few_lmc : lmc < 8) (facts : Facts) (has
 
   to_top_step : (guid top : ℕ) (path : List ℕ) → top_of (lids lmc (cells_of facts)) ≡ Some top → Contains (switches_of (plan_of rule lmc (cells_of facts))) guid
       → path_to sweep guid 0 ≡ Some path
-      → Contains (top_steps sweep (plan_of rule lmc (cells_of facts))) (record { path = path; attribute = switch_info; modifier = 0; payload = top_data top })
+      → Contains (top_steps sweep (plan_of rule lmc (cells_of facts)))
+      (record { path = path; attribute = switch_info; modifier = 0; payload = top_data (switch_image sweep guid) top })
   to_top_step guid top path is_top is_switch there =
       subst (λ m. Contains (option_map_or (λ t. filter_map (top_step sweep t) (switches_of (plan_of rule lmc (cells_of facts)))) m [])
-      (record { path = path; attribute = switch_info; modifier = 0; payload = top_data top }))
+      (record { path = path; attribute = switch_info; modifier = 0; payload = top_data (switch_image sweep guid) top }))
       (sym is_top)
       (is_taken (top_step sweep top) (switches_of (plan_of rule lmc (cells_of facts))) guid _ is_switch
-      (making sweep guid 0 switch_info 0 (top_data top) path there))
+      (making sweep guid 0 switch_info 0 (top_data (switch_image sweep guid) top) path there))
 
-  pub top_value : (top : ℕ) → top_of (lids lmc (cells_of facts)) ≡ Some top → number_in linear_fdb_top (top_data top) ≡ top
-  top_value top is_top = let small = top_fits top is_top in top-top_data top (omega (arith, small))
+  pub top_value : (read : Option (List ℕ)) (top : ℕ) → top_of (lids lmc (cells_of facts)) ≡ Some top → number_in linear_fdb_top (top_data read top) ≡ top
+  top_value read top is_top = let small = top_fits top is_top in top-top_data read top (omega (arith, small))
 
   -- states
   state_step_is : (state : PortState) (s : Step) → Contains (state_steps (cells_of facts) sweep (lids lmc (cells_of facts)) master state) s
@@ -526,20 +496,21 @@ module _ (rule : RuleValue) (lmc : ℕ) (few_lmc : lmc < 8) (facts : Facts) (has
       let (at, wired, e) = taken_from (state_step (cells_of facts) sweep (lids lmc (cells_of facts)) master state) (wired_ports (cells_of facts)) s there in
       by_due at (seen_state sweep at.0 at.1) refl e
     where
-      whole : (at : ℕ × ℕ) → length (state_data (lids lmc (cells_of facts)) master state at) ≡ 64
-      whole at = by_range (range_of (lids lmc (cells_of facts)) (record { node = at.0; port = at.1 }))
+      whole : (read : Option PortRead) (at : ℕ × ℕ) → length (state_data read (lids lmc (cells_of facts)) master state at) ≡ 64
+      whole read at = by_range (range_of (lids lmc (cells_of facts)) (record { node = at.0; port = at.1 }))
         where
-          by_range : (m : Option (ℕ × ℕ)) → length (option_map_or (λ range. port_data range master state) m (port_data (0, 0) 0 state)) ≡ 64
-          by_range None = length-port_data (0, 0) 0 state
-          by_range (Some range) = length-port_data range master state
+          by_range : (m : Option (ℕ × ℕ)) → length (option_map_or (λ range. port_data read range master state) m (port_data read (0, 0) 0 state)) ≡ 64
+          by_range None = length-port_data read (0, 0) 0 state
+          by_range (Some range) = length-port_data read range master state
 
       by_step : (at : ℕ × ℕ) → at.1 ≤ 254 → (b : Bool)
           → (if b then step_at sweep at.0 (vertex_port (cells_of facts) at) port_info at.1
-          (state_data (lids lmc (cells_of facts)) master state at) else None) ≡ Some s
+          (state_data (read_of at.0 at.1) (lids lmc (cells_of facts)) master state at) else None) ≡ Some s
           → IsStep (plan_of rule lmc (cells_of facts)) sweep s
       by_step at small false h = absurd (cc)
       by_step at small true h =
-          let m = made sweep at.0 (vertex_port (cells_of facts) at) port_info at.1 (state_data (lids lmc (cells_of facts)) master state at) s h in
+          let m = made sweep at.0 (vertex_port (cells_of facts) at) port_info at.1
+          (state_data (read_of at.0 at.1) (lids lmc (cells_of facts)) master state at) s h in
           let is_port = m.attribute_is in
           record {
             guid = at.0;
@@ -549,12 +520,13 @@ module _ (rule : RuleValue) (lmc : ℕ) (few_lmc : lmc < 8) (facts : Facts) (has
               attribute = omega (arith, is_port);
               no_manager = λ e. omega (arith, is_port, e);
               modifier = let same = m.modifier_is in omega (arith, same, small);
-              whole = ap length m.payload_is ∙ whole at;
+              whole = ap length m.payload_is ∙ whole (read_of at.0 at.1) at;
             };
             planned = record {
               lids = λ _ range has. let known = ap (λ n. range_of (lids lmc (cells_of facts)) (record { node = at.0; port = n })) (sym m.modifier_is) ∙ has in
-                  ap range_in (m.payload_is ∙ ap (λ o. option_map_or (λ n. port_data n master state) o (port_data (0, 0) 0 state)) known)
-                  ∙ value_in state (record { node = at.0; port = at.1 }) range known;
+                  ap range_in (m.payload_is
+                  ∙ ap (λ o. option_map_or (λ n. port_data (read_of at.0 at.1) n master state) o (port_data (read_of at.0 at.1) (0, 0) 0 state)) known)
+                  ∙ value_in (read_of at.0 at.1) state (record { node = at.0; port = at.1 }) range known;
               top = λ f. absurd (omega (arith, is_port, f));
               block = λ f. absurd (omega (arith, is_port, f));
             };
@@ -563,7 +535,8 @@ module _ (rule : RuleValue) (lmc : ℕ) (few_lmc : lmc < 8) (facts : Facts) (has
 
       by_due : (at : ℕ × ℕ) (m : Option PortState) → seen_state sweep at.0 at.1 ≡ m
           → (if option_map_or (is_due state) m false
-          then step_at sweep at.0 (vertex_port (cells_of facts) at) port_info at.1 (state_data (lids lmc (cells_of facts)) master state at) else None) ≡ Some s
+          then step_at sweep at.0 (vertex_port (cells_of facts) at) port_info at.1
+          (state_data (read_of at.0 at.1) (lids lmc (cells_of facts)) master state at) else None) ≡ Some s
           → IsStep (plan_of rule lmc (cells_of facts)) sweep s
       by_due at None seen h = absurd (cc)
       by_due at (Some now) seen h = by_step at (seen_few at.0 at.1 now seen) (is_due state now) h
@@ -600,15 +573,16 @@ module _ (rule : RuleValue) (lmc : ℕ) (few_lmc : lmc < 8) (facts : Facts) (has
   pub range_is_set : (e : EndPort) (range : ℕ × ℕ) (path : List ℕ) → range_of (lids lmc (cells_of facts)) e ≡ Some range → path_to sweep e.node e.port
       ≡ Some path
       → IsOf (phases_by (plan_of rule lmc (cells_of facts)) (cells_of facts) sweep master) true
-      (record { path = path; attribute = port_info; modifier = e.port; payload = port_data range master NoChange })
+      (record { path = path; attribute = port_info; modifier = e.port; payload = port_data (read_of e.node e.port) range master NoChange })
   range_is_set e range path has there =
       let (lid_is, lmc_is) = range_parts e range has in
       record {
-        phase = record { counts = true; steps = lid_steps sweep master (lids lmc (cells_of facts)) };
+        phase = record { counts = true; steps = lid_steps (cells_of facts) sweep master (lids lmc (cells_of facts)) };
         there = (0, omega arith, refl);
         counts_is = refl;
-        step = subst (λ (n : ℕ). Contains (lid_steps sweep master (lids lmc (cells_of facts)))
-            (record { path = path; attribute = port_info; modifier = e.port; payload = port_data (range.0, n) master NoChange })) (sym lmc_is)
+        step = subst (λ (n : ℕ). Contains (lid_steps (cells_of facts) sweep master (lids lmc (cells_of facts)))
+            (record { path = path; attribute = port_info; modifier = e.port; payload = port_data (read_of e.node e.port) (range.0, n) master NoChange }))
+            (sym lmc_is)
             (to_lid_step e range.0 path lid_is there);
       }
 
@@ -628,7 +602,7 @@ module _ (rule : RuleValue) (lmc : ℕ) (few_lmc : lmc < 8) (facts : Facts) (has
       → Contains (switches_of (plan_of rule lmc (cells_of facts))) guid
       → path_to sweep guid 0 ≡ Some path
       → IsOf (phases_by (plan_of rule lmc (cells_of facts)) (cells_of facts) sweep master) true
-      (record { path = path; attribute = switch_info; modifier = 0; payload = top_data top })
+      (record { path = path; attribute = switch_info; modifier = 0; payload = top_data (switch_image sweep guid) top })
   top_is_set guid top path is_top is_switch there =
       record {
         phase = record { counts = true; steps = top_steps sweep (plan_of rule lmc (cells_of facts)) };

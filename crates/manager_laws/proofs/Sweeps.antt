@@ -20,6 +20,7 @@ use Rattle.sweep.specs.declared.request.Question.{Question}
 use Rattle.sweep.specs.declared.request.Question.TheVariants as ask
 use Rattle.sweep.specs.Sweep.{Sweep, AreRising, first_question, managers_asked, request_with, transaction_of, without_number}
 use Rattle.sweep.specs.Sweep.{after_next_request, after_next_request_of, after_timeout, after_timeout_of}
+use Rattle.sweep.specs.Images.{images_with}
 use Rattle.sweep.specs.Replies.{belongs, judged, after_reply, after_reply_to, sightings_by}
 use Rattle.manager_laws.specs.Scene.{Handed}
 use Rattle.manager_laws.specs.Sweeping.{Sweeping, SweepEvent, Around, Ask, Send, Hear, TimeOut, CanBe, sending, reports_of}
@@ -30,7 +31,7 @@ use Rattle.manager_laws.proofs.Swept as swept
 use Rattle.manager_laws.proofs.Swept.{Goes, goes_on}
 use Rattle.manager_laws.proofs.TrueFacts.{IsCabled}
 use Rattle.manager_laws.proofs.Asked.{IsPending}
-use Rattle.manager_laws.proofs.Covered.{Covered, Covers, IsJoinedSighting, IsOrigin, IsRooted}
+use Rattle.manager_laws.proofs.Covered.{Covered, Covers, IsJoinedSighting, IsOrigin, IsRooted, covered_with_images}
 use Rattle.manager_laws.proofs.Lists.{Has}
 use Rattle.manager_laws.proofs.PortReplies.{manager_covered}
 use Rattle.manager_laws.proofs.Replies.{by_question}
@@ -140,13 +141,13 @@ module _ {start : Simulation} {seat : NodePort} (cables : AreCables start) (coun
             let c = h.1 answered (omega (arith, near)) in
             let found = swept.found cables counts can cabled s sound bytes is answer taken in
             subst (Covered (fabric_of start) seat (after_reply_to s bytes (Some a.request))) (ap (λ x. told ++ sightings_by x) (sym a.answer_is))
-            (by_question can s told c sound a.request (belongs s.generation bytes) a.belongs cabled bytes
+            (covered_with_images (fabric_of start) seat (images_with s.images a.request bytes) (by_question can s told c sound a.request (belongs s.generation bytes) a.belongs cabled bytes
             (swept.told cables counts can cabled s sound bytes is answer taken).end
             (swept.leads cables counts can cabled s sound bytes is answer taken)
             (swept.says cables counts can cabled s sound bytes is answer taken)
             (swept.for cables counts can cabled s sound bytes is answer taken)
             (swept.node_good cables counts can cabled s sound bytes is answer taken)
-            a.request.question refl a.request.context refl found.sound.sound near),
+            a.request.question refl a.request.context refl found.sound.sound near)),
       )
 
   -- events ------------------------------------------------------------------------------------------------------

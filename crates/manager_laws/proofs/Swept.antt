@@ -34,6 +34,7 @@ use Rattle.sweep.specs.declared.request.Question.{Question}
 use Rattle.sweep.specs.declared.request.Question.TheVariants as ask
 use Rattle.sweep.specs.declared.request.Request.{Request}
 use Rattle.sweep.specs.Sweep.{Sweep, attribute_asked, modifier_asked, transaction_of, packet_of, request_with, after_next_request_of, after_next_request, started, after_timeout_of, after_timeout}
+use Rattle.sweep.specs.Images.{images_with}
 use Rattle.sweep.specs.Replies.{belongs, judged, after_reply_to, after_reply, report_for, sightings_by}
 use Rattle.manager_laws.specs.Scene.{Handed}
 use Rattle.manager_laws.specs.Truth.{AreGuidsDistinct, IsTrueSighting}
@@ -42,7 +43,7 @@ use Rattle.manager_laws.proofs.Accepted.{IsAccepted, IsGoodNode, accepted, IsFor
 use Rattle.manager_laws.proofs.Answers.{Continues, was_there, sent_on, seat_in_port, sends, continued, is_told, begun}
 use Rattle.manager_laws.proofs.Replied.{sound_without, FoundSound, found_sound, ended}
 use Rattle.manager_laws.proofs.Replied as replies
-use Rattle.manager_laws.proofs.Sound.{CanBeSwept, IsSound, IsSoundRequest, AreSound, IsSoundSweep, sound_append}
+use Rattle.manager_laws.proofs.Sound.{CanBeSwept, IsSound, IsSoundRequest, AreSound, IsSoundSweep, sound_append, sound_with_images}
 use Rattle.manager_laws.proofs.TrueFacts as facts
 use Rattle.manager_laws.proofs.TrueFacts.{IsCabled, AreTrue, all_true}
 
@@ -259,8 +260,8 @@ module _ {start : Simulation} {seat : NodePort} (cables : AreCables start) (coun
     unfolding ended
     reply_sound =
         subst (λ m. IsSoundSweep (fabric_of start) seat (after_reply_to s bytes m)) (sym accepted_as.belongs)
-        (replies.by_question (fabric_of start) seat s sound accepted_as.request can bytes told.end leads says for found.sound accepted_as.request.question refl
-        accepted_as.request.context refl found.sound.sound accepted_as.room node_good)
+        (sound_with_images (fabric_of start) seat (images_with s.images accepted_as.request bytes) (replies.by_question (fabric_of start) seat s sound accepted_as.request can bytes told.end leads says for found.sound accepted_as.request.question refl
+        accepted_as.request.context refl found.sound.sound accepted_as.room node_good))
 
     reply_true : AreTrue (fabric_of start) (sightings_by answer)
     reply_true =
@@ -336,7 +337,7 @@ module _ (w : Sweeping) (generation first : ℕ) (begins : Begins w generation f
 
   pub goes_first : Goes begins.quiet.fabric.cables few_ports_there can_sweep cabled_there w
   goes_first =
-      let sweep : IsSoundSweep (fabric_of w.scene.fabric) w.seat (started w.seat.port generation first) = record {
+      let sweep : IsSoundSweep (fabric_of w.scene.fabric) w.seat (started w.seat.port generation first begins.keeps) = record {
         origin = refl;
         generation = begins.generation;
         next = let few = begins.first in omega (arith, few);

@@ -1,6 +1,6 @@
 -- A manager that brings a subnet up: on an adapter at a switch, to which another adapter is wired, with another manager at it. LIDs come in pairs, a
 -- request is lost and sent again, and copied.
-use Rattle.std.proofs.Common.{◌≡◌, ◌≢◌, ℕ, ◌+◌, ◌*◌, ◌-◌, ◌^◌, true, List, [], ◌∷◌, ◌++◌}
+use Rattle.std.proofs.Common.{◌≡◌, ◌≢◌, ℕ, ◌+◌, ◌*◌, ◌-◌, ◌^◌, true, false, List, [], ◌∷◌, ◌++◌}
 use Rattle.std.proofs.Common.{replicate, refl, sym, ap, ◌∙◌, subst, arith}
 use Rattle.std.proofs.lemmas.List.Elements.{All-from_recursion}
 use Rattle.std.specs.Prelude.{Some, None, is_none, is_some, max, if◌then◌else◌, ◌==◌}
@@ -66,7 +66,7 @@ sweeping_with generation =
         standing = active_once_more (new_manager 17 1 0 Plain in_pairs).standing;
         seen =
             [];
-      }) (started 1 generation 1);
+      }) (started 1 generation 1 false);
     }
 
 may_begin : begin_fault (new_manager 17 1 0 Plain in_pairs) ≡ None

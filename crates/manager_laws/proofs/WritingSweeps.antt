@@ -112,9 +112,9 @@ module _ (start : Simulation) (seat : NodePort) where
         writing = refl;
         pending = refl;
         counter = refl;
-        more = requests_out (next_generation m.store) (started m.port (next_generation m.store) 1).queued;
+        more = requests_out (next_generation m.store) (started m.port (next_generation m.store) 1 false).queued;
         outgoing = refl;
-        asks = asked_out (next_generation m.store) (started m.port (next_generation m.store) 1).queued few first;
+        asks = asked_out (next_generation m.store) (started m.port (next_generation m.store) 1 false).queued few first;
         side = record {
           port = side.port;
           lmc = side.lmc;
@@ -149,7 +149,7 @@ module _ (start : Simulation) (seat : NodePort) where
           let low = floor_small m.store side.knows in
           (omega arith, omega (arith, small, other, low))
 
-      first : AreSound (fabric_of start) seat (started m.port (next_generation m.store) 1).queued
+      first : AreSound (fabric_of start) seat (started m.port (next_generation m.store) 1 false).queued
       first = (record { sound = record { own = tt; short = omega arith; asks = refl }; number = omega arith }, tt)
 
   -- a reply ----------------------------------------------------------------------------------------

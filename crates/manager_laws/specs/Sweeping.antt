@@ -1,5 +1,5 @@
 -- A sweep on a fabric where other managers work too: what it asks, and which replies it accepts.
-use Rattle.std.specs.Prelude.{◌≡◌, ℕ, ◌<◌, ◌≤◌, ◌^◌, true, List, [], ◌∷◌, ◌++◌, All, slice_get, if◌then◌else◌, Option, Some, None, Result, Ok, Err}
+use Rattle.std.specs.Prelude.{◌≡◌, ℕ, ◌<◌, ◌≤◌, ◌^◌, Bool, true, List, [], ◌∷◌, ◌++◌, All, slice_get, if◌then◌else◌, Option, Some, None, Result, Ok, Err}
 use Rattle.fabric_model.specs.declared.cable.NodePort.{NodePort}
 use Rattle.fabric_model.specs.Cables.{is_same_port}
 use Rattle.reply_facts.specs.declared.report.Report.{Report}
@@ -79,14 +79,15 @@ after_sweep_events [] w = w
 after_sweep_events (event ∷ events) w = after_sweep_events events (after_sweep_event w event)
 
 -- a fabric where nothing is going on and whose nodes have different GUIDs, and a sweep that has just begun at a seat,
--- with the number of its port
+-- with the number of its port; it keeps images or does not
 pub record Begins (w : Sweeping) (at from : ℕ) : Type 0 where
   pub quiet : IsQuiet w.scene
   pub distinct : AreGuidsDistinct (fabric_of w.scene.fabric)
   pub seat : is_seat_at w.scene.fabric w.seat ≡ true
   pub generation : (1 ≤ at) × (at < 2 ^ 32)
   pub first : from < 2 ^ 32
-  pub sweep : w.sweep ≡ started w.seat.port at from
+  pub keeps : Bool
+  pub sweep : w.sweep ≡ started w.seat.port at from keeps
   pub asked : w.asked ≡ []
   pub reports : w.reports ≡ []
 

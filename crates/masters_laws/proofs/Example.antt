@@ -65,7 +65,7 @@ beginning = record { scene = record { fabric = network; handed = [] }; managers 
 
 -- as it is when its first sweep has begun
 abbrev pub sweeper : ℕ → ℕ → Manager
-sweeper guid generation = with_sweep (record (fresh guid) { standing = active_once_more (fresh guid).standing; seen = [] }) (started 1 generation 1)
+sweeper guid generation = with_sweep (record (fresh guid) { standing = active_once_more (fresh guid).standing; seen = [] }) (started 1 generation 1 false)
 
 abbrev pub sweeping_both : Masters
 sweeping_both =

@@ -119,18 +119,19 @@ planning_kept w (Poll lid) = planning_stays w.manager (calls.Poll lid)
 planning_kept w HandOver = planning_stays w.manager calls.Handover
 
 -- the sweep that is followed from the first scene on
-abbrev pub first_of : Scene → NodePort → ℕ → Sweeping
-first_of from seat at = record { scene = from; seat = seat; sweep = started seat.port at 1; asked = []; reports = [] }
+abbrev pub first_of : Scene → NodePort → ℕ → Bool → Sweeping
+first_of from seat at keeps = record { scene = from; seat = seat; sweep = started seat.port at 1 keeps; asked = []; reports = [] }
 
 module _ (from : Scene) (seat : NodePort) where
   -- a manager's sweep is one that began at the first scene, while no LID changed, and told it all that it knows
   pub record FollowsOne (w : Managing) : Type 0 where
     pub at : ℕ
     pub few : (1 ≤ at) × (at < 2 ^ 32)
+    pub keeps : Bool
     pub events : List SweepEvent
     pub can_be : All sweeping.CanBe events
-    pub lids : LidsStay (fabric_of from.fabric) events (first_of from seat at)
-    pub follows : Follows w (after_sweep_events events (first_of from seat at))
+    pub lids : LidsStay (fabric_of from.fabric) events (first_of from seat at keeps)
+    pub follows : Follows w (after_sweep_events events (first_of from seat at keeps))
 
   module _ (plan : PlanValue) (ground : Ground from.fabric seat) where
     -- it goes on
@@ -138,15 +139,16 @@ module _ (from : Scene) (seat : NodePort) where
         → HasLidsOf (fabric_of from.fabric) w.scene → HasLidsOf (fabric_of from.fabric) (after_manager_event w event).scene
         → FollowsOne (after_manager_event w event)
     follows_on w event one g quiet can_be now lids =
-        let u = after_sweep_events one.events (first_of from seat one.at) in
+        let u = after_sweep_events one.events (first_of from seat one.at one.keeps) in
         let more = event_followed (fabric_of from.fabric) from.fabric seat plan ground w event u g quiet can_be one.follows now lids in
         record {
           at = one.at;
           few = one.few;
+          keeps = one.keeps;
           events = one.events ++ more.events;
           can_be = can_append one.events more.events one.can_be more.can_be;
-          lids = lids_append (fabric_of from.fabric) one.events more.events (first_of from seat one.at) one.lids more.lids;
-          follows = subst (Follows (after_manager_event w event)) (sym (runs_append one.events more.events (first_of from seat one.at))) more.follows;
+          lids = lids_append (fabric_of from.fabric) one.events more.events (first_of from seat one.at one.keeps) one.lids more.lids;
+          follows = subst (Follows (after_manager_event w event)) (sym (runs_append one.events more.events (first_of from seat one.at one.keeps))) more.follows;
         }
 
     -- a sweep begins as the manager knows nothing
@@ -155,11 +157,15 @@ module _ (from : Scene) (seat : NodePort) where
       abbrev generation_of : ℕ
       generation_of = next_generation w.manager.store
 
+      -- whether it keeps images
+      abbrev keeps_so : Bool
+      keeps_so = false
+
       abbrev queue : List Request
-      queue = (started seat.port (next_generation w.manager.store) 1).queued
+      queue = (started seat.port (next_generation w.manager.store) 1 keeps_so).queued
 
       abbrev begun : Sweeping
-      begun = after_sweep_events seen.events (first_of from seat (next_generation w.manager.store))
+      begun = after_sweep_events seen.events (first_of from seat (next_generation w.manager.store) keeps_so)
 
       abbrev asked : Sweeping
       asked = after_sweep_events (asks queue) begun
@@ -170,13 +176,13 @@ module _ (from : Scene) (seat : NodePort) where
           let low = floor_small w.manager.store g.fair.side.knows in
           (omega arith, omega (arith, newest, low))
 
-      begun_is : begun ≡ on_scene (first_of from seat generation_of) w.scene
-      begun_is = seen.is (first_of from seat generation_of) refl
+      begun_is : begun ≡ on_scene (first_of from seat generation_of keeps_so) w.scene
+      begun_is = seen.is (first_of from seat generation_of keeps_so) refl
 
       all_asked : HasAskedAll begun asked
       all_asked = asks_all queue begun (ap (λ (y : Sweeping). y.sweep.queued) begun_is)
 
-      sweep_is : asked.sweep ≡ with_all_sent (started seat.port generation_of 1)
+      sweep_is : asked.sweep ≡ with_all_sent (started seat.port generation_of 1 keeps_so)
       sweep_is = all_asked.sweep ∙ ap (λ (y : Sweeping). with_all_sent y.sweep) begun_is
 
       reports_are : asked.reports ≡ []
@@ -187,18 +193,19 @@ module _ (from : Scene) (seat : NodePort) where
           record {
             at = generation_of;
             few = few_left;
+            keeps = keeps_so;
             events = seen.events ++ asks queue;
             can_be = can_append seen.events (asks queue) seen.can_be (asks_can queue);
-            lids = lids_append (fabric_of from.fabric) seen.events (asks queue) (first_of from seat generation_of)
-                (seen.lids (first_of from seat generation_of) refl)
+            lids = lids_append (fabric_of from.fabric) seen.events (asks queue) (first_of from seat generation_of keeps_so)
+                (seen.lids (first_of from seat generation_of keeps_so) refl)
                 (asks_lids (fabric_of from.fabric) queue begun
                 (subst (HasLidsOf (fabric_of from.fabric)) (sym (ap (λ (u : Sweeping). u.scene) begun_is)) lids));
             follows = subst (Follows (record w { manager = after_begin_sweep w.manager }))
-                (sym (runs_append seen.events (asks queue) (first_of from seat generation_of)))
+                (sym (runs_append seen.events (asks queue) (first_of from seat generation_of keeps_so)))
                 (record {
                   scene = all_asked.scene ∙ ap (λ (y : Sweeping). y.scene) begun_is;
                   seat = all_asked.seat ∙ ap (λ (y : Sweeping). y.seat) begun_is ∙ sym g.fair.seat_is;
-                  sweep = (λ j. Some (with_all_sent (started (g.fair.side.port j) generation_of 1))) ∙ ap (λ y. Some y) (sym sweep_is);
+                  sweep = (λ j. Some (with_all_sent (started (g.fair.side.port j) generation_of 1 keeps_so))) ∙ ap (λ y. Some y) (sym sweep_is);
                   floor = w.manager.store.floor;
                   generation = subst (λ n. w.manager.store.floor ≤ n) (sym (ap (λ (y : Sweep). y.generation) sweep_is)) (omega arith);
                   told = subst (λ (y : List Report). AreOf (λ n. w.manager.store.floor ≤ n) (told_in y)) (sym reports_are) tt;
@@ -212,7 +219,7 @@ pub record Known (from : Scene) (held : Facts) (planning : Planning) (seat : Nod
   pub has_room : ¬ (IsNoRoom planning.lmc (cells_of held))
   pub agrees : AgreesOn (IsJoinedTo (fabric_of from.fabric) seat) (cells_of held) (fabric_of from.fabric)
   pub lids : HoldsLids (IsJoinedTo (fabric_of from.fabric) seat) (plan_by_it planning held) (fabric_of from.fabric)
-  pub begins : (at : ℕ) → (1 ≤ at) × (at < 2 ^ 32) → Begins (first_of from seat at) at 1
+  pub begins : (at : ℕ) → (1 ≤ at) × (at < 2 ^ 32) → (keeps : Bool) → Begins (first_of from seat at keeps) at 1
   pub ground : Ground from.fabric seat
 
 module _ (from : Scene) (held : Facts) (planning : Planning) (seat : NodePort) (known : Known from held planning seat) where
@@ -220,13 +227,13 @@ module _ (from : Scene) (held : Facts) (planning : Planning) (seat : NodePort) (
   pub same_plan : (w : Managing) → FollowsOne from seat w → w.manager.planning ≡ planning → IsWholeSweep w.manager.sweep
       → plan_of w.manager.planning.rule w.manager.planning.lmc (cells_of w.manager.store) ≡ plan_by_it planning held
   same_plan w one planning_is whole =
-      let u = after_sweep_events one.events (first_of from seat one.at) in
-      let begins = known.begins one.at one.few in
+      let u = after_sweep_events one.events (first_of from seat one.at one.keeps) in
+      let begins = known.begins one.at one.few one.keeps in
       let answered = subst IsWholeSweep one.follows.sweep whole in
       let taken = held_lids (IsJoinedTo (fabric_of from.fabric) seat) (fabric_of from.fabric) planning.rule planning.lmc held (facts_of u.reports)
       known.has_room known.agrees
-      (done_sweeps_are_complete (first_of from seat one.at) one.at 1 one.events begins one.can_be answered).at_first known.lids
-      (swept_claims_are_true (first_of from seat one.at) one.at 1 one.events begins one.can_be one.lids answered) in
+      (done_sweeps_are_complete (first_of from seat one.at one.keeps) one.at 1 one.events begins one.can_be answered).at_first known.lids
+      (swept_claims_are_true (first_of from seat one.at one.keeps) one.at 1 one.events begins one.can_be one.lids answered) in
       (λ j. plan_of (planning_is j).rule (planning_is j).lmc (cells_of w.manager.store))
       ∙ ap (plan_of planning.rule planning.lmc) (holds_all w u one.follows) ∙ taken.1
 

@@ -1,5 +1,5 @@
 -- Several managers: whatever they do, each goes on, no port gets another LID, and what is joined to their seats goes on holding the plan.
-use Rattle.std.proofs.Common.{◌≡◌, ◌≢◌, ◌⊎◌, inl, inr, ℕ, zero, suc, ◌++◌, ◌≤◌, true, List, [], ◌∷◌, refl, sym, ap, ◌∙◌, subst, arith}
+use Rattle.std.proofs.Common.{◌≡◌, ◌≢◌, ◌⊎◌, inl, inr, ℕ, zero, suc, ◌++◌, ◌≤◌, true, false, List, [], ◌∷◌, refl, sym, ap, ◌∙◌, subst, arith}
 use Rattle.std.proofs.lemmas.Option.{same_Some}
 use Rattle.std.specs.Prelude.{Contains, Option, Some, None, slice_get, slice_set}
 use Rattle.fabric_model.specs.declared.cable.NodePort.{NodePort}
@@ -117,12 +117,13 @@ module _ (held : Facts) (planning : Planning) (t0 : Masters) (h : ShareLids held
         has_room = h.has_room;
         agrees = h.agrees which m there;
         lids = h.lids which m there;
-        begins = λ at few. record {
+        begins = λ at few keeps. record {
           quiet = starts.quiet;
           distinct = starts.distinct;
           seat = starts.seat;
           generation = few;
           first = omega arith;
+          keeps = keeps;
           sweep = refl;
           asked = refl;
           reports = refl;
@@ -323,7 +324,7 @@ module _ (held : Facts) (planning : Planning) (t0 : Masters) (h : ShareLids held
       let is = is_seat t all which m there in
       let k = known m.seat is in
       in_use t0.scene.fabric m.seat (plan_by_it planning held) (listed m.seat is) k.ground planning.rule planning.lmc held h.has_room refl k.agrees
-      (seat_end (first_of t0.scene m.seat 1) 1 1 (k.begins 1 (omega arith, omega arith))) t.scene all.stands.continues (now which m there)
+      (seat_end (first_of t0.scene m.seat 1 false) 1 1 (k.begins 1 (omega arith, omega arith) false)) t.scene all.stands.continues (now which m there)
 
   -- what holds the plan now is what was there at first
   held_of : (t : Masters) → AllStand t → AllHold held planning t → AllHeld t

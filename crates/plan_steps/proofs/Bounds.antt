@@ -115,7 +115,7 @@ pub phase_bound_law : PhaseBoundLaw
 phase_bound_law rule lmc facts s master has_room =
     let cells = cells_of facts in
     let plan = plan_of rule lmc cells in
-    let owners = found_at_most (owner_step s master plan.given) (rising_lids plan.given) in
+    let owners = found_at_most (owner_step cells s master plan.given) (rising_lids plan.given) in
     let some = lids_fit rule lmc facts s master has_room in
     let blocks = joined_at_most (switch_steps s plan) (some_blocks rule lmc facts s master has_room) (switches_of plan) in
     let same = switches_same rule lmc facts s master has_room in

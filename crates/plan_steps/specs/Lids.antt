@@ -1,6 +1,6 @@
 -- What a plan sets at end ports: their LIDs, and the LID of the manager.
 -- InfiniBand Architecture Specification, Volume 1: subnet management, PortInfo; addressing, unicast LIDs.
-use Rattle.std.specs.Prelude.{◌≡◌, ◌≤◌, ◌⊎◌, ℕ, Bool, false, List, Contains, Option, Some, ◌==◌, ◌&&◌, option_and_then, replicate}
+use Rattle.std.specs.Prelude.{◌≡◌, ◌≤◌, ◌⊎◌, ℕ, Bool, false, List, Contains, Option, Some, ◌==◌, ◌&&◌, option_and_then}
 use Rattle.std.specs.Option.{option_map_or}
 use Rattle.std.specs.List.{filter_map, find}
 use Rattle.smp_bytes.specs.Field.{with_bits, with_number}
@@ -15,6 +15,8 @@ use Rattle.subnet_view.specs.Reading.{Cells}
 use Rattle.lid_assign.specs.Lids.{Given, owner_of, lmc_of, rising_lids, lids, IsNoRoom}
 use Rattle.sweep.specs.Sweep.{Sweep}
 use Rattle.plan_steps.specs.declared.step.Step.{Step}
+use Rattle.plan_steps.specs.declared.carried.PortRead.{PortRead}
+use Rattle.plan_steps.specs.Carried.{carried_port, port_read}
 use Rattle.plan_steps.specs.Step.{step_at}
 
 -- the end port `e` has the number `port`, and is known to have the GUID `port_guid`
@@ -27,24 +29,26 @@ is_own_port cells port_guid port e =
 abbrev pub own_lid : Cells → List (EndPort × ℕ) → ℕ → ℕ → ℕ
 own_lid cells given port_guid port = option_map_or (λ x. x.1) (find (λ x. is_own_port cells port_guid port x.0) given) 0
 
--- PortInfo with a LID and an LMC, the manager's LID and the state that is asked for, and 0 elsewhere
-abbrev pub port_data : ℕ × ℕ → ℕ → PortState → List ℕ
-port_data range master state =
+-- PortInfo with a LID and an LMC, the manager's LID and the state that is asked for; all else is carried over from what
+-- was read
+abbrev pub port_data : Option PortRead → ℕ × ℕ → ℕ → PortState → List ℕ
+port_data read range master state =
     with_bits port_state (number_of_state state)
-    (with_bits lmc range.1 (with_number master_sm_lid master (with_number base_lid range.0 (replicate 64 0))))
+    (with_bits lmc range.1 (with_number master_sm_lid master (with_number base_lid range.0 (carried_port read))))
 
 -- the LID and the LMC of an end port, and the manager's LID
-abbrev pub lid_step : Sweep → ℕ → ℕ × ℕ → EndPort → Option Step
-lid_step sweep master range e = step_at sweep e.node e.port port_info e.port (port_data range master NoChange)
+abbrev pub lid_step : Cells → Sweep → ℕ → ℕ × ℕ → EndPort → Option Step
+lid_step cells sweep master range e =
+    step_at sweep e.node e.port port_info e.port (port_data (port_read cells sweep e.node e.port) range master NoChange)
 
 -- the step of the end port that has a LID
-abbrev pub owner_step : Sweep → ℕ → Given → ℕ → Option Step
-owner_step sweep master given lid =
-    option_and_then (λ e. lid_step sweep master (lid, lmc_of given e) e) (owner_of given lid)
+abbrev pub owner_step : Cells → Sweep → ℕ → Given → ℕ → Option Step
+owner_step cells sweep master given lid =
+    option_and_then (λ e. lid_step cells sweep master (lid, lmc_of given e) e) (owner_of given lid)
 
 -- the steps that set the LID and the LMC of each end port that was reached, by rising LIDs
-abbrev pub lid_steps : Sweep → ℕ → Given → List Step
-lid_steps sweep master given = filter_map (owner_step sweep master given) (rising_lids given)
+abbrev pub lid_steps : Cells → Sweep → ℕ → Given → List Step
+lid_steps cells sweep master given = filter_map (owner_step cells sweep master given) (rising_lids given)
 
 -- the law of the manager's LID, in words: ----------------------------------------------------
 

@@ -18,7 +18,7 @@ pub record Phase : Type 0 where
 -- LIDs, blocks and tops are the plan; the states of ports come last, so that no data moves before
 abbrev pub phases_by : PlanValue → Cells → Sweep → ℕ → List Phase
 phases_by plan cells sweep master =
-    record { counts = true; steps = lid_steps sweep master plan.given }
+    record { counts = true; steps = lid_steps cells sweep master plan.given }
     ∷ record { counts = true; steps = block_steps sweep plan }
     ∷ record { counts = true; steps = top_steps sweep plan }
     ∷ record { counts = false; steps = state_steps cells sweep plan.given master Armed }

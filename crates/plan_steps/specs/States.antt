@@ -17,6 +17,8 @@ use Rattle.lid_assign.specs.Lids.{Given, range_of}
 use Rattle.sweep.specs.Order.{is_before}
 use Rattle.sweep.specs.Sweep.{Sweep, seen_state}
 use Rattle.plan_steps.specs.declared.step.Step.{Step}
+use Rattle.plan_steps.specs.declared.carried.PortRead.{PortRead}
+use Rattle.plan_steps.specs.Carried.{port_read}
 use Rattle.plan_steps.specs.Step.{step_at}
 use Rattle.plan_steps.specs.Lids.{port_data}
 
@@ -41,16 +43,17 @@ abbrev pub vertex_port : Cells → ℕ × ℕ → ℕ
 vertex_port cells at = if is_usable cells at.0 then 0 else at.1
 
 -- PortInfo with a state: an end port's LIDs go with it; a switch's other ports have none
-abbrev pub state_data : Given → ℕ → PortState → ℕ × ℕ → List ℕ
-state_data given master state at =
-    option_map_or (λ range. port_data range master state) (range_of given (record { node = at.0; port = at.1 }))
-    (port_data (0, 0) 0 state)
+abbrev pub state_data : Option PortRead → Given → ℕ → PortState → ℕ × ℕ → List ℕ
+state_data read given master state at =
+    option_map_or (λ range. port_data read range master state) (range_of given (record { node = at.0; port = at.1 }))
+    (port_data read (0, 0) 0 state)
 
 -- the step that sets `state` at a port, if the sweep saw it in an earlier state
 abbrev pub state_step : Cells → Sweep → Given → ℕ → PortState → ℕ × ℕ → Option Step
 state_step cells sweep given master state at =
     if option_map_or (is_due state) (seen_state sweep at.0 at.1) false
-    then step_at sweep at.0 (vertex_port cells at) port_info at.1 (state_data given master state at)
+    then step_at sweep at.0 (vertex_port cells at) port_info at.1
+    (state_data (port_read cells sweep at.0 at.1) given master state at)
     else None
 
 -- the steps that set `state` at each port on a wire that was reached and is to come to it, by node GUID and port

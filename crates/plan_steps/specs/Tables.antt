@@ -1,6 +1,6 @@
 -- What a plan sets at switches: the blocks of their forwarding tables, and the greatest LID.
 -- InfiniBand Architecture Specification, Volume 1: subnet management, LinearForwardingTable, SwitchInfo.
-use Rattle.std.specs.Prelude.{ℕ, List, [], Option, option_and_then, replicate}
+use Rattle.std.specs.Prelude.{ℕ, List, [], Option, option_and_then}
 use Rattle.std.specs.Option.{option_map_or}
 use Rattle.std.specs.List.{filter_map, flat_map, range_with_len}
 use Rattle.smp_bytes.specs.Header.{linear_forwarding_table, switch_info}
@@ -9,8 +9,9 @@ use Rattle.attr_codec.specs.SwitchInfo.{linear_fdb_top}
 use Rattle.lid_assign.specs.Lids.{top_of}
 use Rattle.lft_blocks.specs.Entries.{block_count}
 use Rattle.lft_blocks.specs.Plan.{PlanValue, block_at, switches_of}
-use Rattle.sweep.specs.Sweep.{Sweep}
+use Rattle.sweep.specs.Sweep.{Sweep, switch_image}
 use Rattle.plan_steps.specs.declared.step.Step.{Step}
+use Rattle.plan_steps.specs.Carried.{carried_switch}
 use Rattle.plan_steps.specs.Step.{step_at}
 
 -- block b of a switch
@@ -26,12 +27,12 @@ switch_steps sweep plan guid =
 abbrev pub block_steps : Sweep → PlanValue → List Step
 block_steps sweep plan = flat_map (switch_steps sweep plan) (switches_of plan)
 
--- SwitchInfo with the greatest LID that is forwarded, and 0 elsewhere
-abbrev pub top_data : ℕ → List ℕ
-top_data top = with_number linear_fdb_top top (replicate 64 0)
+-- SwitchInfo with the greatest LID that is forwarded; all else is carried over from what was read
+abbrev pub top_data : Option (List ℕ) → ℕ → List ℕ
+top_data read top = with_number linear_fdb_top top (carried_switch read)
 
 abbrev pub top_step : Sweep → ℕ → ℕ → Option Step
-top_step sweep top guid = step_at sweep guid 0 switch_info 0 (top_data top)
+top_step sweep top guid = step_at sweep guid 0 switch_info 0 (top_data (switch_image sweep guid) top)
 
 -- the steps that set the greatest LID, if any, for each usable switch that was reached, by rising GUID
 abbrev pub top_steps : Sweep → PlanValue → List Step

@@ -4,6 +4,7 @@ ghost use Rattle.plan_steps.specs.Tables.{top_data, top_step, top_steps};
 ghost use Rattle.std.specs.List.{filter_map};
 ghost use Rattle.lft_blocks.specs.Plan.{switches_of};
 
+use crate::carried::carried_switch;
 use crate::step::{Step, step_at};
 use attr_codec::{Attribute, SwitchInfo};
 use lft_blocks::{Plan, block_count};
@@ -73,6 +74,7 @@ pub(crate) fn top_steps(alloc: Global, sweep: &Sweep, plan: &Plan) -> Result<Vec
 }
 
 /// Builds the step of the greatest LID `top` for each switch that was reached, by rising GUID.
+#[tactic(auto, using(crate::proofs::Walked::walked_some, crate::proofs::Walked::walked_none))]
 fn steps_with_top(
     alloc: Global,
     sweep: &Sweep,
@@ -95,21 +97,22 @@ fn steps_with_top(
 fn top_step(sweep: &Sweep, top: Lid, guid: Guid) -> Option<Step>
     ensures { result ≡ top_step sweep.now top guid }
 {
+    let read = sweep.switch_image(guid);
     step_at(
         sweep,
         guid,
         PortNum::MANAGEMENT,
         AttributeId::SWITCH_INFO,
         0,
-        top_data(top),
+        top_data(read, top),
     )
 }
 
-/// Returns the SwitchInfo with `top` as the greatest LID that is forwarded, and 0 elsewhere.
-fn top_data(top: Lid) -> [u8; 64]
-    ensures { result ≡ top_data top }
+/// Returns the SwitchInfo with `top` as the greatest LID that is forwarded. Carries all else over from what was read.
+fn top_data(read: Option<SwitchInfo>, top: Lid) -> [u8; 64]
+    ensures { result ≡ top_data read top }
 {
-    let mut info = SwitchInfo::decode(&[0; 64]);
+    let mut info = carried_switch(read);
     info.set_linear_fdb_top(top);
     info.encode()
 }

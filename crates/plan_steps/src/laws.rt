@@ -1,6 +1,7 @@
 //! What the lists of steps are, in words.
 ghost use Rattle.plan_steps.specs.Bound.{PhaseBoundLaw};
 ghost use Rattle.plan_steps.specs.Lids.{OwnLidLaw};
+ghost use Rattle.plan_steps.specs.SetLaws.{LidAndStateAgree, SetsChangeNothingElse, SetsSayThePlan};
 ghost use Rattle.plan_steps.specs.States.{WiredPortsLaw};
 
 /// The manager's LID is that of the first end port, by node GUID, with its port GUID and number, or 0 without such a
@@ -19,4 +20,21 @@ pub fn wired_ports_are_listed_in_order()
 /// LIDs.
 pub fn phases_are_bounded()
     ensures { PhaseBoundLaw }
+{}
+
+/// Whatever was read of a port or a switch, a Set says what the plan asks for: LID, LMC, the manager's LID and the
+/// state, or the greatest LID.
+pub fn sets_say_the_plan()
+    ensures { SetsSayThePlan }
+{}
+
+/// A Set leaves what was read as it is, but for what the plan asks for, "no change" in some bits, and defaults for what
+/// no manager has set.
+pub fn sets_change_nothing_else()
+    ensures { SetsChangeNothingElse }
+{}
+
+/// The Set of a state at an end port says what the Set of its LID says, but for the state.
+pub fn lid_and_state_agree()
+    ensures { LidAndStateAgree }
 {}

@@ -3,6 +3,7 @@
 
 mod block_steps;
 mod bound;
+mod carried;
 pub mod laws;
 mod lid_steps;
 mod phase;
@@ -10,5 +11,6 @@ mod state_steps;
 mod step;
 
 pub use bound::most_steps;
+pub use carried::PortRead;
 pub use phase::{Phase, phases};
 pub use step::Step;

@@ -3,8 +3,9 @@ ghost use Rattle.fact_store.specs.View.{cells_of};
 ghost use Rattle.plan_steps.specs.Lids.{is_own_port, own_lid, port_data};
 ghost use Rattle.plan_steps.specs.Lids.{lid_step, lid_steps, owner_step};
 
+use crate::carried::{PortRead, carried_port, port_read};
 use crate::step::{Step, step_at};
-use attr_codec::{Attribute, Lmc, PortInfo, PortState};
+use attr_codec::{Attribute, Lmc, PortState};
 use fact_store::Store;
 use lid_assign::LidMap;
 use smp_bytes::{AttributeId, Guid, Lid, PortNum};
@@ -36,15 +37,17 @@ fn is_own_port(store: &Store, end: EndPort, own_guid: Guid, port: PortNum) -> bo
 /// each.
 pub(crate) fn lid_steps(
     alloc: Global,
+    store: &Store,
     sweep: &Sweep,
     master: Lid,
     lids: &LidMap,
 ) -> Result<Vec<Step>, AllocError>
-    ensures { IfOk result (λ steps. steps.items ≡ lid_steps sweep.now master lids.now) }
+    ensures { IfOk result (λ steps. steps.items
+        ≡ lid_steps (cells_of store.now) sweep.now master lids.now) }
 {
     let mut steps = Vec::new(alloc);
     for lid in lids.lids() {
-        if let Some(step) = owner_step(sweep, master, lids, *lid) {
+        if let Some(step) = owner_step(store, sweep, master, lids, *lid) {
             steps.push(step)?;
         }
     }
@@ -52,33 +55,48 @@ pub(crate) fn lid_steps(
 }
 
 /// Builds the step of the end port that owns `lid`.
-fn owner_step(sweep: &Sweep, master: Lid, lids: &LidMap, lid: Lid) -> Option<Step>
-    ensures { result ≡ owner_step sweep.now master lids.now lid }
+fn owner_step(store: &Store, sweep: &Sweep, master: Lid, lids: &LidMap, lid: Lid) -> Option<Step>
+    ensures { result ≡ owner_step (cells_of store.now) sweep.now master lids.now lid }
 {
     let end = lids.owner(lid)?;
     let lmc = lids.lmc_of(&end);
-    lid_step(sweep, master, lid, lmc, end)
+    lid_step(store, sweep, master, lid, lmc, end)
 }
 
 /// Builds the step that sets an end port's LID and LMC, and the manager's LID.
-fn lid_step(sweep: &Sweep, master: Lid, lid: Lid, lmc: Lmc, end: EndPort) -> Option<Step>
-    ensures { result ≡ lid_step sweep.now master (lid, lmc) end }
+fn lid_step(
+    store: &Store,
+    sweep: &Sweep,
+    master: Lid,
+    lid: Lid,
+    lmc: Lmc,
+    end: EndPort,
+) -> Option<Step>
+    ensures { result ≡ lid_step (cells_of store.now) sweep.now master (lid, lmc) end }
 {
+    let read = port_read(store, sweep, end.node, end.port);
     step_at(
         sweep,
         end.node,
         end.port,
         AttributeId::PORT_INFO,
         u32::from(end.port.number()),
-        port_data(lid, lmc, master, PortState::NoChange),
+        port_data(read, lid, lmc, master, PortState::NoChange),
     )
 }
 
-/// Returns the PortInfo with a LID and an LMC, the manager's LID and the state that is asked for, and 0 elsewhere.
-pub(crate) fn port_data(lid: Lid, lmc: Lmc, master: Lid, state: PortState) -> [u8; 64]
-    ensures { result ≡ port_data (lid, lmc) master state }
+/// Returns the PortInfo with a LID and an LMC, the manager's LID and the state that is asked for. Carries all else over
+/// from what was read.
+pub(crate) fn port_data(
+    read: Option<PortRead>,
+    lid: Lid,
+    lmc: Lmc,
+    master: Lid,
+    state: PortState,
+) -> [u8; 64]
+    ensures { result ≡ port_data read (lid, lmc) master state }
 {
-    let mut info = PortInfo::decode(&[0; 64]);
+    let mut info = carried_port(read);
     info.set_base_lid(lid);
     info.set_master_sm_lid(master);
     info.set_lmc(lmc);

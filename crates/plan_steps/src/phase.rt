@@ -67,7 +67,7 @@ fn phases_by(
 {
     let lids = plan.lids();
     let mut phases = VecDeque::with_capacity(alloc, 5)?;
-    let steps = lid_steps(alloc, sweep, master, lids)?;
+    let steps = lid_steps(alloc, store, sweep, master, lids)?;
     phases.push_back(Phase {
         counts: true,
         steps,

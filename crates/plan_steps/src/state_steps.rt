@@ -6,6 +6,7 @@ ghost use Rattle.sweep.specs.Sweep.{seen_state};
 ghost use Rattle.plan_steps.specs.States.{is_due, state_data, state_step, vertex_port};
 ghost use Rattle.plan_steps.specs.States.{wired_port, wired_ports};
 
+use crate::carried::{PortRead, port_read};
 use crate::lid_steps::port_data;
 use crate::step::{Step, step_at};
 use attr_codec::{Lmc, PortState};
@@ -84,13 +85,14 @@ fn state_step(
     if !is_still_due(sweep, state, guid, port) {
         return None;
     }
+    let read = port_read(store, sweep, guid, port);
     step_at(
         sweep,
         guid,
         vertex_port(store, guid, port),
         AttributeId::PORT_INFO,
         u32::from(port.number()),
-        state_data(lids, master, state, guid, port),
+        state_data(read, lids, master, state, guid, port),
     )
 }
 
@@ -127,13 +129,20 @@ fn vertex_port(store: &Store, guid: Guid, port: PortNum) -> PortNum
 }
 
 /// Returns the PortInfo that sets `state`, with an end port's LIDs; a switch's other ports have none.
-fn state_data(lids: &LidMap, master: Lid, state: PortState, guid: Guid, port: PortNum) -> [u8; 64]
-    ensures { result ≡ state_data lids.now master state (guid, port) }
+fn state_data(
+    read: Option<PortRead>,
+    lids: &LidMap,
+    master: Lid,
+    state: PortState,
+    guid: Guid,
+    port: PortNum,
+) -> [u8; 64]
+    ensures { result ≡ state_data read lids.now master state (guid, port) }
 {
     let end = EndPort { node: guid, port };
     let lmc = lids.lmc_of(&end);
     match lids.lid_of(end) {
-        Some(lid) => port_data(lid, lmc, master, state),
-        None => port_data(Lid::NONE, Lmc::ZERO, Lid::NONE, state),
+        Some(lid) => port_data(read, lid, lmc, master, state),
+        None => port_data(read, Lid::NONE, Lmc::ZERO, Lid::NONE, state),
     }
 }

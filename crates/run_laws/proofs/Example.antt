@@ -1,6 +1,6 @@
 -- A run with one manager that brings a subnet up: on an adapter at a switch, to which another adapter is wired. LIDs
 -- come in pairs, and a request is copied and lost.
-use Rattle.std.proofs.Common.{◌≡◌, ℕ, zero, suc, ◌+◌, ◌-◌, ◌^◌, ◌&&◌, Bool, true, List, [], ◌∷◌, refl, sym, ap, ◌∙◌, subst, arith}
+use Rattle.std.proofs.Common.{◌≡◌, ℕ, zero, suc, ◌+◌, ◌-◌, ◌^◌, ◌&&◌, Bool, true, false, List, [], ◌∷◌, refl, sym, ap, ◌∙◌, subst, arith}
 use Rattle.std.proofs.lemmas.Bool.{and_parts}
 use Rattle.std.proofs.lemmas.Option.{same_Some}
 use Rattle.std.specs.Prelude.{Option, Some, None, is_some, map, max, slice_get, if◌then◌else◌, ◌==◌}
@@ -83,7 +83,7 @@ between = command.Packet Last fate.Repeat ∷ command.Packet (Serial 0) fate.Los
 
 -- the manager as it is when a sweep of a generation has begun
 abbrev sweeping : ℕ → Manager
-sweeping generation = with_sweep (record new { standing = active_once_more new.standing; seen = [] }) (started 1 generation 1)
+sweeping generation = with_sweep (record new { standing = active_once_more new.standing; seen = [] }) (started 1 generation 1 false)
 
 may_begin : begin_fault new ≡ None
 may_begin = ap (λ n. if n == 2 ^ 32 - 1 then Some GenerationsSpent else None) nothing_newest

@@ -122,7 +122,7 @@ after_begin_sweep m =
       standing = active_once_more m.standing;
       seen =
           [];
-    }) (started m.port (next_generation m.store) 1)
+    }) (started m.port (next_generation m.store) 1 false)
 
 -- other calls ------------------------------------------------------------------------------------
 

@@ -112,7 +112,7 @@ impl Manager {
             return Err(ManagerFault::GenerationsSpent);
         };
         self.outgoing.reserve(1)?;
-        let mut sweep = Sweep::start(self.alloc, self.port, generation, 1)?;
+        let mut sweep = Sweep::start(self.alloc, self.port, generation, 1, false)?;
         send_queued(&mut sweep, &mut self.outgoing);
         self.sweep = Some(sweep);
         self.seen.clear();

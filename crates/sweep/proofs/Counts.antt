@@ -112,6 +112,6 @@ counts (TimesOut transaction ∷ events) s rising =
     omega (arith, one.count, rest)
 
 pub each_counts : EachCounts
-each_counts origin generation first events =
-    let all = counts events (started origin generation first) (rising_asked 0 [] first (first_question ∷ []) (omega arith)) in
+each_counts origin generation first keeps events =
+    let all = counts events (started origin generation first keeps) (rising_asked 0 [] first (first_question ∷ []) (omega arith)) in
     omega (arith, all)

@@ -9,3 +9,5 @@ pub mod Taken
 pub mod Runs
 pub mod Counts
 pub mod Managers
+pub mod KeptImages
+pub mod Unasked

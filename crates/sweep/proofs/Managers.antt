@@ -103,6 +103,6 @@ counts (TimesOut transaction ∷ events) s rising =
     omega (arith, one, rest)
 
 pub each_manager_counts : EachManagerCounts
-each_manager_counts origin generation first events =
-    let all = counts events (started origin generation first) (rising_asked 0 [] first (first_question ∷ []) (omega arith)) in
+each_manager_counts origin generation first keeps events =
+    let all = counts events (started origin generation first keeps) (rising_asked 0 [] first (first_question ∷ []) (omega arith)) in
     omega (arith, all)

@@ -60,5 +60,5 @@ go_out (TimesOut transaction ∷ events) s least rising =
     (timed_out_rises s least (request_with s.generation transaction s.outstanding) rising)
 
 pub numbers_rise : NumbersRise
-numbers_rise origin generation first events =
-    (go_out events (started origin generation first) 0 (rising_asked 0 [] first (first_question ∷ []) (omega arith))).1
+numbers_rise origin generation first keeps events =
+    (go_out events (started origin generation first keeps) 0 (rising_asked 0 [] first (first_question ∷ []) (omega arith))).1

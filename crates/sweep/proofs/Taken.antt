@@ -23,6 +23,7 @@ use Rattle.sweep.specs.declared.request.Request.{Request}
 use Rattle.sweep.specs.Accepting.{IsAccepted}
 use Rattle.sweep.specs.Finding.{one_too_far, questions, too_far_by, with_vertex, with_state, with_state_of}
 use Rattle.sweep.specs.Discovered.{Discovered}
+use Rattle.sweep.specs.Images.{Images}
 use Rattle.sweep.specs.Order.{AreInOrder}
 use Rattle.sweep.specs.Replies.{answer_for, fault_for, is_spent, judged, judged_as, judged_by, judged_for, request_of}
 use Rattle.sweep.specs.SweepRequests.{SweepRequests}
@@ -129,23 +130,25 @@ module _ (s : Sweep) (packet : List ℕ) (accepted : Accepted) (ok : IsAccepted 
       let both = length-append s.queued (numbered s.next (questions ok.request.path accepted.finding)) in
       omega (arith, ap length queued_then, count, both, ok.few)
 
-  pub valid_then : IsSweep s → HasPut accepted.finding before after
+  pub valid_then : (images : Images) → IsSweep s → HasPut accepted.finding before after
       → IsSweep (record s {
         next = new.next;
         queued = new.queued;
         outstanding = new.outstanding;
         reached = after.reached;
         states = after.states;
+        images = images;
         too_far =
             after.too_far;
       })
-  valid_then valid put =
+  valid_then images valid put =
       valid_ended s (record s {
         next = new.next;
         queued = new.queued;
         outstanding = new.outstanding;
         reached = after.reached;
         states = after.states;
+        images = images;
         too_far =
             after.too_far;
       }) accepted.index ok.request (questions ok.request.path accepted.finding) valid

@@ -6,11 +6,13 @@ use Rattle.sweep.specs.Sweep.{Sweep}
 use Rattle.sweep.specs.Finding.{finding, questions, IsWithinReach}
 use Rattle.sweep.specs.Replies.{judged, request_of, sightings_by}
 
--- `accepted` has the index of the request, what the reply brings up, its facts, and the answer
+-- `accepted` has the index of the request, what it asked, what the reply brings up, its facts, and the answer
 pub record IsAccepted (s : Sweep) (packet : List ℕ) (accepted : Accepted) : Type 0 where
   pub request : Request
   pub waits : slice_get s.outstanding accepted.index ≡ Some request
   pub belongs : request_of s packet ≡ Some request
+  pub question : accepted.question ≡ request.question
+  pub context : accepted.context ≡ request.context
   pub finding : accepted.finding ≡ finding s request packet
   pub reach : IsWithinReach request.path accepted.finding
   pub few : length (questions request.path accepted.finding) ≤ 256

@@ -1,5 +1,6 @@
 pub mod Fault
 pub mod Order
+pub mod Images
 pub mod Sweep
 pub mod SweepRequests
 pub mod Discovered

@@ -17,6 +17,7 @@ use Rattle.sweep.specs.declared.request.Question.TheVariants as ask
 use Rattle.sweep.specs.declared.request.Request.{Request}
 use Rattle.sweep.specs.Sweep.{Sweep, attribute_asked, modifier_asked, transaction_of, without_number}
 use Rattle.sweep.specs.Finding.{finding, questions, with_finding}
+use Rattle.sweep.specs.Images.{images_with}
 
 -- which request a reply belongs to ----------------------------------------------------------
 
@@ -90,7 +91,11 @@ sightings_by (Seen guid port info) = []
 abbrev pub after_reply_to : Sweep → List ℕ → Option Request → Sweep
 after_reply_to s packet None = s
 after_reply_to s packet (Some r) =
-    with_finding (record s { outstanding = without_number r.number s.outstanding }) r.path (finding s r packet)
+    with_finding (record s {
+      outstanding = without_number r.number s.outstanding;
+      images =
+          images_with s.images r packet;
+    }) r.path (finding s r packet)
 
 -- the sweep after a reply that it takes
 abbrev pub after_reply : Sweep → List ℕ → Sweep

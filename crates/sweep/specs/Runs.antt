@@ -1,12 +1,12 @@
 -- Runs of a sweep: requests go out, replies come, and requests time out, in any order.
-use Rattle.std.specs.Prelude.{◌≡◌, ℕ, ◌+◌, ◌<◌, List, [], ◌∷◌, ◌++◌, length, Result, Ok, Err}
+use Rattle.std.specs.Prelude.{◌≡◌, ℕ, ◌+◌, ◌<◌, Bool, false, List, [], ◌∷◌, ◌++◌, length, None, Result, Ok, Err}
 use Rattle.sweep.specs.declared.answer.Answer.{Answer}
 use Rattle.sweep.specs.declared.answer.Answer.TheVariants.{Facts, Seen}
 use Rattle.sweep.specs.declared.fault.SweepFault.{SweepFault}
 use Rattle.sweep.specs.declared.request.Request.{Request}
 use Rattle.request_table.specs.Order.{AreOrdered}
 use Rattle.sweep.specs.Replies.{judged, after_reply}
-use Rattle.sweep.specs.Sweep.{Sweep, after_next_request, managers_asked, started, after_timeout}
+use Rattle.sweep.specs.Sweep.{Sweep, after_next_request, managers_asked, port_image, started, switch_image, after_timeout}
 
 -- the next request goes out; bytes come; a TransactionID times out
 pub data Event : Type 0 where
@@ -41,8 +41,8 @@ numbers_sent s (e ∷ events) = number_sent s e ++ numbers_sent (step s e) event
 
 -- the numbers of the requests that go out rise, so no number is used twice
 abbrev pub NumbersRise : Type 0
-NumbersRise = (origin generation first : ℕ) (events : List Event)
-    → AreOrdered (λ a b. a < b) (numbers_sent (started origin generation first) events)
+NumbersRise = (origin generation first : ℕ) (keeps : Bool) (events : List Event)
+    → AreOrdered (λ a b. a < b) (numbers_sent (started origin generation first keeps) events)
 
 -- how many replies are accepted
 abbrev pub taken_by : Result Answer SweepFault → ℕ
@@ -71,9 +71,9 @@ unended s = s.unanswered + (length s.outstanding + length s.queued)
 -- answered or counts as unanswered
 abbrev pub EachCounts : Type 0
 EachCounts =
-    (origin generation first : ℕ) (events : List Event) →
-    first + replies_taken (started origin generation first) events
-    + unended (after (started origin generation first) events) ≡ (after (started origin generation first) events).next
+    (origin generation first : ℕ) (keeps : Bool) (events : List Event) →
+    first + replies_taken (started origin generation first keeps) events
+    + unended (after (started origin generation first keeps) events) ≡ (after (started origin generation first keeps) events).next
 
 -- managers that are asked ----------------------------------------------------------------------
 
@@ -114,8 +114,20 @@ managers_heard s (e ∷ events) = manager_heard s e + managers_heard (step s e) 
 -- each request for SMInfo that went out is to a manager that answered, that may still do so, or that counts as silent
 abbrev pub EachManagerCounts : Type 0
 EachManagerCounts =
-    (origin generation first : ℕ) (events : List Event) →
-    managers_heard (started origin generation first) events
-    + (managers_in (after (started origin generation first) events).outstanding
-    + (after (started origin generation first) events).silent_managers)
-    ≡ managers_sent (started origin generation first) events
+    (origin generation first : ℕ) (keeps : Bool) (events : List Event) →
+    managers_heard (started origin generation first keeps) events
+    + (managers_in (after (started origin generation first keeps) events).outstanding
+    + (after (started origin generation first keeps) events).silent_managers)
+    ≡ managers_sent (started origin generation first keeps) events
+
+-- images ------------------------------------------------------------------------------------------
+
+-- a sweep that is not asked to keep images keeps none
+pub record HasNoImage (s : Sweep) : Type 0 where
+  pub ports : (guid port : ℕ) → port_image s guid port ≡ None
+  pub switches : (guid : ℕ) → switch_image s guid ≡ None
+
+abbrev pub NoImageUnasked : Type 0
+NoImageUnasked =
+    (origin generation first : ℕ) (events : List Event)
+    → HasNoImage (after (started origin generation first false) events)

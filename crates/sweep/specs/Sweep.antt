@@ -14,12 +14,13 @@ use Rattle.sweep.specs.declared.request.Request.{Request}
 use Rattle.sweep.specs.declared.vertex.Vertex.{Vertex}
 use Rattle.sweep.specs.declared.vertex.SeenState.{SeenState}
 use Rattle.request_table.specs.Numbers as numbers
+use Rattle.sweep.specs.Images.{Images, image_at, no_images}
 use Rattle.sweep.specs.Order.{AreInOrder, found_at}
 
 -- The port that the sweep goes out by and its generation; the number of the next request; the requests that are to be
 -- sent and those that wait for a reply, both first in, first out; the vertices that were reached and the states of
--- ports that were seen, in the order of GUIDs and ports; how many requests were not answered, how many of these were
--- for SMInfo, and how many ports lead further than a path.
+-- ports that were seen, in the order of GUIDs and ports; the attributes that are kept; how many requests were not
+-- answered, how many of these were for SMInfo, and how many ports lead further than a path.
 pub record Sweep : Type 0 where
   pub origin : ℕ
   pub generation : ℕ
@@ -28,6 +29,7 @@ pub record Sweep : Type 0 where
   pub outstanding : List Request
   pub reached : List Vertex
   pub states : List SeenState
+  pub images : Images
   pub unanswered : ℕ
   pub silent_managers : ℕ
   pub too_far : ℕ
@@ -81,9 +83,9 @@ numbered number (a ∷ asked) =
 abbrev pub asking : Sweep → List Asking → Sweep
 asking s asked = record s { next = s.next + length asked; queued = s.queued ++ numbered s.next asked }
 
--- a sweep that has asked nothing
-abbrev pub empty_sweep : ℕ → ℕ → ℕ → Sweep
-empty_sweep origin generation first =
+-- a sweep that has asked nothing, and keeps images or does not
+abbrev pub empty_sweep : ℕ → ℕ → ℕ → Bool → Sweep
+empty_sweep origin generation first keeps =
     record {
       origin = origin;
       generation = generation;
@@ -92,6 +94,7 @@ empty_sweep origin generation first =
       outstanding = [];
       reached = [];
       states = [];
+      images = no_images keeps;
       unanswered = 0;
       silent_managers = 0;
       too_far = 0;
@@ -101,8 +104,8 @@ empty_sweep origin generation first =
 abbrev pub first_question : Asking
 first_question = record { question = ask.Node; path = []; context = Start }
 
-abbrev pub started : ℕ → ℕ → ℕ → Sweep
-started origin generation first = asking (empty_sweep origin generation first) (first_question ∷ [])
+abbrev pub started : ℕ → ℕ → ℕ → Bool → Sweep
+started origin generation first keeps = asking (empty_sweep origin generation first keeps) (first_question ∷ [])
 
 -- sending and waiting ----------------------------------------------------------------------
 
@@ -188,6 +191,14 @@ path_to s guid port = option_map (λ r. r.path) (vertex_at s.reached guid port)
 -- the state of a port that its first reply said
 abbrev pub seen_state : Sweep → ℕ → ℕ → Option PortState
 seen_state s guid port = state_at s.states guid port
+
+-- PortInfo of a port, as its first reply said, if it is kept
+abbrev pub port_image : Sweep → ℕ → ℕ → Option (List ℕ)
+port_image s guid port = image_at s.images.ports guid port
+
+-- SwitchInfo of a switch, as its first reply said, if it is kept
+abbrev pub switch_image : Sweep → ℕ → Option (List ℕ)
+switch_image s guid = image_at s.images.switches guid 0
 
 -- what holds of each sweep ---------------------------------------------------------------------
 

@@ -3,10 +3,11 @@ ghost use Rattle.std.specs.Prelude.{option_map, OnOk, true};
 ghost use Rattle.sweep.specs.Finding.{too_far_by, with_vertex, with_state, with_state_of};
 ghost use Rattle.std.specs.Vec.{vec_capacity, vec_len};
 ghost use Rattle.sweep.specs.Discovered.{Discovered};
-ghost use Rattle.sweep.specs.Order.{AreInOrder, IsIndexFor, has_key, is_before, passes_at, placed};
+ghost use Rattle.sweep.specs.Order.{AreInOrder, IsIndexFor, has_key, passes_at, placed};
 ghost use Rattle.sweep.specs.Sweep.{vertex_at, first_vertex, state_at, state_key, vertex_key};
 
 use crate::finding::{Finding, Onward, PortFinding};
+use crate::port_list::{is_before, item_at, put};
 use crate::vertex::{SeenState, Vertex};
 use attr_codec::PortState;
 use page_list::PageList;
@@ -40,38 +41,12 @@ impl Model for Discovered {
     } };
 }
 
-/// Returns whether `a` comes before `b`: by GUID, and for equal GUIDs by port.
-fn is_before(a: (Guid, PortNum), b: (Guid, PortNum)) -> bool
-    ensures { result ≡ is_before a b }
-{
-    a.0 < b.0 || a.0 == b.0 && a.1 < b.1
-}
-
 /// Returns the index of the vertex, or where it would be. Halves the range of indices at each step.
 fn vertex_index(vertices: &[Vertex], guid: Guid, port: PortNum) -> usize
     requires { AreInOrder vertex_key vertices.now }
     ensures { IsIndexFor vertex_key (guid, port) vertices.now result }
 {
     vertices.partition_point(|vertex| is_before((vertex.guid, vertex.port), (guid, port)))
-}
-
-/// Returns the index of the port's state, or where it would be. Halves the range of indices at each step.
-fn state_index(seen: &PageList<SeenState>, guid: Guid, port: PortNum) -> usize
-    requires { AreInOrder state_key seen.now.items }
-    ensures { IsIndexFor state_key (guid, port) seen.now.items result }
-{
-    let mut low = 0;
-    let mut high = seen.len();
-    while low < high {
-        let middle = low + (high - low) / 2;
-        let state = seen.get(middle).unwrap();
-        if is_before((state.guid, state.port), (guid, port)) {
-            low = middle + 1;
-        } else {
-            high = middle;
-        }
-    }
-    low
 }
 
 fn vertex_in(vertices: &[Vertex], index: usize) -> Option<&Vertex>
@@ -109,16 +84,6 @@ fn is_vertex_of(vertices: &[Vertex], index: usize, guid: Guid) -> bool
     }
 }
 
-/// Returns whether the state at `index` has this GUID and port.
-fn is_state(seen: &PageList<SeenState>, index: usize, guid: Guid, port: PortNum) -> bool
-    ensures { result ≡ passes_at (has_key state_key guid port) seen.now.items index }
-{
-    match seen.get(index) {
-        Some(state) => state.guid == guid && state.port == port,
-        None => false,
-    }
-}
-
 fn first_of(vertices: &[Vertex], guid: Guid) -> Option<&Vertex>
     requires { AreInOrder vertex_key vertices.now }
     ensures { option_copied result ≡ first_vertex vertices.now guid }
@@ -138,18 +103,6 @@ fn vertex_at(vertices: &[Vertex], guid: Guid, port: PortNum) -> Option<&Vertex>
     let index = vertex_index(vertices, guid, port);
     if is_vertex(vertices, index, guid, port) {
         vertex_in(vertices, index)
-    } else {
-        None
-    }
-}
-
-fn state_at(seen: &PageList<SeenState>, guid: Guid, port: PortNum) -> Option<PortState>
-    requires { AreInOrder state_key seen.now.items }
-    ensures { result ≡ state_at seen.now.items guid port }
-{
-    let index = state_index(seen, guid, port);
-    if is_state(seen, index, guid, port) {
-        state_of(seen.get(index))
     } else {
         None
     }
@@ -214,7 +167,7 @@ impl Discovered {
         requires { AreInOrder state_key self.now.states }
         ensures { result ≡ state_at self.now.states guid port }
     {
-        state_at(&self.seen, guid, port)
+        state_of(item_at(&self.seen, guid, port))
     }
 
     /// Adds what a reply brings up, unless it is there already. Takes no memory.
@@ -266,18 +219,6 @@ fn put_state_of(states: &mut PageList<SeenState>, found: &PortFinding)
 {
     if let Some(state) = found.state {
         let (guid, port) = (found.guid, found.port);
-        put_state(states, SeenState { guid, port, state });
-    }
-}
-
-/// Inserts a port's state in order, unless the port has one already. Moves at most a page.
-fn put_state(states: &mut PageList<SeenState>, seen: SeenState)
-    requires order { AreInOrder state_key states.old.items }
-    requires room { 0 < states.old.room }
-    ensures { states.new.items ≡ placed state_key seen states.old.items }
-{
-    let index = state_index(states, seen.guid, seen.port);
-    if !is_state(states, index, seen.guid, seen.port) {
-        states.insert(index, seen);
+        put(states, SeenState { guid, port, state });
     }
 }

@@ -1,5 +1,5 @@
 //! What holds of every run of a sweep.
-ghost use Rattle.sweep.specs.Runs.{EachCounts, EachManagerCounts, NumbersRise};
+ghost use Rattle.sweep.specs.Runs.{EachCounts, EachManagerCounts, NoImageUnasked, NumbersRise};
 
 /// The numbers of the requests that a sweep sends rise, whatever comes to it and in whatever order: none is used twice.
 pub fn numbers_rise()
@@ -17,4 +17,10 @@ pub fn each_request_counts()
 #[tactic(auto, using(crate::proofs::Managers::each_manager_counts))]
 pub fn each_manager_counts()
     ensures { EachManagerCounts }
+{}
+
+/// A sweep that is not asked to keep images keeps none, whatever comes to it.
+#[tactic(auto, using(crate::proofs::Unasked::no_image_unasked))]
+pub fn no_image_unasked()
+    ensures { NoImageUnasked }
 {}

@@ -7,8 +7,10 @@ mod discovered;
 mod fact_sink;
 mod fault;
 mod finding;
+mod images;
 pub mod laws;
 mod on_reply;
+mod port_list;
 mod request;
 mod sweep;
 mod sweep_requests;
@@ -16,6 +18,7 @@ mod vertex;
 
 pub use answer::Answer;
 pub use fault::SweepFault;
+pub use images::SeenImage;
 pub use request::{Question, Request};
 pub use sweep::Sweep;
 pub use vertex::{SeenState, Vertex};

@@ -17,13 +17,16 @@ use crate::request::{Question, Request};
 use crate::sweep::Sweep;
 use arrayvec::ArrayVec;
 use attr_codec::{Attribute, SmInfo};
-use fact_store::{Report, ReportFault, Sighting, Store, answer_fault, sightings_in};
+use fact_store::{Context, Report, ReportFault, Sighting, Store, answer_fault, sightings_in};
 use smp_bytes::Smp;
 
-/// An accepted reply: the index of its request among those that wait, the answer, its facts, and what it brings up.
+/// An accepted reply: the index of its request among those that wait, what that asked and in which context, the answer,
+/// its facts, and what it brings up.
 #[derive(Drop)]
 pub(crate) struct Accepted {
     pub(crate) index: usize,
+    pub(crate) question: Question,
+    pub(crate) context: Context,
     pub(crate) answer: Answer,
     pub(crate) sightings: ArrayVec<Sighting, 4>,
     pub(crate) finding: Finding,
@@ -89,11 +92,13 @@ impl Sweep {
         let accepted = self.accept(smp)?;
         self.requests.reserve()?;
         self.found.reserve()?;
+        self.images.reserve()?;
         if keeper.keep(accepted.sightings.as_slice()).is_err() {
             return Err(SweepFault::Memory);
         }
         self.requests.take(accepted.index, &accepted.finding);
         self.found.put(accepted.finding);
+        self.images.put(accepted.question, &accepted.context, &smp.attribute_data());
         Ok(accepted.answer)
     }
 
@@ -122,6 +127,8 @@ impl Sweep {
         }
         Ok(Accepted {
             index,
+            question: request.question,
+            context: request.context,
             answer: answer_by(request.question, report, smp),
             sightings,
             finding,

@@ -1,14 +1,15 @@
 ghost use Rattle.std.specs.Prelude.{◌≡◌, ◌≤◌, IfOk, OnOk, OnErr, option_copied};
 ghost use Rattle.smp_bytes.specs.Judges.{Judges};
-ghost use Rattle.sweep.specs.Sweep.{is_done, outstanding_at, path_to, seen_state, after_next_request, started};
-ghost use Rattle.sweep.specs.Sweep.{after_timeout, timeout_fault};
+ghost use Rattle.sweep.specs.Sweep.{is_done, outstanding_at, path_to, port_image, seen_state, switch_image};
+ghost use Rattle.sweep.specs.Sweep.{after_next_request, after_timeout, started, timeout_fault};
 
 use crate::discovered::Discovered;
 use crate::fault::SweepFault;
+use crate::images::Images;
 use crate::request::{Question, transaction_of};
 use crate::sweep_requests::SweepRequests;
 use crate::vertex::Vertex;
-use attr_codec::PortState;
+use attr_codec::{Attribute, PortInfo, PortState, SwitchInfo};
 use fact_store::Context;
 use smp_bytes::{Generation, Guid, Path, PortNum, Smp};
 use std::alloc::{AllocError, Global};
@@ -23,6 +24,7 @@ pub struct Sweep {
     pub(crate) generation: Generation,
     pub(crate) requests: SweepRequests,
     pub(crate) found: Discovered,
+    pub(crate) images: Images,
     pub(crate) unanswered: u64,
     /// The number of unanswered requests that were for SMInfo.
     pub(crate) silent_managers: u64,
@@ -41,6 +43,7 @@ impl Model for Sweep {
       outstanding = a.requests.outstanding;
       reached = a.found.reached;
       states = a.found.states;
+      images = a.images.kept;
       unanswered = a.unanswered;
       silent_managers = a.silent_managers;
       too_far = a.found.too_far;
@@ -56,6 +59,7 @@ impl Model for Sweep {
       reached = a.found.reached;
       states =
           a.found.states;
+      images = a.images.kept;
       unanswered = a.unanswered;
       silent_managers = a.silent_managers;
       too_far = a.found.too_far;
@@ -64,14 +68,17 @@ impl Model for Sweep {
 
 impl Sweep {
     /// Starts a sweep that goes out by the port `origin` of its own node. Its first request asks what that node is, and
-    /// has the number `first_sequence`.
+    /// has the number `first_sequence`. If `keeps`, it keeps PortInfo of ports and SwitchInfo of switches as they are
+    /// read, 64 bytes each.
     pub fn start(
         alloc: Global,
         origin: PortNum,
         generation: Generation,
         first_sequence: u32,
+        keeps: bool,
     ) -> Result<Sweep, AllocError>
-        ensures { IfOk result (λ sweep. sweep ≡ started origin generation first_sequence) }
+        ensures { IfOk result
+            (λ sweep. sweep ≡ started origin generation first_sequence keeps) }
     {
         let mut requests = SweepRequests::new(alloc, first_sequence);
         requests.reserve()?;
@@ -81,6 +88,7 @@ impl Sweep {
             generation,
             requests,
             found: Discovered::new(alloc),
+            images: Images::new(alloc, keeps),
             unanswered: 0,
             silent_managers: 0,
         })
@@ -180,5 +188,21 @@ impl Sweep {
         ensures { result ≡ seen_state self.now guid port }
     {
         self.found.state(guid, port)
+    }
+
+    /// Returns PortInfo of a port, as its first reply said, if it is kept. Takes a search.
+    pub fn port_image(&self, guid: Guid, port: PortNum) -> Option<PortInfo>
+        ensures { result ≡ port_image self.now guid port }
+    {
+        let image = self.images.of_port(guid, port)?;
+        Some(PortInfo::decode(&image.bytes))
+    }
+
+    /// Returns SwitchInfo of a switch, as its first reply said, if it is kept. Takes a search.
+    pub fn switch_image(&self, guid: Guid) -> Option<SwitchInfo>
+        ensures { result ≡ switch_image self.now guid }
+    {
+        let image = self.images.of_switch(guid)?;
+        Some(SwitchInfo::decode(&image.bytes))
     }
 }

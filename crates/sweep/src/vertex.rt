@@ -1,6 +1,7 @@
 ghost use Rattle.std.specs.Prelude.{◌≡◌};
 ghost use Rattle.smp_bytes.specs.NodeType.{is_switch};
 
+use crate::port_list::OfPort;
 use attr_codec::PortState;
 use smp_bytes::{Guid, NodeType, Path, PortNum};
 
@@ -33,4 +34,14 @@ pub struct SeenState {
     pub guid: Guid,
     pub port: PortNum,
     pub state: PortState,
+}
+
+impl OfPort for SeenState {
+    ghost use Rattle.sweep.specs.Sweep.{state_key};
+
+    ghost key = { state_key };
+
+    fn key(&self) -> (Guid, PortNum) {
+        (self.guid, self.port)
+    }
 }

@@ -204,8 +204,8 @@ module _ {f : Fabric} {seat : NodePort} (can : CanBeSwept f seat) (is_fabric : I
       by_kind false number ports at e = sym e
 
 -- at the beginning there is one request
-covers_first : (f : Fabric) (seat : NodePort) (generation first : ℕ) → Covered f seat (started seat.port generation first) []
-covers_first f seat generation first =
+covers_first : (f : Fabric) (seat : NodePort) (generation first : ℕ) (keeps : Bool) → Covered f seat (started seat.port generation first keeps) []
+covers_first f seat generation first keeps =
     record {
       rising = (omega arith, omega arith);
       rooted = (tt, tt);
@@ -262,8 +262,8 @@ module _ (w : Sweeping) (generation first : ℕ) (begins : Begins w generation f
       let (node, there, number) = seat_end w generation first begins in
       let at_first : Covered f w.seat w.sweep (told_in w.reports) =
       subst (λ (s : Sweep). Covered f w.seat s (told_in w.reports)) (sym begins.sweep)
-      (subst (λ reports. Covered f w.seat (started w.seat.port generation first) (told_in reports)) (sym begins.reports)
-      (covers_first f w.seat generation first)) in
+      (subst (λ reports. Covered f w.seat (started w.seat.port generation first begins.keeps) (told_in reports)) (sym begins.reports)
+      (covers_first f w.seat generation first begins.keeps)) in
       let ended = after_sweep_events events w in
       let few : w.sweep.silent_managers ≤ w.sweep.unanswered =
       subst (λ (s : Sweep). s.silent_managers ≤ s.unanswered) (sym begins.sweep) (omega arith) in

@@ -1,6 +1,6 @@
 -- A manager that takes over: on an adapter, at a switch to which another adapter is wired, whose port says that a
 -- manager sits there, which is silent. Both adapters and the switch hold LIDs, and the switch a forwarding table.
-use Rattle.std.proofs.Common.{◌≡◌, ℕ, zero, suc, ◌+◌, ◌*◌, ◌-◌, ◌^◌, ◌<◌, Bool, true, List, [], ◌∷◌, ◌++◌, length, map, replicate}
+use Rattle.std.proofs.Common.{◌≡◌, ℕ, zero, suc, ◌+◌, ◌*◌, ◌-◌, ◌^◌, ◌<◌, Bool, true, false, List, [], ◌∷◌, ◌++◌, length, map, replicate}
 use Rattle.std.proofs.Common.{refl, sym, ap, ◌∙◌, subst, arith}
 use Rattle.std.proofs.Math.ListN.{get_or-map}
 use Rattle.std.proofs.lemmas.Option.{same_Some}
@@ -91,7 +91,7 @@ sweeping_with generation =
         standing = active_once_more (new_manager 17 1 0 Plain its_planning).standing;
         seen =
             [];
-      }) (started 1 generation 1);
+      }) (started 1 generation 1 false);
     }
 
 pub may_begin : begin_fault (new_manager 17 1 0 Plain its_planning) ≡ None

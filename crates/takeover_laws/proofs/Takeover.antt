@@ -1,5 +1,5 @@
 -- A manager that sweeps a subnet which holds a plan, while no LID changes, comes to this plan.
-use Rattle.std.proofs.Common.{◌≡◌, inl, inr, ℕ, ◌<◌, ◌≤◌, ◌^◌, List, [], ◌∷◌, ◌++◌, map, refl, sym, ap, ◌∙◌, subst, arith}
+use Rattle.std.proofs.Common.{◌≡◌, inl, inr, ℕ, ◌<◌, ◌≤◌, ◌^◌, Bool, false, List, [], ◌∷◌, ◌++◌, map, refl, sym, ap, ◌∙◌, subst, arith}
 use Rattle.std.proofs.lemmas.List.Elements.{All-nil, All-head, All-tail}
 use Rattle.std.proofs.lemmas.Option.{same_Some}
 use Rattle.std.specs.Prelude.{Some, All}
@@ -128,6 +128,10 @@ module _ (w : Managing) (before between after : List ManagerEvent) (run : IsWrit
     abbrev at : ℕ
     at = next_generation (after_manager_events before w).manager.store
 
+    -- whether it keeps images
+    abbrev keeps : Bool
+    keeps = false
+
     generation : (1 ≤ at) × (at < 2 ^ 32)
     generation =
         let m = (after_manager_events before w).manager in
@@ -137,9 +141,9 @@ module _ (w : Managing) (before between after : List ManagerEvent) (run : IsWrit
 
     -- the sweep that is followed
     first : Sweeping
-    first = record { scene = w.scene; seat = w.seat; sweep = started w.seat.port at 1; asked = []; reports = [] }
+    first = record { scene = w.scene; seat = w.seat; sweep = started w.seat.port at 1 keeps; asked = []; reports = [] }
 
-    first_begins : Begins (record { scene = w.scene; seat = w.seat; sweep = started w.seat.port at 1; asked = []; reports = [] }) at 1
+    first_begins : Begins (record { scene = w.scene; seat = w.seat; sweep = started w.seat.port at 1 keeps; asked = []; reports = [] }) at 1
     first_begins =
         record {
           quiet = run.starts.quiet;
@@ -147,6 +151,7 @@ module _ (w : Managing) (before between after : List ManagerEvent) (run : IsWrit
           seat = run.starts.seat;
           generation = generation;
           first = omega arith;
+          keeps = keeps;
           sweep = refl;
           asked = refl;
           reports = refl;
@@ -154,20 +159,20 @@ module _ (w : Managing) (before between after : List ManagerEvent) (run : IsWrit
 
     -- when the sweep has begun
     begun_followed : (u : Sweeping) → u ≡ on_scene first (after_manager_events before w).scene
-        → Follows (after_manager_event (after_manager_events before w) Begin) (after_sweep_events (asks (started w.seat.port at 1).queued) u)
+        → Follows (after_manager_event (after_manager_events before w) Begin) (after_sweep_events (asks (started w.seat.port at 1 keeps).queued) u)
     unfolding first
     begun_followed u is =
         let x = after_manager_events before w in
         let floor = x.manager.store.floor in
-        let all = asks_all (started w.seat.port at 1).queued u (ap (λ (y : Sweeping). y.sweep.queued) is) in
+        let all = asks_all (started w.seat.port at 1 keeps).queued u (ap (λ (y : Sweeping). y.sweep.queued) is) in
         let sweep = all.sweep ∙ ap (λ (y : Sweeping). with_all_sent y.sweep) is in
         let reports = all.reports ∙ ap (λ (y : Sweeping). y.reports) is in
         let port = (held.went_before w before between after run).fair.side.port in
-        subst (λ y. Follows y (after_sweep_events (asks (started w.seat.port at 1).queued) u)) (sym (held.sweep_first w before between after run))
+        subst (λ y. Follows y (after_sweep_events (asks (started w.seat.port at 1 keeps).queued) u)) (sym (held.sweep_first w before between after run))
         (record {
           scene = all.scene ∙ ap (λ (y : Sweeping). y.scene) is;
           seat = all.seat ∙ ap (λ (y : Sweeping). y.seat) is ∙ sym (held.went_before w before between after run).fair.seat_is;
-          sweep = (λ j. Some (with_all_sent (started (port j) at 1))) ∙ ap (λ y. Some y) (sym sweep);
+          sweep = (λ j. Some (with_all_sent (started (port j) at 1 keeps))) ∙ ap (λ y. Some y) (sym sweep);
           floor = floor;
           generation = subst (λ g. floor ≤ g) (sym (ap (λ (y : Sweep). y.generation) sweep)) (omega arith);
           told = subst (λ (y : List Report). AreOf (λ g. floor ≤ g) (told_in y)) (sym reports) tt;
@@ -181,7 +186,7 @@ module _ (w : Managing) (before between after : List ManagerEvent) (run : IsWrit
         (held.starting w run.starts (plan_at (at_writing w before between))) run.before_can lids_before
 
     ready : Sweeping
-    ready = after_sweep_events (asks (started w.seat.port at 1).queued) (after_sweep_events seen.events first)
+    ready = after_sweep_events (asks (started w.seat.port at 1 keeps).queued) (after_sweep_events seen.events first)
 
     -- when the sweep begins the LIDs are those of the start
     lids_last : (events : List ManagerEvent) (x : Managing) → HasLidsOf (fabric_of w.scene.fabric) x.scene → LidsStayAround (fabric_of w.scene.fabric) events x
@@ -204,25 +209,25 @@ module _ (w : Managing) (before between after : List ManagerEvent) (run : IsWrit
 
     -- all that happened to the sweep
     events : List SweepEvent
-    events = seen.events ++ (asks (started w.seat.port at 1).queued ++ followed.events)
+    events = seen.events ++ (asks (started w.seat.port at 1 keeps).queued ++ followed.events)
 
     events_can : All sweeping.CanBe events
     unfolding events
     events_can =
-        can_append seen.events _ seen.can_be (can_append (asks (started w.seat.port at 1).queued) followed.events (asks_can (started w.seat.port at 1).queued)
+        can_append seen.events _ seen.can_be (can_append (asks (started w.seat.port at 1 keeps).queued) followed.events (asks_can (started w.seat.port at 1 keeps).queued)
         followed.can_be)
 
     events_are : after_sweep_events events first ≡ there
     unfolding events there ready
     events_are =
         runs_append seen.events _ first
-        ∙ runs_append (asks (started w.seat.port at 1).queued) followed.events (after_sweep_events seen.events first)
+        ∙ runs_append (asks (started w.seat.port at 1 keeps).queued) followed.events (after_sweep_events seen.events first)
 
     events_lids : LidsStay (fabric_of w.scene.fabric) events first
     unfolding events ready first
     events_lids =
         let f = fabric_of w.scene.fabric in
-        let queue = (started w.seat.port at 1).queued in
+        let queue = (started w.seat.port at 1 keeps).queued in
         let begun = after_sweep_events seen.events first in
         let scene : HasLidsOf f begun.scene = subst (HasLidsOf f) (sym (ap (λ (u : Sweeping). u.scene) (seen.is first refl)))
         (lids_last before w (λ p. refl) lids_before) in

@@ -1,5 +1,5 @@
 -- The request of the index is the one that the packet answers, and the answer to it is that of its report.
-use Rattle.std.proofs.Common.{◌≡◌, ℕ, ◌+◌, ◌^◌, ◌≤◌, List, length, ap, sym, subst, ◌∙◌, arith}
+use Rattle.std.proofs.Common.{◌≡◌, ℕ, ◌+◌, ◌^◌, ◌≤◌, List, length, ap, refl, sym, subst, ◌∙◌, arith}
 use Rattle.std.specs.Prelude.{Some, None, Ok, option_copied, slice_get}
 use Rattle.request_table.specs.Numbers.{IsIndexFor}
 use Rattle.sweep.specs.declared.answer.Answer.{Answer}
@@ -38,6 +38,8 @@ returns-clause-ok c =
       request = r;
       waits = at;
       belongs = waits;
+      question = refl;
+      context = refl;
       finding = found;
       reach = subst (IsWithinReach r.path) (sym found) (within_reach s r packet);
       few = subst (λ (f : Finding). length (questions r.path f) ≤ 256) (sym found) (few_asked s packet r waits taken);

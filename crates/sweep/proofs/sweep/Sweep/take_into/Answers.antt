@@ -4,9 +4,9 @@ use Rattle.sweep.specs.Accepting.{IsAccepted}
 use Rattle.sweep.specs.Sweep.{Sweep}
 use Rattle.sweep.proofs.Taken.{IsReady, few_then, judges_err, valid_then}
 use Rattle.sweep.proofs.sweep.Sweep.take_into.Goals as goal
-use Rattle.sweep.proofs.sweep.Sweep.take_into.Goals.{After-put}
+use Rattle.sweep.proofs.sweep.Sweep.take_into.Goals.{After-put-2}
 
-ready : (g : _) (c : After-put g) → IsReady c.args.self.now c.reserve.new.self c.reserve-2.new.self
+ready : (g : _) (c : After-put-2 g) → IsReady c.args.self.now c.reserve.new.self c.reserve-2.new.self
 ready g c =
     record {
       next = c.reserve.ensures.next ∙ ap (λ (v : Sweep). v.next) c.self.view_is;
@@ -35,7 +35,7 @@ invariant_of-self-2 g c =
       states = c.reserve-2.ensures.states;
       too_far = c.reserve-2.ensures.too_far;
     })
-    c.take.ensures c.self.invariant
+    c.take.ensures c.put-2.new.self.kept c.self.invariant
     (record { reached = c.put.ensures.reached; states = c.put.ensures.states; too_far = c.put.ensures.too_far })
 
 pub returns-clause-few : goal.returns-clause-few

@@ -1,0 +1,125 @@
+-- What a Set of PortInfo or SwitchInfo carries besides what its step sets: what was read, if that is kept.
+-- InfiniBand Architecture Specification, Volume 1: subnet management, PortInfo and SwitchInfo.
+use Rattle.std.specs.Prelude.{ℕ, min, List, [], ◌∷◌, Option, Some, None, option_and_then, option_map, ◌==◌, if◌then◌else◌, replicate}
+use Rattle.smp_bytes.specs.Field.{Bits, Field, bits_in, number_in, with_bits, with_number}
+use Rattle.attr_codec.specs.PortInfo.{gid_prefix, link_down_default_state, port_physical_state}
+use Rattle.attr_codec.specs.SwitchInfo.{life_time_value, port_state_change}
+use Rattle.subnet_view.specs.Reading.{Cells}
+use Rattle.subnet_view.specs.Wires.{across}
+use Rattle.sweep.specs.Sweep.{Sweep, port_image}
+use Rattle.plan_steps.specs.declared.carried.PortRead.{PortRead}
+
+-- further fields of PortInfo -------------------------------------------------------------------
+
+abbrev pub link_width_enabled : Bits
+link_width_enabled = record { at = 29; shift = 0; width = 8 }
+
+abbrev pub neighbor_mtu : Bits
+neighbor_mtu = record { at = 36; shift = 4; width = 4 }
+
+abbrev pub mtu_cap : Bits
+mtu_cap = record { at = 41; shift = 0; width = 4 }
+
+abbrev pub link_speed_enabled : Bits
+link_speed_enabled = record { at = 35; shift = 0; width = 4 }
+
+abbrev pub link_speed_ext_enabled : Bits
+link_speed_ext_enabled = record { at = 63; shift = 0; width = 5 }
+
+abbrev pub hoq_life : Bits
+hoq_life = record { at = 42; shift = 0; width = 5 }
+
+abbrev pub client_reregister : Bits
+client_reregister = record { at = 51; shift = 7; width = 1 }
+
+abbrev pub subnet_timeout : Bits
+subnet_timeout = record { at = 51; shift = 0; width = 5 }
+
+-- what is changed of what was read ---------------------------------------------------------------
+
+-- some bits, and the number that a Set carries in them
+pub record Change : Type 0 where
+  pub bits : Bits
+  pub number : ℕ
+
+-- bytes with each change made
+abbrev pub changed : List Change → List ℕ → List ℕ
+changed [] bytes = bytes
+changed (c ∷ changes) bytes = changed changes (with_bits c.bits c.number bytes)
+
+-- a number that was read, or another one if that is 0
+abbrev pub or_default : ℕ → ℕ → ℕ
+or_default otherwise number = if number == 0 then otherwise else number
+
+-- the prefix of link-local GIDs, fe80::/64
+abbrev pub link_local_prefix : ℕ
+link_local_prefix = 0xFE80000000000000
+
+-- what stands in bits that a Set is to leave as they are
+abbrev pub no_change : ℕ
+no_change = 0
+
+-- times of 4.096 us * 2^n, as their n: 268 ms and 1 s
+abbrev pub quarter_second : ℕ
+quarter_second = 16
+
+abbrev pub one_second : ℕ
+one_second = 18
+
+-- the MTU of a port on a wire: the lesser of those that its two ends can take, if both say one, and otherwise as it was
+-- read
+abbrev pub mtu_of : List ℕ → Option (List ℕ) → ℕ
+mtu_of own None = bits_in neighbor_mtu own
+mtu_of own (Some far) = or_default (bits_in neighbor_mtu own) (min (bits_in mtu_cap own) (bits_in mtu_cap far))
+
+-- the bits of PortInfo in which a Set carries something else than what was read
+abbrev pub port_changes : PortRead → List Change
+port_changes read =
+    record { bits = link_width_enabled; number = no_change }
+    ∷ record { bits = link_speed_enabled; number = no_change }
+    ∷ record { bits = link_speed_ext_enabled; number = no_change }
+    ∷ record { bits = port_physical_state; number = no_change }
+    ∷ record { bits = link_down_default_state; number = no_change }
+    ∷ record { bits = neighbor_mtu; number = mtu_of read.own read.far }
+    ∷ record { bits = hoq_life; number = or_default quarter_second (bits_in hoq_life read.own) }
+    ∷ record { bits = subnet_timeout; number = or_default one_second (bits_in subnet_timeout read.own) }
+    ∷ record { bits = client_reregister; number = 0 } ∷ []
+
+-- the bits of SwitchInfo in which a Set carries something else than what was read: a 1 clears PortStateChange
+abbrev pub switch_changes : List ℕ → List Change
+switch_changes read =
+    record { bits = life_time_value; number = or_default one_second (bits_in life_time_value read) }
+    ∷ record { bits = port_state_change; number = 1 } ∷ []
+
+-- what was read ---------------------------------------------------------------------------------------
+
+-- what was read of the port at the other end of the wire in a port, if it is kept
+abbrev pub far_image : Cells → Sweep → ℕ → ℕ → Option (List ℕ)
+far_image cells sweep guid port = option_and_then (λ far. port_image sweep far.0 far.1) (across cells guid port)
+
+-- what was read of a port, if it is kept, and of the port across
+abbrev pub port_read : Cells → Sweep → ℕ → ℕ → Option PortRead
+port_read cells sweep guid port =
+    option_map (λ own. record { own = own; far = far_image cells sweep guid port }) (port_image sweep guid port)
+
+-- what is carried ------------------------------------------------------------------------------------
+
+-- an attribute as a whole
+abbrev pub all_bytes : Field
+all_bytes = record { at = 0; len = 64 }
+
+-- 64 bytes that are those of `read`
+abbrev pub copied : List ℕ → List ℕ
+copied read = with_number all_bytes (number_in all_bytes read) (replicate 64 0)
+
+-- PortInfo as a Set carries it: as it was read, but for the changes and the GID prefix; zeros if none is kept
+abbrev pub carried_port : Option PortRead → List ℕ
+carried_port None = replicate 64 0
+carried_port (Some read) =
+    changed (port_changes read)
+    (with_number gid_prefix (or_default link_local_prefix (number_in gid_prefix read.own)) (copied read.own))
+
+-- SwitchInfo as a Set carries it: as it was read, but for the changes; zeros if none is kept
+abbrev pub carried_switch : Option (List ℕ) → List ℕ
+carried_switch None = replicate 64 0
+carried_switch (Some read) = changed (switch_changes read) (copied read)

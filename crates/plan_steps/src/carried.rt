@@ -1,0 +1,148 @@
+//! What a Set of PortInfo or SwitchInfo carries besides what its step sets.
+ghost use Rattle.std.specs.Prelude.{◌≡◌, ℕ, ◌<◌, Some};
+ghost use Rattle.fact_store.specs.View.{cells_of};
+ghost use Rattle.plan_steps.specs.Carried.{carried_port, carried_switch, far_image, mtu_of, or_default, port_read};
+
+use attr_codec::bits::{bits, with_bits};
+use attr_codec::{Attribute, PortInfo, SwitchInfo};
+use fact_store::Store;
+use smp_bytes::{Guid, PortNum};
+use subnet_view::wire;
+use sweep::Sweep;
+
+/// The prefix of link-local GIDs, fe80::/64 (addressing).
+const LINK_LOCAL_PREFIX: u64 = 0xFE80_0000_0000_0000;
+
+/// HOQLife: how long a packet may stay first in its queue, 4.096 us * 2^16.
+const QUARTER_SECOND: u8 = 16;
+
+/// SubnetTimeOut and LifeTimeValue: 4.096 us * 2^18.
+const ONE_SECOND: u8 = 18;
+
+/// Each further field of PortInfo: its byte, the lowest bit and the number of bits.
+macro_rules! port_bits {
+    ($access:ident link_width_enabled $args:tt) => { $access::<29, 0, 8> $args };
+    ($access:ident neighbor_mtu $args:tt) => { $access::<36, 4, 4> $args };
+    ($access:ident mtu_cap $args:tt) => { $access::<41, 0, 4> $args };
+    ($access:ident link_speed_enabled $args:tt) => { $access::<35, 0, 4> $args };
+    ($access:ident link_speed_ext_enabled $args:tt) => { $access::<63, 0, 5> $args };
+    ($access:ident hoq_life $args:tt) => { $access::<42, 0, 5> $args };
+    ($access:ident subnet_timeout $args:tt) => { $access::<51, 0, 5> $args };
+    ($access:ident client_reregister $args:tt) => { $access::<51, 7, 1> $args };
+}
+
+/// PortInfo that was read of a port, and of the port across if it is on a wire and was read too.
+#[derive(Clone, Copy, Debug, PartialEq, Eq)]
+pub struct PortRead {
+    pub own: PortInfo,
+    pub far: Option<PortInfo>,
+}
+
+/// Returns what was read of a port, if it is kept, and of the port across. Takes some ten searches if images are kept,
+/// otherwise one.
+pub(crate) fn port_read(store: &Store, sweep: &Sweep, guid: Guid, port: PortNum) -> Option<PortRead>
+    ensures { result ≡ port_read (cells_of store.now) sweep.now guid port }
+{
+    let own = sweep.port_image(guid, port)?;
+    let far = far_image(store, sweep, guid, port);
+    Some(PortRead { own, far })
+}
+
+/// Returns what was read of the port at the other end of the wire in a port, if it is kept.
+fn far_image(store: &Store, sweep: &Sweep, guid: Guid, port: PortNum) -> Option<PortInfo>
+    ensures { result ≡ far_image (cells_of store.now) sweep.now guid port }
+{
+    let (far_node, far_port) = wire(store, guid, port)?;
+    sweep.port_image(far_node, far_port)
+}
+
+/// Returns PortInfo as a Set carries it: as it was read, with defaults for what no manager has set, the MTU of the wire,
+/// and "no change" where what is read must not be written back; zeros if nothing was kept.
+pub(crate) fn carried_port(read: Option<PortRead>) -> PortInfo
+    ensures { result ≡ carried_port read }
+{
+    match read {
+        Some(read) => PortInfo::decode(&carried_port_of(&read.own.encode(), read.far)),
+        None => PortInfo::decode(&[0; 64]),
+    }
+}
+
+/// Returns PortInfo that was read as a Set carries it, given what was read of the port across.
+fn carried_port_of(own: &[u8; 64], far: Option<PortInfo>) -> [u8; 64]
+    ensures { result ≡ carried_port (Some (record { own = own.now; far = far })) }
+{
+    let mut info = PortInfo::decode(own);
+    info.set_gid_prefix(prefix_or_link_local(info.gid_prefix()));
+    let mut bytes = info.encode();
+    port_bits!(with_bits link_width_enabled (&mut bytes, 0));
+    port_bits!(with_bits link_speed_enabled (&mut bytes, 0));
+    port_bits!(with_bits link_speed_ext_enabled (&mut bytes, 0));
+    let mut info = PortInfo::decode(&bytes);
+    info.set_port_physical_state(0);
+    info.set_link_down_default_state(0);
+    let mut bytes = info.encode();
+    let mtu = mtu_of(own, far);
+    port_bits!(with_bits neighbor_mtu (&mut bytes, mtu));
+    let hoq_life = or_default(QUARTER_SECOND, port_bits!(bits hoq_life (own)));
+    port_bits!(with_bits hoq_life (&mut bytes, hoq_life));
+    let timeout = or_default(ONE_SECOND, port_bits!(bits subnet_timeout (own)));
+    port_bits!(with_bits subnet_timeout (&mut bytes, timeout));
+    port_bits!(with_bits client_reregister (&mut bytes, 0));
+    bytes
+}
+
+/// Returns the lesser of the MTUs that the two ends of a wire can take, if both say one, and otherwise the port's own as
+/// it was read.
+fn mtu_of(own: &[u8; 64], far: Option<PortInfo>) -> u8
+    ensures value { result ≡ mtu_of own.now far }
+    ensures fits { result < 16 }
+{
+    let as_read = port_bits!(bits neighbor_mtu (own));
+    match far {
+        Some(far) => {
+            let most = port_bits!(bits mtu_cap (own)).min(port_bits!(bits mtu_cap (&far.encode())));
+            or_default(as_read, most)
+        }
+        None => as_read,
+    }
+}
+
+/// Returns SwitchInfo as a Set carries it: `read`, with a default for a lifetime that no manager has set, and the bit
+/// that clears PortStateChange; zeros if nothing was kept.
+pub(crate) fn carried_switch(read: Option<SwitchInfo>) -> SwitchInfo
+    ensures { result ≡ carried_switch read }
+{
+    match read {
+        Some(read) => carried_switch_of(&read.encode()),
+        None => SwitchInfo::decode(&[0; 64]),
+    }
+}
+
+/// Returns SwitchInfo that was read as a Set carries it.
+fn carried_switch_of(read: &[u8; 64]) -> SwitchInfo
+    ensures { result ≡ carried_switch (Some read.now) }
+{
+    let mut info = SwitchInfo::decode(read);
+    info.set_life_time_value(or_default(ONE_SECOND, info.life_time_value()));
+    info.set_port_state_change(true);
+    info
+}
+
+/// Returns `number`, or `otherwise` if it is 0.
+fn or_default(otherwise: u8, number: u8) -> u8
+    ensures value { result ≡ or_default otherwise number }
+    ensures fits { (most : ℕ) → otherwise < most → number < most → result < most }
+{
+    if number == 0 { otherwise } else { number }
+}
+
+/// Returns `prefix`, or the prefix of link-local GIDs if it is 0.
+fn prefix_or_link_local(prefix: u64) -> u64
+    ensures { result ≡ or_default LINK_LOCAL_PREFIX prefix }
+{
+    if prefix == 0 {
+        LINK_LOCAL_PREFIX
+    } else {
+        prefix
+    }
+}

@@ -1,0 +1,73 @@
+-- The attributes that a sweep keeps, if it is asked to: 64 bytes each, as the first reply of a port or a switch said.
+-- InfiniBand Architecture Specification, Volume 1: subnet management, PortInfo and SwitchInfo.
+use Rattle.std.specs.Prelude.{◌≡◌, ℕ, ◌≤◌, Bool, true, false, List, [], Option, Some, None, option_map}
+use Rattle.reply_facts.specs.Report.{about_of, payload_of}
+use Rattle.sweep.specs.declared.images.SeenImage.{SeenImage}
+use Rattle.sweep.specs.declared.request.Question.{Question}
+use Rattle.sweep.specs.declared.request.Question.TheVariants as ask
+use Rattle.sweep.specs.declared.request.Request.{Request}
+use Rattle.sweep.specs.Order.{AreInOrder, found_at, placed}
+
+-- whether images are kept, PortInfo of ports, and SwitchInfo of switches (by port 0), each in the order of GUIDs and
+-- ports
+pub record Images : Type 0 where
+  pub keeps : Bool
+  pub ports : List SeenImage
+  pub switches : List SeenImage
+
+abbrev pub image_key : SeenImage → ℕ × ℕ
+image_key i = (i.guid, i.port)
+
+-- nothing is kept so far
+abbrev pub no_images : Bool → Images
+no_images keeps = record { keeps = keeps; ports = []; switches = [] }
+
+-- the image that is kept under a GUID and a port
+abbrev pub image_at : List SeenImage → ℕ → ℕ → Option (List ℕ)
+image_at images guid port = option_map (λ i. i.bytes) (found_at image_key guid port images)
+
+-- what a reply adds ---------------------------------------------------------------------------
+
+-- an image is added if images are kept; if one is there, that one stays
+abbrev pub with_image : Bool → SeenImage → List SeenImage → List SeenImage
+with_image true image images = placed image_key image images
+with_image false image images = images
+
+-- the data of a reply of the node `guid`, by what was asked: PortInfo and SwitchInfo are kept
+abbrev pub images_of : Images → ℕ → List ℕ → Question → Images
+images_of images guid bytes ask.Node = images
+images_of images guid bytes ask.Switch =
+    record images {
+      switches = with_image images.keeps (record { guid = guid; port = 0; bytes = bytes }) images.switches;
+    }
+images_of images guid bytes (ask.Port port) =
+    record images {
+      ports = with_image images.keeps (record { guid = guid; port = port; bytes = bytes }) images.ports;
+    }
+images_of images guid bytes (ask.Manager at port) = images
+
+-- the same, if the request was about a node
+abbrev pub images_about : Images → Option ℕ → List ℕ → Question → Images
+images_about images None bytes question = images
+images_about images (Some guid) bytes question = images_of images guid bytes question
+
+-- what is kept once the reply to a request has come
+abbrev pub images_with : Images → Request → List ℕ → Images
+images_with images r packet = images_about images (about_of r.context) (payload_of packet) r.question
+
+-- with memory ------------------------------------------------------------------------------------
+
+-- what is kept, and for how many more images there is memory
+pub record ImageTable : Type 0 where
+  pub kept : Images
+  pub port_room : ℕ
+  pub switch_room : ℕ
+
+-- there is memory for one more image, if images are kept
+abbrev pub HasImageRoom : ImageTable → Type 0
+HasImageRoom table = table.kept.keeps ≡ true → (1 ≤ table.port_room) × (1 ≤ table.switch_room)
+
+-- images are in the order of GUIDs and ports
+pub record AreImages (images : Images) : Type 0 where
+  pub ports : AreInOrder image_key images.ports
+  pub switches : AreInOrder image_key images.switches
