@@ -36,6 +36,7 @@ use Rattle.manager_laws.proofs.Follows.{Follows, IsFollowed, event_followed, hol
 use Rattle.manager_laws.proofs.Generations.{AreOf, floor_small}
 use Rattle.manager_laws.proofs.Goes.{Goes}
 use Rattle.manager_laws.proofs.Held as held
+use Rattle.sm_state.specs.Conducts.{is_live}
 use Rattle.manager_laws.proofs.Planned.{holds_plan}
 
 -- scenes one after the other ---------------------------------------------------------------------------------
@@ -119,7 +120,7 @@ module _ (w : Managing) (before between after : List ManagerEvent) (run : IsWrit
 
     -- whether it keeps images
     abbrev keeps : Bool
-    keeps = false
+    keeps = is_live (after_manager_events before w).manager.standing.conduct
 
     generation : (1 ≤ at) × (at < 2 ^ 32)
     generation =

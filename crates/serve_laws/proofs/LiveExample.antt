@@ -138,7 +138,7 @@ given w m = record w { manager = emptied m; out = w.out ++ m.outgoing }
 -- the manager as it is when a sweep of a generation has begun
 abbrev sweeping_with : ℕ → Manager
 sweeping_with generation =
-    with_sweep (record me { standing = active_once_more me.standing; seen = [] }) (started 1 generation 1 false)
+    with_sweep (record me { standing = active_once_more me.standing; seen = [] }) (started 1 generation 1 true)
 
 may_begin : begin_fault me ≡ None
 may_begin = ap (λ n. if n == 2 ^ 32 - 1 then Some GenerationsSpent else None) nothing_newest

@@ -17,6 +17,7 @@ use Rattle.sm_state.specs.declared.conduct.Conduct.{Conduct}
 use Rattle.sm_state.specs.declared.election.SeenManager.{SeenManager}
 use Rattle.sm_state.specs.declared.standing.Standing.{Standing}
 use Rattle.lft_blocks.specs.Planning.{Planning}
+use Rattle.sm_state.specs.Conducts.{is_live}
 use Rattle.sm_state.specs.Election.{sweep_verdict}
 use Rattle.sm_state.specs.Standing.{active_once_more, info_of, moved_by, new_standing}
 
@@ -115,14 +116,15 @@ abbrev pub begin_fault : Manager → Option ManagerFault
 begin_fault m = if is_running m.sweep then Some SweepRunning else
     (if newest_held m.store == 2 ^ 32 - 1 then Some GenerationsSpent else None)
 
--- a sweep begins at the manager's own port, in the next generation; it has seen no manager yet
+-- a sweep begins at the manager's own port, in the next generation; it has seen no manager yet, and keeps what it reads
+-- if the manager is live
 abbrev pub after_begin_sweep : Manager → Manager
 after_begin_sweep m =
     with_sweep (record m {
       standing = active_once_more m.standing;
       seen =
           [];
-    }) (started m.port (next_generation m.store) 1 false)
+    }) (started m.port (next_generation m.store) 1 (is_live m.standing.conduct))
 
 -- other calls ------------------------------------------------------------------------------------
 

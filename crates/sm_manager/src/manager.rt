@@ -95,7 +95,8 @@ impl Manager {
     }
 
     /// Begins a sweep, and queues its first request. Its generation is the one after the newest in the store, or the
-    /// floor if that is greater. Forgets the managers that the sweep before saw. Walks the store once.
+    /// floor if that is greater. Forgets the managers that the sweep before saw. Walks the store once. By the live
+    /// conduct the sweep keeps the 64 bytes that it reads of each port and each switch, which a writing then carries.
     ///
     /// # Errors
     ///
@@ -112,7 +113,8 @@ impl Manager {
             return Err(ManagerFault::GenerationsSpent);
         };
         self.outgoing.reserve(1)?;
-        let mut sweep = Sweep::start(self.alloc, self.port, generation, 1, false)?;
+        let keeps = self.standing.conduct.is_live();
+        let mut sweep = Sweep::start(self.alloc, self.port, generation, 1, keeps)?;
         send_queued(&mut sweep, &mut self.outgoing);
         self.sweep = Some(sweep);
         self.seen.clear();

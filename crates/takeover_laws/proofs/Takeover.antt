@@ -41,6 +41,7 @@ use Rattle.takeover_laws.proofs.Seen.{SeenKeeping, event_seen, asks_lids, lids_a
 use Rattle.takeover_laws.proofs.Following.{IsFollowed, event_followed}
 use Rattle.manager_laws.proofs.Generations.{AreOf, floor_small}
 use Rattle.manager_laws.proofs.Goes.{Goes}
+use Rattle.sm_state.specs.Conducts.{is_live}
 use Rattle.manager_laws.proofs.Held as held
 
 -- scenes one after the other ---------------------------------------------------------------------------------
@@ -130,7 +131,7 @@ module _ (w : Managing) (before between after : List ManagerEvent) (run : IsWrit
 
     -- whether it keeps images
     abbrev keeps : Bool
-    keeps = false
+    keeps = is_live (after_manager_events before w).manager.standing.conduct
 
     generation : (1 ≤ at) × (at < 2 ^ 32)
     generation =
