@@ -325,8 +325,8 @@ def without_number(packet):
 def faithful(bench):
     """Checks from both sides that what was printed went out and what came was told, but for numbers of requests."""
     script = between(bench, "all")
-    with seated(bench, "H1", "-p", 5, "-x", program=script, packets="all.packets") as seat:
-        bench.check(seat.settles(), "a subnet is brought up by Sets as they are printed")
+    with seated(bench, "H1", "-p", 5, program=script, packets="all.packets") as seat:
+        bench.check(seat.settles(), "a subnet is brought up")
         seat.end()
     printed = [bytes.fromhex(words[0]) for words in lines_of(bench.path / "all.printed", "send")]
     told = [bytes.fromhex(words[0]) for words in lines_of(bench.path / "all.told", "packet")]
@@ -348,8 +348,8 @@ def faithful(bench):
     )
     sets = [it for it in printed if it[3] == 2 and it[16:18] == b"\0\x15"]
     bench.check(
-        sets != [] and not any(it[64 + 36] for it in sets),
-        "a Set of PortInfo has NeighborMTU 0, as the manager prints it",
+        sets != [] and all(it[64 + 36] >> 4 for it in sets),
+        "a Set of PortInfo has a NeighborMTU, as the manager prints it",
     )
 
 
@@ -412,21 +412,10 @@ def bent(bench):
         )
 
 
-def zeros(bench):
-    """Checks that ports hold zeros after Sets as they are printed."""
-    told = what_ports_hold(bench, "printed")
-    bench.check(told == ({"0" * 16}, {0}), f"printed: GidPrefix, HOQLife {told}")
-
-
 def images(bench):
-    """Checks that after Sets that carry what was read, ports hold that, or a value if they had none."""
+    """Checks that after Sets ports hold what was read of them, or a value if they had none."""
     with seated(bench, "H1", "-p", 5) as seat:
-        bench.check(seat.settles(), "SUBNET UP")
-        told = seat.status()["packets"]
-        bench.check(
-            told["sets_filled"] > 20 and not told["sets_not_filled"],
-            f"each Set had an image: {told['sets_filled']}",
-        )
+        bench.check(seat.settles() and seat.status()["packets"]["sets"] > 20, "SUBNET UP")
     told = what_ports_hold(bench, "carried")
     bench.check(told == ({"fe80" + "0" * 12}, {16}), f"carried: GidPrefix, HOQLife {told}")
 
@@ -529,9 +518,9 @@ def killed_while_it_writes(bench):
         other = stack.enter_context(seated(bench, "H2", "-p", 3, "-s", 0, *timing))
         bench.check(one.settles(), "SUBNET UP")
         (name, port), _ = between_switches(bench)
-        filled = one.status()["packets"]["sets_filled"]
+        filled = one.status()["packets"]["sets"]
         bench.tell(f'Unlink "{name}"[{port}]')
-        until(lambda: one.status()["packets"]["sets_filled"] > filled, 5)
+        until(lambda: one.status()["packets"]["sets"] > filled, 5)
         one.end(signal.SIGKILL)
         bench.check(
             until(lambda: "SUBNET UP" in other.said()) is not None and other.settles(),
@@ -795,7 +784,7 @@ TIMED = (
 # The fabrics, and the checks tried on each.
 SEATED = (
     ("triangle", sample_fabrics.triangle, (dry_run, wrong_usage, brought_up, two_seats)),
-    ("another triangle", sample_fabrics.triangle, (faithful, zeros, bent)),
+    ("another triangle", sample_fabrics.triangle, (faithful, bent)),
     ("a third triangle", sample_fabrics.triangle, (images,)),
     ("a ring of 6 switches", lambda: sample_fabrics.ring(6), (by_options,)),
     (

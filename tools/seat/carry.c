@@ -37,6 +37,9 @@ static int out_count;
 static uint32_t next_number;
 static char silent[MOST_SILENT][SILENT_TEXT];
 static size_t silent_count;
+static unsigned not_active;
+/* States of a port. */
+enum { INITIALIZE = 2, ARMED = 3 };
 
 /* Becomes the port's subnet manager, of which there is one: the open file tells the kernel so. */
 void be_manager(void)
@@ -173,7 +176,7 @@ static void fill_window(void)
 		out->number = next_number++;
 		memcpy(out->tid, out->packet.bytes + 8, sizeof out->tid);
 		put(out->packet.bytes + 8, 8, out->number);	/* the kernel keeps the low half */
-		fill_set(out->packet.bytes);
+		carried.sets += out->packet.bytes[3] == SET;
 		try_out(out);
 	}
 	if (head == tail)
@@ -292,6 +295,25 @@ static void keep_manager(const uint8_t *packet)
 	announce_manager();
 }
 
+void begin_ports(void)
+{
+	not_active = 0;
+}
+
+unsigned ports_not_active(void)
+{
+	return not_active;
+}
+
+/* Counts a port that a sweep reads as Initialize or Armed. A sweep reads each port once. */
+static void count_port(const uint8_t *packet)
+{
+	unsigned port_state = packet[ATTRIBUTE + 32] & 15;
+
+	not_active += get(packet + 16, 2) == PORT_INFO && !(get(packet + 4, 2) & 0x7fff) &&
+		      (port_state == INITIALIZE || port_state == ARMED);
+}
+
 /* Returns whether an answer is that to a poll: sweeps ask by paths, and controls have a modifier. */
 static int is_poll(const uint8_t *packet)
 {
@@ -337,7 +359,8 @@ static void on_answer(uint8_t *packet, unsigned lid)
 	memcpy(packet + 8, out.tid, sizeof out.tid);
 	check_own_port(packet);
 	keep_manager(packet);
-	keep_image(packet);
+	if (out.packet.bytes[3] == GET)
+		count_port(packet);
 	if (is_poll(packet))
 		heard_poll((packet[ATTRIBUTE + 20] & 15) == MASTER);
 	outs[place] = outs[--out_count];

@@ -112,7 +112,7 @@ static void begin_sweep(void)
 	status.generation = newest;
 	status.sweep_began = time(NULL);
 	begin_silent();
-	forget_images();
+	begin_ports();
 	tell("floor %u", newest);
 	tell("sweep");
 	phase = SWEEPS;

@@ -39,7 +39,6 @@ static const char usage_text[] =
 "  -a, --after FILE       number sweeps above the newest of this recording or store, and by the clock\n"
 "  -d, --dry-run          sweep once, print the plan, and write nothing\n"
 "  -S, --status FILE      what it is at, as JSON\n"
-"  -x, --as-printed       send Sets as the program prints them, with 0 in all that it does not set\n"
 "      --partial          write also where requests have no answer, after the fourth such sweep in a row\n"
 "  -C, --ca NAME          the adapter, as mlx5_0; else the first with a port that is up\n"
 "  -P, --port N           its port\n"
@@ -102,7 +101,7 @@ enum { PARTIAL = 256, SM_KEY };
 static const struct option words[] = {
 	{ "priority", 1, 0, 'p' }, { "sm-key", 1, 0, SM_KEY }, { "lmc", 1, 0, 'l' }, { "routing", 1, 0, 'R' }, { "roots", 1, 0, 'f' },
 	{ "order", 1, 0, 'o' }, { "ibsm", 1, 0, 'i' }, { "sweep", 1, 0, 's' }, { "poll", 1, 0, 'm' },
-	{ "after", 1, 0, 'a' }, { "dry-run", 0, 0, 'd' }, { "status", 1, 0, 'S' }, { "as-printed", 0, 0, 'x' },
+	{ "after", 1, 0, 'a' }, { "dry-run", 0, 0, 'd' }, { "status", 1, 0, 'S' },
 	{ "partial", 0, 0, PARTIAL }, { "ca", 1, 0, 'C' },
 	{ "port", 1, 0, 'P' }, { "outstanding", 1, 0, 'n' }, { "timeout", 1, 0, 't' }, { "retries", 1, 0, 'r' },
 	{ "quiet", 0, 0, 'q' }, { "verbose", 0, 0, 'v' }, { "help", 0, 0, 'h' }, { "version", 0, 0, 'V' }, { 0 }
@@ -137,7 +136,6 @@ static void take_option(int letter)
 	case 'a': options.after = optarg; break;
 	case 'd': seat.dry_run = 1; break;
 	case 'S': seat.status_file = optarg; break;
-	case 'x': seat.as_printed = 1; break;
 	case PARTIAL: seat.partial = 1; break;
 	case 'h': print_usage(stdout, usage_text); exit(WHOLE);
 	case 'V': puts("ibsm-seat " VERSION); exit(WHOLE);
@@ -152,7 +150,7 @@ static void parse(int count, char **texts)
 	called = texts[0];
 	options.timeout_ms = 200;
 	options.outstanding = 16;
-	while ((letter = getopt_long(count, texts, "p:l:R:f:o:i:s:m:a:dS:xC:P:n:t:r:qvhV", words, NULL)) != -1)
+	while ((letter = getopt_long(count, texts, "p:l:R:f:o:i:s:m:a:dS:C:P:n:t:r:qvhV", words, NULL)) != -1)
 		take_option(letter);
 	if (optind != count)
 		take_option('?');

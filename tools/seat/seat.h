@@ -10,13 +10,13 @@ enum method { GET = 1, SET = 2, TRAP = 5, TRAP_REPRESS = 7, RESPONSE = 0x80 };
 
 struct seat_options {
 	char *program, *status_file, *sm_key, *lmc, *routing, *roots, *order;
-	int priority, sweep_seconds, poll_ms, dry_run, as_printed, partial;
+	int priority, sweep_seconds, poll_ms, dry_run, partial;
 };
 
 /* Counts of what was carried since the start. */
 struct carried {
 	unsigned long sent, again, answered, given_up, late, refused, requests, traps, repressed, pointers;
-	unsigned long filled, unfilled;	/* Sets */
+	unsigned long sets;
 };
 
 extern struct seat_options seat;
@@ -59,12 +59,8 @@ void begin_silent(void);
 size_t silent_requests(void);
 const char *silent_request(size_t place);
 
-/* sets.c: what Sets carry besides what the manager set. */
-void forget_images(void);
-/* Keeps what an answer to a directed request told. */
-void keep_image(const uint8_t *answer);
-void fill_set(uint8_t *packet);
-/* Counts the ports that the last sweep read as Initialize or Armed. */
+/* The number of ports that a sweep reads as Initialize or Armed, since it began. */
+void begin_ports(void);
 unsigned ports_not_active(void);
 
 /* policy.c: when what is told. */

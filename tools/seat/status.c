@@ -48,10 +48,9 @@ static void print_counts(FILE *file)
 {
 	fprintf(file, " \"packets\": {\"sent\": %lu, \"sent_again\": %lu, \"answered\": %lu, \"given_up\": %lu, "
 		"\"refused\": %lu, \"late\": %lu, \"asked_by_others\": %lu, \"traps\": %lu, \"repressed\": %lu, "
-		"\"pointers_set\": %lu, \"sets_filled\": %lu, \"sets_not_filled\": %lu}\n",
+		"\"pointers_set\": %lu, \"sets\": %lu}\n",
 		carried.sent, carried.again, carried.answered, carried.given_up, carried.refused, carried.late,
-		carried.requests, carried.traps, carried.repressed, carried.pointers, carried.filled,
-		carried.unfilled);
+		carried.requests, carried.traps, carried.repressed, carried.pointers, carried.sets);
 }
 
 static void print_status(FILE *file, const struct standing *status)
