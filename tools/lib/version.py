@@ -5,7 +5,7 @@ import pathlib
 
 VERSION = "0.1.0"
 # In an installed copy, a file beside the tools tells the commit, and whether the program is proved.
-BUILT = pathlib.Path(__file__).resolve().parent / "built"
+BUILT = pathlib.Path(__file__).resolve().parent.parent / "built"
 
 
 def told(tool: str) -> str:

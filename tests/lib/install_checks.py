@@ -136,7 +136,7 @@ def taken_off(room, to, told):
         done.returncode == 0 and left == ["bin/other"] and len(told) > 40, f"it is taken off: {left} {done.stderr}"
     )
     room.check(run([paths.TOOLS / "install.sh", "--uninstall", to]).returncode == 1, "once alone")
-    with open(room.path / "stage/tree/lib/ibsm/version.py", "a") as file:
+    with open(room.path / "stage/tree/lib/ibsm/lib/version.py", "a") as file:
         file.write("#\n")
     done = run([room.path / "stage/install.sh", to])
     room.check(

@@ -9,10 +9,10 @@ from collections.abc import Container
 
 from ibsm_texts import Refused
 
-HERE = pathlib.Path(__file__).resolve().parent
+TOOLS = pathlib.Path(__file__).resolve().parent.parent
 # Beside these tools: the built program, the one compiled without its proofs, and the installed one.
-BUILT = HERE.parent / "crates/ibsm/out"
-BESIDE = BUILT / "ibsm", BUILT / "unproved/ibsm", HERE / "ibsm"
+BUILT = TOOLS.parent / "crates/ibsm/out"
+BESIDE = BUILT / "ibsm", BUILT / "unproved/ibsm", TOOLS / "ibsm"
 
 
 def the_program(named: str | None = None) -> str:
@@ -38,7 +38,7 @@ def printed_by(program: str, *words: object, statuses: Container[int] = (0,)) ->
 def made_in_c(name: str, named: str | None = None) -> str:
     """Returns the program `record` or `send`: the one that is named, or was made or installed beside these tools, or is
     on the path."""
-    beside = [HERE / "record/out" / name, HERE.parent.parent / f"bin/ibsm-{name}"]
+    beside = [TOOLS / "record/out" / name, TOOLS.parent.parent / f"bin/ibsm-{name}"]
     found = shutil.which(named or next((path for path in beside if os.access(path, os.X_OK)), f"ibsm-{name}"))
     if not found:
         raise OSError(f"there is no program {name}: make -C tools/record makes it, or name one by --{name}")

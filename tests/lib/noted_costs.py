@@ -5,11 +5,10 @@ take a tenth more than noted. The processor's own counter counts some besides, a
 more."""
 from __future__ import annotations
 
-import pathlib
-
+from paths import ROOT
 from scale import check
 
-PATH = pathlib.Path(__file__).resolve().parent / "costs.table"
+PATH = ROOT / "tests/costs.table"
 HEAD = "# What runs cost, by which tests/at-scale bounds them; it writes them with --write, of the program as it is.\n"
 INSTRUCTIONS, ALLOCATIONS, MEMORY = "millions of instructions", "allocations", "megabytes"
 # How many times the noted cost a run may take, by what is counted or by what counts it.
