@@ -36,6 +36,7 @@ def refused(line: str) -> Ended:
 
 
 def check(holds: object, what: str) -> None:
+    """Ends the test if something does not hold, and says what."""
     if not holds:
         print(f"{TEST}: FAILED: {what}")
         sys.exit(1)
@@ -48,6 +49,7 @@ def check_end(ended: Ended, wanted: Ended, what: str) -> None:
 
 
 def shown(part: bytes | int) -> str | int:
+    """Returns an exit status, or the beginning of an output as text."""
     return part.decode(errors="backslashreplace")[:4000] if isinstance(part, bytes) else part
 
 

@@ -52,6 +52,7 @@ def turned(room, words, facts, status=0):
 
 
 def from_dumps(room):
+    """Checks what from-dumps makes of each form of dump, of parts of dumps, and of LMCs."""
     shutil.copytree(paths.ROOT / "tests/dumps", room.path, dirs_exist_ok=True)
     for name in FABRICS:
         facts, tables = wanted(name)

@@ -149,6 +149,7 @@ def written_through(room):
 
 
 def edges(room):
+    """Checks the tools at their limits."""
     for part in (
         greatest_lid,
         several_blocks,

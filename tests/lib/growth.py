@@ -35,6 +35,7 @@ NOWHERE = dict.fromkeys(("stdin", "stdout", "stderr"), subprocess.DEVNULL)
 
 
 def ran(command, folder):
+    """Runs a command without output, and returns its exit status."""
     return subprocess.run(command, cwd=folder, **NOWHERE).returncode
 
 
@@ -159,6 +160,7 @@ def replies(costs, count):
 
 
 def claims(costs, count, first=1, floor=1):
+    """Returns a store file of `count` claims, of every other GUID from `first` on, under a floor."""
     return costs.put(f"claims{count}from{first}above{floor}", lambda: make.store(
         *(make.cell(make.CLAIM, guid, 1, b"\0\1", 3) for guid in range(first, first + 2 * count, 2)), floor=floor
     ))
@@ -170,6 +172,7 @@ def tree_of(switches, hosts):
 
 
 def known(costs, switches, hosts):
+    """Returns a store file of the facts of a tree."""
     return costs.put(f"tree{switches}by{hosts}", lambda: make.store(*tree_of(switches, hosts).cells()))
 
 
@@ -184,6 +187,7 @@ def strangers(costs, count):
 
 
 def planned(costs, switches, hosts, lmc=0):
+    """Returns a file with the plan of a tree."""
     return costs.put(f"plan{switches}by{hosts}lmc{lmc}", lambda: tree_of(switches, hosts).plan(lmc))
 
 
@@ -266,6 +270,7 @@ def row(costs, switches, hosts=0):
 
 
 def row_planned(costs, switches, hosts):
+    """Returns a file with the plan of switches in a row."""
     return costs.put(f"row_plan{switches}by{hosts}", lambda: chain(switches, hosts).plan())
 
 
@@ -312,7 +317,8 @@ GROWING = (
     Row("facts of a store file", lambda c, n: ("facts", claims(c, n)), 10000, LINEAR),
     Row("join of a store file with a floor", lambda c, n: ("join", "--floor", "2", claims(c, n)), 10000, LINEAR),
     Row("join of two that alternate", lambda c, n: ("join", claims(c, n), claims(c, n, 2)), 10000, LINEAR),
-    Row("join of two with different floors", lambda c, n: ("join", claims(c, n, 1, 2), claims(c, n, 2, 3)), 10000, LINEAR),
+    Row("join of two with different floors",
+        lambda c, n: ("join", claims(c, n, 1, 2), claims(c, n, 2, 3)), 10000, LINEAR),
     Row("facts of one file many times", lambda c, n: ("facts", *[claims(c, 10)] * n), 400, LINEAR),
     Row("plan by adapters", lambda c, n: ("plan", known(c, 8, n)), 100, LINEAR),
     Row("plan by adapters, spread", lambda c, n: ("plan", *SPREAD, known(c, 8, n)), 100, LINEAR),
@@ -321,15 +327,18 @@ GROWING = (
     Row("plan by switches", lambda c, n: ("plan", mesh(c, n)), 150, SQUARED),
     Row("plan by switches, spread", lambda c, n: ("plan", *SPREAD, mesh(c, n)), 150, SQUARED),
     Row("plan by switches, balance", lambda c, n: ("plan", "--routing", "balance", mesh(c, n)), 60, SQUARED),
-    Row("plan by switches, spread from roots", lambda c, n: ("plan", *SPREAD, "--roots", roots(c, n // 10), mesh(c, n)), 150, SQUARED),
-    Row("plan by switches, spread in an order", lambda c, n: ("plan", *SPREAD, "--order", order(c, n), mesh(c, n)), 150, SQUARED),
+    Row("plan by switches, spread from roots",
+        lambda c, n: ("plan", *SPREAD, "--roots", roots(c, n // 10), mesh(c, n)), 150, SQUARED),
+    Row("plan by switches, spread in an order",
+        lambda c, n: ("plan", *SPREAD, "--order", order(c, n), mesh(c, n)), 150, SQUARED),
     Row("order of switches", lambda c, n: ("order", mesh(c, n)), 150, SQUARED),
     Row("plan of switches in a row", lambda c, n: ("plan", row(c, n)), 150, SQUARED),
     Row("plan of switches in a row, spread", lambda c, n: ("plan", *SPREAD, row(c, n)), 150, SQUARED),
     Row("audit by adapters", lambda c, n: ("audit", planned(c, 8, n), known(c, 8, n)), 100, LINEAR),
     Row("audit by adapters of many switches", lambda c, n: ("audit", planned(c, 40, n), known(c, 40, n)), 25, LINEAR),
     Row("audit by adapters, LMC 3", lambda c, n: ("audit", planned(c, 40, n, 3), known(c, 40, n)), 6, LINEAR),
-    Row("audit by adapters, claimed LIDs", lambda c, n: ("audit", printed(c, "plan", claimed(c, n)), claimed(c, n)), 100, LINEAR),
+    Row("audit by adapters, claimed LIDs",
+        lambda c, n: ("audit", printed(c, "plan", claimed(c, n)), claimed(c, n)), 100, LINEAR),
     Row("audit by adapters, packets lost", lambda c, n: ("audit", holed(c, 40, n), known(c, 40, n)), 6, SQUARED, 1),
     Row("audit by adapters, none delivered", lambda c, n: ("audit", holed(c, 8, n, 9), known(c, 8, n)), 30, SQUARED, 1),
     Row("audit by switches", lambda c, n: ("audit", planned(c, n, 4), known(c, n, 4)), 60, SQUARED),
@@ -339,13 +348,18 @@ GROWING = (
     Row("order-of by switches", lambda c, n: ("order-of", planned(c, n, 4), known(c, n, 4)), 60, SQUARED),
     Row("next by adapters", lambda c, n: ("next", planned(c, 8, n), known(c, 8, n)), 100, LINEAR),
     Row("next by adapters of many switches", lambda c, n: ("next", planned(c, 40, n), known(c, 40, n)), 25, LINEAR),
-    Row("next by adapters, claimed LIDs", lambda c, n: ("next", printed(c, "plan", claimed(c, n)), claimed(c, n)), 100, LINEAR),
+    Row("next by adapters, claimed LIDs",
+        lambda c, n: ("next", printed(c, "plan", claimed(c, n)), claimed(c, n)), 100, LINEAR),
     Row("next by adapters, from nothing", lambda c, n: ("next", "/dev/null", known(c, 40, n)), 25, LINEAR),
-    Row("next by adapters, from tables with holes", lambda c, n: ("next", holed(c, 40, n), known(c, 40, n)), 25, LINEAR),
-    Row("next by adapters, a switch apart", lambda c, n: ("next", printed(c, "plan", apart(c, 8, n)), apart(c, 8, n)), 50, LINEAR),
+    Row("next by adapters, from tables with holes",
+        lambda c, n: ("next", holed(c, 40, n), known(c, 40, n)), 25, LINEAR),
+    Row("next by adapters, a switch apart",
+        lambda c, n: ("next", printed(c, "plan", apart(c, 8, n)), apart(c, 8, n)), 50, LINEAR),
     Row("next by switches", lambda c, n: ("next", planned(c, n, 4), known(c, n, 4)), 60, SQUARED),
-    Row("next by switches, from the other rule", lambda c, n: ("next", printed(c, "plan", *SPREAD, mesh(c, n)), mesh(c, n)), 50, SQUARED),
-    Row("next by switches, to the other rule", lambda c, n: ("next", *SPREAD, printed(c, "plan", mesh(c, n)), mesh(c, n)), 50, SQUARED),
+    Row("next by switches, from the other rule",
+        lambda c, n: ("next", printed(c, "plan", *SPREAD, mesh(c, n)), mesh(c, n)), 50, SQUARED),
+    Row("next by switches, to the other rule",
+        lambda c, n: ("next", *SPREAD, printed(c, "plan", mesh(c, n)), mesh(c, n)), 50, SQUARED),
     Row("audit of tables by comments", lambda c, n: ("audit", remarked(c, n), known(c, 8, 10)), 5000, LINEAR),
     Row("run by adapters", lambda c, n: scheduled(c, n, "state A", 1), 60, LINEAR),
     Row("run by pings", lambda c, n: scheduled(c, 10, "ping SEAT LID", n), 4000, LINEAR),
@@ -394,6 +408,7 @@ def check_apart(costs):
 
 
 def check_steady(costs):
+    """Checks that what a line of a schedule costs does not grow with the fabric."""
     few, many, hosts = (250, 500, 25) if costs.counter.is_exact else (1000, 8000, 25)
     steady = [
         (title, [[scheduled(costs, size, line, times) for times in (few, many)] for size in (hosts, 4 * hosts)])

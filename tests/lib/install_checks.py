@@ -19,6 +19,7 @@ TOOLS_IN_C = "ibsm-record", "ibsm-send", "ibsm-seat"
 
 
 def run(words, **how):
+    """Runs a command without input, and returns how it ended, with its output."""
     return subprocess.run(
         [str(word) for word in words], capture_output=True, text=True, stdin=subprocess.DEVNULL, **how
     )

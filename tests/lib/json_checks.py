@@ -234,6 +234,7 @@ ibsm_audit_credit_loop_channels 3
 
 
 def as_json(room):
+    """Checks each form of text as JSON, verdicts, gauges, names, and what is refused."""
     for form, text, wanted in TEXTS:
         room.put(it=text)
         for words in ("it", f"it --form {form}", "/dev/stdin"):
@@ -270,6 +271,7 @@ def verdicts(room):
 
 
 def gauges(room):
+    """Checks an audit's counts as Prometheus reads them."""
     room.put(it=UNSOUND, sound=SOUND)
     printed = room.run("json it --prometheus", 0)
     samples = "".join(line for line in printed.splitlines(True) if not line.startswith("#"))

@@ -44,6 +44,7 @@ def recording(fabric, said, generation=1):
 
 
 def links(room):
+    """Checks widths and speeds of links, what compare says of them, and odd links."""
     fabric = sample_fabrics.triangle()
     can = [("1x", "SDR"), ("4x", "QDR"), ("4x", "EDR")]
     edr = info(4, ("4x", "EDR"), can)
@@ -98,8 +99,10 @@ def odd_links(room, fabric, edr):
         ({end: info(1)}, 0, "4 links: 4 of 4x EDR 100 Gb/s; below what both ends can, or not told: 0\n"),
         ({end: None}, 0, "5 links: 5 of 4x EDR 100 Gb/s; below what both ends can, or not told: 0\n"),
         ({end: None, far: None}, 0, "4 links: 4 of 4x EDR 100 Gb/s; below what both ends can, or not told: 0\n"),
-        ({end: info(4), far: info(4)}, 1, "5 links: 4 of 4x EDR 100 Gb/s, 1 not told; below what both ends can, or not told: 1\n"),
-        ({end: info(4, ("2x", "HDR"), [("4x", "HDR")])}, 0, "5 links: 4 of 4x EDR 100 Gb/s, 1 of 2x HDR 100 Gb/s; below what both ends can, or not told: 0\n"),
+        ({end: info(4), far: info(4)}, 1,
+         "5 links: 4 of 4x EDR 100 Gb/s, 1 not told; below what both ends can, or not told: 1\n"),
+        ({end: info(4, ("2x", "HDR"), [("4x", "HDR")])}, 0,
+         "5 links: 4 of 4x EDR 100 Gb/s, 1 of 2x HDR 100 Gb/s; below what both ends can, or not told: 0\n"),
     ):
         (room.path / "odd").write_bytes(recording(fabric, {None: edr} | said))
         printed = room.run("links odd", status)

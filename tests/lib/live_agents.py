@@ -12,6 +12,7 @@ BLOCK = 64
 
 
 def field(packet, at, size):
+    """Returns the number in `size` bytes of a packet, from `at` on."""
     return int.from_bytes(packet[at : at + size], "big")
 
 

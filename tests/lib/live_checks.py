@@ -16,6 +16,7 @@ PORT_INFO = record_files.PORT_INFO
 
 
 def send(bench, *words, **how):
+    """Runs send in the simulated fabric, and returns its exit status."""
     return bench.run(bench.room / "out/send", *words, simulated=True, **how)
 
 

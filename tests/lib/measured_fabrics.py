@@ -119,6 +119,7 @@ def tangle(dice, switches, degree, adapters):
 
 
 def fabric(name):
+    """Returns the fabric of a name, by its row in SETS."""
     kind, sizes, seed = SETS[name]
     return (tree if kind == "tree" else tangle)(random.Random(seed), *sizes)
 

@@ -195,6 +195,7 @@ def padded(text, count):
 
 
 def check_all(program, folder, noted):
+    """Checks inputs past each size at which a program could stop."""
     room = Room(program, folder, noted)
     for part in (
         check_tree, check_ranges, check_cells, check_switches, check_managers, check_writing, check_rooted_run,

@@ -74,15 +74,22 @@ def checked(room, name):
 
 
 def pages(room):
-    room.put(
-        fake=FAKE,
-        audit_text=SOUND,
-        audit_ends="passes\n",
-        fake_plan=room.text("t.plan"),
-        version_text="commit 1\nproved\n",
-    )
+    """Checks pages of the triangle, with a script in place of the program, pages of many switches, and what is
+    refused."""
+    room.put(fake=FAKE, fake_plan=room.text("t.plan"))
     (room.path / "fake").chmod(0o755)
     words = "report t.facts t.plan -o t.html --names all.names --ibsm ./fake"
+    sound(room, words)
+    not_sound(room, words)
+    with_a_credit_loop(room, words)
+    names_as_text(room, words)
+    large(room)
+    refused(room)
+
+
+def sound(room, words):
+    """Checks the page of tables that pass the audit of a proved program."""
+    room.put(audit_text=SOUND, audit_ends="passes\n", version_text="commit 1\nproved\n")
     room.run(words, 0)
     text = checked(room, "t.html")
     room.check(
@@ -106,6 +113,10 @@ def pages(room):
     )
     in_a_browser(room, room.path / "t.html")
     room.check(room.run(words.replace("-o t.html", "-o -"), 0) == text, "on standard output")
+
+
+def not_sound(room, words):
+    """Checks the page of tables by which packets are lost, with what changed since other facts."""
     lost = SOUND.replace("arrive 25", "arrive 24").replace("no-entry 0", "no-entry 1").replace(
         "load max 1", "load max 2"
     )
@@ -128,8 +139,12 @@ def pages(room):
         "come cable 0000000000000020/2 &quot;S2&quot; 0000000000000030/2 &quot;S3&quot;" in text,
         "what changed, by name",
     )
+
+
+def with_a_credit_loop(room, words):
+    """Checks that a credit loop is told, and what is told of a program that does not say whether it is proved."""
     loop = SOUND.replace("loop none", "loop on one lane 0000000000000010/1 0000000000000020/1")
-    room.put(audit_text=loop, version_text="")
+    room.put(audit_text=loop, audit_ends="no\n", version_text="")
     room.run(words, 1)
     text = checked(room, "t.html")
     room.check(
@@ -140,11 +155,18 @@ def pages(room):
     room.run(words, 1)
     room.check("nothing on this page is proved" in checked(room, "t.html"), "a file beside the program tells it too")
     (room.path / "built").unlink()
+
+
+def names_as_text(room, words):
+    """Checks that a name with marks of HTML is written as text."""
     evil = room.text("all.names").replace('"S1"', '"<b>&S1</script>"')
     room.put(evil_names=evil, audit_text=SOUND, audit_ends="passes\n")
     room.run(words.replace("all.names", "evil.names"), 0)
     room.check("<b>" not in checked(room, "t.html"), "a name is text")
-    large(room)
+
+
+def refused(room):
+    """Checks files and words for which there is no page."""
     for words, why, status in (
         ("none t.plan -o x.html", "none: no nodes", 3),
         ("t.facts nothing -o x.html", "nothing", 4),

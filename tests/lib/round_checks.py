@@ -1,8 +1,8 @@
 """What `tests/test-files` tries of whole rounds, over scripts that stand in for a subnet, in its room."""
-
 import contextlib
 import datetime
 import fcntl
+import functools
 import json
 import os
 import random
@@ -47,7 +47,9 @@ next)
     if [ -f fab/moves ]; then cat fab/moves >&2; exit 3; fi
     between=
     for step in fab/step.*; do
-        if [ -f "$step" ] && [ -z "$between" ] && ! cmp -s "$tables" fab/plan && ! cmp -s "$tables" "$step"; then between=$step; fi
+        if [ -f "$step" ] && [ -z "$between" ] && ! cmp -s "$tables" fab/plan && ! cmp -s "$tables" "$step"; then
+            between=$step
+        fi
     done
     cat "${between:-fab/next}"
     cat fab/loop >&2
@@ -66,10 +68,16 @@ if [ -f fab/fails ]; then cat fab/fails >&2; exit "$(cat fab/ends)"; fi
 cp "$tables" fab/held
 """
 FAKE_OPENSM = """#!/bin/sh
-trap 'if [ -f fab/obeys ]; then cp rd/step.tables fab/held; else cp fab/written fab/held; fi; [ -f fab/deaf ] || echo "SUBNET UP" >>fab/log' HUP
+obey() {
+    if [ -f fab/obeys ]; then cp rd/step.tables fab/held; else cp fab/written fab/held; fi
+    [ -f fab/deaf ] || echo "SUBNET UP" >>fab/log
+}
+trap obey HUP
 echo ready >>fab/log
 while :; do sleep 0.02; done
 """
+# What an audit of the triangle prints if each packet arrives.
+ALL_ARRIVE = "pairs 25 arrive 25\n"
 
 
 @contextlib.contextmanager
@@ -100,54 +108,76 @@ def rounds(room, program):
         (room.path / name).write_text(script)
         (room.path / name).chmod(0o755)
     (room.path / "fab").mkdir()
-    facts, plan = room.text("t.facts"), room.text("t.plan")
-    whole = "pairs 25 arrive 25\n"
-
-    def fab(**texts):
-        for name, text in texts.items():
-            (room.path / "fab" / name).write_text(text)
-
-    def ends(words, status, step, verdict, settle=0):
-        """Checks how a round ends, by its output and in status.json, and returns the latter."""
-        printed = room.run(
-            f"round rd --ibsm ./ibsm --record ./record --send ./send --log fab/log --settle {settle} {words}", status
-        )
-        told = json.loads(room.text("rd/status.json"))
-        steps = [
-            f"step {number}: {step['entries']} entries, {step['blocks']} blocks; {step['told']}; status "
-            f"{step['status']}\n"
-            for number, step in enumerate(told["steps"], 1)
-        ]
-        wanted = {"status": status, "step": step, "verdict": told["verdict"]}
-        room.check(all(told[word] == value for word, value in wanted.items()), f"round {words}: {told}")
-        room.check(
-            verdict in told["verdict"] and printed == f"{''.join(steps)}{told['step']}: {told['line']}\n",
-            f"round {words}: says `{verdict}`, not `{told['verdict']}`",
-        )
-        room.check(told["line"].startswith(told["verdict"]), f"round {words}: its line begins with its verdict")
-        room.check(
-            list(told["seconds"])[-1] == step and told["began"] <= told["ended"],
-            f"round {words}: the steps until {step}",
-        )
-        return told
-
-    def has_written():
-        return (room.path / "rd/plan.lfts").exists()
-
+    fab, ends = functools.partial(put_in_fab, room), functools.partial(check_round, room)
     fab(
-        facts=facts,
-        plan=plan,
+        facts=room.text("t.facts"),
+        plan=room.text("t.plan"),
         held=room.text("round.plan"),
-        written=plan,
-        audit=whole,
+        written=room.text("t.plan"),
+        audit=ALL_ARRIVE,
         status="0",
         log="",
         asked="",
         planned="",
         stepped="",
-        next=plan,
+        next=room.text("t.plan"),
         loop="credit loop none\n",
     )
+    looked_only(room, ends)
+    stopped_before_writing(room, fab, ends)
+    written_for_opensm(room, ends)
+    by_opensm(room, fab, ends)
+    directly(room, fab, ends)
+    by_a_kept_order(room, fab, ends)
+    changes_told(room, fab, ends)
+    loads_told(room, fab, ends)
+    silence(room, fab, ends)
+    silent_switches(room, fab, ends)
+    lids_of_the_silent(room, fab, ends)
+    other_files(room, fab, ends)
+    by_a_file(room, fab)
+    watched(room)
+    healed(room, fab)
+    watched_by_log(room, fab)
+    waited_for(room)
+    not_begun(room)
+    if os.access(program, os.X_OK):
+        for name in CUT_FABRICS:
+            over_cuts(room, program, name)
+
+
+def put_in_fab(room, **texts):
+    """Writes files of the folder that has what the scripts say."""
+    for name, text in texts.items():
+        (room.path / "fab" / name).write_text(text)
+
+
+def check_round(room, words, status, step, verdict, settle=0):
+    """Checks how a round ends, by its output and in status.json, and returns the latter."""
+    printed = room.run(
+        f"round rd --ibsm ./ibsm --record ./record --send ./send --log fab/log --settle {settle} {words}", status
+    )
+    told = json.loads(room.text("rd/status.json"))
+    steps = [
+        f"step {number}: {step['entries']} entries, {step['blocks']} blocks; {step['told']}; status {step['status']}\n"
+        for number, step in enumerate(told["steps"], 1)
+    ]
+    wanted = {"status": status, "step": step, "verdict": told["verdict"]}
+    room.check(all(told[word] == value for word, value in wanted.items()), f"round {words}: {told}")
+    room.check(
+        verdict in told["verdict"] and printed == f"{''.join(steps)}{told['step']}: {told['line']}\n",
+        f"round {words}: says `{verdict}`, not `{told['verdict']}`",
+    )
+    room.check(told["line"].startswith(told["verdict"]), f"round {words}: its line begins with its verdict")
+    room.check(
+        list(told["seconds"])[-1] == step and told["began"] <= told["ended"],
+        f"round {words}: the steps until {step}",
+    )
+    return told
+
+
+def looked_only(room, ends):
+    """Checks what is counted by a round that only looks."""
     told = ends("--look", 0, "compare", "looked only: 2 entries differ on 2 switches, blocks to write: 2")
     room.check(
         told["counts"]
@@ -167,6 +197,11 @@ def rounds(room, program):
         },
         f"counts: {told['counts']}",
     )
+
+
+def stopped_before_writing(room, fab, ends):
+    """Checks rounds that end before anything is written."""
+    facts, plan = room.text("t.facts"), room.text("t.plan")
     fab(status="1")
     ends("", 1, "record", "the record has gaps: record: NOT WHOLE")
     fab(status="4")
@@ -175,14 +210,18 @@ def rounds(room, program):
     ends("", 1, "facts", "1 facts are disputed, as `claim` of 0000000000000100/1")
     fab(facts=facts, audit="pairs 25 arrive 24\nlost x\n")
     ends("", 1, "audit-plan", "the audit of now.plan fails: lost x")
-    fab(audit=whole, facts=room.text("moved.facts"))
+    fab(audit=ALL_ARRIVE, facts=room.text("moved.facts"))
     ends("", 1, "lids", "1 LIDs would move, as that of 0000000000000100/1 from 77 to 4")
     fab(facts=facts, plan=room.text("hole.plan"))
     ends("", 3, "write", "opensm-files: nothing is written")
     fab(plan="nonsense\n")
     ends("", 3, "lids", "no line of a plan")
     fab(plan=plan)
-    room.check(not has_written(), "none of these writes")
+    room.check(not (room.path / "rd/plan.lfts").exists(), "none of these writes")
+
+
+def written_for_opensm(room, ends):
+    """Checks a round that writes OpenSM's files, and what record and ibsm are asked for."""
     ends(
         "--routing spread --lmc 0 --ca mlx5_0 --port 1",
         0,
@@ -190,10 +229,16 @@ def rounds(room, program):
         "written for OpenSM, and not sent: 2 entries, 2 blocks",
     )
     room.check(
-        has_written() and "--ca mlx5_0 --port 1 --quiet" in room.text("fab/asked"), "options are handed to record"
+        (room.path / "rd/plan.lfts").exists() and "--ca mlx5_0 --port 1 --quiet" in room.text("fab/asked"),
+        "options are handed to record",
     )
     room.check("plan --routing spread --lmc 0 rd/now.reports\n" in room.text("fab/planned"), "and to ibsm plan")
     room.check(room.text("rd/first.held") == room.text("round.plan"), "what was held at first is kept")
+
+
+def by_opensm(room, fab, ends):
+    """Checks rounds that have a running OpenSM write the tables, and those that find none."""
+    facts, plan = room.text("t.facts"), room.text("t.plan")
     with fake_opensm(room) as process:
         told = ends(f"--opensm {process}", 0, "audit", "the subnet holds the plan")
         room.check(
@@ -225,19 +270,18 @@ def rounds(room, program):
         ends(f"--opensm {process} --log fab/nothing", 4, "opensm", "fab/nothing")
     ends(f"--opensm {os.getpid()}", 3, "manager", "not opensm")
     ends("--opensm 99999999", 3, "manager", "there is no process 99999999: has OpenSM ended?")
-    directly(room, fab, ends)
-    by_a_kept_order(room, fab, ends)
-    told_beside(room, fab, ends)
-    silence(room, fab, ends)
-    other_files(room, fab, ends)
-    by_a_file(room, fab)
-    watched(room)
-    healed(room, fab)
-    watched_by_log(room, fab)
+
+
+def waited_for(room):
+    """Checks that a terminal shows which step is waited for."""
     room.put(slow=FAKE_RECORD.replace("cp fab/facts", "sleep 3; cp fab/facts"))
     (room.path / "slow").chmod(0o755)
     said = tool_checks.on_a_terminal(room, "round", "rd", "--ibsm", "./ibsm", "--record", "./slow", "--look")
     room.check(re.fullmatch(r"(\r\x1b\[Kround: record, \d+ s)+\r\x1b\[K", said), f"which step is waited for: {said!r}")
+
+
+def not_begun(room):
+    """Checks rounds that do not begin: the folder is in use, a program is missing, or the command line is wrong."""
     with open(room.path / "rd/lock", "w") as lock:
         fcntl.flock(lock, fcntl.LOCK_EX)
         room.refused("round rd --ibsm ./ibsm --record ./record", "in use")
@@ -247,9 +291,6 @@ def rounds(room, program):
     wrong = "--lmc 8", "--direct --opensm 1", "--opensm x", "--routing other", "--keep-order --routing updown"
     for words in ("", *(f"rd {options}" for options in wrong)):
         room.run(f"round {words}", 2)
-    if os.access(program, os.X_OK):
-        for name in CUT_FABRICS:
-            over_cuts(room, program, name)
 
 
 def by_steps(room, fab, ends, process):
@@ -422,8 +463,8 @@ def over_cuts(room, program, name):
         )
 
 
-def told_beside(room, fab, ends):
-    """Checks what is told of changes, of the number of lost pairs, and of how busy channels are."""
+def changes_told(room, fab, ends):
+    """Checks what is told of changes, of the number of lost pairs and for how long, and of how busy channels are."""
     facts, plan, held = (room.text(name) for name in ("t.facts", "t.plan", "round.plan"))
     more = facts.replace(
         "link 0000000000000020/1 ",
@@ -468,6 +509,11 @@ def told_beside(room, fab, ends):
         told["lost"]["seconds"] is None and "; 5 pairs are lost, it is not known for how long; " in told["line"],
         told["line"],
     )
+
+
+def loads_told(room, fab, ends):
+    """Checks which loads of channels a round accepts."""
+    facts, held = room.text("t.facts"), room.text("round.plan")
     for most, pairs, words, status in (
         (6, 2, "", 0), (7, 2, "", 1), (7, 2, "--busier", 0), (7, 2, "--look", 0), (12, 4, "", 0)
     ):
@@ -477,7 +523,7 @@ def told_beside(room, fab, ends):
             audits[name] = f"pairs 25 arrive 25\nbetween adapters pairs {count} arrive {count}\n{load}"
         fab(held=held, facts=facts, loop="credit loop none\n", **audits)
         verdict = "carries 7 routes, and what is held 5 (--busier)" if status else "the subnet holds the plan"
-        told = ends(
+        ends(
             f"--direct {words}",
             status,
             "compare" if status or "look" in words else "audit",
@@ -515,7 +561,12 @@ def silence(room, fab, ends):
         room.text("rd/now.held") == plan and "--retries 20" in room.text("fab/asked"),
         "its LID is held, and it was asked again",
     )
-    # The cable between two switches is silent: nothing is kept.
+
+
+def silent_switches(room, fab, ends):
+    """Checks that nothing is kept of a silent cable between switches, and that a switch without a known table size is
+    left out, and so is the adapter that has a wire to it alone."""
+    facts, plan = room.text("t.facts"), room.text("t.plan")
     cut = facts.replace("link 0000000000000020/2 0000000000000030/2 @1\n", "").replace(
         "link 0000000000000030/2 0000000000000020/2 @1\n", ""
     )
@@ -526,7 +577,6 @@ def silence(room, fab, ends):
         f"{told['silent']}",
     )
     room.check(not (room.path / "rd/now.store").exists(), "and what was recorded is planned")
-    # A switch without a known table size is left out, and so is the adapter that has a wire to it alone.
     left = "".join(
         line for line in facts.splitlines(True) if "0000000000000030" not in line and "0000000000000200" not in line
     )
@@ -539,18 +589,15 @@ def silence(room, fab, ends):
     room.check(
         told["silent"]["left_out"] == ["0000000000000030", "0000000000000200"], f"with what it joins: {told['silent']}"
     )
-    # No port may get the LID of a silent one.
-    fab(
-        facts=claimed.replace("claim 0000000000000200/1 5", "claim 0000000000000200/1 0").replace(
-            "claim 0000000000000030/0 0", "claim 0000000000000030/0 5"
-        ),
-        held=plan,
-        status="0",
-    )
+
+
+def lids_of_the_silent(room, fab, ends):
+    """Checks that no port gets the LID of a silent one."""
+    facts, plan = room.text("t.facts"), room.text("t.plan")
+    fab(facts=facts.replace("claim 0000000000000030/0 0", "claim 0000000000000030/0 5"), held=plan, status="0")
     ends("--look --move-lids", 0, "compare", "looked only")
     fab(
         facts=facts.replace("cap 0000000000000030 1024 @1\n", ""),
-        stored=left,
         plan=plan.replace("lid 3 0000000000000030/0\n", ""),
         status="1",
     )

@@ -19,10 +19,12 @@ RING_LIDS = " ".join(f"{i + 1} {guid:x}/0" for i, guid in enumerate(RING))
 
 
 def ring(*rows: str) -> list[str]:
+    """Returns the rows of tables of the ring's switches, each with its GUID."""
     return [f"{guid:x} {row}" for guid, row in zip(RING, rows)]
 
 
 def named(word: str) -> str:
+    """Returns an end port with all digits of its GUID."""
     guid, port = word.split("/")
     return f"{guid.rjust(16, '0')}/{port}"
 
@@ -39,6 +41,7 @@ def found(text: str) -> Ended:
 
 
 def lost(at: str, *packets: str) -> str:
+    """Returns the lines of packets that are lost at `at`."""
     return "".join(f"lost {packet} at {at}\n" for packet in packets)
 
 
@@ -66,6 +69,7 @@ def counted(sent: int, between: int, **missed: int) -> str:
 BOTH = "hops max 3 mean 3.00\nload max 1 mean 1.00\n"
 ONE = "hops max 3 mean 3.00\nload max 1 mean 0.50\n"
 NEITHER = "hops none\nload max 0 mean 0.00\n"
+ALL_ARRIVE = prints(counted(16, 4) + BOTH + "credit loop none\n")
 AT_10, AT_20, AT_100 = f"{0x10:016x}", f"{0x20:016x}", f"{0x100:016x}"
 
 # An audit of the two switches and two adapters without tables.
@@ -83,20 +87,16 @@ CLAIM_ALONE = found(
 def tables(plan: Callable[..., Ended]) -> Iterator[tuple[str, str, Ended]]:
     """Yields titles, texts of tables, and how their audits end."""
     good = plan(LIDS, *GOOD).printed.decode()
-    lines = good.splitlines()
-    all_arrive = prints(counted(16, 4) + BOTH + "credit loop none\n")
-    yield "tables by which all arrive", good, all_arrive
-    yield "the same, spelled otherwise", otherwise(good), all_arrive
-    # The greatest LID and the last block say nothing here.
-    edges = [*lines, f"block 767 {'f' * 128}"]
-    edges.insert(4, f"lid 49151 {0x200:016x}/1")
-    yield "with the greatest LID", "\n".join(edges), found(
-        counted(20, 6, above_top=3, apart=1) + lost(f"{AT_10} by 255: above top", "10/0 49151")
-        + lost(f"{AT_20} by 255: above top", "20/0 49151")
-        + lost(f"{AT_10} by 255: above top", "100/1 49151")
-        + BOTH
-        + "credit loop none\n"
-    )
+    yield "tables by which all arrive", good, ALL_ARRIVE
+    yield "the same, spelled otherwise", otherwise(good), ALL_ARRIVE
+    yield from tables_astray(plan)
+    yield from tables_cut_short(good)
+    yield from tables_with_other_lids(plan, good)
+    yield "nothing", "", found(NOTHING)
+
+
+def tables_astray(plan: Callable[..., Ended]) -> Iterator[tuple[str, str, Ended]]:
+    """Yields those in which an entry leads astray."""
     yield (
         "an entry to a port without a wire",
         plan(LIDS, "10 0 1 2 3", GOOD[1]).printed.decode(),
@@ -135,6 +135,21 @@ def tables(plan: Callable[..., Ended]) -> Iterator[tuple[str, str, Ended]]:
             + "credit loop on one lane 10/1 20/1\n"
         ),
     )
+
+
+def tables_cut_short(good: str) -> Iterator[tuple[str, str, Ended]]:
+    """Yields those in which a switch lacks blocks or has too low a top, from those by which all arrive."""
+    lines = good.splitlines()
+    # The greatest LID and the last block say nothing here.
+    edges = [*lines, f"block 767 {'f' * 128}"]
+    edges.insert(4, f"lid 49151 {0x200:016x}/1")
+    yield "with the greatest LID", "\n".join(edges), found(
+        counted(20, 6, above_top=3, apart=1) + lost(f"{AT_10} by 255: above top", "10/0 49151")
+        + lost(f"{AT_20} by 255: above top", "20/0 49151")
+        + lost(f"{AT_10} by 255: above top", "100/1 49151")
+        + BOTH
+        + "credit loop none\n"
+    )
     all_lost = (
         "20/0 1", "200/1 1", "10/0 2", "20/0 2", "100/1 2", "200/1 2", "20/0 3", "200/1 3", "10/0 4", "20/0 4",
         "100/1 4",
@@ -161,6 +176,12 @@ def tables(plan: Callable[..., Ended]) -> Iterator[tuple[str, str, Ended]]:
             + "credit loop none\n"
         ),
     )
+
+
+def tables_with_other_lids(plan: Callable[..., Ended], good: str) -> Iterator[tuple[str, str, Ended]]:
+    """Yields those in which several end ports hold a LID, or none does, and those of ports and switches that the facts
+    lack; `good` are those by which all arrive."""
+    lines = good.splitlines()
     twice = good.replace("lid 4 ", "lid 3 ")
     misdelivered = "200/1 3 at 200/1", "10/0 3 at 100/1", "20/0 3 at 100/1", "100/1 3 at 100/1"
     yield (
@@ -178,7 +199,6 @@ def tables(plan: Callable[..., Ended]) -> Iterator[tuple[str, str, Ended]]:
         strange,
         prints(spelled(f"{counted(16, 4)}unowned 5 300/1\nunknown {0x30:016x}\n" + BOTH + "credit loop none\n")),
     )
-    yield "nothing", "", found(NOTHING)
     # No packet is for an end port that no line names.
     yield (
         "an end port without a LID",
@@ -197,7 +217,7 @@ def tables(plan: Callable[..., Ended]) -> Iterator[tuple[str, str, Ended]]:
     yield (
         "the same, above the top of one switch",
         unheld.replace(f"switch {AT_20} top 5", f"switch {AT_20} top 4"),
-        all_arrive,
+        ALL_ARRIVE,
     )
 
 
@@ -375,6 +395,7 @@ PAIR_WIRES = "100/1-200/1"
 
 
 def pairs(plan: Callable[..., Ended]) -> Iterator[tuple[str, str, Ended]]:
+    """Yields the audit of two adapters without a switch."""
     lids = f"lid 3 {0x100:016x}/1\nlid 4 {0x200:016x}/1\n"
     yield (
         "two adapters and no switch",
@@ -391,6 +412,7 @@ ROW_WIRES = "10/1-20/2 20/1-30/2 10/3-100/1 10/4-300/1 30/3-200/1"
 
 
 def rows(plan: Callable[..., Ended]) -> Iterator[tuple[str, str, Ended]]:
+    """Yields audits of three switches in a row, each with an adapter."""
     lids = "1 100/1 2 200/1 3 300/1 4 10/0 5 20/0 6 30/0"
     all_arrive = plan(lids, "10 3 1 4 0 1 1", "20 2 1 2 2 0 1", "30 2 3 2 2 2 0").printed.decode()
     yield (
@@ -451,6 +473,7 @@ FAULTS = (
 
 
 def faults() -> Iterator[tuple[str, Ended]]:
+    """Yields texts that are no tables, and how their audits end."""
     for text, said in FAULTS:
         yield text.replace("%", "f" * 128), refused(f"TABLES: {said}")
 

@@ -151,6 +151,7 @@ class Fabric:
 
 
 def triangle() -> Fabric:
+    """Returns three switches, each wired to both others, and two adapters."""
     fabric = Fabric()
     for i in (1, 2, 3):
         fabric.add(SWITCH, f"S{i}", 16 * i, 4)
@@ -199,6 +200,7 @@ def line(count: int) -> Fabric:
 
 
 def ring(count: int) -> Fabric:
+    """Returns switches in a ring, each with an adapter."""
     fabric = Fabric()
     switches = fabric.switches(count)
     fabric.hosts(switches)

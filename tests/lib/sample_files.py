@@ -242,6 +242,7 @@ def cut(data, head, size, lines):
 
 
 def cuts(held):
+    """Yields files cut short at each length, and how a run that reads them ends."""
     yield from cut(held["DOUBLED"], 8, 272, [ADAPTER_FACTS, ADAPTER_FACTS])
     yield from cut(held["OLDER"], 8, 32, [ADAPTER_NODE, ADAPTER_PORT])
     yield from cut(held["STORE"], 16, 32, [ADAPTER_NODE, ADAPTER_PORT])
@@ -317,14 +318,19 @@ def node_facts(word="switch", ports=4, port_guid=0, local=3, via="00000000000001
 
 
 def port_facts(port, state, lid=0):
+    """Returns the facts that PortInfo of a port of switch 0x10 tells."""
     return f"port 0000000000000010/{port} {state} @1\nclaim 0000000000000010/{port} {lid} @1\n"
 
 
 def told():
     """Yields a report, and what it tells or why it is refused."""
-    start, about, via = make.START, make.about(0x20), make.via
-    own, table = ADAPTER, make.switch_info(0x10, 1024)
-    port = make.port_info(0x10, 0, 0)
+    yield from told_of_packets()
+    yield from told_of_contexts()
+    yield from told_of_attributes()
+
+
+def told_of_packets():
+    """Yields a report with other fields of its packet, and what it tells or why it is refused."""
     yield from (
         (reply(), node_facts()),
         (reply(generation=0), "Generation"),
@@ -344,16 +350,31 @@ def told():
         (reply(place=4, byte=0x81), "Status"),
         *((reply(place=17, byte=byte), "Attribute") for byte in (0x10, 0x13, 0x14, 0x16, 0x20)),
         (reply(place=16, byte=1), "Attribute"),
-        # Contexts that fit neither the attribute nor the hops, and those that no form allows.
+    )
+
+
+def told_of_contexts():
+    """Yields a report whose context fits neither the attribute nor the hops, or that no form allows, and why it is
+    refused."""
+    start, about, via = make.START, make.about(0x20), make.via
+    yield from (
         *((reply(context=context, hops=1), "Context") for context in (start, about)),
         (reply(place=7, byte=0), "Context"),
         (make.node_info(via(0x20, 3), make.ADAPTER, 1, 0x100, 0x101, 1, hops=0), "Context"),
-        (changed(own, 16 + 7, 1), "Context"),
+        (changed(ADAPTER, 16 + 7, 1), "Context"),
         *((make.report(context, make.SWITCH_INFO, 0, b"\4\0", hops=1), "Context") for context in (start, via(0x10, 3))),
         *((make.report(context, make.PORT_INFO, 0, bytes(64), hops=1), "Context") for context in (start, via(0x10, 3))),
         *((reply(context=(kind, 1, 0x100)), "Context") for kind in (0, 2, 3, 255)),
         (reply(context=(0, 0, 1)), "Context"),
         *((changed(reply(), place, 1), "Context") for place in (6, 7)),
+    )
+
+
+def told_of_attributes():
+    """Yields a report with another modifier or other fields of its attribute, and what it tells or why it is
+    refused."""
+    via, port = make.via, make.port_info(0x10, 0, 0)
+    yield from (
         # The modifier, which matters in PortInfo alone.
         (reply(place=23, byte=255), node_facts()),
         (changed(port, 16 + 23, 254), port_facts(254, "down")),
@@ -368,15 +389,15 @@ def told():
         *((reply(ports=ports), "Port") for ports in (0, 2, 255)),
         (reply(local=4), node_facts(local=4)),
         *((reply(local=local), "Port") for local in (0, 5, 255)),
-        (changed(own, 16 + 64 + 36, 0), "Port"),
-        (make.node_info(start, make.SWITCH, 4, 0x20, 0x20, 0), "".join(node_facts().splitlines(True)[:2])),
+        (changed(ADAPTER, 16 + 64 + 36, 0), "Port"),
+        (make.node_info(make.START, make.SWITCH, 4, 0x20, 0x20, 0), "".join(node_facts().splitlines(True)[:2])),
         (reply(context=via(0x100, 254)), node_facts(via="0000000000000100/254")),
         *((reply(context=via(0x100, number)), "Port") for number in (0, 255)),
         # The states of ports, which are four bits; claims; tables.
         *((make.port_info(0x10, 7, state), port_facts(7, "up")) for state in (2, 3, 4, 0x12, 0xF4)),
         *((make.port_info(0x10, 7, state), port_facts(7, "down")) for state in (0, 1, 5, 8, 15, 0x20)),
         *((make.port_info(0x10, 7, 1, lid), port_facts(7, "down", lid)) for lid in (1, 258, 49151, 65535)),
-        (table, "cap 0000000000000010 1024 @1\n"),
+        (make.switch_info(0x10, 1024), "cap 0000000000000010 1024 @1\n"),
         (make.switch_info(0x10, 0), "cap 0000000000000010 0 @1\n"),
         (make.switch_info(2**64 - 1, 65535, MOST), f"cap ffffffffffffffff 65535 @{MOST}\n"),
     )

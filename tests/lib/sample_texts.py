@@ -4,13 +4,13 @@ import sample_fabrics
 
 # Topologies, each with a fault in its first line.
 NO_GRAMMAR = (
-    'switch 1 "A" guid 0x1', 'Switch 1 "A" guid 0x1 cap', 'Switch 1 "A" guid 0x1 cap 5 6', 'Switch 1 "A" guid 0x1 room 5',
-    'Hca 1 "A" guid 0x1 cap 5', 'Hca 1 "A" GUID 0x1', 'Hca 1 "A" guid 0X1', 'Hca 1 "A" guid 1', 'Hca 1 "A" guid 0x',
-    'Hca 1 "A" guid 0xg', 'Hca 1 "A" guid 0x00000000000000001', 'Hca +1 "A" guid 0x1', 'Hca 1x "A" guid 0x1',
-    'Hca 1 "A"guid 0x1', 'Hca 1"A" guid 0x1', 'Hca 1 "A guid 0x1', "Hca 1 A guid 0x1", 'Hca 1 "A" guid 0x1\r',
-    'Hca 1 "A" guid\r0x1\n', 'Hca 1 "A" guid 0x1\r\r\n', 'Hca 1 "A"\u00a0guid 0x1', '\ufeffHca 1 "A" guid 0x1',
-    'Hca 1 "A" guid 0x1\x0c', '[1] "A"[1]', "Hca", 'Hca 1 "" guid 0x1', 'Hca 1 "A\tB" guid 0x1', 'Hca 1 "\u00e9" guid 0x1',
-    f'Hca 1 "{"A" * 65}" guid 0x1',
+    'switch 1 "A" guid 0x1', 'Switch 1 "A" guid 0x1 cap', 'Switch 1 "A" guid 0x1 cap 5 6',
+    'Switch 1 "A" guid 0x1 room 5', 'Hca 1 "A" guid 0x1 cap 5', 'Hca 1 "A" GUID 0x1', 'Hca 1 "A" guid 0X1',
+    'Hca 1 "A" guid 1', 'Hca 1 "A" guid 0x', 'Hca 1 "A" guid 0xg', 'Hca 1 "A" guid 0x00000000000000001',
+    'Hca +1 "A" guid 0x1', 'Hca 1x "A" guid 0x1', 'Hca 1 "A"guid 0x1', 'Hca 1"A" guid 0x1', 'Hca 1 "A guid 0x1',
+    "Hca 1 A guid 0x1", 'Hca 1 "A" guid 0x1\r', 'Hca 1 "A" guid\r0x1\n', 'Hca 1 "A" guid 0x1\r\r\n',
+    'Hca 1 "A"\u00a0guid 0x1', '\ufeffHca 1 "A" guid 0x1', 'Hca 1 "A" guid 0x1\x0c', '[1] "A"[1]', "Hca",
+    'Hca 1 "" guid 0x1', 'Hca 1 "A\tB" guid 0x1', 'Hca 1 "\u00e9" guid 0x1', f'Hca 1 "{"A" * 65}" guid 0x1',
 )
 
 # A topology, and its fault.
@@ -27,11 +27,12 @@ TOPOLOGY_FAULTS = (
     ('Ca 1 "A" guid 0x1\n[1] "B"[1]\nCa 0 "B" guid 0x1', "line 3: ports"),
     ('Ca 1 "A" guid 0x1\n[9] "B"[1]\n[9] "A"[1]', "line 2: peer"),
     *((f'Ca 1 "A" guid 0x1\n{link}', "line 2: syntax") for link in (
-        '[1]"A"[3]', '[1] "A" [3]', '[1] "A"[3] 5', '[] "A"[-1]', '[1] "A"[]', '[1] "A"[+1]', '[1] "A"[1a]', '[1] "A"[1',
-        '[1] "A"[1]]', '[1] "A""[1]', '[1] "A"', "[1] A[1]", '[1] "A[1]', '[1] ""[1]',
+        '[1]"A"[3]', '[1] "A" [3]', '[1] "A"[3] 5', '[] "A"[-1]', '[1] "A"[]', '[1] "A"[+1]', '[1] "A"[1a]',
+        '[1] "A"[1', '[1] "A"[1]]', '[1] "A""[1]', '[1] "A"', "[1] A[1]", '[1] "A[1]', '[1] ""[1]',
     )),
     *((f'Ca 1 "A" guid 0x1\n{link}', "line 2: port") for link in (
-        '[1] "A"[2]', '[1] "A"[0]', '[1] "A"[255]', '[1] "A"[300]', '[1] "A"[18446744073709551617]', '[99999999999999999999] "A"[1]',
+        '[1] "A"[2]', '[1] "A"[0]', '[1] "A"[255]', '[1] "A"[300]', '[1] "A"[18446744073709551617]',
+        '[99999999999999999999] "A"[1]',
     )),
     ('Ca 3 "A" guid 0x1\n[1] "A"[2]\n[3] "A"[2]', "line 3: linked"),
     ('Ca 3 "A" guid 0x1\n[1] "A"[1]\n[1] "A"[2]', "line 3: linked"),
@@ -52,16 +53,19 @@ MANAGERS = 'manager A "H1"[1] 15\nmanager b2 "H2"[01] 0\n'
 # Lines behind those of the managers, and their fault.
 SCHEDULE_FAULTS = (
     *((line, "line 3: syntax") for line in (
-        "Sweep A", "sweep", "sweep A A", 'sweep "A"', "sweep A_", "sweep ABCDEFGHIJKLMNOPQ", "merge A", "merge A A A", "deliver",
-        "deliver Last", "deliver 18446744073709551616", "lose 184467440737095516150", "repeat -1", "drain 1000001", "drain last",
-        "tables A", "flight 0", 'cut "S 1"[256]', 'cut "S 1" [1]', "cut S[1]", 'cut ""[1]', 'plug "S 1"[1]', 'ping "S 1"[1]',
-        'ping "S 1"[1] 65536', 'ping "S 1"[1] 0x1', 'manager c "H1"[2] 16', 'manager c "H1"[2]', 'manager c "H1"[2] 1 1', "write",
-        "handover", "handover A b2", "poll A", "poll 1 A 1", "poll A 65536", "floor A", "floor A 0", "floor A 4294967296", "state",
-        "silent", "Silent A", "silent A b2", "written", "write A b2", "writte A", "written A b2", "State A", 'manager A "S 1"[0] 16',
+        "Sweep A", "sweep", "sweep A A", 'sweep "A"', "sweep A_", "sweep ABCDEFGHIJKLMNOPQ", "merge A", "merge A A A",
+        "deliver", "deliver Last", "deliver 18446744073709551616", "lose 184467440737095516150", "repeat -1",
+        "drain 1000001", "drain last", "tables A", "flight 0", 'cut "S 1"[256]', 'cut "S 1" [1]', "cut S[1]",
+        'cut ""[1]', 'plug "S 1"[1]', 'ping "S 1"[1]', 'ping "S 1"[1] 65536', 'ping "S 1"[1] 0x1',
+        'manager c "H1"[2] 16', 'manager c "H1"[2]', 'manager c "H1"[2] 1 1', "write", "handover", "handover A b2",
+        "poll A", "poll 1 A 1", "poll A 65536", "floor A", "floor A 0", "floor A 4294967296", "state", "silent",
+        "Silent A", "silent A b2", "written", "write A b2", "writte A", "written A b2", "State A",
+        'manager A "S 1"[0] 16',
     )),
     *((line, "line 3: name") for line in (
-        "sweep a", "merge A c\nx", "merge c A", "handover c", "poll c 1", "floor c 1", "state c", "silent c", "written c", 'cut "S"[1]', 'plug "H1"[1] "S"[1]',
-        'plug "S"[1] "H1"[1]', 'ping "S"[1] 1', 'manager A "H1"[2] 0', 'manager A "S 1"[0] 0', 'manager c "S"[0] 0',
+        "sweep a", "merge A c\nx", "merge c A", "handover c", "poll c 1", "floor c 1", "state c", "silent c",
+        "written c", 'cut "S"[1]', 'plug "H1"[1] "S"[1]', 'plug "S"[1] "H1"[1]', 'ping "S"[1] 1', 'manager A "H1"[2] 0',
+        'manager A "S 1"[0] 0', 'manager c "S"[0] 0',
     )),
     *((line, "line 3: seat") for line in ('manager c "H1"[0] 0', 'manager c "H1"[3] 0', 'manager c "H1"[1] 0')),
     ('\nsweep c\nmanager c "H1"[2] 0', "line 4: name"),
@@ -71,13 +75,14 @@ SCHEDULE_FAULTS = (
 
 # Lines that are taken, and what they print.
 LINES = (
-    ("sweep A", ""), ("merge b2 A", ""), ("merge A A", ""), ("handover b2", "refused NotMaster\n"), ("floor b2 4294967295", ""),
-    ("timeout b2", ""), ("facts A", ""), ("plan b2", ""), ("progress b2", "progress b2 never\n"),
-    ("silent b2", "silent b2 never\n"), ("silent\tA #", "silent A never\n"), ("written b2", "written b2 no\n"),
-    ('manager c "H1"[2] 007', ""), ('cut "S 1"[255]', "refused NoSuchPort\n"), ('plug "S 1"[0] "H2"[001]', "refused NoSuchPort\n"),
-    ("tables", "switch 0000000000000010 top 0\nblock 0 %\n"), ("flight\r\n", ""), ("deliver last", "refused NoSuchPacket\n"),
-    ("lose 0", "refused NoSuchPacket\n"), ("repeat 0018446744073709551615", "refused NoSuchPacket\n"), ("drain 0", ""),
-    ("drain 001000000#", ""), ("sweep A\r\n\t# next\n" * 1000, "refused SweepRunning\n" * 999),
+    ("sweep A", ""), ("merge b2 A", ""), ("merge A A", ""), ("handover b2", "refused NotMaster\n"),
+    ("floor b2 4294967295", ""), ("timeout b2", ""), ("facts A", ""), ("plan b2", ""),
+    ("progress b2", "progress b2 never\n"), ("silent b2", "silent b2 never\n"), ("silent\tA #", "silent A never\n"),
+    ("written b2", "written b2 no\n"), ('manager c "H1"[2] 007', ""), ('cut "S 1"[255]', "refused NoSuchPort\n"),
+    ('plug "S 1"[0] "H2"[001]', "refused NoSuchPort\n"), ("tables", "switch 0000000000000010 top 0\nblock 0 %\n"),
+    ("flight\r\n", ""), ("deliver last", "refused NoSuchPacket\n"), ("lose 0", "refused NoSuchPacket\n"),
+    ("repeat 0018446744073709551615", "refused NoSuchPacket\n"), ("drain 0", ""), ("drain 001000000#", ""),
+    ("sweep A\r\n\t# next\n" * 1000, "refused SweepRunning\n" * 999),
 )
 
 

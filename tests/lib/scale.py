@@ -30,7 +30,8 @@ for line in sys.stdin:
     actions = [(os.POSIX_SPAWN_OPEN, number, path, flags, 0o600) for number, (path, flags) in enumerate(streams)]
     os.chdir(folder)
     _, status, used = os.wait4(os.posix_spawn(command[0], command, os.environ, file_actions=actions), 0)
-    print(json.dumps([os.waitstatus_to_exitcode(status), used.ru_utime + used.ru_stime, used.ru_maxrss * 1024]), flush=True)
+    ended = os.waitstatus_to_exitcode(status), used.ru_utime + used.ru_stime, used.ru_maxrss * 1024
+    print(json.dumps(ended), flush=True)
 """
 starters = []
 
@@ -38,6 +39,7 @@ failures = []
 
 
 def check(holds: object, text: str) -> None:
+    """Notes a failure if something does not hold, and says what."""
     if not holds:
         failures.append(text)
         print(f"at-scale: FAILED: {text}")
@@ -327,6 +329,7 @@ class Tree:
 
 
 def hundredths(number):
+    """Returns a number of hundredths as a decimal number."""
     return f"{number // 100}.{number % 100:02}"
 
 

@@ -124,6 +124,7 @@ def held(bench, name, host="H1"):
 
 
 def lids(text):
+    """Returns the lines of LIDs in the text of a plan."""
     return [line for line in text.splitlines() if line.startswith("lid ")]
 
 
@@ -135,6 +136,7 @@ def manager(bench, host="H1"):
 
 
 def port_guid(bench, host):
+    """Returns the GUID of the port of an adapter."""
     return bench.fabric.guid(host) + 1
 
 
@@ -281,10 +283,12 @@ def seen_by_others(bench):
 
 
 def some_ways(bench, name, count=200):
-    """Checks that `ibtracert` finds a way between as many pairs of adapters, chosen at random, by the LIDs in a file."""
+    """Checks that `ibtracert` finds a route between each of `count` pairs of adapters, chosen at random, by the LIDs
+    in the file `name`."""
     chance = random.Random(count)
     lid_of = {guid: lid for lid, guid in re.findall(r"^lid (\d+) (\w+)/1$", (bench.path / name).read_text(), re.M)}
-    hosts = [lid_of[f"{bench.fabric.guid(node):016x}"] for node in bench.fabric.nodes if not bench.fabric.is_switch(node)]
+    adapters = [node for node in bench.fabric.nodes if not bench.fabric.is_switch(node)]
+    hosts = [lid_of[f"{bench.fabric.guid(node):016x}"] for node in adapters]
     arrive = 0
     for _ in range(count):
         status = bench.run("ibtracert", chance.choice(hosts), chance.choice(hosts), simulated=True)
@@ -301,11 +305,13 @@ def between(bench, name):
 
 
 def lines_of(path, word):
+    """Returns the words behind the first one of each line that begins with `word`, in a file that may be missing."""
     lines = path.read_text().splitlines() if path.exists() else []
     return [line.split()[1:] for line in lines if line.startswith(word + " ")]
 
 
 def packets_of(path, word):
+    """Returns the packets in the lines that begin with `word`."""
     return [bytes.fromhex(words[0]) for words in lines_of(path, word)]
 
 
@@ -318,6 +324,7 @@ def between_switches(bench):
 
 
 def without_number(packet):
+    """Returns a packet without its TransactionID."""
     return packet[: NUMBER.start] + packet[NUMBER.stop :]
 
 

@@ -38,6 +38,7 @@ def blocks_to_write(old: bytes, new: bytes) -> int:
 
 
 def nodes_apart(old: Facts, new: Facts) -> Iterator[str]:
+    """Yields a line for each node that is gone, has come, or is another one."""
     for guid in sorted(set(old.nodes) | set(new.nodes)):
         one, other = (facts.nodes.get(guid) for facts in (old, new))
         if one != other:
@@ -47,6 +48,7 @@ def nodes_apart(old: Facts, new: Facts) -> Iterator[str]:
 
 
 def cables_of(facts: Facts) -> set[tuple[End, End]]:
+    """Returns the cables that are up, each by its two ends."""
     return {(end, far) for end, far, kind in facts.cables() if kind == "up"}
 
 

@@ -34,10 +34,12 @@ class LineRefused(Refused):
 
 
 def is_head(line: str) -> bool:
+    """Returns whether a line begins the table of a switch, in any form."""
     return line.startswith(HEAD) or FDBS_HEAD.fullmatch(line) is not None
 
 
 def is_dump(lines: Iterable[str]) -> bool:
+    """Returns whether some line begins the table of a switch."""
     return any(is_head(line.lstrip()) for line in lines)
 
 

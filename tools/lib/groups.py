@@ -97,6 +97,7 @@ def bend(i: int, count: int) -> float:
 
 
 def radius_of(count: int) -> float:
+    """Returns the radius of a group of `count` switches."""
     return circle(count, BESIDE)
 
 
@@ -106,6 +107,7 @@ def circle(count: int, apart: float) -> float:
 
 
 def spot(i: int, count: int, radius: float, spin: float = math.pi / 2) -> Spot:
+    """Returns the position of point `i` of `count` on a circle around 0, clockwise from the angle `spin`."""
     angle = spin - 2 * math.pi * i / max(count, 1)
     return radius * math.cos(angle), radius * math.sin(angle)
 

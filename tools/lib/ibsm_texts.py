@@ -97,6 +97,7 @@ def usage_of(doc: str) -> str:
 
 
 def name_of(end: End) -> str:
+    """Returns an end port as texts have it: its GUID and the port."""
     return f"{end[0]:016x}/{end[1]}"
 
 

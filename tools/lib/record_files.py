@@ -7,7 +7,7 @@ NO_REPORTS, NO_CELLS = b"IBSMREP1", b"IBSMSTO1"
 # The attributes that tell facts, the types of nodes, the states of ports, and the kinds of facts.
 NODE_INFO, SWITCH_INFO, PORT_INFO = 0x0011, 0x0012, 0x0015
 ADAPTER, SWITCH, ROUTER = 1, 2, 3
-DOWN, INITIALIZE, ARMED, ACTIVE = 1, 2, 3, 4
+DOWN, INITIALIZE, ACTIVE = 1, 2, 4
 NODE, PORT_GUID, LINK, PORT, CLAIM, CAP = 1, 2, 3, 4, 5, 6
 KINDS = {"node": NODE, "portguid": PORT_GUID, "link": LINK, "port": PORT, "claim": CLAIM, "cap": CAP}
 TYPES = {"ca": ADAPTER, "switch": SWITCH, "router": ROUTER}
@@ -19,10 +19,12 @@ START = 0, 0, 0
 
 
 def via(guid: int, port: int) -> Context:
+    """Returns the context of a reply over a path that leaves this node by this port last."""
     return 1, port, guid
 
 
 def about(guid: int) -> Context:
+    """Returns the context of a reply that speaks of this node."""
     return 2, 0, guid
 
 
@@ -71,6 +73,7 @@ def port_info(guid: int, port: int, state: int, lid: int = 0, generation: int = 
 
 
 def reports(*records: bytes) -> bytes:
+    """Returns a recording of these records."""
     return NO_REPORTS + b"".join(records)
 
 

@@ -29,6 +29,7 @@ class Rate:
 
 
 def rate(lanes: int, speed: tuple[str, float]) -> Rate:
+    """Returns the rate of a link of `lanes` lanes, given the name of a speed and the gigabits of a lane."""
     name, gigabits = speed
     return Rate(lanes * gigabits, lanes, name)
 
@@ -108,6 +109,7 @@ def most_of(known: list[Port]) -> Rate | None:
 
 
 def is_recording(path: str) -> bool:
+    """Returns whether a file begins as a recording does. Standard input is none."""
     return path != "-" and opened_bytes(path, 8) == NO_REPORTS
 
 

@@ -27,6 +27,7 @@ FINDINGS = {
 
 
 def escaped(text: object) -> str:
+    """Returns a value as text of HTML."""
     return html.escape(str(text))
 
 
@@ -49,14 +50,17 @@ class Raw(str):
 
 
 def section(title: str, *parts: str) -> str:
+    """Returns a section of the page, with its title."""
     return f"<section><h2>{escaped(title)}</h2>{''.join(parts)}</section>"
 
 
 def paragraph(text: object) -> str:
+    """Returns a paragraph. A text that is HTML already stays as it is."""
     return f"<p>{text if isinstance(text, Raw) else escaped(text)}</p>"
 
 
 def verdict(parts: dict) -> str:
+    """Returns whether the tables pass the audit, as a paragraph."""
     word = "The tables pass the audit." if parts["passes"] else "The tables do not pass the audit."
     return f'<p class="verdict {"good" if parts["passes"] else "bad"}">{word}</p>'
 
@@ -83,6 +87,7 @@ def audit(parts: dict) -> str:
 
 
 def changes(parts: dict) -> str:
+    """Returns the section on what changed since earlier facts, or an empty text if none were given."""
     if parts["changes"] is None:
         return ""
     told = "".join(f"<li><code>{escaped(line)}</code></li>" for line in parts["changes"])
@@ -91,6 +96,7 @@ def changes(parts: dict) -> str:
 
 
 def what_if(parts: dict) -> str:
+    """Returns the section on what is lost without each cable."""
     if parts["cuts"] is None:
         return section(
             "What if a cable goes", paragraph("Facts are disputed, or nothing has a LID: no cable is cut in thought.")
@@ -103,6 +109,7 @@ def what_if(parts: dict) -> str:
 
 
 def channel_name(picture: Picture, channel: tuple[int, int]) -> str:
+    """Returns a channel by the names of its switches and their ports."""
     i, port = channel
     far, back = picture.ends[channel], picture.routes.far[i][port][1]
     return f"{picture.name(i)} port {port} \u2192 {picture.name(far)} port {back}"
@@ -158,6 +165,7 @@ def svg(picture: Picture) -> str:
 
 
 def picture_section(parts: dict) -> str:
+    """Returns the section with the picture, its legend and the busiest channels."""
     picture = parts["picture"]
     data = picture.data()
     told = "Each line is a channel: a cable between switches, taken one way. "
@@ -209,6 +217,7 @@ PROVED = {
 
 
 def proved(parts: dict) -> str:
+    """Returns the section on what of the page is proved and what is not."""
     agrees = "THE COUNTS DIFFER: the busiest channel or the mean is another one by this page than by the audit"
     if parts["agrees"]:
         agrees = "The busiest channel and the mean are the same by both counts"
@@ -225,6 +234,7 @@ def proved(parts: dict) -> str:
 
 
 def page(parts: dict) -> str:
+    """Returns the page of what `tools/report` has found, with its style and its script."""
     style, script = ((HERE / f"report.{kind}").read_text() for kind in ("css", "js"))
     script = re.sub(r"(?m)^\s*//.*\n", "", script)
     title, rows = escaped(parts["title"]), list(parts["subnet"].items())

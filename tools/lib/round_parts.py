@@ -19,14 +19,17 @@ class Ended(Exception):
 
 
 def now() -> str:
+    """Returns the time now, in UTC."""
     return datetime.datetime.now(datetime.timezone.utc).isoformat(timespec="milliseconds")
 
 
 def seconds_between(one: str, other: str) -> float:
+    """Returns the seconds from one time to another."""
     return (datetime.datetime.fromisoformat(other) - datetime.datetime.fromisoformat(one)).total_seconds()
 
 
 def digest(path: str | pathlib.Path) -> bytes:
+    """Returns the SHA-256 digest of a file."""
     found = hashlib.sha256()
     with open(path, "rb") as file:
         while piece := file.read(1 << 20):
@@ -35,6 +38,7 @@ def digest(path: str | pathlib.Path) -> bytes:
 
 
 def last_line(text: str) -> str:
+    """Returns the last line of what a program said, or that it said nothing."""
     return (text.strip() or "it said nothing").splitlines()[-1]
 
 
@@ -60,6 +64,7 @@ class Audit:
 
 
 def name_of_process(process: int) -> str:
+    """Returns the name of a process. Ends the round if there is none."""
     try:
         return pathlib.Path(f"/proc/{process}/comm").read_text().strip()
     except OSError:

@@ -121,5 +121,7 @@ def add_lids(path: Path, kept: dict[End, int], lmc: int | None) -> None:
 
 
 def completed(facts_path: Path, before_path: Path | None, tables: Container[int]) -> Completed:
+    """Returns the facts of a recording, completed by those of the recording before it, if there is one. `tables` are
+    the switches whose tables were read."""
     before = Facts(before_path, keeps_lines=True) if before_path else None
     return Completed(Facts(facts_path, keeps_lines=True), before, tables)

@@ -9,5 +9,6 @@ BUILT = pathlib.Path(__file__).resolve().parent.parent / "built"
 
 
 def told(tool: str) -> str:
+    """Returns what `--version` prints."""
     built = BUILT.read_text() if BUILT.exists() else ""
     return f"ibsm-{tool} {VERSION}\n{built}"

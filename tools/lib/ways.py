@@ -8,6 +8,7 @@ from routes import Routes
 
 
 def hundredths(total: int, count: int) -> str:
+    """Returns a mean with two digits behind the point, rounded down."""
     return f"{total // count}.{100 * total // count % 100:02}"
 
 
