@@ -224,7 +224,7 @@ class Tree:
             raise ValueError("a switch has too few ports")
         return used[switch]
 
-    def ways(self):
+    def ways(self) -> tuple[list[list[int]], list[list[int]]]:
         """Returns for each switch its port towards each switch, and the number of wires to it."""
         near = [[] for _ in range(self.count)]
         for (one, port), (other, back) in self.wires:
@@ -244,7 +244,7 @@ class Tree:
             steps.append(far)
         return exits, steps
 
-    def links(self):
+    def links(self) -> list[tuple[tuple[int, int], tuple[int, int]]]:
         """Returns each wire from both ends, by GUID and port."""
         wires = [((self.switches[a], p), (self.switches[b], q)) for (a, p), (b, q) in self.wires]
         wires += [((self.switches[switch], out), (guid, port)) for guid, port, switch, out in self.ends]
@@ -307,8 +307,9 @@ class Tree:
             lines += [f"block {at // DIGITS} {digits[at : at + DIGITS]}" for at in range(0, len(digits), DIGITS)]
         return "".join(f"{line}\n" for line in lines).encode()
 
-    def audit(self):
-        """Returns what an audit of its plan prints, for adapters of one port under LMC 0."""
+    def audit(self) -> tuple[int, int, bytes]:
+        """Returns the sums of hops and of loads, and what an audit of its plan prints, for adapters of one port under
+        LMC 0."""
         count, adapters = self.count + len(self.ends), len(self.ends)
         sums, most = 0, 0
         for one in range(self.count):
@@ -328,7 +329,7 @@ class Tree:
         return sums, sum(loads), (audits.counted(count**2, adapters**2) + lines + "credit loop none\n").encode()
 
 
-def hundredths(number):
+def hundredths(number: int) -> str:
     """Returns a number of hundredths as a decimal number."""
     return f"{number // 100}.{number % 100:02}"
 

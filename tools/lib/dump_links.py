@@ -2,9 +2,12 @@
 
 A line tells of both ends of a cable. What two lines tell of one key must be the same, in one dump or in several.
 """
-import re
+from __future__ import annotations
 
-from ibsm_texts import Refused, name_of
+import re
+from collections.abc import Sequence
+
+from ibsm_texts import End, Refused, name_of
 
 MOST_PORTS, MOST_LMC = 254, 7
 TYPES = {"S": "switch", "H": "ca", "R": "router", "Switch": "switch", "Ca": "ca", "Hca": "ca", "Rt": "router"}
@@ -29,12 +32,12 @@ LST_LINE = re.compile(rf"\s*{SIDE}\s*{SIDE}\s*PHY=\S+\s+LOG=(\S+)\s+SPD=\S+\s*")
 STATES = {"NOC": "down", "DWN": "down", "INI": "up", "ARM": "up", "ACT": "up"}
 
 
-def first_of(lines):
+def first_of(lines: Sequence[str]) -> str:
     """Returns the first line that is not empty and no comment."""
     return next((line for line in lines if line.strip() and not line.startswith("#")), "")
 
 
-def is_links(lines):
+def is_links(lines: Sequence[str]) -> bool:
     """Returns whether a text is a dump of nodes and cables."""
     return re.match(r"\s*\{|(?:vendid|devid|\w+guid)=0x|Chassis \d|Non-Chassis", first_of(lines)) is not None
 
@@ -42,12 +45,12 @@ def is_links(lines):
 class Told:
     """What dumps say of each node and port, and in which line."""
 
-    def __init__(self):
+    def __init__(self) -> None:
         self.values = {}  # kind, GUID, port: the words that a line of facts has for it, or an LMC
         self.sources = {}  # kind, GUID, port: the dump and the line that told it first
         self.path, self.number = "", 0
 
-    def read(self, path, lines):
+    def read(self, path: str, lines: Sequence[str]) -> None:
         """Takes in a dump, all of one form."""
         self.path, take = path, Netdiscovered(self).line
         if first_of(lines).lstrip().startswith("{"):
@@ -56,10 +59,10 @@ class Told:
             if not take(line):
                 raise self.fault(f"is not understood: {line[:60]}")
 
-    def fault(self, why):
+    def fault(self, why: str) -> Refused:
         return Refused(f"{self.path}: line {self.number} {why}")
 
-    def put(self, kind, guid, port, value):
+    def put(self, kind: str, guid: int, port: int, value: str | int) -> None:
         key = kind, guid, port
         before = self.values.setdefault(key, value)
         path, number = self.sources.setdefault(key, (self.path, self.number))
@@ -70,30 +73,30 @@ class Told:
                 "are these dumps of two times?"
             )
 
-    def node(self, guid, kind, ports):
+    def node(self, guid: int, kind: str, ports: int) -> None:
         if not 1 <= ports <= MOST_PORTS:
             raise self.fault(f"has a node with {ports} ports")
         self.put("node", guid, 0, f"{kind} {ports}")
 
-    def cable(self, end, far):
+    def cable(self, end: End, far: End) -> None:
         for near, other in ((end, far), (far, end)):
             if not 1 <= near[1] <= MOST_PORTS:
                 raise self.fault(f"has a cable in port {near[1]}")
             self.put("link", *near, name_of(other))
 
-    def lid(self, end, lid, lmc=None):
+    def lid(self, end: End, lid: str | int, lmc: str | None = None) -> None:
         if int(lid) > 0xFFFF or lmc is not None and int(lmc) > MOST_LMC:
             raise self.fault(f"has LID {lid}" + (f" with LMC {lmc}" if lmc else ""))
         self.put("claim", *end, str(int(lid)))
         if lmc is not None:
             self.put("lmc", *end, int(lmc))
 
-    def far(self, guid, port):
+    def far(self, guid: int, port: int) -> End:
         """Returns the far end of a cable."""
         far, at = self.values["link", guid, port].split("/")
         return int(far, 16), int(at)
 
-    def lst_line(self, line):
+    def lst_line(self, line: str) -> bool:
         """Takes in a line of a .lst, and returns whether it is understood. All numbers are hex; the state is that of
         the first end."""
         if not line.strip() or line.startswith("#"):
@@ -114,7 +117,7 @@ class Told:
         self.put("port", *ends[0], STATES[form[13]])
         return True
 
-    def judge(self):
+    def judge(self) -> None:
         """Refuses cables to nodes that no dump describes, and in ports that nodes lack."""
         for (kind, guid, port), (self.path, self.number) in self.sources.items():
             if kind != "node":
@@ -128,10 +131,10 @@ class Told:
 class Netdiscovered:
     """The lines of ibnetdiscover: GUIDs, then a node, then its ports that have a cable."""
 
-    def __init__(self, told):
+    def __init__(self, told: Told) -> None:
         self.told, self.guids, self.at = told, None, None
 
-    def line(self, line):
+    def line(self, line: str) -> bool:
         """Takes in a line, and returns whether it is understood."""
         if form := GUID_LINE.fullmatch(line):
             self.guids, self.at = form, None
@@ -142,7 +145,7 @@ class Netdiscovered:
             return self.at is not None and self.port(*form.groups())
         return ASIDE.fullmatch(line) is not None
 
-    def node(self, word, ports, letter, guid, lid, lmc):
+    def node(self, word: str, ports: str, letter: str, guid: str, lid: str | None, lmc: str | None) -> bool:
         guids, self.guids, self.at = self.guids, None, (int(guid, 16), TYPES[letter])
         if TYPES[word] != TYPES[letter] or guids and int(guids[1], 16) != self.at[0]:
             return False
@@ -153,7 +156,10 @@ class Netdiscovered:
             self.told.put("portguid", self.at[0], 0, f"{int(guids[2], 16):016x}")
         return True
 
-    def port(self, port, own, letter, far, far_port, far_own, lid, lmc, far_lid):
+    def port(
+        self, port: str, own: str | None, letter: str, far: str, far_port: str, far_own: str | None, lid: str | None,
+        lmc: str | None, far_lid: str,
+    ) -> bool:
         near, far, told = (self.at[0], int(port)), (int(far, 16), int(far_port)), self.told
         is_switch, is_far_switch = self.at[1] == "switch", TYPES[letter] == "switch"
         if is_switch != (lid is None) or is_switch != (own is None):

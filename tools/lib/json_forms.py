@@ -5,7 +5,7 @@ A reader takes the lines of a text one by one, and says of each whether it is on
 from __future__ import annotations
 
 import re
-from collections.abc import Iterable
+from collections.abc import Iterable, Sequence
 
 from ibsm_texts import END, FLOOR, FORMS, GUID, NUMBER
 
@@ -86,16 +86,17 @@ class TablesRead(Rules):
     def __init__(self) -> None:
         self.lids, self.switches = [], []
 
-    def lid(self, lid, end, lmc):
+    def lid(self, lid: str, end: str, lmc: str | None) -> None:
         self.lids.append({"lid": int(lid), "end": end, "lmc": int(lmc or 0)})
 
-    def switch(self, guid, top):
+    def switch(self, guid: str, top: str) -> None:
         self.switches.append({"guid": guid, "top": int(top), "blocks": []})
 
-    def block(self, number, digits):
+    def block(self, number: str, digits: str) -> bool:
         if not self.switches:
             return False
         self.switches[-1]["blocks"].append({"block": int(number), "entries": list(bytes.fromhex(digits))})
+        return True
 
     def value_of_text(self) -> dict:
         return {"lids": self.lids, "switches": self.switches}
@@ -123,32 +124,34 @@ class AuditRead(Rules):
         self.told, self.counts, self.spreads, self.cycle = {}, {"disputed": 0}, {}, None
         self.found, self.others = {kind: [] for kind in KINDS}, {}
 
-    def pairs(self, which, pairs, arrive):
+    def pairs(self, which: str, pairs: str, arrive: str) -> None:
         self.told[which.replace(" ", "_")] = {"pairs": int(pairs), "arrive": int(arrive)}
 
-    def missed(self, *counts):
+    def missed(self, *counts: str) -> None:
         self.told["missed"] = {cause.replace("-", "_"): int(count) for cause, count in zip(MISSED, counts)}
 
-    def lost(self, kind, start, lid, at=None, entry=None, cause=None):
+    def lost(
+        self, kind: str, start: str, lid: str, at: str | None = None, entry: str | None = None, cause: str | None = None
+    ) -> None:
         told = {"from": start, "lid": int(lid), "at": at, "entry": int(entry) if entry else None, "cause": cause}
         self.found[kind].append({name: value for name, value in told.items() if value is not None})
 
-    def held(self, kind, lid, end):
+    def held(self, kind: str, lid: str, end: str) -> None:
         self.found[kind].append({"lid": int(lid), "end": end})
 
-    def named(self, kind, place):
+    def named(self, kind: str, place: str) -> None:
         self.found[kind].append(place)
 
-    def more(self, kind, count):
+    def more(self, kind: str, count: str) -> None:
         self.others[kind] = int(count)
 
-    def count(self, kind, count):
+    def count(self, kind: str, count: str) -> None:
         self.counts[kind] = int(count)
 
-    def spread(self, kind, most, mean):
+    def spread(self, kind: str, most: str | None, mean: str | None) -> None:
         self.spreads[kind] = None if most is None else {"max": int(most), "mean": float(mean)}
 
-    def loop(self, ends, *_):
+    def loop(self, ends: str | None, *_: str | None) -> None:
         self.cycle = ends.split(" ") if ends else []
 
     def lacks(self) -> bool:
@@ -175,10 +178,10 @@ class NextRead(Rules):
     def __init__(self) -> None:
         self.cycle, self.lids = None, []
 
-    def loop(self, ends, *_):
+    def loop(self, ends: str | None, *_: str | None) -> None:
         self.cycle = ends.split(" ") if ends else []
 
-    def waiting(self, lids):
+    def waiting(self, lids: str) -> None:
         self.lids = [int(lid) for lid in lids.split(" ")]
 
     def lacks(self) -> bool:
@@ -215,48 +218,48 @@ class CompareRead(Rules):
     def take(self, line: str) -> bool:
         return self.end is None and super().take(line)
 
-    def change(self, word, what, **told):
+    def change(self, word: str, what: str, **told: object) -> None:
         self.changes.append({"change": word, "what": what} | told)
 
-    def node(self, word, guid, one, new=None):
+    def node(self, word: str, guid: str, one: str, new: str | None = None) -> None:
         told = typed(one) if new is None else {"old": typed(one), "new": typed(new)}
         self.change(word, "node", guid=guid, **told)
 
-    def cable(self, word, end, far):
+    def cable(self, word: str, end: str, far: str) -> None:
         self.change(word, "cable", ends=[end, far])
 
-    def rate(self, word, end, far, old, new):
+    def rate(self, word: str, end: str, far: str, old: str, new: str) -> None:
         self.change(word, "cable", ends=[end, far], old=old, new=new)
 
-    def other(self, what, place, old, new):
+    def other(self, what: str, place: str, old: str, new: str) -> None:
         values = [int(it) if what in ("lid", "cap") else it for it in (old, new)]
         self.change("other", what, **{"guid" if what == "cap" else "end": place}, old=values[0], new=values[1])
 
-    def disputed(self, what, place):
+    def disputed(self, what: str, place: str) -> None:
         self.change("disputed", what, **{"end" if "/" in place else "guid": place})
 
-    def owner(self, lid, old, _, __, new, *___):
+    def owner(self, lid: str, old: str, _: str | None, __: str | None, new: str, *___: str | None) -> None:
         ends = [None if end == "nobody" else end for end in (old, new)]
         self.change("other", "owner", lid=int(lid), old=ends[0], new=ends[1])
 
-    def shared(self, lid, end):
+    def shared(self, lid: str, end: str) -> None:
         self.change("shared", "owner", lid=int(lid), end=end)
 
-    def top(self, guid, old, new):
+    def top(self, guid: str, old: str, new: str) -> None:
         self.change("other", "top", guid=guid, old=int(old), new=int(new))
 
-    def switch(self, word, guid, blocks):
+    def switch(self, word: str, guid: str, blocks: str | None) -> None:
         self.change(word, "switch", guid=guid, **({"blocks": int(blocks)} if blocks else {}))
 
-    def table(self, guid, entries, blocks):
+    def table(self, guid: str, entries: str, blocks: str) -> None:
         self.change("other", "table", guid=guid, entries=int(entries), blocks=int(blocks))
 
-    def written(self, entries, switches, blocks):
+    def written(self, entries: str, switches: str, blocks: str) -> bool:
         self.counts = {"entries": int(entries), "switches": int(switches), "blocks": int(blocks)}
         self.end = "written"
         return bool(self.changes)
 
-    def ends(self, line):
+    def ends(self, line: str) -> bool:
         self.end = line
         return (line == "equal") == (not self.changes)
 
@@ -283,23 +286,23 @@ class WhatIfRead(Rules):
     def __init__(self) -> None:
         self.rows, self.last, self.kind = [], None, "cables"
 
-    def head(self, kind):
+    def head(self, kind: str) -> bool:
         is_first = not self.rows and self.last is None
         self.kind = "switches" if kind == "switch" else "cables"
         return is_first
 
-    def take_row(self, told, words):
+    def take_row(self, told: dict, words: Sequence[str]) -> bool:
         names = ("adapters", "all", "cut_off", "entries", "switches")
         self.rows.append(told | {name: int(word) for name, word in zip(names, words)})
         return self.last is None
 
-    def row(self, *words):
+    def row(self, *words: str) -> bool:
         return self.kind == "cables" and self.take_row({"ends": list(words[5:])}, words)
 
-    def switch(self, *words):
+    def switch(self, *words: str) -> bool:
         return self.kind == "switches" and self.take_row({"guid": words[5]}, words)
 
-    def end(self, *words):
+    def end(self, *words: str) -> None:
         self.last = [int(word) for word in words]
 
     def lacks(self) -> bool:

@@ -3,12 +3,16 @@
 It has the form of OpenSM's own dump, without types and names. An entry without a way is left out: OpenSM takes it for a
 bad port, and drops the whole file. Lines of entries are of one length, so each digit stands at the same place of all.
 """
+from __future__ import annotations
+
 import array
 import itertools
+import os
 import sys
+from collections.abc import Iterator, Sequence
 
 from dumps import GUID, HEAD
-from ibsm_texts import NO_WAY, NONE, Refused
+from ibsm_texts import NO_WAY, NONE, Facts, Plan, Refused
 
 # The hundreds, tens and ones of ports: the digit of each port, and the value of each digit.
 WEIGHTS = 100, 10, 1
@@ -21,7 +25,7 @@ PORT_AT, LID_AT = (7, 8, 9), (2, 3, 4, 5)
 class Lfts:
     """The file of a plan."""
 
-    def __init__(self, facts, plan):
+    def __init__(self, facts: Facts, plan: Plan) -> None:
         self.plan, self.lids = plan, array.array("H", sorted(plan.owners))
         lines = [f"0x{lid:04x} 000 # portguid 0x{facts.port_guids[plan.owners[lid]]:016x}\n" for lid in self.lids]
         self.lines = "".join(lines).encode()
@@ -31,12 +35,12 @@ class Lfts:
         rows = [[lid for _, lid in those] for _, those in spans]
         self.spans = [(row[0], row[-1] + 1) for row in rows]
 
-    def entries(self, guid):
+    def entries(self, guid: int) -> bytes:
         """Returns the entries of a switch for the LIDs, in their order."""
         row = self.plan.row(guid)
         return b"".join(row[first:behind].ljust(behind - first, NONE) for first, behind in self.spans)
 
-    def section(self, guid):
+    def section(self, guid: int) -> bytes:
         """Returns the lines of a switch."""
         entries, lines = self.entries(guid), bytearray(self.lines)
         for at, digits in zip(PORT_AT, DIGITS):
@@ -48,7 +52,7 @@ class Lfts:
         head = f"{HEAD} [0-{self.plan.tops[guid]}] of switch Lid {first} guid 0x{guid:016x} ('{guid:016x}'):\n"
         return b"%b%b%d lids dumped\n" % (head.encode(), lines, len(lines) // self.width)
 
-    def sections(self):
+    def sections(self) -> Iterator[bytes]:
         """Yields the lines of each switch, checked to be what OpenSM reads as its entries."""
         for guid in sorted(self.plan.tables):
             section, entries = self.section(guid), self.entries(guid)
@@ -59,14 +63,14 @@ class Lfts:
                 raise Refused("what OpenSM would read is not the plan, which is a fault of this program")
             yield section
 
-    def is_held_by(self, path):
+    def is_held_by(self, path: str | os.PathLike) -> bool:
         """Returns whether a file has exactly these lines."""
         with open(path, "rb") as file:
             sections = map(self.section, sorted(self.plan.tables))
             return all(file.read(len(section)) == section for section in sections) and not file.read(1)
 
 
-def read(section):
+def read(section: bytes) -> tuple[int, array.array, bytes] | None:
     """Returns the switch, LIDs and ports that OpenSM reads from lines of one length, or None if they have another
     form."""
     first, last = section.find(b"\n"), section.rfind(b"\n", 0, len(section) - 1)
@@ -93,7 +97,7 @@ def read(section):
     return int(guid[1], 16), lids, ports_in([lines[at::width] for at in PORT_AT] if width else [b"", b"", b""])
 
 
-def ports_in(digits):
+def ports_in(digits: Sequence[bytes]) -> bytes | None:
     """Returns the ports with these hundreds, tens and ones."""
     if not all(row.isdigit() or not row for row in digits):
         return None
