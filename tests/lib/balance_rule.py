@@ -42,14 +42,14 @@ def by_depth(graph, keys, root, backwards=False):
 
 def trial_load(graph, keys, leaves):
     """Returns how many ways between leaf switches take the busiest channel, in the order that grows by `keys`."""
-    places = spread_rule.places_of(graph, keys)
+    positions = spread_rule.positions_of(graph, keys)
     numbers = {switch: number for number, switch in enumerate(sorted(graph))}
     loads = collections.Counter()
     for target in leaves:
-        cost, down = spread_rule.rounds(graph, places, target)
+        cost, down = spread_rule.rounds(graph, positions, target)
         taken = {}
         for switch in cost:
-            exits = spread_rule.candidates(graph, places, cost, down, switch)
+            exits = spread_rule.candidates(graph, positions, cost, down, switch)
             if exits:
                 taken[switch] = exits[(numbers[target] + numbers[switch]) % len(exits)]
         for source in leaves:
@@ -73,8 +73,8 @@ def keys_of(graph, leaves):
 
 def order_of(graph, leaves):
     """Returns the switches in the rule's order."""
-    places = spread_rule.places_of(graph, keys_of(graph, leaves))
-    return sorted(graph, key=places.get)
+    positions = spread_rule.positions_of(graph, keys_of(graph, leaves))
+    return sorted(graph, key=positions.get)
 
 
 def tables(graph, leaves, homes):

@@ -13,7 +13,7 @@ from collections.abc import Iterable
 from paths import ROOT
 
 TEST = pathlib.Path(sys.argv[0]).name
-# A block of a plan's text: the number of its entries, the number of its digits, and the entry for "no way".
+# A block of a plan's text: the number of its entries, the number of its digits, and the entry of an unreachable LID.
 ENTRIES, DIGITS, NO_WAY = 64, 128, 255
 
 # How a run ends: its exit status, its standard error and its standard output, both in bytes.

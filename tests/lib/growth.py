@@ -1,6 +1,6 @@
 """How the cost of commands grows, for `tests/at-scale`: each at a size and at twice the size, by counted instructions.
-`valgrind` counts them where the machine has it, else `perf`. Where neither does, processor time is taken, the least of
-some runs, and twice as much is allowed; the bounds on instructions are left out then."""
+`valgrind` counts them if the machine has it, else `perf`. If it has neither, processor time is taken, the least of some
+runs, and twice as much is allowed; the bounds on instructions are left out then."""
 import collections
 import concurrent.futures
 import itertools

@@ -180,7 +180,7 @@ def next_column(subnet: Subnet, held: dict[int, int], planned: dict[int, int], e
 
 
 class Order:
-    """An order of the usable switches, by the place of each."""
+    """An order of the usable switches, by the position of each."""
 
     def __init__(self, places: dict[int, int]) -> None:
         self.places = places
@@ -246,13 +246,13 @@ def by_rank(subnet: Subnet) -> Order:
 def by_spread(subnet: Subnet, roots: Iterable[int]) -> Order:
     """Returns the order of the rule that spreads."""
     graph = subnet.graph()
-    return Order(spread_rule.places_of(graph, spread_rule.keys_of(graph, subnet.leaves(), roots)))
+    return Order(spread_rule.positions_of(graph, spread_rule.keys_of(graph, subnet.leaves(), roots)))
 
 
 def as_named(subnet: Subnet, named: Iterable[int]) -> Order:
     """Returns the order of the rule that spreads, if `named` switches are given."""
     graph = subnet.graph()
-    return Order(spread_rule.places_of(graph, spread_rule.keys_as_named(graph, named)))
+    return Order(spread_rule.positions_of(graph, spread_rule.keys_as_named(graph, named)))
 
 
 def first_moved(held: Tables, plan: Tables) -> int | None:

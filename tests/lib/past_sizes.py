@@ -57,7 +57,7 @@ def check_tree(room):
     # Overlapping parts, in two groupings.
     names = "part0", "part1", "part2"
     for number, name in enumerate(names):
-        room.put(name, make.store(*(cell for place, cell in enumerate(cells) if place % 3 != number)))
+        room.put(name, make.store(*(cell for index, cell in enumerate(cells) if index % 3 != number)))
     room.put("left", room.run("join", *names[:2]))
     room.put("right", room.run("join", *names[1:]))
     whole = make.store(*cells)
@@ -69,7 +69,7 @@ def check_tree(room):
 def check_floors(room, tree):
     """Checks stores of different floors, each of over 65,536 cells, and a floor under which half of them are
     forgotten."""
-    cells = tree.cells(lambda place: 3 + place % 2)
+    cells = tree.cells(lambda index: 3 + index % 2)
     older, newer = cells[::2], cells[1::2]
     room.put("both", make.store(*cells))
     room.put("older", make.store(*older, floor=2))

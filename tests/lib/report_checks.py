@@ -1,4 +1,4 @@
-"""What `tests/test-files` tries of pages of `tools/report`, in its room, and in a browser where there is one."""
+"""What `tests/test-files` tries of pages of `tools/report`, in its room, and in a browser if there is one."""
 import html.parser
 import re
 import shutil

@@ -327,8 +327,8 @@ def one_by_one(text: str) -> str:
 
 
 def rings(plan: Callable[..., Ended]) -> Iterator[tuple[str, str, Ended]]:
-    """Yields titles, tables and ends of audits of the ring: the short way in both directions, and without the wire from
-    the last to the first."""
+    """Yields titles, tables and ends of audits of the ring: by the shorter routes in both directions, and without the
+    wire from the last to the first."""
     short = ring("0 1 1 2 2", "2 0 1 1 2", "2 2 0 1 1", "1 2 2 0 1", "1 1 2 2 0")
     cut = ring("0 1 1 1 1", "2 0 1 1 1", "2 2 0 1 1", "2 2 2 0 1", "2 2 2 2 0")
     yield (

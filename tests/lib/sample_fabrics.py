@@ -102,7 +102,7 @@ class Fabric:
         return "".join(f"{kind} {text} @1\n" for kind in kinds for _, _, text in sorted(found[kind]))
 
     def shortest(self) -> dict[str, list[int]]:
-        """Returns tables by which each packet takes a shortest way. In rings, packets can wait for each other."""
+        """Returns tables by which each packet takes a shortest route. In rings these make a credit loop."""
         tables = {name: [255] * (len(self.ends()) // 64 + 1) * 64 for name in self.nodes if self.is_switch(name)}
         for lid, (name, port) in enumerate(self.ends(), 1):
             at, out = (name, 0) if port == 0 else self.peers[name, port]

@@ -10,9 +10,9 @@ from built_program import prints, refused, says
 MOST = 2**32 - 1
 
 
-def changed(data, place, byte):
-    """Returns the file with `byte` at `place`."""
-    return data[:place] + bytes([byte]) + data[place + 1 :]
+def changed(data, offset, byte):
+    """Returns the file with `byte` at `offset`."""
+    return data[:offset] + bytes([byte]) + data[offset + 1 :]
 
 
 # Files -----------------------------------------------------------------------------------------------
@@ -249,18 +249,18 @@ def cuts(held):
 
 
 def damages(held):
-    """Yields a store file with another byte at a place."""
+    """Yields a store file with another byte."""
     bad_cell, bad_floor = refused("FILE: bad cell 0"), refused("FILE: bad floor")
-    for place, byte, ends in (
+    for offset, byte, ends in (
         # The magic: an unknown one, and that of files without a floor.
         (7, ord("3"), refused("FILE: bad magic")),
         (7, ord("1"), bad_cell),
         # A floor above the cells, a floor of 0, and each zero byte behind it.
-        *((place, 1, bad_cell) for place in (8, 9, 10)),
+        *((offset, 1, bad_cell) for offset in (8, 9, 10)),
         (8, 255, bad_cell),
         (11, 2, bad_cell),
         (11, 0, bad_floor),
-        *((place, byte, bad_floor) for place in (12, 13, 14, 15) for byte in (1, 128, 255)),
+        *((offset, byte, bad_floor) for offset in (12, 13, 14, 15) for byte in (1, 128, 255)),
         # The first cell: kind; state, also disputed with a value kept; port; zero; generation; node type; number of
         # ports; zeros. The second: kind.
         *((16, byte, bad_cell) for byte in (0, 7, 255)),
@@ -270,26 +270,26 @@ def damages(held):
         (23, 0, bad_cell),
         *((32, byte, bad_cell) for byte in (0, 4)),
         *((33, byte, bad_cell) for byte in (0, 255)),
-        *((place, 1, bad_cell) for place in range(34, 48)),
+        *((offset, 1, bad_cell) for offset in range(34, 48)),
         (48, 7, refused("FILE: bad cell 1")),
         (48, 1, refused("FILE: bad cell 1")),
     ):
-        yield changed(held["STORE"], place, byte), ends
+        yield changed(held["STORE"], offset, byte), ends
     # Without a floor, the first bytes of the first cell are no header.
     yield changed(held["OLDER"], 7, ord("2")), bad_floor
 
 
 def overwritten(file):
-    """Yields the adapter's file with ff at each place."""
+    """Yields the adapter's file with ff at each offset."""
     names = {90: "NodeType", 91: "Port", 124: "Port", 24: "BaseVersion", 25: "Class", 26: "ClassVersion", 27: "Method"}
     names |= {28: "Status", 29: "Status", 30: "HopPointer", 31: "HopCount", 40: "Attribute", 41: "Attribute"}
     names |= dict.fromkeys(range(12, 24), "Context")
-    for place in range(len(file)):
-        data = changed(file, place, 255)
-        if place < 8:
+    for offset in range(len(file)):
+        data = changed(file, offset, 255)
+        if offset < 8:
             ends = refused("FILE: bad magic")
-        elif place in names:
-            ends = refused(f"FILE: bad report 0: {names[place]}")
+        elif offset in names:
+            ends = refused(f"FILE: bad report 0: {names[offset]}")
         else:
             # The generation and, in the attribute at 88, the GUIDs of the node and of its port.
             at, node, port = (int.from_bytes(data[a:b], "big") for a, b in ((8, 12), (100, 108), (108, 116)))
@@ -300,11 +300,11 @@ def overwritten(file):
 # What reports tell -----------------------------------------------------------------------------------
 
 
-def reply(context=make.via(0x100, 1), kind=make.SWITCH, ports=4, local=3, place=None, byte=0, **other):
+def reply(context=make.via(0x100, 1), kind=make.SWITCH, ports=4, local=3, offset=None, byte=0, **other):
     """Returns a reply with NodeInfo of switch 0x20, over its port 3 from port 1 of the adapter, with another byte of
     the packet."""
     record = make.node_info(context, kind, ports, 0x20, 0x20, local, **other)
-    return record if place is None else changed(record, 16 + place, byte)
+    return record if offset is None else changed(record, 16 + offset, byte)
 
 
 def node_facts(word="switch", ports=4, port_guid=0, local=3, via="0000000000000100/1"):
@@ -334,22 +334,22 @@ def told_of_packets():
     yield from (
         (reply(), node_facts()),
         (reply(generation=0), "Generation"),
-        (reply(place=0, byte=2), "BaseVersion"),
-        (reply(place=1, byte=0x02), "Class"),
-        (reply(place=2, byte=2), "ClassVersion"),
-        (reply(place=7, byte=63), node_facts()),
-        (reply(place=7, byte=64), "HopCount"),
-        (reply(place=6, byte=3), "HopPointer"),
-        *((reply(place=place, byte=0xFE), "DrLid") for place in (32, 33, 34, 35)),
+        (reply(offset=0, byte=2), "BaseVersion"),
+        (reply(offset=1, byte=0x02), "Class"),
+        (reply(offset=2, byte=2), "ClassVersion"),
+        (reply(offset=7, byte=63), node_facts()),
+        (reply(offset=7, byte=64), "HopCount"),
+        (reply(offset=6, byte=3), "HopPointer"),
+        *((reply(offset=offset, byte=0xFE), "DrLid") for offset in (32, 33, 34, 35)),
         # A packet that is not directed, no answers, one on its way out, and those not at their end.
-        (reply(place=1, byte=0x01), "Class"),
-        *((reply(place=3, byte=byte), "Method") for byte in (0x01, 0x02, 0x82)),
-        (reply(place=4, byte=0), "Direction"),
-        *((reply(place=6, byte=byte), "Direction") for byte in (1, 2)),
-        (reply(place=5, byte=0x1C), "Status"),
-        (reply(place=4, byte=0x81), "Status"),
-        *((reply(place=17, byte=byte), "Attribute") for byte in (0x10, 0x13, 0x14, 0x16, 0x20)),
-        (reply(place=16, byte=1), "Attribute"),
+        (reply(offset=1, byte=0x01), "Class"),
+        *((reply(offset=3, byte=byte), "Method") for byte in (0x01, 0x02, 0x82)),
+        (reply(offset=4, byte=0), "Direction"),
+        *((reply(offset=6, byte=byte), "Direction") for byte in (1, 2)),
+        (reply(offset=5, byte=0x1C), "Status"),
+        (reply(offset=4, byte=0x81), "Status"),
+        *((reply(offset=17, byte=byte), "Attribute") for byte in (0x10, 0x13, 0x14, 0x16, 0x20)),
+        (reply(offset=16, byte=1), "Attribute"),
     )
 
 
@@ -359,14 +359,14 @@ def told_of_contexts():
     start, about, via = make.START, make.about(0x20), make.via
     yield from (
         *((reply(context=context, hops=1), "Context") for context in (start, about)),
-        (reply(place=7, byte=0), "Context"),
+        (reply(offset=7, byte=0), "Context"),
         (make.node_info(via(0x20, 3), make.ADAPTER, 1, 0x100, 0x101, 1, hops=0), "Context"),
         (changed(ADAPTER, 16 + 7, 1), "Context"),
         *((make.report(context, make.SWITCH_INFO, 0, b"\4\0", hops=1), "Context") for context in (start, via(0x10, 3))),
         *((make.report(context, make.PORT_INFO, 0, bytes(64), hops=1), "Context") for context in (start, via(0x10, 3))),
         *((reply(context=(kind, 1, 0x100)), "Context") for kind in (0, 2, 3, 255)),
         (reply(context=(0, 0, 1)), "Context"),
-        *((changed(reply(), place, 1), "Context") for place in (6, 7)),
+        *((changed(reply(), offset, 1), "Context") for offset in (6, 7)),
     )
 
 
@@ -376,10 +376,10 @@ def told_of_attributes():
     via, port = make.via, make.port_info(0x10, 0, 0)
     yield from (
         # The modifier, which matters in PortInfo alone.
-        (reply(place=23, byte=255), node_facts()),
+        (reply(offset=23, byte=255), node_facts()),
         (changed(port, 16 + 23, 254), port_facts(254, "down")),
         (changed(port, 16 + 23, 255), "Modifier"),
-        *((changed(port, 16 + place, 1), "Modifier") for place in (20, 21, 22)),
+        *((changed(port, 16 + offset, 1), "Modifier") for offset in (20, 21, 22)),
         # The node type, the number of ports, the local port and the port of via.
         (reply(kind=3), node_facts("router", port_guid=3)),
         (reply(kind=1), node_facts("ca", port_guid=3)),

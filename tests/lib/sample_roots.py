@@ -223,7 +223,7 @@ def runs(plan):
         if of is TREE:
             for text in texts:
                 yield title, of, text, "", ends
-    # Each adapter's switch is where its two LIDs lead, and no switch on the way has two exits to choose from.
+    # Each adapter's switch is where its two LIDs lead, and no switch on the route has two candidates.
     one = (
         "10 0 1 1 2 3 1 1 2 2 3 3", "20 3 0 1 2 3 1 1 2 2 3 3", "30 1 2 0 2 2 3 4 2 2 2 2",
         "40 1 2 2 0 2 2 2 3 4 2 2", "50 1 2 2 2 0 2 2 2 2 3 4",

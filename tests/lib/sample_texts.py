@@ -87,7 +87,7 @@ LINES = (
 
 
 def runs():
-    """Yields a topology and a schedule, the fault and its place, and what the run prints."""
+    """Yields a topology and a schedule, the fault with its line, and what the run prints."""
     for text, fault in TOPOLOGY_FAULTS:
         yield text, "tables", f"TOPO: {fault}", None
     for text in TOPOLOGIES:

@@ -192,8 +192,8 @@ def node_info(context: tuple[int, int, int], guid: int, port: int, ports: int = 
 
 
 class Tree:
-    """Switches in a tree, and adapters below some of them, numbered switch by switch. There is one way between any two,
-    so every rule plans the same, and the plan and its audit are known."""
+    """Switches in a tree, and adapters below some of them, numbered switch by switch. There is one route between any
+    two, so every rule plans the same, and the plan and its audit are known."""
 
     def __init__(self, parents: Sequence[int], hosts: Sequence[int], ports_of_adapters: int = 1) -> None:
         """Takes the index of the parent of each switch but the first, and the number of wires from each to adapters. An
@@ -260,7 +260,7 @@ class Tree:
         keys += [(make.LINK, *near, far.to_bytes(8, "big") + bytes([port])) for near, (far, port) in links]
         keys += [(make.PORT, *near, b"\1") for near, _ in links]
         keys += [(make.CAP, guid, 0, (MOST_LIDS + 1).to_bytes(2, "big")) for guid in self.switches]
-        return [make.cell(*key, generation(place)) for place, key in enumerate(keys)]
+        return [make.cell(*key, generation(index)) for index, key in enumerate(keys)]
 
     def topology(self) -> str:
         lines = [

@@ -235,7 +235,7 @@ def by_options(bench):
 
 
 def ways(bench):
-    """Checks that `ibtracert` finds a way between any two adapters, and that `ibroute` dumps the plan."""
+    """Checks that `ibtracert` finds a route between any two adapters, and that `ibroute` dumps the plan."""
     plan = (bench.path / "up.plan").read_text()
     lid_of = {guid: lid for lid, guid in re.findall(r"^lid (\d+) (\w+)/", plan, re.M)}
     adapters = [node for node in bench.fabric.nodes if not bench.fabric.is_switch(node)]

@@ -1,5 +1,5 @@
 """The code of crates/*/src without what is only proved or tested (comments, contracts, ghost items, attributes, tests),
-and what stands where in it: for `tests/limits`, which holds places of it against tables."""
+and the groups, statements and functions around each word: for `tests/limits`."""
 import bisect
 import re
 

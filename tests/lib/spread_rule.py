@@ -53,22 +53,22 @@ def keys_as_named(graph: Graph, named: Sequence[int]) -> dict[int, tuple]:
     return {switch: (numbers.get(switch, len(named)), switch) for switch in graph}
 
 
-def places_of(graph: Graph, keys: dict[int, tuple]) -> dict[int, int]:
-    """Returns the place of each switch in the order that grows by `keys`."""
-    places, left, beside = {}, sorted(graph, key=keys.get, reverse=True), []
+def positions_of(graph: Graph, keys: dict[int, tuple]) -> dict[int, int]:
+    """Returns the position of each switch in the order that grows by `keys`."""
+    positions, left, beside = {}, sorted(graph, key=keys.get, reverse=True), []
     while left:
         switch = heapq.heappop(beside)[1] if beside else left.pop()
-        if switch in places:
+        if switch in positions:
             continue
-        places[switch] = len(places)
+        positions[switch] = len(positions)
         for _, to in graph[switch]:
-            if to not in places:
+            if to not in positions:
                 heapq.heappush(beside, (keys[to], to))
-    return places
+    return positions
 
 
-def rounds(graph: Graph, places: dict[int, int], target: int) -> tuple[dict[int, int], set[int]]:
-    """Returns the round in which each switch with a way to the target is labelled, and the switches labelled Down."""
+def rounds(graph: Graph, positions: dict[int, int], target: int) -> tuple[dict[int, int], set[int]]:
+    """Returns the round in which each switch that reaches the target is labelled, and the switches labelled Down."""
     cost, down, last = {target: 0}, {target}, [target]
     while last:
         found = collections.defaultdict(bool)
@@ -77,9 +77,9 @@ def rounds(graph: Graph, places: dict[int, int], target: int) -> tuple[dict[int,
                 if before in cost:
                     continue
                 # From `before` the wire leads up, or down to a switch labelled Down.
-                if places[before] > places[switch]:
+                if positions[before] > positions[switch]:
                     found[before] = True
-                elif places[before] < places[switch] and switch in down:
+                elif positions[before] < positions[switch] and switch in down:
                     found[before] |= False
         for switch, leads_up in found.items():
             cost[switch] = cost[last[0]] + 1
@@ -89,13 +89,15 @@ def rounds(graph: Graph, places: dict[int, int], target: int) -> tuple[dict[int,
     return cost, down
 
 
-def candidates(graph: Graph, places: dict[int, int], cost: dict[int, int], down: set[int], switch: int) -> list[Edge]:
+def candidates(
+    graph: Graph, positions: dict[int, int], cost: dict[int, int], down: set[int], switch: int
+) -> list[Edge]:
     """Returns the edges that gave a switch its label, by rising port."""
     return [
         (port, to) for port, to in graph[switch]
         if to in cost
         and cost[to] < cost[switch]
-        and (places[to] < places[switch] or places[to] > places[switch] and to in down)
+        and (positions[to] < positions[switch] or positions[to] > positions[switch] and to in down)
     ]
 
 
@@ -120,7 +122,7 @@ def tables(
 ) -> dict[int, dict[int, int]]:
     """Returns the port by which packets for each LID leave each switch. `homes` has for each LID its owner's switch and
     the port there. The order grows from `roots`, or as switches are `named`."""
-    places = places_of(graph, keys_of(graph, leaves, roots) if named is None else keys_as_named(graph, named))
+    positions = positions_of(graph, keys_of(graph, leaves, roots) if named is None else keys_as_named(graph, named))
     levels = dict.fromkeys(graph, 0) | distances(graph, leaves)
     weights = weights_of(graph, levels)
     found = {switch: {} for switch in graph}
@@ -128,14 +130,14 @@ def tables(
     for lid, (home, _) in homes.items():
         by_home[home].append(lid)
     for home, lids in by_home.items():
-        cost, down = rounds(graph, places, home)
+        cost, down = rounds(graph, positions, home)
         for switch in graph:
             if switch == home:
                 found[switch].update((lid, homes[lid][1]) for lid in lids)
             elif switch not in cost:
                 found[switch].update((lid, NO_WAY) for lid in lids)
             else:
-                exits = candidates(graph, places, cost, down, switch)
+                exits = candidates(graph, positions, cost, down, switch)
                 higher = any(levels[to] > levels[switch] for _, to in exits)
                 weight = weights[levels[switch]] if higher else 1
                 for lid in lids:

@@ -28,7 +28,7 @@ class Pairs:
 
     def seat(self, end: End) -> int | None:
         """Returns the switch that an end port is at or belongs to."""
-        return self.routes.place.get(end[0]) if end[1] == 0 else self.routes.home.get(end, (None,))[0]
+        return self.routes.index.get(end[0]) if end[1] == 0 else self.routes.home.get(end, (None,))[0]
 
     def take(self, is_all: int) -> None:
         routes, senders = self.routes, [end for end in self.count if is_all or end[1]]
@@ -121,9 +121,9 @@ class Masks:
 
     def note(self, mask: int, count: int, is_all: int) -> None:
         numbers = [i for i in range(mask.bit_length()) if mask >> i & 1]
-        for place, i in enumerate(numbers):
+        for index, i in enumerate(numbers):
             self.alone[i][is_all] += count
-            for j in numbers[place + 1 :]:
+            for j in numbers[index + 1 :]:
                 self.both[i, j][is_all] += count
 
     def lost(self, *numbers: int) -> list[int]:
@@ -138,7 +138,7 @@ class Masks:
         beside = collections.defaultdict(collections.Counter)
         for end in senders:
             beside[pairs.seat(end)][self.bits_of(end) if end[1] else 0] += 1
-        channels = {place: self.bits_of((routes.guids[place[0]], place[1])) for place in routes.ends()}
+        channels = {it: self.bits_of((routes.guids[it[0]], it[1])) for it in routes.ends()}
         what = "follows packets over cables, groups of LIDs"
         groups = progress.counted(what, routes.groups.items(), len(routes.groups))
         for (home, column), lids in groups:

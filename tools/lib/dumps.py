@@ -176,9 +176,9 @@ class Dump:
         if before is None:
             table.put(lid, port)
         elif before != port:
-            place = self.elsewhere("switch", self.at)
+            source = self.elsewhere("switch", self.at)
             raise LineRefused(
-                f"line {number}: switch {self.at:016x} has another port for LID {lid} {place}: are these dumps of two "
+                f"line {number}: switch {self.at:016x} has another port for LID {lid} {source}: are these dumps of two "
                 "times?"
             )
 
@@ -191,8 +191,8 @@ class Dump:
         if owner := OWNER.search(line):
             self.sources.setdefault(("lid", lid), self.path)
             if self.named.setdefault(lid, int(owner[1], 16)) != int(owner[1], 16):
-                place = self.elsewhere("lid", lid)
-                raise LineRefused(f"line {number}: LID {lid} has another owner {place}: are these dumps of two times?")
+                source = self.elsewhere("lid", lid)
+                raise LineRefused(f"line {number}: LID {lid} has another owner {source}: are these dumps of two times?")
         if entry.span(1) == (2, 6) and entry.end(2) == 10 and self.lids.get(line[:6]) == lid:
             self.tails[lid] = line[10:]
 
@@ -232,8 +232,8 @@ def lids_of(
             goes = not named or named[0] == first and count == len(named) and not count & (count - 1)
         if not goes:
             given = ", ".join(map(str, named[:8]))
-            place = name_of(end)
-            found.append(f"port {place} claims LID {claimed}, and the dumps give it {given}: are they of one time?")
+            told = f"claims LID {claimed}, and the dumps give it {given}: are they of one time?"
+            found.append(f"port {name_of(end)} {told}")
             count = 1
         if first:
             ranges[end] = first, first + count - 1

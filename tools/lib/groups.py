@@ -31,25 +31,24 @@ def by_names(guids: Iterable[int], names: Names) -> dict[int, str]:
 def in_order(guids: Iterable[int], group_of: dict[int, str], names: Names) -> Groups:
     """Returns the groups in order of name. Their members are in order of name, with numbers by value, and then of
     GUID."""
-    def place(name: str) -> list[tuple]:
+    def by_numbers(name: str) -> list[tuple]:
         return [(0, int(part), "") if part.isdigit() else (1, 0, part) for part in re.split(r"(\d+)", name)]
 
     found = collections.defaultdict(list)
     for guid in guids:
         found[group_of[guid]].append(guid)
     return {
-        name: sorted(found[name], key=lambda guid: (place(names.get(guid, "")), guid))
-        for name in sorted(found, key=place)
+        name: sorted(found[name], key=lambda guid: (by_numbers(names.get(guid, "")), guid))
+        for name in sorted(found, key=by_numbers)
     }
 
 
 def is_grid(groups: Groups, wires: Sequence[Wire]) -> bool:
-    """Returns whether cables between groups of one size mostly lead to the same place in the other group, as in a
-    torus."""
+    """Returns whether groups have one size, and cables between them mostly join members of one index, as in a torus."""
     if len({len(members) for members in groups.values()}) != 1 or len(groups) < 2:
         return False
-    place = {guid: (name, i) for name, members in groups.items() for i, guid in enumerate(members)}
-    between = [(place[a][1], place[b][1]) for a, b in wires if place[a][0] != place[b][0]]
+    member = {guid: (name, i) for name, members in groups.items() for i, guid in enumerate(members)}
+    between = [(member[a][1], member[b][1]) for a, b in wires if member[a][0] != member[b][0]]
     return bool(between) and 2 * sum(one == other for one, other in between) > len(between)
 
 

@@ -9,7 +9,7 @@ from collections.abc import Iterable, Sequence
 
 from ibsm_texts import END, FLOOR, FORMS, GUID, NUMBER
 
-PLACE = "([0-9a-f]{16}/[0-9]{1,3})"
+PORT = "([0-9a-f]{16}/[0-9]{1,3})"
 RATE = r"\d+x [A-Z]+ [0-9.]+ Gb/s"
 KINDS = ("lost", "misdelivered", "round", "unowned", "twice", "unknown", "tableless", "unusable", "lidless", "unjoined")
 MISSED = ("above-top", "no-entry", "no-port", "no-link", "foreign", "misdelivered", "round")
@@ -60,8 +60,8 @@ class FactsRead(Rules):
         form = kind in FORMS and FORMS[kind].fullmatch(line)
         if not form:
             return False
-        place, value = line.split(" ")[1], " ".join(line.split(" ")[2:-1])
-        told = {"guid" if kind in ("node", "cap") else "end": place}
+        about, value = line.split(" ")[1], " ".join(line.split(" ")[2:-1])
+        told = {"guid" if kind in ("node", "cap") else "end": about}
         told |= {"disputed": True} if value == "disputed" else self.value(kind, value)
         self.found[self.lists[kind]].append(told | {"generation": int(form.groups()[-1])})
         return True
@@ -78,7 +78,7 @@ class FactsRead(Rules):
 
 class TablesRead(Rules):
     rules = (
-        (rf"lid {NUMBER} {PLACE}(?: lmc ([0-7]))?", "lid"),
+        (rf"lid {NUMBER} {PORT}(?: lmc ([0-7]))?", "lid"),
         (rf"switch {GUID} top {NUMBER}", "switch"),
         (rf"block {NUMBER} ([0-9a-f]{{128}})", "block"),
     )
@@ -107,17 +107,17 @@ class AuditRead(Rules):
         (rf"()pairs {NUMBER} arrive {NUMBER}", "pairs"),
         (rf"(between adapters|with a switch) pairs {NUMBER} arrive {NUMBER}", "pairs"),
         ("missed " + " ".join(f"{cause} {NUMBER}" for cause in MISSED), "missed"),
-        (rf"(lost) {PLACE} {NUMBER} at {GUID} by {NUMBER}: (above top|no entry|no such port|no link)", "lost"),
-        (rf"(lost) {PLACE} {NUMBER} at {GUID}()(?:: (foreign port))", "lost"),
-        (rf"(misdelivered) {PLACE} {NUMBER} at {PLACE}", "lost"),
-        (rf"(round) {PLACE} {NUMBER}", "lost"),
-        (rf"(unowned|twice) {NUMBER} {PLACE}", "held"),
+        (rf"(lost) {PORT} {NUMBER} at {GUID} by {NUMBER}: (above top|no entry|no such port|no link)", "lost"),
+        (rf"(lost) {PORT} {NUMBER} at {GUID}()(?:: (foreign port))", "lost"),
+        (rf"(misdelivered) {PORT} {NUMBER} at {PORT}", "lost"),
+        (rf"(round) {PORT} {NUMBER}", "lost"),
+        (rf"(unowned|twice) {NUMBER} {PORT}", "held"),
         (rf"(unknown|tableless|unusable) {GUID}", "named"),
-        (rf"(lidless|unjoined) {PLACE}", "named"),
+        (rf"(lidless|unjoined) {PORT}", "named"),
         (rf"more ({'|'.join(KINDS)}) {NUMBER}", "more"),
         (rf"(disputed) {NUMBER}", "count"),
         (r"(hops|load) (?:none|max (\d+) mean (\d+\.\d+))", "spread"),
-        (rf"credit loop (?:none|on one lane ({PLACE}(?: {PLACE})*))", "loop"),
+        (rf"credit loop (?:none|on one lane ({PORT}(?: {PORT})*))", "loop"),
     )
 
     def __init__(self) -> None:
@@ -139,8 +139,8 @@ class AuditRead(Rules):
     def held(self, kind: str, lid: str, end: str) -> None:
         self.found[kind].append({"lid": int(lid), "end": end})
 
-    def named(self, kind: str, place: str) -> None:
-        self.found[kind].append(place)
+    def named(self, kind: str, about: str) -> None:
+        self.found[kind].append(about)
 
     def more(self, kind: str, count: str) -> None:
         self.others[kind] = int(count)
@@ -197,14 +197,14 @@ class CompareRead(Rules):
         (r"(equal)", "ends"),
         (rf"(gone|come) node {GUID} ([a-z]+ \d+)", "node"),
         (rf"(other) node {GUID} ([a-z]+ \d+) > ([a-z]+ \d+)", "node"),
-        (rf"(gone|come) cable {PLACE} {PLACE}", "cable"),
-        (rf"(slow|fast) cable {PLACE} {PLACE} ({RATE}) > ({RATE})", "rate"),
-        (rf"(port|portguid|lid) {PLACE} (\w+) > (\w+)", "other"),
+        (rf"(gone|come) cable {PORT} {PORT}", "cable"),
+        (rf"(slow|fast) cable {PORT} {PORT} ({RATE}) > ({RATE})", "rate"),
+        (rf"(port|portguid|lid) {PORT} (\w+) > (\w+)", "other"),
         (rf"(cap) {GUID} (\w+) > (\w+)", "other"),
         (rf"disputed (node|cap) {GUID}", "disputed"),
-        (rf"disputed ({KIND}) {PLACE}", "disputed"),
+        (rf"disputed ({KIND}) {PORT}", "disputed"),
         (rf"LID {NUMBER}: old ({END}|nobody), new ({END}|nobody)", "owner"),
-        (rf"LID {NUMBER}: in the new {PLACE} has it too", "shared"),
+        (rf"LID {NUMBER}: in the new {PORT} has it too", "shared"),
         (rf"switch {GUID}: old top {NUMBER}, new {NUMBER}", "top"),
         (rf"(gone|come) switch {GUID}(?: blocks {NUMBER})?", "switch"),
         (rf"switch {GUID} entries {NUMBER} blocks {NUMBER}", "table"),
@@ -231,12 +231,12 @@ class CompareRead(Rules):
     def rate(self, word: str, end: str, far: str, old: str, new: str) -> None:
         self.change(word, "cable", ends=[end, far], old=old, new=new)
 
-    def other(self, what: str, place: str, old: str, new: str) -> None:
+    def other(self, what: str, about: str, old: str, new: str) -> None:
         values = [int(it) if what in ("lid", "cap") else it for it in (old, new)]
-        self.change("other", what, **{"guid" if what == "cap" else "end": place}, old=values[0], new=values[1])
+        self.change("other", what, **{"guid" if what == "cap" else "end": about}, old=values[0], new=values[1])
 
-    def disputed(self, what: str, place: str) -> None:
-        self.change("disputed", what, **{"end" if "/" in place else "guid": place})
+    def disputed(self, what: str, about: str) -> None:
+        self.change("disputed", what, **{"end" if "/" in about else "guid": about})
 
     def owner(self, lid: str, old: str, _: str | None, __: str | None, new: str, *___: str | None) -> None:
         ends = [None if end == "nobody" else end for end in (old, new)]
@@ -273,8 +273,8 @@ class CompareRead(Rules):
 class WhatIfRead(Rules):
     rules = (
         (r" *adapters +all +cut off +entries +switches +(cables?|switch)", "head"),
-        (rf" *(\d+) +(\d+) +(\d+) +(\d+) +(\d+)  {PLACE} - {PLACE}", "row"),
-        (rf" *(\d+) +(\d+) +(\d+) +(\d+) +(\d+)  {PLACE} - {PLACE}, {PLACE} - {PLACE}", "row"),
+        (rf" *(\d+) +(\d+) +(\d+) +(\d+) +(\d+)  {PORT} - {PORT}", "row"),
+        (rf" *(\d+) +(\d+) +(\d+) +(\d+) +(\d+)  {PORT} - {PORT}, {PORT} - {PORT}", "row"),
         (rf" *(\d+) +(\d+) +(\d+) +(\d+) +(\d+)  {GUID}", "switch"),
         (
             r"(\d+) (?:cables|pairs of cables|switches); without (\d+) of them no packet is lost; "

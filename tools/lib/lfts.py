@@ -1,7 +1,8 @@
 """The file of tables that OpenSM's routing engine `file` reads: made a switch at a time, and read by OpenSM's rules.
 
-It has the form of OpenSM's own dump, without types and names. An entry without a way is left out: OpenSM takes it for a
-bad port, and drops the whole file. Lines of entries are of one length, so each digit stands at the same place of all.
+It has the form of OpenSM's own dump, without types and names. An entry 255, of a LID that is unreachable, is left out:
+OpenSM takes it for a bad port, and drops the whole file. Lines of entries have one length, so each digit stands at one
+offset in all of them.
 """
 from __future__ import annotations
 
@@ -46,8 +47,8 @@ class Lfts:
         for at, digits in zip(PORT_AT, DIGITS):
             lines[at :: self.width] = entries.translate(digits)
         if NO_WAY in entries:
-            places = itertools.compress(range(0, len(lines), self.width), map(NO_WAY.__ne__, entries))
-            lines = b"".join(lines[at : at + self.width] for at in places)
+            begins = itertools.compress(range(0, len(lines), self.width), map(NO_WAY.__ne__, entries))
+            lines = b"".join(lines[at : at + self.width] for at in begins)
         first = self.plan.ranges.get((guid, 0), (0, 0))[0]
         head = f"{HEAD} [0-{self.plan.tops[guid]}] of switch Lid {first} guid 0x{guid:016x} ('{guid:016x}'):\n"
         return b"%b%b%d lids dumped\n" % (head.encode(), lines, len(lines) // self.width)

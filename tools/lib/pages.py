@@ -39,9 +39,9 @@ def page_of(name: str, help_text: str, others: Iterable[str]) -> str:
         ".fi",
         ".SH DESCRIPTION",
     ]
-    for place, part in enumerate(paragraphs):
+    for index, part in enumerate(paragraphs):
         is_list = any(line.startswith(" ") or re.match(r"\w+ {2,}", line) for line in part.splitlines())
-        lines += [".PP"] if place else []
+        lines += [".PP"] if index else []
         lines += [".nf"] if is_list else []
         lines += map(escaped, part.splitlines())
         lines += [".fi"] if is_list else []

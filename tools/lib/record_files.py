@@ -84,8 +84,8 @@ def cell(kind: int, guid: int, port: int, value: bytes, generation: int = 1, sta
 
 def cell_of(line: str) -> bytes:
     """Returns the record of a line of facts."""
-    word, place, *value, at = line.split()
-    guid, _, port = place.partition("/")
+    word, subject, *value, at = line.split()
+    guid, _, port = subject.partition("/")
     key = KINDS[word], int(guid, 16), int(port or 0)
     return (
         cell(*key, b"", int(at[1:]), DISPUTED)

@@ -128,8 +128,8 @@ def color(part: float) -> str:
 
 def box(kind: str, x: float, y: float, width: float, height: float) -> str:
     """Returns a rectangle around a middle."""
-    place = f'x="{x - width / 2:.1f}" y="{y - height / 2:.1f}"'
-    return f'<rect class={kind} {place} width="{width:.1f}" height="{height:.1f}" rx=6 />'
+    corner = f'x="{x - width / 2:.1f}" y="{y - height / 2:.1f}"'
+    return f'<rect class={kind} {corner} width="{width:.1f}" height="{height:.1f}" rx=6 />'
 
 
 def svg(picture: Picture) -> str:

@@ -22,16 +22,16 @@ Channel = tuple[int, int]
 class Routes:
     def __init__(self, facts: Facts, plan: Plan) -> None:
         self.plan, self.owners, self.guids = plan, plan.owners, sorted(plan.tables)
-        self.place = {guid: i for i, guid in enumerate(self.guids)}
+        self.index = {guid: i for i, guid in enumerate(self.guids)}
         self.far = [{} for _ in self.guids]  # port: far end
         for (guid, port) in facts.links:
             far = facts.wire((guid, port))
-            if guid in self.place and far:
-                self.far[self.place[guid]][port] = far
+            if guid in self.index and far:
+                self.far[self.index[guid]][port] = far
         self.home = {}  # adapter port: its switch and the port there
         for i, ports in enumerate(self.far):
             for port, end in ports.items():
-                if end[0] not in self.place:
+                if end[0] not in self.index:
                     self.home[end] = i, port
 
     def columns(self, lids: Iterable[int]) -> Iterator[tuple[int, bytes]]:
@@ -53,7 +53,7 @@ class Routes:
         """
         for lid, entries in self.columns(sorted(self.owners)):
             owner, column = self.owners[lid], bytearray(entries)
-            at, port = (self.place.get(owner[0]), 0) if owner[1] == 0 else self.home.get(owner, (None, None))
+            at, port = (self.index.get(owner[0]), 0) if owner[1] == 0 else self.home.get(owner, (None, None))
             if at is not None and column[at] == port:
                 column[at] = 0
             else:
@@ -69,7 +69,8 @@ class Routes:
         return found
 
     def step(self, at: int, home: int | None, column: bytes) -> tuple[int | None, bool, str | None]:
-        """Returns where a packet goes on from a switch: the next switch, or how it ends and what is wrong with that."""
+        """Returns the next switch of a packet at a switch, or None with whether the packet is delivered, and what is
+        wrong if an entry other than 255 loses it."""
         port = column[at]
         if at == home:
             return None, True, None
@@ -80,10 +81,10 @@ class Routes:
         end = self.far[at].get(port)
         if end is None:
             return None, False, f"port {port} of switch {self.guids[at]:016x} has no cable that is up"
-        if end[0] not in self.place:
+        if end[0] not in self.index:
             far = name_of(end)
             return None, False, f"port {port} of switch {self.guids[at]:016x} leads to {far}, which does not own it"
-        return self.place[end[0]], None, None
+        return self.index[end[0]], None, None
 
     def arrivals(self, home: int | None, column: bytes) -> tuple[dict[int, bool | None], list[str]]:
         """Returns whether packets arrive from each switch by one column, and what is wrong."""
@@ -109,7 +110,7 @@ class Routes:
         return arrives, wrong
 
     def faults(self) -> tuple[list[str], int]:
-        """Returns what is wrong with the ways of LIDs, and how many pairs of a switch and a LID have no way.
+        """Returns what is wrong with the routes of LIDs, and of how many pairs of a switch and a LID no packet arrives.
 
         Looks at single switches only if something is wrong with a column. A LID with the column of the LID before it at
         the same switch is not followed again.
@@ -132,8 +133,8 @@ class Routes:
         return found, without
 
     def nexts(self) -> list[list[int]]:
-        """Returns for each switch and entry the next switch. Numbers above the switches stand for an arrival, no way,
-        and a fault."""
+        """Returns for each switch and entry the next switch. Numbers above the switches stand for an arrival, the entry
+        255, and a fault."""
         count = len(self.guids)
         found = []
         for ports in self.far:
@@ -141,13 +142,12 @@ class Routes:
             row[NO_WAY] = count + 1
             for port, end in ports.items():
                 if 0 < port < NO_WAY:
-                    row[port] = self.place.get(end[0], count + 2)
+                    row[port] = self.index.get(end[0], count + 2)
             found.append(row)
         return found
 
     def lost(self, nexts: list[list[int]], home: int | None, column: bytes) -> int | None:
-        """Returns from how many switches packets have no way by a column, or None if one goes round or ends with a
-        fault.
+        """Returns from how many switches a column drops packets, or None if one loops or ends with a fault.
 
         All packets advance at once, each round twice as far as before, until none does any more.
         """
@@ -164,8 +164,8 @@ class Routes:
 
     def ends(self) -> dict[Channel, int]:
         """Returns the channels, each a switch and its port with a cable to another switch, with that switch."""
-        return {(i, port): self.place[end[0]] for i, ports in enumerate(self.far) for port, end in ports.items()
-                if end[0] in self.place}
+        return {(i, port): self.index[end[0]] for i, ports in enumerate(self.far) for port, end in ports.items()
+                if end[0] in self.index}
 
     def carried(self) -> dict[Channel, int]:
         """Returns for each channel the number of routes that it carries: one for each adapter port and each LID of

@@ -37,8 +37,8 @@ def components(beside: dict[int, list[int]], nodes: Collection[int]) -> list[lis
 
 
 def tops(beside: dict[int, list[int]], leaves: Iterable[int], roots: Collection[int] = ()) -> Iterator[list[int]]:
-    """Yields the top switches of each component: the named roots, or those furthest from switches with adapters, or the
-    switch with the shortest way to the furthest."""
+    """Yields the top switches of each component: the named roots, or the switches furthest from those with adapters, or
+    the switch whose furthest switch is nearest."""
     levels = distances(beside, sorted(leaves))
     for part in components(beside, beside):
         named = [switch for switch in part if switch in roots]

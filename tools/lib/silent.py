@@ -70,8 +70,8 @@ class Completed:
             about = [
                 ("node", far[0], 0), *((kind, *far) for kind in ("portguid", "link", "port", "claim")), ("link", *end)
             ]
-            for kind, *place in about:
-                key = (KINDS[kind], *place)
+            for kind, *at in about:
+                key = (KINDS[kind], *at)
                 if key in old:
                     self.lines.setdefault(key, old[key])
             self.kept[far] = self.before.claims.get(far, 0)
@@ -112,12 +112,12 @@ def add_lids(path: Path, kept: dict[End, int], lmc: int | None) -> None:
     tail = f" lmc {lmc}\n" if lmc else "\n"
     lids += [f"lid {lid} {name_of(end)}{tail}" for end, lid in kept.items() if lid]
 
-    def place(line: str) -> tuple[int, int, int]:
+    def order(line: str) -> tuple[int, int, int]:
         _, lid, end, *_ = line.split()
         guid, port = end.split("/")
         return int(lid), int(guid, 16), int(port)
 
-    put(path, "".join(sorted(lids, key=place) + [line for line in lines if not line.startswith("lid ")]))
+    put(path, "".join(sorted(lids, key=order) + [line for line in lines if not line.startswith("lid ")]))
 
 
 def completed(facts_path: Path, before_path: Path | None, tables: Container[int]) -> Completed:

@@ -21,7 +21,7 @@ def hops_of(ways: Routes) -> collections.Counter:
         for start, count in sources.items() if targets else ():
             at, wires = start, 2
             while at != home and column[at] != NO_WAY:
-                at, wires = ways.place[ways.far[at][column[at]][0]], wires + 1
+                at, wires = ways.index[ways.far[at][column[at]][0]], wires + 1
             if at == home:
                 # A port sends itself no packet.
                 hops[wires] += targets * (count - (start == home))
