@@ -25,6 +25,8 @@ def told(number: float) -> str:
 
 
 class Noted:
+    """The costs that the table notes, and those that were found."""
+
     def __init__(self) -> None:
         kind = None
         self.noted, self.found = ({kind: {} for kind in (INSTRUCTIONS, ALLOCATIONS, MEMORY)} for _ in range(2))

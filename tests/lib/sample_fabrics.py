@@ -12,6 +12,8 @@ Port = tuple[str, int]
 
 
 class Fabric:
+    """Nodes by name, and the cables between their ports."""
+
     def __init__(self) -> None:
         self.nodes = {}  # name: type, GUID, ports
         self.peers = {}  # (name, port): name and port of the other end

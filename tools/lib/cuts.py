@@ -26,17 +26,18 @@ class Pairs:
         for is_all in (0, 1):
             self.take(is_all)
 
-    def seat(self, end: End) -> int | None:
+    def switch_of(self, end: End) -> int | None:
         """Returns the switch that an end port is at or belongs to."""
         return self.routes.index.get(end[0]) if end[1] == 0 else self.routes.home.get(end, (None,))[0]
 
     def take(self, is_all: int) -> None:
+        """Counts by cable the pairs that packets serve: those of adapters or, if `is_all` is 1, of all end ports."""
         routes, senders = self.routes, [end for end in self.count if is_all or end[1]]
-        at = {end: self.seat(end) for end in senders}
-        sources = collections.Counter(seat for seat in at.values() if seat is not None)
+        at = {end: self.switch_of(end) for end in senders}
+        sources = collections.Counter(switch for switch in at.values() if switch is not None)
         beside = collections.defaultdict(list)
-        for end, seat in at.items():
-            beside[seat].append(end)
+        for end, switch in at.items():
+            beside[switch].append(end)
         channels, carried, served = routes.ends(), collections.Counter(), collections.Counter()
         groups = progress.counted("follows packets, groups of LIDs", routes.groups.items(), len(routes.groups))
         for (home, column), lids in groups:
@@ -44,12 +45,12 @@ class Pairs:
             if home is None or not owners:
                 continue
             arrives, _ = routes.arrivals(home, column)
-            there = {seat: count for seat, count in sources.items() if arrives[seat]}
+            there = {switch: count for switch, count in sources.items() if arrives[switch]}
             routes.carry(home, column, channels, collections.Counter(there), owners.total(), carried)
             for owner, count in owners.items():
                 served[owner] += count * (sum(there.values()) - (owner in at))
-            for seat in there:
-                for end in beside[seat]:
+            for switch in there:
+                for end in beside[switch]:
                     served[end] += owners.total() - owners[end]
         for (i, port), count in carried.items():
             self.lost[self.cable((routes.guids[i], port))][is_all] += count
@@ -58,6 +59,7 @@ class Pairs:
                 self.lost[self.cable(end)][is_all] += count
 
     def cable(self, end: End) -> Cable:
+        """Returns the cable in a port by its two ends, or a pair of this port alone if it has none."""
         far = self.facts.wire(end)
         return (min(end, far), max(end, far)) if far else (end, end)
 
@@ -117,9 +119,11 @@ class Masks:
                 self.note(mask, count, is_all)
 
     def bits_of(self, end: End) -> int:
+        """Returns the bits of the cable in a port."""
         return self.bits.get(self.pairs.cable(end), 0)
 
     def note(self, mask: int, count: int, is_all: int) -> None:
+        """Counts pairs for each cable of a set, and for each two of them."""
         numbers = [i for i in range(mask.bit_length()) if mask >> i & 1]
         for index, i in enumerate(numbers):
             self.alone[i][is_all] += count
@@ -134,10 +138,10 @@ class Masks:
     def masks(self, is_all: int) -> collections.Counter:
         """Counts the pairs of each set of cables."""
         pairs, routes, found = self.pairs, self.pairs.routes, collections.Counter()
-        senders = [end for end in pairs.count if (is_all or end[1]) and pairs.seat(end) is not None]
+        senders = [end for end in pairs.count if (is_all or end[1]) and pairs.switch_of(end) is not None]
         beside = collections.defaultdict(collections.Counter)
         for end in senders:
-            beside[pairs.seat(end)][self.bits_of(end) if end[1] else 0] += 1
+            beside[pairs.switch_of(end)][self.bits_of(end) if end[1] else 0] += 1
         channels = {it: self.bits_of((routes.guids[it[0]], it[1])) for it in routes.ends()}
         what = "follows packets over cables, groups of LIDs"
         groups = progress.counted(what, routes.groups.items(), len(routes.groups))
@@ -147,15 +151,15 @@ class Masks:
                 continue
             on_way = self.on_way(home, column, channels)
             sent = collections.Counter()
-            for seat, mask in on_way.items():
-                for own, count in beside[seat].items():
+            for switch, mask in on_way.items():
+                for own, count in beside[switch].items():
                     sent[mask | own] += count
             for owner, count in owners.items():
                 own = self.bits_of(owner) if owner[1] else 0
                 for mask, number in sent.items():
                     found[mask | own] += number * count
-                if pairs.seat(owner) in on_way and (is_all or owner[1]):
-                    found[on_way[pairs.seat(owner)] | own] -= count
+                if pairs.switch_of(owner) in on_way and (is_all or owner[1]):
+                    found[on_way[pairs.switch_of(owner)] | own] -= count
         return found
 
     def on_way(self, home: int, column: bytes, channels: dict[tuple[int, int], int]) -> dict[int, int]:
@@ -212,6 +216,7 @@ class Cut:
         self.ends = {end for cable in cables for end in cable}
 
     def text(self) -> str:
+        """Returns the switches or cables that are taken away, as the table has them."""
         cables = ", ".join(f"{name_of(near)} - {name_of(far)}" for near, far in self.cables)
         return " ".join(f"{guid:016x}" for guid in self.switches) or cables
 

@@ -60,9 +60,11 @@ class Told:
                 raise self.fault(f"is not understood: {line[:60]}")
 
     def fault(self, why: str) -> Refused:
+        """Returns the refusal of the line that is read."""
         return Refused(f"{self.path}: line {self.number} {why}")
 
     def put(self, kind: str, guid: int, port: int, value: str | int) -> None:
+        """Notes what the line says of a node or port. Refuses what another line says otherwise."""
         key = kind, guid, port
         before = self.values.setdefault(key, value)
         path, number = self.sources.setdefault(key, (self.path, self.number))
@@ -74,17 +76,20 @@ class Told:
             )
 
     def node(self, guid: int, kind: str, ports: int) -> None:
+        """Notes a node, with its kind and its number of ports."""
         if not 1 <= ports <= MOST_PORTS:
             raise self.fault(f"has a node with {ports} ports")
         self.put("node", guid, 0, f"{kind} {ports}")
 
     def cable(self, end: End, far: End) -> None:
+        """Notes a cable between two ports."""
         for near, other in ((end, far), (far, end)):
             if not 1 <= near[1] <= MOST_PORTS:
                 raise self.fault(f"has a cable in port {near[1]}")
             self.put("link", *near, name_of(other))
 
     def lid(self, end: End, lid: str | int, lmc: str | None = None) -> None:
+        """Notes the LID of an end port and, if it is told, its LMC."""
         if int(lid) > 0xFFFF or lmc is not None and int(lmc) > MOST_LMC:
             raise self.fault(f"has LID {lid}" + (f" with LMC {lmc}" if lmc else ""))
         self.put("claim", *end, str(int(lid)))
@@ -146,6 +151,7 @@ class Netdiscovered:
         return ASIDE.fullmatch(line) is not None
 
     def node(self, word: str, ports: str, letter: str, guid: str, lid: str | None, lmc: str | None) -> bool:
+        """Takes in the line of a node, and returns whether it agrees with the lines of GUIDs before it."""
         guids, self.guids, self.at = self.guids, None, (int(guid, 16), TYPES[letter])
         if TYPES[word] != TYPES[letter] or guids and int(guids[1], 16) != self.at[0]:
             return False
@@ -160,6 +166,7 @@ class Netdiscovered:
         self, port: str, own: str | None, letter: str, far: str, far_port: str, far_own: str | None, lid: str | None,
         lmc: str | None, far_lid: str,
     ) -> bool:
+        """Takes in the line of a port, and returns whether it has what ports of this kind of node have."""
         near, far, told = (self.at[0], int(port)), (int(far, 16), int(far_port)), self.told
         is_switch, is_far_switch = self.at[1] == "switch", TYPES[letter] == "switch"
         if is_switch != (lid is None) or is_switch != (own is None):

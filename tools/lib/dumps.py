@@ -55,6 +55,7 @@ class Entries:
         return self.others.get(lid) if port == NO_WAY else port
 
     def put(self, lid: int, port: int) -> None:
+        """Notes the port for a LID."""
         if port >= NO_WAY or lid >= LIDS:
             self.others[lid] = port
             return
@@ -82,6 +83,8 @@ class Entries:
 
 
 class Dump:
+    """The tables, LIDs and owners that dumps tell."""
+
     def __init__(self) -> None:
         self.tables = {}  # GUID: entries
         self.tops = {}  # GUID: the last LID of its range
@@ -95,6 +98,7 @@ class Dump:
         self.begin("")
 
     def begin(self, path: str) -> None:
+        """Begins to read another dump."""
         self.path, self.at, self.is_fdbs, self.is_dump, self.fault = path, None, False, False, None
 
     def read(self, path: str) -> bool:
@@ -153,6 +157,7 @@ class Dump:
         return True
 
     def head(self, number: int, line: str) -> None:
+        """Takes in the line that begins a switch's table."""
         fdbs = FDBS_HEAD.fullmatch(line)
         guid = fdbs or GUID.search(line)
         if not guid:
@@ -171,6 +176,7 @@ class Dump:
         return "further up" if self.sources[key] == self.path else f"in {self.sources[key]}"
 
     def put(self, number: int, lid: int, port: int) -> None:
+        """Notes the port for a LID at the switch. Refuses another one than was told before."""
         table = self.tables[self.at]
         before = table.get(lid)
         if before is None:
@@ -183,6 +189,7 @@ class Dump:
             )
 
     def entry(self, number: int, line: str) -> None:
+        """Takes in a line with a LID and its port."""
         entry = ENTRY.match(line)
         if not entry:
             raise LineRefused(f"line {number} has no LID and port")
@@ -197,6 +204,7 @@ class Dump:
             self.tails[lid] = line[10:]
 
     def fdbs_entry(self, number: int, line: str) -> None:
+        """Takes in a line of a .fdbs with a LID and, if it is reachable, its port."""
         entry = FDBS_LINE.fullmatch(line)
         if not entry:
             raise LineRefused(f"line {number} has no LID and port")

@@ -243,6 +243,7 @@ class Facts:
                 self.take_line(number, line)
 
     def take_line(self, number: int, line: str) -> None:
+        """Takes in a line, and refuses one that is no fact. The first may give the floor."""
         if self.lines is not None:
             self.lines.append(line)
         floor = FLOOR.fullmatch(line) if number == 1 else None
@@ -252,6 +253,7 @@ class Facts:
             raise Refused(f"{self.path}: line {number} is no fact: {line[:60]}")
 
     def take(self, line: str) -> bool:
+        """Takes in a fact, and returns whether the line is one."""
         kind = line.split(" ", 1)[0]
         form = kind in FORMS and FORMS[kind].fullmatch(line)
         if not form:
@@ -277,9 +279,11 @@ class Facts:
         return True
 
     def type_of(self, guid: int) -> str:
+        """Returns the type of a node, or an empty text if it is not known."""
         return self.nodes.get(guid, ("", 0))[0]
 
     def is_switch(self, guid: int) -> bool:
+        """Returns whether a node is known to be a switch."""
         return self.type_of(guid) == "switch"
 
     def wire(self, end: End) -> End | None:
@@ -318,6 +322,7 @@ class Plan:
                 raise Refused(f"{path}: switch {guid:016x} has {blocks} blocks for top {self.tops[guid]}: is it cut?")
 
     def take_line(self, number: int, line: str) -> None:
+        """Takes in a line, and refuses one that is none of a plan."""
         if line.startswith("block "):
             is_taken = self.take_block(line)
         else:
@@ -326,6 +331,7 @@ class Plan:
             raise Refused(f"{self.path}: line {number} is no line of a plan: {line[:60]}")
 
     def take_lids(self, line: str) -> bool:
+        """Takes in the line of an end port's LIDs, and returns whether the line is one."""
         form = LID_LINE.fullmatch(line)
         if not form:
             return False
@@ -338,6 +344,8 @@ class Plan:
         return True
 
     def take_switch(self, line: str) -> bool:
+        """Takes in the line that begins a switch's table, and returns whether the line is one and the first of the
+        switch."""
         form = SWITCH_LINE.fullmatch(line)
         guid = int(form[1], 16) if form else None
         if guid is None or guid in self.tops:

@@ -34,6 +34,7 @@ class Rules:
     rules = ()
 
     def take(self, line: str) -> bool:
+        """Takes in a line, and returns whether it is one of this form."""
         for pattern, method in self.rules:
             if form := re.fullmatch(pattern, line):
                 return getattr(self, method)(*form.groups()) is not False
@@ -45,6 +46,8 @@ class Rules:
 
 
 class FactsRead(Rules):
+    """A reader of facts."""
+
     lists = {kind: f"{kind}s" for kind in FORMS}
 
     def __init__(self) -> None:
@@ -77,6 +80,8 @@ class FactsRead(Rules):
 
 
 class TablesRead(Rules):
+    """A reader of a plan's text."""
+
     rules = (
         (rf"lid {NUMBER} {PORT}(?: lmc ([0-7]))?", "lid"),
         (rf"switch {GUID} top {NUMBER}", "switch"),
@@ -103,6 +108,8 @@ class TablesRead(Rules):
 
 
 class AuditRead(Rules):
+    """A reader of an audit."""
+
     rules = (
         (rf"()pairs {NUMBER} arrive {NUMBER}", "pairs"),
         (rf"(between adapters|with a switch) pairs {NUMBER} arrive {NUMBER}", "pairs"),
@@ -173,6 +180,8 @@ class AuditRead(Rules):
 
 
 class NextRead(Rules):
+    """A reader of what `ibsm next` says of a step."""
+
     rules = (AuditRead.rules[-1], (r"lids (\d+(?: \d+)*)", "waiting"))
 
     def __init__(self) -> None:
@@ -192,6 +201,8 @@ class NextRead(Rules):
 
 
 class CompareRead(Rules):
+    """A reader of what compare prints."""
+
     KIND = "(?:node|portguid|link|port|claim|cap)"
     rules = (
         (r"(equal)", "ends"),
@@ -271,6 +282,8 @@ class CompareRead(Rules):
 
 
 class WhatIfRead(Rules):
+    """A reader of what what-if prints."""
+
     rules = (
         (r" *adapters +all +cut off +entries +switches +(cables?|switch)", "head"),
         (rf" *(\d+) +(\d+) +(\d+) +(\d+) +(\d+)  {PORT} - {PORT}", "row"),

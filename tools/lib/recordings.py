@@ -46,6 +46,7 @@ class Port:
         self.is_up = 2 <= info[32] & 15 <= 4
 
     def rate(self) -> Rate | None:
+        """Returns the rate of the port, or None if it does not tell its width and speed."""
         return rate(self.lanes, self.speed) if self.lanes and self.speed else None
 
 
@@ -63,6 +64,7 @@ class Recording:
             self.take(data[at : at + RECORD])
 
     def take(self, record: bytes) -> None:
+        """Takes in a record."""
         age, context, port = int.from_bytes(record[:4], "big"), record[4], record[5]
         guid = int.from_bytes(record[8:16], "big")
         packet = record[HEAD:]
@@ -76,6 +78,7 @@ class Recording:
             self.note(self.fars, far, (guid, port), age)
 
     def note(self, known: dict, key: End, value: object, age: int) -> None:
+        """Notes what a record says under a key, unless a newer generation has said it."""
         if age >= self.ages.get((id(known), key), 0):
             known[key], self.ages[id(known), key] = value, age
 

@@ -22,6 +22,8 @@ LETTER, LINE, BESIDE, ROW, INCH = 7, 5, 26, 130, 90
 
 
 class Picture:
+    """What the picture shows: its switches with their positions, and the loads of channels."""
+
     def __init__(
         self, facts: Facts, held: Plan, routes: Routes, names: Names, group_of: dict[int, str] | None,
         roots: Iterable[int], most: int,
@@ -55,6 +57,7 @@ class Picture:
         return sorted(near + [i for i, cables in away if cables == 2][: max(0, 60 - len(near))]), True
 
     def name(self, i: int) -> str:
+        """Returns the name of a switch, or its GUID."""
         guid = self.routes.guids[i]
         return self.names.get(guid, f"{guid:x}")
 
@@ -68,9 +71,11 @@ class Picture:
         return found
 
     def width(self, i: int) -> int:
+        """Returns the width of a switch's box."""
         return max(64, LETTER * max(len(self.name(i)), 11) + 12)
 
     def in_rows(self, roots: Iterable[int]) -> dict[int, tuple[float, float]]:
+        """Returns the positions of the shown switches in rows, from the top switches down."""
         wires = wires_of(self.facts)
         rows = rows_of(self.facts, wires, roots)
         guids = self.routes.guids
@@ -96,6 +101,7 @@ class Picture:
         return 4 * x * (1 - x)
 
     def in_groups(self, group_of: dict[int, str] | None) -> dict[int, tuple[float, float]]:
+        """Returns the positions of the shown switches in groups, and notes the frames of these."""
         guids = self.routes.guids
         shown = {guids[i]: i for i in self.shown}
         found = groups.in_order(shown, {guid: group_of.get(guid, "?") for guid in shown}, self.names)
@@ -149,5 +155,6 @@ class Picture:
         }
 
     def end_name(self, end: End) -> str:
+        """Returns the name of an adapter, with the port if it has several."""
         called = self.names.get(end[0], f"{end[0]:x}")
         return f"{called}/{end[1]}" if self.facts.nodes[end[0]][1] > 1 else called

@@ -20,6 +20,8 @@ Channel = tuple[int, int]
 
 
 class Routes:
+    """The routes of packets by the tables of a plan."""
+
     def __init__(self, facts: Facts, plan: Plan) -> None:
         self.plan, self.owners, self.guids = plan, plan.owners, sorted(plan.tables)
         self.index = {guid: i for i, guid in enumerate(self.guids)}

@@ -77,9 +77,11 @@ class Completed:
             self.kept[far] = self.before.claims.get(far, 0)
 
     def is_other(self) -> bool:
+        """Returns whether the facts are others than those that were recorded."""
         return bool(self.kept or self.left_out)
 
     def text(self) -> str:
+        """Returns the text of the facts."""
         floor = [f"floor {self.facts.floor}"] if self.facts.floor > 1 else []
         return "".join(f"{line}\n" for line in [*floor, *(self.lines[key] for key in sorted(self.lines))])
 
