@@ -49,7 +49,8 @@ while read -r name; do
     cp -P --preserve=mode -- "$here/tree/$name" "$root/$name"
 done <"$list.new"
 for unit in ibsm-round ibsm-seat; do
-    sed "s|/usr/local/|$prefix/|g" "$here/tree/lib/systemd/system/$unit.service" >"$root/lib/systemd/system/$unit.service"
+    sed "s|/usr/local/|$prefix/|g" "$here/tree/lib/systemd/system/$unit.service" \
+        >"$root/lib/systemd/system/$unit.service"
 done
 # Files of an older version that this one does not have.
 if [ -f "$list" ]; then
