@@ -8,7 +8,7 @@ PREFIX ?= /usr/local
 DESTDIR ?=
 UNPROVED ?=
 PROGRAM := crates/ibsm/out/$(if $(UNPROVED),unproved/)ibsm
-VERSION := $(shell sed -n 's/^VERSION = "\(.*\)"/\1/p' tools/version.py)
+VERSION := $(shell sed -n 's/^VERSION = "\(.*\)"/\1/p' tools/lib/version.py)
 # What is laid out to be installed, and its name as an archive.
 NAME := ibsm-$(VERSION)$(if $(UNPROVED),-unproved)-$(shell uname -m)
 STAGE := out/$(NAME)

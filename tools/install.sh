@@ -30,9 +30,9 @@ if [ "$is_taken_off" ]; then
         exit 1
     }
     while read -r name; do rm -f -- "$root/$name"; done <"$list"
-    # Compiled Python modules.
-    rm -rf -- "$list" "$root/lib/ibsm/__pycache__"
-    rmdir -- "$root/lib/ibsm" "$root/share/doc/ibsm" 2>/dev/null || :
+    # Compiled Python modules, and those of an older version.
+    rm -rf -- "$list" "$root/lib/ibsm/lib/__pycache__" "$root/lib/ibsm/__pycache__"
+    rmdir -- "$root/lib/ibsm/lib" "$root/lib/ibsm" "$root/share/doc/ibsm" 2>/dev/null || :
     echo "ibsm is taken off $root"
     exit 0
 fi
@@ -49,7 +49,8 @@ while read -r name; do
     cp -P --preserve=mode -- "$here/tree/$name" "$root/$name"
 done <"$list.new"
 for unit in ibsm-round ibsm-seat; do
-    sed "s|/usr/local/|$prefix/|g" "$here/tree/lib/systemd/system/$unit.service" >"$root/lib/systemd/system/$unit.service"
+    sed "s|/usr/local/|$prefix/|g" "$here/tree/lib/systemd/system/$unit.service" \
+        >"$root/lib/systemd/system/$unit.service"
 done
 # Files of an older version that this one does not have.
 if [ -f "$list" ]; then

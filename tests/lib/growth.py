@@ -1,0 +1,420 @@
+"""How the cost of commands grows, for `tests/at-scale`: each at a size and at twice the size, by counted instructions.
+`valgrind` counts them if the machine has it, else `perf`. If it has neither, processor time is taken, the least of some
+runs, and twice as much is allowed; the bounds on instructions are left out then."""
+import collections
+import concurrent.futures
+import itertools
+import os
+import re
+import subprocess
+
+import paths
+import record_files as make
+from built_program import ENTRIES
+from noted_costs import ALLOCATIONS, INSTRUCTIONS
+from scale import Fabric, Tree, chain, check
+
+# What twice the size may cost: two times as much for linear cost, four times for quadratic, and a third more for
+# logarithmic parts.
+LINEAR, SQUARED = 2 * 4 / 3, 4 * 4 / 3
+# How many times as much a fabric of four times the size may cost, if the cost grows by the logarithm at most.
+STAYS = 3 / 2
+# How many times a run is timed if instructions cannot be counted, and the slack allowed then.
+TIMES, SLACK = 5, 2
+# Processor time that tells nothing, in microseconds.
+LEAST = 20000
+SPREAD = "--routing", "spread"
+# The GUID of a switch without wires.
+LONE = 0x8000
+
+
+# Counting --------------------------------------------------------------------------------------------
+
+
+NOWHERE = dict.fromkeys(("stdin", "stdout", "stderr"), subprocess.DEVNULL)
+
+
+def ran(command, folder):
+    """Runs a command without output, and returns its exit status."""
+    return subprocess.run(command, cwd=folder, **NOWHERE).returncode
+
+
+class Perf:
+    """Instructions, by the processor's own counter."""
+
+    name, is_exact = "perf", True
+
+    def __init__(self, program, folder):
+        self.program, self.folder = program, folder
+
+    def cost(self, words, log):
+        status = ran(["perf", "stat", "-x,", "-e", "instructions:u", "-o", log, self.program, *words], self.folder)
+        found = re.search(r"^(\d+),", log.read_text(), re.M) if log.exists() else None
+        return status, int(found[1]) if found else None
+
+
+class Valgrind:
+    """Instructions, by a simulated processor. The program is stripped, since valgrind may fail to read its debug
+    information."""
+
+    name, is_exact = "valgrind", True
+
+    def __init__(self, program, folder):
+        self.program, self.folder = folder / "stripped", folder
+        subprocess.run(["strip", "-o", self.program, program], check=True)
+
+    def cost(self, words, log):
+        tool = [
+            "valgrind", "--tool=cachegrind", "--cache-sim=no", "--cachegrind-out-file=/dev/null", f"--log-file={log}"
+        ]
+        status = ran([*tool, self.program, *words], self.folder)
+        found = re.search(r"I\s+refs:\s+([\d,]+)", log.read_text()) if log.exists() else None
+        return status, int(found[1].replace(",", "")) if found else None
+
+
+class Clock:
+    """Microseconds of processor time, the least of several runs."""
+
+    name, is_exact = "processor time", False
+
+    def __init__(self, program, folder):
+        self.program, self.folder = program, folder
+
+    def cost(self, words, log):
+        del log
+        costs = []
+        for _ in range(TIMES):
+            process = subprocess.Popen([self.program, *words], cwd=self.folder, **NOWHERE)
+            _, status, used = os.wait4(process.pid, 0)
+            process.returncode = os.waitstatus_to_exitcode(status)
+            costs.append(int(1e6 * (used.ru_utime + used.ru_stime)))
+        return process.returncode, min(costs)
+
+
+class Costs:
+    """What runs cost beyond starting the program. Each run is made once."""
+
+    def __init__(self, program, folder):
+        self.program, self.folder, self.numbers, self.known, self.files = program, folder, itertools.count(1), {}, set()
+        for kind in Valgrind, Perf, Clock:
+            try:
+                self.counter = kind(program, folder)
+                status, self.start = self.counter.cost(["--version"], self.log())
+            except (FileNotFoundError, subprocess.CalledProcessError):
+                continue
+            if status == 0 and self.start is not None:
+                return
+
+    def log(self):
+        return self.folder / f"cost{next(self.numbers)}"
+
+    def put(self, name, make_data):
+        """Writes a file of this name, once, and returns the name."""
+        if name not in self.files:
+            self.files.add(name)
+            data = make_data()
+            (self.folder / name).write_bytes(data.encode() if isinstance(data, str) else data)
+        return name
+
+    def measure(self, words, wanted):
+        status, cost = self.counter.cost(words, self.log())
+        check(status == wanted and cost is not None, f"{' '.join(words)}: exit status {status}, cost {cost}")
+        return max(1, (cost or 0) - self.start)
+
+    def take(self, runs, ends=None):
+        """Measures each of `runs`, in parallel if the counter does not depend on time; `ends` has the exit statuses
+        other than 0."""
+        runs = [words for words in dict.fromkeys(runs) if words not in self.known]
+        with concurrent.futures.ThreadPoolExecutor(os.cpu_count() if self.counter.is_exact else 1) as pool:
+            self.known.update(zip(runs, pool.map(self.measure, runs, [(ends or {}).get(it, 0) for it in runs])))
+
+    def allocations(self, runs):
+        """Returns how often each run allocates memory: repeated work mostly shows as repeated allocation."""
+        library, source = self.folder / "count.so", paths.ROOT / "tests/refuse/refuse.c"
+        subprocess.run(["cc", "-O2", "-shared", "-fPIC", "-o", library, source, "-ldl"], check=True)
+
+        def count(words):
+            told = self.log()
+            env = {"LD_PRELOAD": library, "REFUSE": "alloc", "REFUSE_AT": "0", "REFUSE_COUNT": told}
+            subprocess.run([self.program, *words], cwd=self.folder, env=env, **NOWHERE)
+            return int(told.read_text())
+
+        with concurrent.futures.ThreadPoolExecutor(os.cpu_count()) as pool:
+            return list(pool.map(count, runs))
+
+    def at_most(self, cost, other, times, what, spare=0):
+        """Checks that a cost is at most `times` another. Processor time gets slack, and `spare` besides."""
+        if not self.counter.is_exact:
+            times, other = SLACK * times, max(other, LEAST) + spare
+        check(cost <= times * other, f"{what}: {cost} in place of {times:.2f} times {other} by {self.counter.name}")
+
+
+# What is measured ------------------------------------------------------------------------------------
+
+
+def replies(costs, count):
+    """Makes replies of `count` adapters, each about itself."""
+    return costs.put(f"replies{count}", lambda: make.reports(
+        *(make.node_info(make.START, make.ADAPTER, 1, 16 * it, 16 * it + 1, 1) for it in range(1, count + 1))
+    ))
+
+
+def claims(costs, count, first=1, floor=1):
+    """Returns a store file of `count` claims, of every other GUID from `first` on, under a floor."""
+    return costs.put(f"claims{count}from{first}above{floor}", lambda: make.store(
+        *(make.cell(make.CLAIM, guid, 1, b"\0\1", 3) for guid in range(first, first + 2 * count, 2)), floor=floor
+    ))
+
+
+def tree_of(switches, hosts):
+    """Returns a tree: a switch above `switches` others, and `hosts` adapters at each of these."""
+    return Tree([0] * switches, [0] + [hosts] * switches)
+
+
+def known(costs, switches, hosts):
+    """Returns a store file of the facts of a tree."""
+    return costs.put(f"tree{switches}by{hosts}", lambda: make.store(*tree_of(switches, hosts).cells()))
+
+
+def strangers(costs, count):
+    """Makes links from `count` nodes to as many others that nothing else describes: the first leads to the last."""
+    def made():
+        return make.store_of(
+            "".join(f"link {it:016x}/1 {2 * count + 1 - it:016x}/2 @1\n" for it in range(1, count + 1))
+        )
+
+    return costs.put(f"strangers{count}", made)
+
+
+def planned(costs, switches, hosts, lmc=0):
+    """Returns a file with the plan of a tree."""
+    return costs.put(f"plan{switches}by{hosts}lmc{lmc}", lambda: tree_of(switches, hosts).plan(lmc))
+
+
+def mesh(costs, switches):
+    """Makes a mesh: `switches` switches, each with an adapter and two wires up to a few others."""
+    def made():
+        fabric = Fabric(switches // 10, switches, 40, switches)
+        path = costs.folder / f"replies_of_mesh{switches}"
+        fabric.reports(path)
+        return path.read_bytes()
+
+    return costs.put(f"mesh{switches}", made)
+
+
+def holed(costs, switches, hosts, without=1):
+    """Makes the tables of a tree. The last `without` switches lead nowhere."""
+    def made():
+        parts = tree_of(switches, hosts).plan().split(b"switch ")
+        return b"switch ".join(
+            [
+                *parts[:-without],
+                *(re.sub(rb"(block \d+ ).*", lambda it: it[1] + b"ff" * ENTRIES, it) for it in parts[-without:]),
+            ]
+        )
+
+    return costs.put(f"holes{without}of{switches}by{hosts}", made)
+
+
+def claimed(costs, hosts):
+    """Makes the facts of a tree whose adapters' ports claim LIDs from 16,384 on."""
+    def made():
+        tree = tree_of(8, hosts)
+        claims = [
+            make.cell(make.CLAIM, guid, port, (16384 + at).to_bytes(2, "big"))
+            for at, (guid, port, _, _) in enumerate(tree.ends)
+        ]
+        cells = tree.cells()
+        first = next(at for at, it in enumerate(cells) if it[0] == make.CAP)
+        return make.store(*cells[:first], *claims, *cells[first:])
+
+    return costs.put(f"claimed{hosts}", made)
+
+
+def apart(costs, switches, hosts):
+    """Makes the facts of a tree, and of a switch without wires."""
+    def made():
+        more = (
+            (make.NODE, bytes([make.SWITCH, 1])),
+            (make.PORT_GUID, LONE.to_bytes(8, "big")),
+            (make.CAP, (49152).to_bytes(2, "big")),
+        )
+        cells = [*tree_of(switches, hosts).cells(), *(make.cell(kind, LONE, 0, value) for kind, value in more)]
+        return make.store(*sorted(cells, key=lambda it: (it[0], it[8:16], it[2])))
+
+    return costs.put(f"apart{switches}by{hosts}", made)
+
+
+def printed(costs, *words):
+    """Makes the file of what the program prints."""
+    return costs.put(
+        "".join(words), lambda: subprocess.run([costs.program, *words], cwd=costs.folder, capture_output=True).stdout
+    )
+
+
+def swept(costs, adapters):
+    """Makes a sweep that reaches adapters at fifty switches in turn, and then all of them again."""
+    def made():
+        fabric = Fabric(2, 50, 130, adapters)
+        path = costs.folder / f"replies_of_adapters{adapters}"
+        fabric.reports(path)
+        data = path.read_bytes()
+        return data + data.removeprefix(make.NO_REPORTS)
+
+    return costs.put(f"swept{adapters}", made)
+
+
+def row(costs, switches, hosts=0):
+    """Makes a row of switches, for long ways, with adapters at each."""
+    return costs.put(f"row{switches}by{hosts}", lambda: make.store(*chain(switches, hosts).cells()))
+
+
+def row_planned(costs, switches, hosts):
+    """Returns a file with the plan of switches in a row."""
+    return costs.put(f"row_plan{switches}by{hosts}", lambda: chain(switches, hosts).plan())
+
+
+def roots(costs, count):
+    """Makes a text of the first `count` switches of a mesh."""
+    return costs.put(f"roots{count}", lambda: "".join(f"0x{0x1000 + it:x}\n" for it in range(count)))
+
+
+def order(costs, count):
+    """Makes a text of all switches of a mesh, the last one first."""
+    return costs.put(f"order{count}", lambda: "".join(f"0x{0x1000 + it:x}\n" for it in reversed(range(count))))
+
+
+def remarks(costs, count):
+    """Makes a text of `count` comment lines of 64 bytes."""
+    return costs.put(f"remarks{count}", lambda: ("#" * 63 + "\n") * count)
+
+
+def remarked(costs, count):
+    """Makes the tables of a small tree behind `count` comment lines."""
+    return costs.put(f"remarked{count}", lambda: ("#" * 63 + "\n").encode() * count + tree_of(8, 10).plan())
+
+
+def scheduled(costs, hosts, line, times):
+    """Makes a run in a tree of four switches with `hosts` adapters each: manager A, which writes, standby B, and then
+    `line` repeated `times` times."""
+    tree = tree_of(4, hosts)
+    topology = costs.put(f"topology{hosts}", tree.topology)
+    seats = [f'manager {name} "H{guid:x}"[1] {priority}' for name, guid, priority in zip("AB", tree.adapters, (2, 1))]
+    begun = ["sweep A", "drain 1000000", "write A", "drain 1000000", "sweep B", "drain 1000000"]
+    first = tree.lids()[1][0]
+    line = line.replace("LID", str(first)).replace("SEAT", f'"H{tree.adapters[0]:x}"[1]')
+    text = "".join(f"{it}\n" for it in [*seats, *begun, *line.split("/") * times])
+    return "run", topology, costs.put(f"schedule{len(costs.files)}of{hosts}", lambda: text)
+
+
+# A command: `words` makes it for a size, `limit` bounds its cost at twice that size, `status` is its exit status.
+Row = collections.namedtuple("Row", "title words size limit status", defaults=[0])
+GROWING = (
+    Row("facts of replies", lambda c, n: ("facts", replies(c, n)), 4000, LINEAR),
+    Row("facts of a sweep", lambda c, n: ("facts", mesh(c, n)), 150, LINEAR),
+    Row("join of a sweep by adapters", lambda c, n: ("join", swept(c, n)), 1500, LINEAR),
+    Row("join of replies", lambda c, n: ("join", replies(c, n)), 4000, LINEAR),
+    Row("facts of a store file", lambda c, n: ("facts", claims(c, n)), 10000, LINEAR),
+    Row("join of a store file with a floor", lambda c, n: ("join", "--floor", "2", claims(c, n)), 10000, LINEAR),
+    Row("join of two that alternate", lambda c, n: ("join", claims(c, n), claims(c, n, 2)), 10000, LINEAR),
+    Row("join of two with different floors",
+        lambda c, n: ("join", claims(c, n, 1, 2), claims(c, n, 2, 3)), 10000, LINEAR),
+    Row("facts of one file many times", lambda c, n: ("facts", *[claims(c, 10)] * n), 400, LINEAR),
+    Row("plan by adapters", lambda c, n: ("plan", known(c, 8, n)), 100, LINEAR),
+    Row("plan by adapters, spread", lambda c, n: ("plan", *SPREAD, known(c, 8, n)), 100, LINEAR),
+    Row("plan by adapters, LMC 3", lambda c, n: ("plan", "--lmc", "3", known(c, 8, n)), 50, LINEAR),
+    Row("plan by adapters, claimed LIDs", lambda c, n: ("plan", claimed(c, n)), 100, LINEAR),
+    Row("plan by switches", lambda c, n: ("plan", mesh(c, n)), 150, SQUARED),
+    Row("plan by switches, spread", lambda c, n: ("plan", *SPREAD, mesh(c, n)), 150, SQUARED),
+    Row("plan by switches, balance", lambda c, n: ("plan", "--routing", "balance", mesh(c, n)), 60, SQUARED),
+    Row("plan by switches, spread from roots",
+        lambda c, n: ("plan", *SPREAD, "--roots", roots(c, n // 10), mesh(c, n)), 150, SQUARED),
+    Row("plan by switches, spread in an order",
+        lambda c, n: ("plan", *SPREAD, "--order", order(c, n), mesh(c, n)), 150, SQUARED),
+    Row("order of switches", lambda c, n: ("order", mesh(c, n)), 150, SQUARED),
+    Row("plan of switches in a row", lambda c, n: ("plan", row(c, n)), 150, SQUARED),
+    Row("plan of switches in a row, spread", lambda c, n: ("plan", *SPREAD, row(c, n)), 150, SQUARED),
+    Row("audit by adapters", lambda c, n: ("audit", planned(c, 8, n), known(c, 8, n)), 100, LINEAR),
+    Row("audit by adapters of many switches", lambda c, n: ("audit", planned(c, 40, n), known(c, 40, n)), 25, LINEAR),
+    Row("audit by adapters, LMC 3", lambda c, n: ("audit", planned(c, 40, n, 3), known(c, 40, n)), 6, LINEAR),
+    Row("audit by adapters, claimed LIDs",
+        lambda c, n: ("audit", printed(c, "plan", claimed(c, n)), claimed(c, n)), 100, LINEAR),
+    Row("audit by adapters, packets lost", lambda c, n: ("audit", holed(c, 40, n), known(c, 40, n)), 6, SQUARED, 1),
+    Row("audit by adapters, none delivered", lambda c, n: ("audit", holed(c, 8, n, 9), known(c, 8, n)), 30, SQUARED, 1),
+    Row("audit by switches", lambda c, n: ("audit", planned(c, n, 4), known(c, n, 4)), 60, SQUARED),
+    Row("audit of links alone", lambda c, n: ("audit", remarks(c, 1), strangers(c, n)), 2000, LINEAR, 1),
+    Row("audit of switches in a row", lambda c, n: ("audit", row_planned(c, n, 4), row(c, n, 4)), 40, SQUARED),
+    Row("order-of by adapters", lambda c, n: ("order-of", planned(c, 8, n), known(c, 8, n)), 100, LINEAR),
+    Row("order-of by switches", lambda c, n: ("order-of", planned(c, n, 4), known(c, n, 4)), 60, SQUARED),
+    Row("next by adapters", lambda c, n: ("next", planned(c, 8, n), known(c, 8, n)), 100, LINEAR),
+    Row("next by adapters of many switches", lambda c, n: ("next", planned(c, 40, n), known(c, 40, n)), 25, LINEAR),
+    Row("next by adapters, claimed LIDs",
+        lambda c, n: ("next", printed(c, "plan", claimed(c, n)), claimed(c, n)), 100, LINEAR),
+    Row("next by adapters, from nothing", lambda c, n: ("next", "/dev/null", known(c, 40, n)), 25, LINEAR),
+    Row("next by adapters, from tables with holes",
+        lambda c, n: ("next", holed(c, 40, n), known(c, 40, n)), 25, LINEAR),
+    Row("next by adapters, a switch apart",
+        lambda c, n: ("next", printed(c, "plan", apart(c, 8, n)), apart(c, 8, n)), 50, LINEAR),
+    Row("next by switches", lambda c, n: ("next", planned(c, n, 4), known(c, n, 4)), 60, SQUARED),
+    Row("next by switches, from the other rule",
+        lambda c, n: ("next", printed(c, "plan", *SPREAD, mesh(c, n)), mesh(c, n)), 50, SQUARED),
+    Row("next by switches, to the other rule",
+        lambda c, n: ("next", *SPREAD, printed(c, "plan", mesh(c, n)), mesh(c, n)), 50, SQUARED),
+    Row("audit of tables by comments", lambda c, n: ("audit", remarked(c, n), known(c, 8, 10)), 5000, LINEAR),
+    Row("run by adapters", lambda c, n: scheduled(c, n, "state A", 1), 60, LINEAR),
+    Row("run by pings", lambda c, n: scheduled(c, 10, "ping SEAT LID", n), 4000, LINEAR),
+    Row("run of a topology of comments", lambda c, n: ("run", remarks(c, n), remarks(c, 1)), 5000, LINEAR),
+)
+
+# Lines of a schedule that cost the same in a fabric of any size, but for a search among its ports.
+STEADY = (
+    ("a poll that is answered", "poll B LID/drain 100"),
+    ("a floor that is no greater", "floor A 1"),
+    ("a ping", "ping SEAT LID"),
+    ("a state", "state B"),
+    ("a progress", "progress A"),
+    ("silent managers", "silent A"),
+    ("whether a plan is written", "written B"),
+    ("a timeout of nothing", "timeout A"),
+    ("a refused writing", "write B"),
+    ("a packet that is lost", "poll B LID/lose last/timeout A"),
+)
+
+
+def check_all(program, folder, noted):
+    """Checks all costs. Returns what counted them and how many runs it measured. `noted` gets the cost of each command
+    at the larger size."""
+    costs = Costs(program, folder)
+    growing = [(row, row.words(costs, row.size), row.words(costs, 2 * row.size)) for row in GROWING]
+    costs.take(
+        [words for _, *both in growing for words in both],
+        {words: row.status for row, *both in growing for words in both},
+    )
+    for (row, one, two), count in zip(growing, costs.allocations([two for _, _, two in growing])):
+        costs.at_most(costs.known[two], costs.known[one], row.limit, f"{row.title}, of twice the size")
+        noted.find(INSTRUCTIONS, row.title, costs.known[two] / 10**6)
+        noted.find(ALLOCATIONS, row.title, count)
+    check_apart(costs)
+    check_steady(costs)
+    return costs.counter.name, len(costs.known)
+
+
+def check_apart(costs):
+    """Checks that one more switch without wires adds no more than its own table to the cost of a plan."""
+    for options in (), SPREAD:
+        one, two = ("plan", *options, known(costs, 40, 25)), ("plan", *options, apart(costs, 40, 25))
+        costs.take([one, two])
+        costs.at_most(costs.known[two], costs.known[one], 1.1, f"a plan by {options}, with a switch apart")
+
+
+def check_steady(costs):
+    """Checks that what a line of a schedule costs does not grow with the fabric."""
+    few, many, hosts = (250, 500, 25) if costs.counter.is_exact else (1000, 8000, 25)
+    steady = [
+        (title, [[scheduled(costs, size, line, times) for times in (few, many)] for size in (hosts, 4 * hosts)])
+        for title, line in STEADY
+    ]
+    costs.take(words for _, rows in steady for row in rows for words in row)
+    for title, rows in steady:
+        one, two = (costs.known[more] - costs.known[less] for less, more in rows)
+        costs.at_most(two, one, STAYS, f"{title}, in a fabric of four times the size", costs.known[rows[1][0]])

@@ -1,0 +1,145 @@
+"""What `tests/test-files` tries of an installed copy: it is laid out over scripts in place of programs, in its room."""
+import os
+import re
+import shutil
+import subprocess
+
+import completions
+import paths
+
+PROGRAM = """#!/bin/sh
+case $1 in --version) echo 'ibsm 0.1.0' ;; *) echo "program $*"; exit 3 ;; esac
+"""
+IN_C = """#!/bin/sh
+echo 'usage: NAME [OPTION]... FILE'
+echo '  -q, --quiet            neither'
+"""
+
+TOOLS_IN_C = "ibsm-record", "ibsm-send", "ibsm-seat"
+
+
+def run(words, **how):
+    """Runs a command without input, and returns how it ended, with its output."""
+    return subprocess.run(
+        [str(word) for word in words], capture_output=True, text=True, stdin=subprocess.DEVNULL, **how
+    )
+
+
+def installed(room, program):
+    """Lays out the tree, installs it, runs it, completes commands, and uninstalls it."""
+    made = room.path / "made"
+    made.mkdir()
+    for name, script in (("ibsm", PROGRAM), *((name, IN_C) for name in ("record", "send", "seat"))):
+        (made / name).write_text(script.replace("NAME", name))
+        (made / name).chmod(0o755)
+    (made / "ibsm.sources").write_text("0123\n")
+    laid = run([paths.TOOLS / "stage", room.path / "stage", made / "ibsm", made])
+    room.check(laid.returncode == 0 and laid.stdout.endswith("proved\n"), f"it is laid out: {laid.stdout}{laid.stderr}")
+    to = room.path / "to"
+    done = run([room.path / "stage/install.sh", to])
+    room.check(done.returncode == 0, f"it is installed: {done.stdout}{done.stderr}")
+    tools = sorted(path.name for path in (to / "bin").iterdir())
+    room.check(
+        tools[0] == "ibsm" and len(tools) >= 12 and all(name.startswith("ibsm-") for name in tools[1:]),
+        f"names: {tools}",
+    )
+    runs(room, to, tools)
+    told = pages(room, to, tools)
+    units = to / "lib/systemd/system"
+    room.check(f"ExecStart={to}/bin/ibsm-round " in (units / "ibsm-round.service").read_text(), "the unit's path")
+    seat = f"ExecStart={to}/bin/ibsm-seat --ibsm {to}/bin/ibsm "
+    room.check(seat in (units / "ibsm-seat.service").read_text(), "the paths of the seat's unit")
+    completed(room, to, program)
+    taken_off(room, to, told)
+
+
+def runs(room, to, tools):
+    """Checks that each tool runs from anywhere under its installed name, and that the version tells how the program was
+    built."""
+    for tool in tools[1:]:
+        done = run([to / "bin" / tool, "--help"], cwd="/", env={"PATH": os.environ["PATH"]})
+        name = tool if tool not in TOOLS_IN_C else tool[5:]
+        room.check(
+            done.returncode == 0 and f"usage: {name} " in done.stdout and not done.stderr,
+            f"{tool} --help: {done.stdout[:80]}{done.stderr}",
+        )
+        room.check("tools/" + tool[5:] not in done.stdout, f"{tool} calls itself by its name")
+        if name == tool:
+            done = run([to / "bin" / tool, "--version"], cwd="/")
+            room.check(
+                done.stdout.startswith(f"{tool} 0.1.0\ncommit "), f"{tool} --version: {done.stdout}{done.stderr}"
+            )
+    done = run([to / "bin/ibsm", "--version"], cwd="/")
+    wanted = r"ibsm 0.1.0\ncommit ([0-9a-f]{40}(, with changes)?|unknown: .*)\nproved\nsources 0123\n"
+    room.check(
+        done.returncode == 0 and re.fullmatch(wanted, done.stdout), f"ibsm --version: {done.stdout}{done.stderr}"
+    )
+    done = run([to / "bin/ibsm", "plan", "--version"], cwd="/")
+    room.check(
+        (done.returncode, done.stdout) == (3, "program plan --version\n"), f"all else is the program's: {done.stdout}"
+    )
+    link = room.path / "linked"
+    link.symlink_to(to / "bin/ibsm")
+    room.check(run([link, "--version"]).stdout.startswith("ibsm 0.1.0\ncommit "), "by a link too")
+
+
+def pages(room, to, tools):
+    """Checks that each tool has a page that `man` accepts and that lists every option."""
+    for tool in tools:
+        page = to / f"share/man/man1/{tool}.1"
+        room.check(page.exists(), f"{tool} has a page")
+        if shutil.which("man"):
+            done = run(
+                ["man", "--warnings", "-E", "UTF-8", "-l", "-Tutf8", "-Z", page], env=os.environ | {"MANROFFSEQ": ""}
+            )
+            room.check(done.returncode == 0 and not done.stderr, f"man finds no fault in {page.name}: {done.stderr}")
+        if tool not in ("ibsm", *TOOLS_IN_C):
+            wanted = set(re.findall(r"(?<![\w-])--[a-z][a-z-]*", run([to / "bin" / tool, "--help"]).stdout))
+            there = set(re.findall(r"--[a-z][a-z-]*", page.read_text().replace("\\", "")))
+            lacks = wanted - there - {"--node-name-map"}
+            room.check(not lacks, f"the page of {tool} lacks {lacks}")
+    return (to / "lib/ibsm/installed").read_text().splitlines()
+
+
+def completed(room, to, program):
+    """Checks what bash completes, and that the options are those of the program."""
+    script = to / "share/bash-completion/completions/ibsm"
+    for words, wanted in (
+        ("ibsm pl", "plan"),
+        ("ibsm plan --ro", "--routing --roots"),
+        ("ibsm plan --routing s", "spread"),
+        ("ibsm facts --r", ""),
+        ("ibsm-draw --le", "--levels"),
+        ("ibsm-record --q", "--quiet"),
+        ("/x/ibsm-round --d", "--direct"),
+    ):
+        code = (
+            f'. {script}; COMP_WORDS=({words}); COMP_CWORD=$((${{#COMP_WORDS[@]}}-1)); _ibsm; echo "${{COMPREPLY[*]}}"'
+        )
+        room.check(run(["bash", "-c", code]).stdout == f"{wanted}\n", f"bash completes `{words}` by `{wanted}`")
+    if shutil.which("zsh"):
+        done = run(["zsh", "-n", to / "share/zsh/site-functions/_ibsm"])
+        room.check(done.returncode == 0 and not done.stderr, f"zsh reads it: {done.stderr}")
+    if os.access(program, os.X_OK):
+        for command, options in completions.COMMANDS.items():
+            helped = run([program, command, "--help"]).stdout if command != "help" else ""
+            there = set(re.findall(r"^ +(?:-\w, )?(--[a-z][a-z-]*)", helped, re.M)) - {"--help"}
+            room.check(there == set(options.split()), f"options of {command}: {sorted(there)}")
+
+
+def taken_off(room, to, told):
+    """Checks that uninstalling removes what was installed and nothing else, and that changed files are not
+    installed."""
+    (to / "bin/other").write_text("")
+    done = run([paths.TOOLS / "install.sh", "--uninstall", to])
+    left = sorted(str(path.relative_to(to)) for path in to.rglob("*") if not path.is_dir())
+    room.check(
+        done.returncode == 0 and left == ["bin/other"] and len(told) > 40, f"it is taken off: {left} {done.stderr}"
+    )
+    room.check(run([paths.TOOLS / "install.sh", "--uninstall", to]).returncode == 1, "once alone")
+    with open(room.path / "stage/tree/lib/ibsm/lib/version.py", "a") as file:
+        file.write("#\n")
+    done = run([room.path / "stage/install.sh", to])
+    room.check(
+        done.returncode == 1 and "otherwise than their checksums" in done.stderr, f"a file that changed: {done.stderr}"
+    )

@@ -1,0 +1,102 @@
+"""Agents of a fabric, written for the tests of `serve`: what each answers to a directed request, and what it holds
+then."""
+import struct
+
+from sample_fabrics import ROOM
+
+NODE_INFO, SWITCH_INFO, PORT_INFO, TABLE = 0x11, 0x12, 0x15, 0x19
+GET, SET, ANSWER = 1, 2, 0x81
+DIRECTED, PERMISSIVE = 0x81, 65535
+DOWN, INITIALIZE, ACTIVE = 1, 2, 4
+BLOCK = 64
+
+
+def field(packet, at, size):
+    """Returns the number in `size` bytes of a packet, from `at` on."""
+    return int.from_bytes(packet[at : at + size], "big")
+
+
+class Agents:
+    """The agents of a fabric of sample_fabrics, all in their first state."""
+
+    def __init__(self, fabric, seat):
+        self.fabric, self.seat = fabric, seat
+        self.lids, self.tops, self.tables = {}, {}, {}
+        self.states = {}
+        for name in fabric.nodes:
+            for port in range(fabric.ports(name) + 1):
+                wired = (name, port) in fabric.peers
+                self.states[name, port] = ACTIVE if port == 0 else INITIALIZE if wired else DOWN
+
+    def answer(self, packet):
+        """Returns the answer to a directed request from the seat, as it arrives back there, or None if it is lost."""
+        if packet[1] != DIRECTED or packet[3] not in (GET, SET):
+            return None
+        hops = packet[7]
+        at, back = self.seat, bytearray(64)
+        (name, _), came_by = at, at[1]
+        for hop in range(1, hops + 1):
+            if hop > 1 and not self.fabric.is_switch(name):
+                return None
+            far = self.fabric.peers.get((name, packet[128 + hop]))
+            if far is None:
+                return None
+            (name, came_by) = far
+            back[hop] = came_by
+        data = self.told(name, came_by, packet)
+        if data is None:
+            return None
+        head = bytearray(packet[:64])
+        head[3], head[4], head[6] = ANSWER, 0x80, 0
+        return bytes(head) + data + packet[128:192] + bytes(back)
+
+    def told(self, name, came_by, packet):
+        """Returns the 64 bytes of the attribute."""
+        attribute, modifier, is_set = field(packet, 16, 2), field(packet, 20, 4), packet[3] == SET
+        data = bytearray(64)
+        guid, ports = self.fabric.guid(name), self.fabric.ports(name)
+        is_switch = self.fabric.is_switch(name)
+        if attribute == NODE_INFO:
+            head = struct.pack(
+                ">BBBBQQQHHI", 1, 1, 2 if is_switch else 1, ports, guid, guid, guid + (0 if is_switch else came_by), 1,
+                0, 0,
+            )
+            data[: len(head)] = head
+            data[36] = came_by
+        elif attribute == SWITCH_INFO and is_switch:
+            if is_set:
+                self.tops[name] = field(packet, 64 + 6, 2)
+            data[0:2] = ROOM.to_bytes(2, "big")
+            data[6:8] = self.tops.get(name, 0).to_bytes(2, "big")
+        elif attribute == PORT_INFO:
+            port = modifier if is_switch else modifier or came_by
+            if port > ports:
+                return None
+            if is_set:
+                if not is_switch or port == 0:
+                    self.lids[name, port] = field(packet, 64 + 16, 2), packet[64 + 34] & 7
+                self.states[name, port] = packet[64 + 32] & 15 or self.states[name, port]
+            lid, lmc = self.lids.get((name, port), (0, 0))
+            data[16:18] = lid.to_bytes(2, "big")
+            data[28] = came_by
+            data[32] = self.states[name, port]
+            data[34] = lmc
+        elif attribute == TABLE and is_switch:
+            if is_set:
+                self.tables[name, modifier] = packet[64:128]
+            data[:] = self.tables.get((name, modifier), b"\xff" * BLOCK)
+        else:
+            return None
+        return bytes(data)
+
+    def held(self):
+        """Returns what the agents hold, in the form of a plan."""
+        lines = []
+        for (name, port), (lid, lmc) in sorted(self.lids.items(), key=lambda it: it[1]):
+            lines.append(f"lid {lid} {self.fabric.guid(name):016x}/{port}" + (f" lmc {lmc}" if lmc else ""))
+        for name in sorted((it for it in self.fabric.nodes if self.fabric.is_switch(it)), key=self.fabric.guid):
+            top = self.tops.get(name, 0)
+            lines.append(f"switch {self.fabric.guid(name):016x} top {top}")
+            for block in range(top // BLOCK + 1):
+                lines.append(f"block {block} {self.tables.get((name, block), bytes([255]) * BLOCK).hex()}")
+        return "".join(f"{line}\n" for line in lines)

@@ -1,0 +1,204 @@
+"""Inputs past each size at which a program could stop for want of room in what it counts by, for `tests/at-scale`. What
+is printed is compared as a whole: with what is known of a tree, with the same by another way, or with what has to come
+of it."""
+import itertools
+
+import paths  # noqa: F401
+import record_files as make
+import sample_audits as audits
+from noted_costs import MEMORY
+from scale import Fabric, Run, Tree, chain, check, levels
+
+# More than 2^16 lines, cells or commands, than 2^20 cells, and than 2^22 bytes of a text.
+LINES, CELLS, PADDED = 70000, 1050000, 64
+SPREAD = "--routing", "spread"
+
+
+class Room:
+    """A folder to run the program in."""
+
+    def __init__(self, program, folder, noted):
+        self.program, self.folder, self.noted, self.numbers = program, folder, noted, itertools.count(1)
+
+    def put(self, name, data):
+        (self.folder / name).write_bytes(data.encode() if isinstance(data, str) else data)
+
+    def run(self, *words, status=0):
+        run = Run(self.program, list(words), self.folder, f"printed{next(self.numbers)}", status)
+        self.noted.find(MEMORY, run.what, run.memory / 10**6)
+        return run.printed()
+
+    def prints(self, wanted, *words, status=0):
+        """Checks that a run prints `wanted` and nothing else."""
+        printed = self.run(*words, status=status)
+        wanted = wanted.encode() if isinstance(wanted, str) else wanted
+        if printed != wanted:
+            lines = zip(printed.splitlines(), wanted.splitlines())
+            first = next((pair for pair in lines if pair[0] != pair[1]), (len(printed), len(wanted)))
+            check(False, f"{' '.join(words)}: prints {first[0]!r:.300} in place of {first[1]!r:.300}")
+        return printed
+
+
+def check_tree(room):
+    """Checks 34,272 adapters at 157 switches: over 200,000 facts, a plan of over 10 MB, an audit whose sums are over
+    2^32, and steps to the plan."""
+    tree = levels(12, 12, 238)
+    cells = tree.cells()
+    plan = tree.plan()
+    hops, loads, audit = tree.audit()
+    check(len(cells) > 200000 and min(hops, loads) > 2**32, f"{len(cells)} cells, and sums of {hops} and {loads}")
+    room.put("tree", make.store(*cells))
+    room.prints(plan, "plan", "tree")
+    room.prints(plan, "plan", *SPREAD, "tree")
+    room.put("tree.plan", plan)
+    room.prints(audit, "audit", "tree.plan", "tree")
+    for tables in "tree.plan", "/dev/null":
+        room.prints(plan, "next", tables, "tree")
+    # Overlapping parts, in two groupings.
+    names = "part0", "part1", "part2"
+    for number, name in enumerate(names):
+        room.put(name, make.store(*(cell for index, cell in enumerate(cells) if index % 3 != number)))
+    room.put("left", room.run("join", *names[:2]))
+    room.put("right", room.run("join", *names[1:]))
+    whole = make.store(*cells)
+    room.prints(whole, "join", "left", names[2])
+    room.prints(whole, "join", names[0], "right")
+    check_floors(room, tree)
+
+
+def check_floors(room, tree):
+    """Checks stores of different floors, each of over 65,536 cells, and a floor under which half of them are
+    forgotten."""
+    cells = tree.cells(lambda index: 3 + index % 2)
+    older, newer = cells[::2], cells[1::2]
+    room.put("both", make.store(*cells))
+    room.put("older", make.store(*older, floor=2))
+    room.put("newer", make.store(*newer, floor=3))
+    room.put("newest", make.store(*newer, floor=4))
+    for words in ("older", "newer"), ("newer", "older"):
+        room.prints(make.store(*cells, floor=3), "join", *words)
+    for words in ("older", "newest"), ("newest", "older"), ("--floor", "4", "both"), ("newer", "--floor", "4", "both"):
+        room.prints(make.store(*newer, floor=4), "join", *words)
+
+
+def check_ranges(room):
+    """Checks 5,000 adapters under an LMC over 0, and the text of their tables."""
+    tree = levels(5, 5, 200)
+    room.put("ranges", make.store(*tree.cells()))
+    for lmc in 1, 3:
+        for rule in "updown", "spread":
+            room.prints(tree.plan(lmc), "plan", "--lmc", str(lmc), "--routing", rule, "ranges")
+    # The tables behind more than 5 MB of comments.
+    room.put("long.plan", padded("# ", 80000) + tree.plan())
+    room.prints(tree.audit()[2], "audit", "long.plan", "ranges")
+    room.prints(tree.plan(), "next", "long.plan", "ranges")
+
+
+def check_cells(room):
+    """Checks a store file of over a million cells."""
+    whole = make.store(*(make.cell(make.CLAIM, guid, 1, b"\0\1") for guid in range(CELLS)))
+    room.put("million", whole)
+    room.prints(whole, "join", "million")
+
+
+def check_switches(room):
+    """Checks 1,100 switches by each rule, from 70 roots and in a given order: each plan passes, and all plans give the
+    same LIDs."""
+    fabric = Fabric(20, 1080, 112, 1080)
+    fabric.reports(room.folder / "switches")
+    room.put("roots", "".join(f"0x{guid:x}\n" for guid in fabric.switches[:70]))
+    ends, adapters = 1100 + 1080, 1080
+    lids = set()
+    room.put("order", "".join(f"0x{guid:x}\n" for guid in reversed(fabric.switches)))
+    for options in (), SPREAD, (*SPREAD, "--roots", "roots"), (*SPREAD, "--order", "order"):
+        plan = room.run("plan", *options, "switches")
+        lids.add(plan.partition(b"switch")[0])
+        room.put("switches.plan", plan)
+        room.prints(plan, "next", *options, "switches.plan", "switches")
+        lines = room.run("audit", "switches.plan", "switches").decode().splitlines(True)
+        wanted = audits.counted(ends**2, adapters**2)
+        check("".join(lines[:4]) == wanted and len(lines) == 7, f"the audit of a plan by {options}: {lines[:8]}")
+    check(len(lids) == 1, "LIDs differ by the rule")
+
+
+def check_managers(room):
+    """Checks 66 managers at one switch, each of which sees the others."""
+    tree = chain(1, 66)
+    room.put("crowd", tree.topology())
+    names = [f"M{number}" for number in range(66)]
+    seats = [f'manager {name} "H{guid:x}"[1] {15 if name == "M0" else 1}\n' for name, guid in zip(names, tree.adapters)]
+    sweeps = [f"sweep {name}\ndrain 1000000\nprogress {name}\nstate {name}\n" for name in [*names, "M0"]]
+    room.put("sweeps", "".join([*seats, *sweeps, "handover M0\nplan M65\n"]))
+    text = "".join(
+        f"progress {name} done unanswered 0 toofar 0\nstate {name} {'master' if name == 'M0' else 'standby'}\n"
+        for name in [*names, "M0"]
+    )
+    room.prints(text.encode() + b"refused Nobody\n" + tree.plan(), "run", "crowd", "sweeps")
+
+
+def check_writing(room):
+    """Checks a writing on 2,009 end ports, with two LIDs for each port of an adapter."""
+    tree = Tree([0] * 8, [0] + [250] * 8, 2)
+    room.put("wide", tree.topology())
+    room.put(
+        "written",
+        f'manager A "H{tree.adapters[0]:x}"[1] 1\nsweep A\ndrain 1000000\nwrite A\ndrain 1000000\ntables\nplan A\n',
+    )
+    for lmc in 0, 1:
+        room.prints(2 * tree.plan(lmc), "run", "--lmc", str(lmc), "wide", "written")
+
+
+def check_rooted_run(room):
+    """Checks that a manager that plans from 70 roots plans what `plan` does from the manager's facts."""
+    fabric = Fabric(20, 80, 30, 200)
+    room.put("hundred", fabric.topology())
+    room.put("roots", "".join(f"0x{guid:x}\n" for guid in fabric.switches[10:80]))
+    room.put("swept", f'manager A "{fabric.adapters[0]:x}"[1] 1\nsweep A\ndrain 1000000\nfacts A\nplan A\n')
+    printed = room.run("run", *SPREAD, "--roots", "roots", "hundred", "swept")
+    facts, lid, plan = printed.partition(b"lid ")
+    room.put("known", make.store_of(facts.decode()))
+    room.prints(lid + plan, "plan", *SPREAD, "--roots", "roots", "known")
+
+
+def polled(times):
+    """Returns a schedule in which a standby polls a master `times` times, and once more: each poll is a line of 64
+    bytes."""
+    lines = [
+        'manager A "H1"[1] 2',
+        'manager B "H2"[1] 1',
+        *("sweep A", "drain 1000", "write A", "drain 1000", "sweep B", "drain 1000"),
+    ]
+    for number in range(times):
+        lines.append("poll B 2".ljust(PADDED - 1, "#"))
+        if number % 500 == 499:
+            lines.append("drain 100000")
+    return "\n".join([*lines, "drain 100000", "flight", "state B", "poll B 2", "flight", ""])
+
+
+def check_lines(room):
+    """Checks a topology and a schedule of over 65,536 lines and over 4 MiB: a standby's polls, each of which is
+    answered."""
+    topology = 'Switch 4 "S" guid 0x10\n[1] "H1"[1]\n[2] "H2"[1]\nHca 1 "H1" guid 0x100\nHca 1 "H2" guid 0x200\n'
+    room.put("short", topology)
+    room.put("long", padded("# ", LINES).decode() + topology)
+    # Each poll is one packet, and so is its answer.
+    text = "state B standby\npacket {} \"H2\"\n"
+    room.put("few", polled(1000))
+    serial = int((room.run("run", "short", "few").split() + [0] * 5)[4])
+    room.put("many", polled(LINES))
+    room.prints(text.format(serial + 2 * (LINES - 1000)), "run", "long", "many")
+
+
+def padded(text, count):
+    """Returns `count` lines, each the same comment."""
+    return (text.ljust(PADDED - 1, "-") + "\n").encode() * count
+
+
+def check_all(program, folder, noted):
+    """Checks inputs past each size at which a program could stop."""
+    room = Room(program, folder, noted)
+    for part in (
+        check_tree, check_ranges, check_cells, check_switches, check_managers, check_writing, check_rooted_run,
+        check_lines,
+    ):
+        part(room)

@@ -1,0 +1,358 @@
+"""The texts of ibsm and its tools as values for JSON. docs/FORMATS.md has the schema, "As JSON".
+
+A reader takes the lines of a text one by one, and says of each whether it is one of its form.
+"""
+from __future__ import annotations
+
+import re
+from collections.abc import Iterable, Sequence
+
+from ibsm_texts import END, FLOOR, FORMS, GUID, NUMBER
+
+PORT = "([0-9a-f]{16}/[0-9]{1,3})"
+RATE = r"\d+x [A-Z]+ [0-9.]+ Gb/s"
+KINDS = ("lost", "misdelivered", "round", "unowned", "twice", "unknown", "tableless", "unusable", "lidless", "unjoined")
+MISSED = ("above-top", "no-entry", "no-port", "no-link", "foreign", "misdelivered", "round")
+# A name behind a GUID or an end.
+NAMED = re.compile(r'(?<![0-9A-Za-z_"])(([0-9a-f]{16})(?:/[0-9]{1,3})?) "([^"]*)"')
+
+
+def typed(words: str) -> dict[str, str | int]:
+    """Returns a node's type and number of ports from the words of a line."""
+    kind, ports = words.split(" ")
+    return {"type": kind, "ports": int(ports)}
+
+
+def fault_of_lines(reader: Rules, lines: Iterable[str]) -> int:
+    """Reads a text, and returns the number of the first line that is not of its form, or 0."""
+    return next((number for number, line in enumerate(lines, 1) if not reader.take(line)), 0)
+
+
+class Rules:
+    """A reader by a table of patterns, each for a whole line, with the method that takes the groups."""
+
+    rules = ()
+
+    def take(self, line: str) -> bool:
+        """Takes in a line, and returns whether it is one of this form."""
+        for pattern, method in self.rules:
+            if form := re.fullmatch(pattern, line):
+                return getattr(self, method)(*form.groups()) is not False
+        return False
+
+    def lacks(self) -> bool:
+        """Returns whether the text ends too early."""
+        return False
+
+
+class FactsRead(Rules):
+    """A reader of facts."""
+
+    lists = {kind: f"{kind}s" for kind in FORMS}
+
+    def __init__(self) -> None:
+        self.floor, self.is_first = 1, True
+        self.found = {name: [] for name in self.lists.values()}
+
+    def take(self, line: str) -> bool:
+        floor, self.is_first = FLOOR.fullmatch(line) if self.is_first else None, False
+        if floor:
+            self.floor = int(floor[1])
+            return True
+        kind = line.split(" ", 1)[0]
+        form = kind in FORMS and FORMS[kind].fullmatch(line)
+        if not form:
+            return False
+        about, value = line.split(" ")[1], " ".join(line.split(" ")[2:-1])
+        told = {"guid" if kind in ("node", "cap") else "end": about}
+        told |= {"disputed": True} if value == "disputed" else self.value(kind, value)
+        self.found[self.lists[kind]].append(told | {"generation": int(form.groups()[-1])})
+        return True
+
+    def value(self, kind: str, value: str) -> dict[str, str | int]:
+        if kind == "node":
+            return typed(value)
+        name = {"portguid": "portguid", "link": "far", "port": "state", "claim": "lid", "cap": "size"}[kind]
+        return {name: int(value) if kind in ("claim", "cap") else value}
+
+    def value_of_text(self) -> dict:
+        return {"floor": self.floor} | self.found
+
+
+class TablesRead(Rules):
+    """A reader of a plan's text."""
+
+    rules = (
+        (rf"lid {NUMBER} {PORT}(?: lmc ([0-7]))?", "lid"),
+        (rf"switch {GUID} top {NUMBER}", "switch"),
+        (rf"block {NUMBER} ([0-9a-f]{{128}})", "block"),
+    )
+
+    def __init__(self) -> None:
+        self.lids, self.switches = [], []
+
+    def lid(self, lid: str, end: str, lmc: str | None) -> None:
+        self.lids.append({"lid": int(lid), "end": end, "lmc": int(lmc or 0)})
+
+    def switch(self, guid: str, top: str) -> None:
+        self.switches.append({"guid": guid, "top": int(top), "blocks": []})
+
+    def block(self, number: str, digits: str) -> bool:
+        if not self.switches:
+            return False
+        self.switches[-1]["blocks"].append({"block": int(number), "entries": list(bytes.fromhex(digits))})
+        return True
+
+    def value_of_text(self) -> dict:
+        return {"lids": self.lids, "switches": self.switches}
+
+
+class AuditRead(Rules):
+    """A reader of an audit."""
+
+    rules = (
+        (rf"()pairs {NUMBER} arrive {NUMBER}", "pairs"),
+        (rf"(between adapters|with a switch) pairs {NUMBER} arrive {NUMBER}", "pairs"),
+        ("missed " + " ".join(f"{cause} {NUMBER}" for cause in MISSED), "missed"),
+        (rf"(lost) {PORT} {NUMBER} at {GUID} by {NUMBER}: (above top|no entry|no such port|no link)", "lost"),
+        (rf"(lost) {PORT} {NUMBER} at {GUID}()(?:: (foreign port))", "lost"),
+        (rf"(misdelivered) {PORT} {NUMBER} at {PORT}", "lost"),
+        (rf"(round) {PORT} {NUMBER}", "lost"),
+        (rf"(unowned|twice) {NUMBER} {PORT}", "held"),
+        (rf"(unknown|tableless|unusable) {GUID}", "named"),
+        (rf"(lidless|unjoined) {PORT}", "named"),
+        (rf"more ({'|'.join(KINDS)}) {NUMBER}", "more"),
+        (rf"(disputed) {NUMBER}", "count"),
+        (r"(hops|load) (?:none|max (\d+) mean (\d+\.\d+))", "spread"),
+        (rf"credit loop (?:none|on one lane ({PORT}(?: {PORT})*))", "loop"),
+    )
+
+    def __init__(self) -> None:
+        self.told, self.counts, self.spreads, self.cycle = {}, {"disputed": 0}, {}, None
+        self.found, self.others = {kind: [] for kind in KINDS}, {}
+
+    def pairs(self, which: str, pairs: str, arrive: str) -> None:
+        self.told[which.replace(" ", "_")] = {"pairs": int(pairs), "arrive": int(arrive)}
+
+    def missed(self, *counts: str) -> None:
+        self.told["missed"] = {cause.replace("-", "_"): int(count) for cause, count in zip(MISSED, counts)}
+
+    def lost(
+        self, kind: str, start: str, lid: str, at: str | None = None, entry: str | None = None, cause: str | None = None
+    ) -> None:
+        told = {"from": start, "lid": int(lid), "at": at, "entry": int(entry) if entry else None, "cause": cause}
+        self.found[kind].append({name: value for name, value in told.items() if value is not None})
+
+    def held(self, kind: str, lid: str, end: str) -> None:
+        self.found[kind].append({"lid": int(lid), "end": end})
+
+    def named(self, kind: str, about: str) -> None:
+        self.found[kind].append(about)
+
+    def more(self, kind: str, count: str) -> None:
+        self.others[kind] = int(count)
+
+    def count(self, kind: str, count: str) -> None:
+        self.counts[kind] = int(count)
+
+    def spread(self, kind: str, most: str | None, mean: str | None) -> None:
+        self.spreads[kind] = None if most is None else {"max": int(most), "mean": float(mean)}
+
+    def loop(self, ends: str | None, *_: str | None) -> None:
+        self.cycle = ends.split(" ") if ends else []
+
+    def lacks(self) -> bool:
+        parts = {"", "between_adapters", "with_a_switch", "missed"}
+        return self.cycle is None or set(self.told) != parts or set(self.spreads) != {"hops", "load"}
+
+    def passes(self) -> bool:
+        """Returns whether the tables pass. Without end ports there are neither pairs nor ports without a
+        LID."""
+        all_pairs, found = self.told[""], self.found
+        arrive = all_pairs["pairs"] == all_pairs["arrive"] and not self.cycle
+        have_tables = not found["tableless"] or not all_pairs["pairs"]
+        return arrive and have_tables and not found["unusable"] and not found["lidless"]
+
+    def value_of_text(self) -> dict:
+        told = {"passes": self.passes()} | self.told[""]
+        told |= {name: self.told[name] for name in ("between_adapters", "with_a_switch", "missed")}
+        return told | self.found | {"more": self.others} | self.counts | self.spreads | {"credit_loop": self.cycle}
+
+
+class NextRead(Rules):
+    """A reader of what `ibsm next` says of a step."""
+
+    rules = (AuditRead.rules[-1], (r"lids (\d+(?: \d+)*)", "waiting"))
+
+    def __init__(self) -> None:
+        self.cycle, self.lids = None, []
+
+    def loop(self, ends: str | None, *_: str | None) -> None:
+        self.cycle = ends.split(" ") if ends else []
+
+    def waiting(self, lids: str) -> None:
+        self.lids = [int(lid) for lid in lids.split(" ")]
+
+    def lacks(self) -> bool:
+        return self.cycle is None or len(self.cycle) != len(self.lids)
+
+    def value_of_text(self) -> dict:
+        return {"credit_loop": self.cycle, "lids": self.lids}
+
+
+class CompareRead(Rules):
+    """A reader of what compare prints."""
+
+    KIND = "(?:node|portguid|link|port|claim|cap)"
+    rules = (
+        (r"(equal)", "ends"),
+        (rf"(gone|come) node {GUID} ([a-z]+ \d+)", "node"),
+        (rf"(other) node {GUID} ([a-z]+ \d+) > ([a-z]+ \d+)", "node"),
+        (rf"(gone|come) cable {PORT} {PORT}", "cable"),
+        (rf"(slow|fast) cable {PORT} {PORT} ({RATE}) > ({RATE})", "rate"),
+        (rf"(port|portguid|lid) {PORT} (\w+) > (\w+)", "other"),
+        (rf"(cap) {GUID} (\w+) > (\w+)", "other"),
+        (rf"disputed (node|cap) {GUID}", "disputed"),
+        (rf"disputed ({KIND}) {PORT}", "disputed"),
+        (rf"LID {NUMBER}: old ({END}|nobody), new ({END}|nobody)", "owner"),
+        (rf"LID {NUMBER}: in the new {PORT} has it too", "shared"),
+        (rf"switch {GUID}: old top {NUMBER}, new {NUMBER}", "top"),
+        (rf"(gone|come) switch {GUID}(?: blocks {NUMBER})?", "switch"),
+        (rf"switch {GUID} entries {NUMBER} blocks {NUMBER}", "table"),
+        (rf"{NUMBER} entries differ on {NUMBER} switches, blocks to write: {NUMBER}", "written"),
+        (r"((?:(?:gone|come|other|slow|fast) (?:node|cable)|[a-z]+) \d+(?:, [a-z]+ ?[a-z]* \d+)*)", "ends"),
+    )
+
+    def __init__(self) -> None:
+        self.changes, self.counts, self.end = [], {}, None
+
+    def take(self, line: str) -> bool:
+        return self.end is None and super().take(line)
+
+    def change(self, word: str, what: str, **told: object) -> None:
+        self.changes.append({"change": word, "what": what} | told)
+
+    def node(self, word: str, guid: str, one: str, new: str | None = None) -> None:
+        told = typed(one) if new is None else {"old": typed(one), "new": typed(new)}
+        self.change(word, "node", guid=guid, **told)
+
+    def cable(self, word: str, end: str, far: str) -> None:
+        self.change(word, "cable", ends=[end, far])
+
+    def rate(self, word: str, end: str, far: str, old: str, new: str) -> None:
+        self.change(word, "cable", ends=[end, far], old=old, new=new)
+
+    def other(self, what: str, about: str, old: str, new: str) -> None:
+        values = [int(it) if what in ("lid", "cap") else it for it in (old, new)]
+        self.change("other", what, **{"guid" if what == "cap" else "end": about}, old=values[0], new=values[1])
+
+    def disputed(self, what: str, about: str) -> None:
+        self.change("disputed", what, **{"end" if "/" in about else "guid": about})
+
+    def owner(self, lid: str, old: str, _: str | None, __: str | None, new: str, *___: str | None) -> None:
+        ends = [None if end == "nobody" else end for end in (old, new)]
+        self.change("other", "owner", lid=int(lid), old=ends[0], new=ends[1])
+
+    def shared(self, lid: str, end: str) -> None:
+        self.change("shared", "owner", lid=int(lid), end=end)
+
+    def top(self, guid: str, old: str, new: str) -> None:
+        self.change("other", "top", guid=guid, old=int(old), new=int(new))
+
+    def switch(self, word: str, guid: str, blocks: str | None) -> None:
+        self.change(word, "switch", guid=guid, **({"blocks": int(blocks)} if blocks else {}))
+
+    def table(self, guid: str, entries: str, blocks: str) -> None:
+        self.change("other", "table", guid=guid, entries=int(entries), blocks=int(blocks))
+
+    def written(self, entries: str, switches: str, blocks: str) -> bool:
+        self.counts = {"entries": int(entries), "switches": int(switches), "blocks": int(blocks)}
+        self.end = "written"
+        return bool(self.changes)
+
+    def ends(self, line: str) -> bool:
+        self.end = line
+        return (line == "equal") == (not self.changes)
+
+    def lacks(self) -> bool:
+        return self.end is None
+
+    def value_of_text(self) -> dict:
+        return {"equal": self.end == "equal", "changes": self.changes} | self.counts
+
+
+class WhatIfRead(Rules):
+    """A reader of what what-if prints."""
+
+    rules = (
+        (r" *adapters +all +cut off +entries +switches +(cables?|switch)", "head"),
+        (rf" *(\d+) +(\d+) +(\d+) +(\d+) +(\d+)  {PORT} - {PORT}", "row"),
+        (rf" *(\d+) +(\d+) +(\d+) +(\d+) +(\d+)  {PORT} - {PORT}, {PORT} - {PORT}", "row"),
+        (rf" *(\d+) +(\d+) +(\d+) +(\d+) +(\d+)  {GUID}", "switch"),
+        (
+            r"(\d+) (?:cables|pairs of cables|switches); without (\d+) of them no packet is lost; "
+            r"a plan without any cut changes (\d+) entries on (\d+) switches",
+            "end",
+        ),
+    )
+
+    def __init__(self) -> None:
+        self.rows, self.last, self.kind = [], None, "cables"
+
+    def head(self, kind: str) -> bool:
+        is_first = not self.rows and self.last is None
+        self.kind = "switches" if kind == "switch" else "cables"
+        return is_first
+
+    def take_row(self, told: dict, words: Sequence[str]) -> bool:
+        names = ("adapters", "all", "cut_off", "entries", "switches")
+        self.rows.append(told | {name: int(word) for name, word in zip(names, words)})
+        return self.last is None
+
+    def row(self, *words: str) -> bool:
+        return self.kind == "cables" and self.take_row({"ends": list(words[5:])}, words)
+
+    def switch(self, *words: str) -> bool:
+        return self.kind == "switches" and self.take_row({"guid": words[5]}, words)
+
+    def end(self, *words: str) -> None:
+        self.last = [int(word) for word in words]
+
+    def lacks(self) -> bool:
+        return self.last is None
+
+    def value_of_text(self) -> dict:
+        count, harmless, entries, switches = self.last
+        uncut = {"entries": entries, "switches": switches}
+        return {self.kind: self.rows, "count": count, "harmless": harmless, "uncut": uncut}
+
+
+# By the name of a form: its reader, and how the first line of a text of that form begins.
+READERS = {
+    "facts": (FactsRead, r"(floor \d|node |portguid .*@|link |port .*@|claim |cap .*@)"),
+    "tables": (TablesRead, r"(lid \d{1,10} [0-9a-f]{16}/|switch [0-9a-f]{16} top )"),
+    "audit": (AuditRead, r"pairs \d"),
+    "next": (NextRead, r"credit loop "),
+    "what-if": (WhatIfRead, r" *adapters +all "),
+    "compare": (
+        CompareRead,
+        r"(equal$|gone |come |other |slow cable |fast cable |disputed |LID |(port|portguid|lid|cap) \S+ .*>"
+        r"|switch [0-9a-f]{16}(:| entries))",
+    ),
+}
+
+
+def form_of(line: str) -> str | None:
+    """Returns the name of a text's form by its first line, or None."""
+    return next((name for name, (_, begins) in READERS.items() if re.match(begins, line)), None)
+
+
+def without_names(lines: Iterable[str]) -> tuple[list[str], dict[str, str]]:
+    """Returns the lines without the names behind GUIDs and ends, and these names by GUID."""
+    names = {}
+
+    def taken(found: re.Match) -> str:
+        names[found[2]] = found[3]
+        return found[1]
+
+    return [NAMED.sub(taken, line) for line in lines], names
