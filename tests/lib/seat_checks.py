@@ -602,7 +602,8 @@ def handovers(bench):
         before = (bench.path / "theirs").read_text()
         with seated(bench, "H1", "-p", 8, *timing) as seat:
             took = until(lambda: "SUBNET UP" in seat.said(), 40)
-            bench.check(took is not None and seat.settles(), f"it hands over to a seat of priority 8: {took or -1:.1f} s")
+            is_up = took is not None and seat.settles()
+            bench.check(is_up, f"it hands over to a seat of priority 8: {took or -1:.1f} s")
             bench.check(until(lambda: "Entering STANDBY" in log(), 20) is not None, "OpenSM stands by")
             bench.check(lids(held(bench, "ours")) == lids(before), "LIDs stay")
             time.sleep(4)
@@ -638,10 +639,12 @@ def both_at_once(bench, ours, theirs):
 
 
 def above_at_once(bench):
+    """Checks a seat of greater priority than OpenSM's."""
     both_at_once(bench, 5, 3)
 
 
 def below_at_once(bench):
+    """Checks a seat of lesser priority than OpenSM's."""
     both_at_once(bench, 3, 5)
 
 
