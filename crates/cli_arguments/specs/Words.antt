@@ -50,7 +50,7 @@ abbrev pub is_key : Option (List ℕ) → Bool
 is_key None = true
 is_key (Some word) = is_guid_word word
 
--- the GUID of a manager's port or its SM_Key is none
+-- the GUID of a manager's port or its SM_Key is not 1 to 16 hex digits
 abbrev pub is_wrong_seat : (List ℕ → Option (List ℕ)) → Bool
 is_wrong_seat word = not (is_guid (word (codes "GUID"))) || not (is_key (word (codes "sm-key")))
 
@@ -61,7 +61,7 @@ planning_conflict name word =
     has_conflict_of (if bytes_eq name (codes "order") then order_rule (word (codes "routing")) else word (codes "routing"))
     (is_some (word (codes "roots"))) (is_some (word (codes "order")))
 
--- options contradict each other in the subcommand `name`, or it serves a manager and its GUID or its SM_Key is none
+-- options contradict each other in the subcommand `name`, or it serves a manager and its GUID or SM_Key is not hex digits
 abbrev pub has_conflict : List ℕ → (List ℕ → Option (List ℕ)) → Bool
 has_conflict name word =
     if bytes_eq name (codes "serve") then planning_conflict name word || is_wrong_seat word

@@ -469,7 +469,7 @@ fn order_file<'a>(alloc: Global) -> Arg<'a>
 }
 
 /// Returns whether options contradict each other: if roots and an order are both named, or if one of them is named
-/// without the rule of routing that takes it. Also returns true if a manager's GUID or SM_Key is none.
+/// without the rule of routing that takes it. Also returns true if a manager's GUID or SM_Key is not hex digits.
 fn has_conflict(matches: &ArgMatches<'_>) -> bool
     ensures { result ≡ has_conflict_behind (subcommand_rows_of matches.now) }
 {
@@ -480,7 +480,7 @@ fn has_conflict(matches: &ArgMatches<'_>) -> bool
 }
 
 /// Returns whether the options of the subcommand `name` contradict each other, or it serves a manager and its GUID or
-/// SM_Key is none.
+/// SM_Key is not hex digits.
 fn has_conflict_in(name: &str, words: &ArgMatches<'_>) -> bool
     ensures { result ≡ has_conflict name.now (first_value (found_of words.now)) }
 {
@@ -499,7 +499,7 @@ fn planning_conflict(name: &str, words: &ArgMatches<'_>) -> bool
     (rooted && ordered) || lacks_rule(name, words, rooted || ordered)
 }
 
-/// Returns whether the GUID of a manager's port or its SM_Key is none.
+/// Returns whether the GUID of a manager's port or its SM_Key is not 1 to 16 hex digits.
 fn has_wrong_seat(words: &ArgMatches<'_>) -> bool
     ensures { result ≡ is_wrong_seat (first_value (found_of words.now)) }
 {
@@ -568,7 +568,7 @@ fn conflict(alloc: Global, matches: &ArgMatches<'_>) -> Result<Error, AllocError
     command.error(ErrorKind::ArgumentConflict, conflict_text(matches))
 }
 
-/// Returns the text of the error for options that contradict each other, or for a GUID or an SM_Key that is none.
+/// Returns the text of the error for options that contradict each other, or for a GUID or an SM_Key that is not hex digits.
 fn conflict_text(matches: &ArgMatches<'_>) -> &'static str {
     let Some((_, words)) = matches.subcommand() else {
         return "";

@@ -81,8 +81,8 @@ pub record SetsChangeNothingElse : Type 0 where
 
 -- two Sets of one port -------------------------------------------------------------------------------
 
--- the Set of a state at an end port says what the Set of its LID says, but for the state: so a Set that comes again, or
--- after the other, takes nothing back
+-- the Set of a state at an end port says what the Set of its LID says, but for the state: so whichever comes last, no
+-- LID and no LMC is taken back
 abbrev pub LidAndStateAgree : Type 0
 LidAndStateAgree =
     (cells : Cells) (sweep : Sweep) (given : Given) (master : ℕ) (state : PortState) (e : EndPort) (range : ℕ × ℕ)

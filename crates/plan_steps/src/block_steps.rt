@@ -62,8 +62,8 @@ fn block_step(sweep: &Sweep, plan: &Plan, guid: Guid, b: usize) -> Option<Step>
     )
 }
 
-/// Builds the step of the greatest LID, if any, for each switch that was reached, by rising GUID. Takes a search for
-/// each switch.
+/// Builds the step of the greatest LID, if any, for each switch that was reached, by rising GUID. Takes two searches
+/// for each switch.
 pub(crate) fn top_steps(alloc: Global, sweep: &Sweep, plan: &Plan) -> Result<Vec<Step>, AllocError>
     ensures { IfOk result (λ steps. steps.items ≡ top_steps sweep.now plan.now) }
 {

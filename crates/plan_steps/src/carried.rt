@@ -34,7 +34,9 @@ macro_rules! port_bits {
 /// PortInfo that was read of a port, and of the port across if it is on a wire and was read too.
 #[derive(Clone, Copy, Debug, PartialEq, Eq)]
 pub struct PortRead {
+    /// What the port itself said.
     pub own: PortInfo,
+    /// What the port across said.
     pub far: Option<PortInfo>,
 }
 

@@ -34,7 +34,7 @@ fn is_own_port(store: &Store, end: EndPort, own_guid: Guid, port: PortNum) -> bo
 }
 
 /// Builds the step that sets the LID and the LMC of each end port that was reached, by rising LIDs. Takes a search for
-/// each.
+/// each, and some ten if images are kept.
 pub(crate) fn lid_steps(
     alloc: Global,
     store: &Store,

@@ -34,7 +34,7 @@ impl Model for Phase {
 /// Builds the phases in which a manager, at the port `port` with the GUID `port_guid`, writes a plan over the paths of
 /// its last sweep: LIDs, blocks, the greatest LID, and then the states of ports on wires, Armed and Active (subnet
 /// management, initialization). Leaves out agents that the sweep did not reach. Walks the cells once, and takes a few
-/// searches for each step and some ten for each port on a wire.
+/// searches for each step and some twenty for each port on a wire.
 ///
 /// # Errors
 ///

@@ -47,7 +47,7 @@ fn wired_port(store: &Store, sighting: &Sighting) -> Option<(Guid, PortNum)>
 }
 
 /// Builds the step that sets `state` for each of `ports` that was reached and is still to come to that state, in their
-/// order. Takes some five searches for each.
+/// order. Takes some five searches for each, and some fifteen if images are kept.
 #[tactic(auto, using(crate::proofs::Walked::walked_some, crate::proofs::Walked::walked_none))]
 pub(crate) fn state_steps(
     alloc: Global,

@@ -163,7 +163,8 @@ pub(crate) fn new_seat(
 ///
 /// | Command | Numbers |
 /// |---|---|
-/// | `manager NAME "node"[port] PRIORITY`, `manager NAME "node"[port] PRIORITY live KEY` | priority 0 to 15, SM_Key of 64 bits |
+/// | `manager NAME "node"[port] PRIORITY` | priority 0 to 15 |
+/// | `manager NAME "node"[port] PRIORITY live KEY` | SM_Key of 64 bits |
 /// | `sweep NAME`, `write NAME`, `handover NAME`, `timeout NAME` | |
 /// | `poll NAME LID` | LID 0 to 65,535 |
 /// | `floor NAME GENERATION` | generation 1 to 4,294,967,295 |

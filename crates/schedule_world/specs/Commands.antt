@@ -188,11 +188,17 @@ after_commands nodes w [] = quiet w
 after_commands nodes w (command ∷ later) =
     and_then (after_command nodes w command) (λ now. after_commands nodes now later)
 
--- the manager of a seat, and how it plans; it is live if it has an SM_Key: an adapter's port has its node's GUID plus the port's number
+-- the manager of a seat, and how it plans; it is live if the seat has an SM_Key; an adapter's port has its node's GUID
+-- plus the port's number
 abbrev pub new_seated : Planning → List Node → Seat → SeatedValue
 new_seated planning nodes seat =
     let guid = option_map_or (λ node. node.guid + seat.at.port) (slice_get nodes seat.at.node) 0 in
-    record { name = seat.name; at = seat.at; manager = new_manager guid seat.at.port seat.priority (conduct_with seat.sm_key) planning }
+    let conduct = conduct_with seat.sm_key in
+    record {
+      name = seat.name;
+      at = seat.at;
+      manager = new_manager guid seat.at.port seat.priority conduct planning;
+    }
 
 -- the fabric of a topology, whose first packet has the serial number 1, and a manager for each seat
 abbrev pub world_of : Planning → Layout → List Seat → WorldValue

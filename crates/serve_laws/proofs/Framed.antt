@@ -358,7 +358,8 @@ where_passes s = head (codes "manager ") refl refl then port s.guid s.port then 
 
 told_passes : (info : SmInfo) → Passes false (told_text info) true
 told_passes info =
-    mid (codes " priority ") refl refl then number info.priority then mid (codes " state ") refl refl then told_state_passes info.state then newline
+    mid (codes " priority ") refl refl then number info.priority then mid (codes " key ") refl refl then number info.sm_key
+    then mid (codes " state ") refl refl then told_state_passes info.state then newline
 
 seen_passes : (s : SeenManager) → Passes true (seen_line s) true
 unfolding seen_line

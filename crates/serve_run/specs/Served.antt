@@ -41,9 +41,11 @@ told_state number = option_map_or state_word (state_of_number number) (decimal n
 abbrev pub where_text : SeenManager → List ℕ
 where_text s = codes "manager " ++ port_text s.guid s.port ++ codes " guid " ++ guid_text s.info.guid
 
--- the priority and the state that a manager reported
+-- the priority, the SM_Key and the state that a manager reported
 abbrev pub told_text : SmInfo → List ℕ
-told_text info = codes " priority " ++ decimal info.priority ++ codes " state " ++ told_state info.state ++ codes "\n"
+told_text info =
+    codes " priority " ++ decimal info.priority ++ codes " key " ++ decimal info.sm_key ++ codes " state "
+    ++ told_state info.state ++ codes "\n"
 
 -- the line of a manager that the last sweep saw
 unfoldable pub seen_line : SeenManager → List ℕ

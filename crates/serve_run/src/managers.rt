@@ -39,12 +39,14 @@ fn write_where<W: Sink>(sink: &mut W, seen: &SeenManager) -> Result<(), WriteFau
     write_guid(sink, seen.info.guid)
 }
 
-/// Writes the priority and the state that the manager reported, and ends the line.
+/// Writes the priority, the SM_Key and the state that the manager reported, and ends the line.
 fn write_told<W: Sink>(sink: &mut W, info: &SmInfo) -> Result<(), WriteFault>
     ensures writes { Writes W.written W.has_failed result sink.old sink.new (told_text info.now) }
 {
     sink.write(b" priority ")?;
     write_number(sink, u64::from(info.priority.number()))?;
+    sink.write(b" key ")?;
+    write_number(sink, info.sm_key)?;
     sink.write(b" state ")?;
     write_told_state(sink, info.state)?;
     sink.write(b"\n")

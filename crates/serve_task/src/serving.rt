@@ -26,6 +26,7 @@ pub struct Serving {
     /// The number of the port that it sits at.
     pub port: PortNum,
     pub priority: Priority,
+    /// The SM_Key that it tells.
     pub sm_key: u64,
     /// The LMC of its plans: 2^LMC LIDs for each adapter port.
     pub lmc: Lmc,

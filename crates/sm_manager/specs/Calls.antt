@@ -119,7 +119,9 @@ pub record KnowTheSame (one other : Manager) : Type 0 where
       (plan_of one.planning.rule one.planning.lmc (cells_of one.store))
 
 abbrev pub SameTakenInSamePlan : Type 0
-SameTakenInSamePlan = (guid port priority guid' port' priority' : ℕ) (conduct conduct' : Conduct) (planning : Planning) (calls calls' : List Call) →
+SameTakenInSamePlan =
+    (guid port priority guid' port' priority' : ℕ) (conduct conduct' : Conduct) (planning : Planning)
+    (calls calls' : List Call) →
     greatest_floor calls ≡ greatest_floor calls' →
     HaveSameMembers (taken_in calls (new_manager guid port priority conduct planning))
     (taken_in calls' (new_manager guid' port' priority' conduct' planning)) →

@@ -12,7 +12,8 @@ use Rattle.sm_manager.specs.Packets.{after_control_end, is_handover, is_relieved
 abbrev pub move_of : Standing → Pending → Transition
 move_of other control = stepped other.conduct other.state (event.Control control.modifier)
 
--- once a master knows how its handover was answered, it or the other manager is master
+-- once a master knows how its handover was answered, it or the other manager is master, if nothing else moves either
+-- of them meanwhile
 abbrev pub HandoversLeaveAMaster : Type 0
 HandoversLeaveAMaster =
     (own other : Standing) (control : Pending) → own.state ≡ Master → is_handover control ≡ true

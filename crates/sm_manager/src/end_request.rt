@@ -82,8 +82,8 @@ fn end_poll(standing: &mut Standing, was_answered: bool)
     }
 }
 
-/// Returns whether the manager hands over by the ended control: by the live conduct, if the other manager answered a
-/// handover as done.
+/// Returns whether the ended control relieves the manager: by the live conduct, a handover that was answered with
+/// status 0.
 fn is_relieved(standing: &Standing, ended: &Pending, answer: Option<Status>) -> bool
     ensures { result ≡ is_relieved standing.now ended.now (status_number answer) }
 {

@@ -27,8 +27,8 @@ pub fn written_is_each_step_done()
     ensures { WrittenIsEachStepDone }
 {}
 
-/// After a handover one of both managers is master, once its sender knows how it was answered: the sender stays master
-/// unless the answer has status 0, and whoever answers so took over.
+/// After a handover one of both managers is master, once its sender knows how it was answered, if nothing else moves
+/// either of them meanwhile. The sender stays master unless the answer has status 0, and whoever answers so took over.
 pub fn handovers_leave_a_master()
     ensures { HandoversLeaveAMaster }
 {}

@@ -118,7 +118,7 @@ impl Manager {
         send_queued(&mut sweep, &mut self.outgoing);
         self.sweep = Some(sweep);
         self.seen.clear();
-        self.standing.count_sweep();
+        self.standing.count_activity();
         Ok(())
     }
 

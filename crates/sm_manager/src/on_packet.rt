@@ -31,8 +31,8 @@ impl Manager {
     /// # Errors
     ///
     /// `Sweep` with the fault of bytes that are not a packet; `Unasked` if the packet answers no request, is not a
-    /// request for SMInfo and is not repressed; `Sweep` if the sweep refuses the reply; `SequenceSpent` if no numbers are left for what goes
-    /// out; `Memory`.
+    /// request for SMInfo and is not repressed; `Sweep` if the sweep refuses the reply; `SequenceSpent` if no numbers
+    /// are left for what goes out; `Memory`.
     pub fn on_packet(&mut self, bytes: &[u8; 256], from: Option<Lid>) -> Result<(), ManagerFault>
         requires { HasSender bytes.now from }
         ensures judged { JudgesButFor is_memory result (after_packet self.old bytes.now from).fault }

@@ -54,7 +54,7 @@ is_in state s = number_of_state s.state == number_of_state state
 abbrev pub one_more : ℕ → ℕ
 one_more n = min (n + 1) (2 ^ 32 - 1)
 
--- a sweep begins
+-- a sweep begins, or a request is answered
 abbrev pub active_once_more : Standing → Standing
 active_once_more s = record s { act_count = one_more s.act_count }
 

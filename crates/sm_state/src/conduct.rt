@@ -7,9 +7,9 @@ pub enum Conduct {
     /// Obeys controls that come by LIDs. A master that hands over stays Master until the other manager acknowledges.
     /// The SM_Key is 0.
     Plain,
-    /// Gets along with the managers of a live subnet, such as OpenSM. Also obeys controls that come over a directed
-    /// route. A master that hands over is Standby as soon as the other manager answers that it took over. Represses
-    /// traps. The number is its SM_Key.
+    /// Deals with the managers of a live subnet as OpenSM does. Also obeys controls over directed routes. Is Standby
+    /// once its handover is answered with status 0. Hears only managers of its SM_Key, unless that is 0. Represses
+    /// traps, and keeps what its sweeps read. The number is its SM_Key.
     Live(u64),
 }
 

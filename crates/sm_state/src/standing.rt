@@ -50,8 +50,8 @@ impl Standing {
         }
     }
 
-    /// Returns the SMInfo that it sends with `control`. By the live conduct an acknowledgement says that its sender is
-    /// a standby, as it was when the handover came.
+    /// Returns the SMInfo that it sends with `control`. By the live conduct an acknowledgement says Standby, which
+    /// OpenSM expects.
     pub fn info_with(&self, control: Control) -> SmInfo
         ensures { result ≡ info_with control self.now }
     {
@@ -72,8 +72,8 @@ impl Standing {
         self.state.number() == state.number()
     }
 
-    /// Counts a sweep that begins.
-    pub fn count_sweep(&mut self)
+    /// Counts a sweep that begins, or a request that is answered.
+    pub fn count_activity(&mut self)
         ensures { self.new ≡ active_once_more self.old }
     {
         self.act_count = self.act_count.saturating_add(1);
@@ -84,7 +84,7 @@ impl Standing {
         ensures { self.new ≡ after_request_heard self.old }
     {
         if self.conduct.is_live() {
-            self.count_sweep();
+            self.count_activity();
         }
     }
 

@@ -73,7 +73,8 @@ abbrev pub EachCounts : Type 0
 EachCounts =
     (origin generation first : ℕ) (keeps : Bool) (events : List Event) →
     first + replies_taken (started origin generation first keeps) events
-    + unended (after (started origin generation first keeps) events) ≡ (after (started origin generation first keeps) events).next
+    + unended (after (started origin generation first keeps) events)
+    ≡ (after (started origin generation first keeps) events).next
 
 -- managers that are asked ----------------------------------------------------------------------
 

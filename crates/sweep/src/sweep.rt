@@ -69,7 +69,7 @@ impl Model for Sweep {
 impl Sweep {
     /// Starts a sweep that goes out by the port `origin` of its own node. Its first request asks what that node is, and
     /// has the number `first_sequence`. If `keeps`, it keeps PortInfo of ports and SwitchInfo of switches as they are
-    /// read, 64 bytes each.
+    /// read, some 80 bytes each.
     pub fn start(
         alloc: Global,
         origin: PortNum,
