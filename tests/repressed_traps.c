@@ -1,6 +1,6 @@
 /*
- * Preloaded to OpenSM over ibsim, which drops each TrapRepress. OpenSM waits for the one to its own trap before it sweeps
- * again, so its traps are repressed here: the next receive returns the last trap, with the method TrapRepress.
+ * Preloaded to OpenSM over ibsim, which drops each TrapRepress. OpenSM waits for the one to its own trap before it
+ * sweeps again, so its traps are repressed here: the next receive returns the last trap, with the method TrapRepress.
  */
 #define _GNU_SOURCE
 #include <dlfcn.h>

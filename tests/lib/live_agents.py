@@ -1,5 +1,6 @@
 """Agents of a fabric, written for the tests of `serve`: what each answers to a directed request, and what it holds
 then."""
+import random
 import struct
 
 from sample_fabrics import ROOM
@@ -17,10 +18,14 @@ def field(packet, at, size):
 
 
 class Agents:
-    """The agents of a fabric of sample_fabrics, all in their first state."""
+    """The agents of a fabric of sample_fabrics, all in their first state.
 
-    def __init__(self, fabric, seat):
-        self.fabric, self.seat = fabric, seat
+    `images` is a source of random numbers, by which all else that ports and switches tell has values; without one it is
+    0. `read` has each attribute as it was first told, and `sets` each that was set, by node, attribute and modifier."""
+
+    def __init__(self, fabric, seat, images: random.Random | None = None):
+        self.fabric, self.seat, self.images = fabric, seat, images
+        self.read, self.sets = {}, []
         self.lids, self.tops, self.tables = {}, {}, {}
         self.states = {}
         for name in fabric.nodes:
@@ -46,16 +51,44 @@ class Agents:
         data = self.told(name, came_by, packet)
         if data is None:
             return None
+        self.note(name, came_by, packet, data)
         head = bytearray(packet[:64])
         head[3], head[4], head[6] = ANSWER, 0x80, 0
         return bytes(head) + data + packet[128:192] + bytes(back)
 
+    def note(self, name, came_by, packet, data):
+        """Notes what was told first, and what was set."""
+        attribute, modifier = field(packet, 16, 2), field(packet, 20, 4)
+        if attribute == PORT_INFO and not self.fabric.is_switch(name):
+            modifier = modifier or came_by
+        self.read.setdefault((name, attribute, modifier), data)
+        if packet[3] == SET:
+            self.sets.append((name, attribute, modifier, packet[64:128]))
+
+    def blank(self, name, attribute, modifier):
+        """Returns an attribute before anything is known of it: zeros, or the values of an image that is kept."""
+        known = self.read.get((name, attribute, modifier))
+        if self.images is None or attribute not in (SWITCH_INFO, PORT_INFO):
+            return bytearray(64)
+        if known:
+            return bytearray(known)
+        data = bytearray(self.images.randbytes(64))
+        if attribute == SWITCH_INFO:
+            data[11] = self.images.choice((0, 7, data[11]))
+        else:
+            data[8:16] = self.images.choice((bytes(8), data[8:16]))
+            data[16:24] = bytes(8)
+            data[42] &= self.images.choice((0xE0, 0xFF))
+            data[51] &= self.images.choice((0xE0, 0xFF))
+            data[41] &= self.images.choice((0xF0, 0xFF, 0xFF))
+        return data
+
     def told(self, name, came_by, packet):
         """Returns the 64 bytes of the attribute."""
         attribute, modifier, is_set = field(packet, 16, 2), field(packet, 20, 4), packet[3] == SET
-        data = bytearray(64)
         guid, ports = self.fabric.guid(name), self.fabric.ports(name)
         is_switch = self.fabric.is_switch(name)
+        data = self.blank(name, attribute, modifier if is_switch or attribute != PORT_INFO else modifier or came_by)
         if attribute == NODE_INFO:
             head = struct.pack(
                 ">BBBBQQQHHI", 1, 1, 2 if is_switch else 1, ports, guid, guid, guid + (0 if is_switch else came_by), 1,
@@ -79,8 +112,8 @@ class Agents:
             lid, lmc = self.lids.get((name, port), (0, 0))
             data[16:18] = lid.to_bytes(2, "big")
             data[28] = came_by
-            data[32] = self.states[name, port]
-            data[34] = lmc
+            data[32] = data[32] & 0xF0 | self.states[name, port]
+            data[34] = data[34] & 0xF8 | lmc
         elif attribute == TABLE and is_switch:
             if is_set:
                 self.tables[name, modifier] = packet[64:128]

@@ -14,6 +14,8 @@
 
 /* The kernel gives up a request first. SMInfo may take longer than the rest: a manager answers late while it plans. */
 enum { GRACE_MS = 500, SM_INFO_TIMES = 3, AT_ONCE = 64, CLOCK_SHIFT = 12, IS_SM = 2 };
+/* States of a port. */
+enum { INITIALIZE = 2, ARMED = 3 };
 
 struct packet {
 	uint16_t lid;
@@ -38,8 +40,6 @@ static uint32_t next_number;
 static char silent[MOST_SILENT][SILENT_TEXT];
 static size_t silent_count;
 static unsigned not_active;
-/* States of a port. */
-enum { INITIALIZE = 2, ARMED = 3 };
 
 /* Becomes the port's subnet manager, of which there is one: the open file tells the kernel so. */
 void be_manager(void)
@@ -371,7 +371,7 @@ static void on_answer(uint8_t *packet, unsigned lid)
 	tell("timeout %016llx", (unsigned long long) get(out.tid, 8));
 }
 
-/* Notes a trap. The process, as master, represses it if it came by a LID. */
+/* Notes a trap. Passes one by LIDs on if this manager is master; the process then represses it. */
 static void on_trap(const uint8_t *packet, unsigned lid)
 {
 	carried.traps++;

@@ -11,6 +11,7 @@
 
 enum phase { RESTS, SWEEPS, WRITES, HANDS_OVER };
 enum { LINK_STATE_CHANGED = 128, CAPABILITIES_CHANGED = 144, MOST_REPEATS = 3, MOST_POLLS = 3, MOST_WAIT = 10 };
+enum { OPENSM_KEY = 1 };	/* that of the process if none is given */
 #define SHORTEST 1.0	/* seconds from the beginning of one sweep to that of the next */
 #define ACKNOWLEDGED 1.0	/* seconds that a manager may take to acknowledge a handover, after its answer to it */
 
@@ -41,18 +42,18 @@ void heard_hangup(void)
 	want_sweep();
 }
 
+static int is_state(const char *word)
+{
+	return !strcmp(state, word);
+}
+
 int heard_trap(unsigned number, unsigned lid)
 {
 	if (options.verbose)
 		note("trap %u from LID %u", number, lid);
 	if (number == LINK_STATE_CHANGED || number == CAPABILITIES_CHANGED)
 		want_sweep();
-	return !strcmp(state, "master");
-}
-
-static int is_state(const char *word)
-{
-	return !strcmp(state, word);
+	return is_state("master");
 }
 
 static void keep_text(char **kept, const char *text)
@@ -141,19 +142,27 @@ static void read_progress(void)
 	status.managers = managers;
 }
 
+/* Returns whether the process takes a manager of this SM_Key for one of its subnet. */
+static int is_heard(unsigned long long key)
+{
+	unsigned long long own = seat.sm_key ? strtoull(seat.sm_key, NULL, 16) : OPENSM_KEY;
+
+	return !own || key == own;
+}
+
 /* Finds the LID that a standby polls: that of the master seen by the sweep, or 0 if it saw none with a LID. Counts
    sweeps in a row that saw none. A master that this manager wins over swept before this one stood by, or it would have
    handed over: so this one is announced anew, once, and the master sweeps. */
 static void look_for_master(void)
 {
-	unsigned long long node, guid;
+	unsigned long long node, guid, key;
 	unsigned port, priority;
 	char word[64], wanted[64];
 	const char *line, *facts;
 
 	for (line = managers; *line; line = strchr(line, '\n') + 1)
-		if (sscanf(line, "manager %llx/%u guid %llx priority %u state %63s", &node, &port, &guid, &priority,
-			   word) == 5 && !strcmp(word, "master"))
+		if (sscanf(line, "manager %llx/%u guid %llx priority %u key %llu state %63s", &node, &port, &guid,
+			   &priority, &key, word) == 6 && !strcmp(word, "master") && is_heard(key))
 			break;
 	if (!*line) {
 		masterless += status.is_whole;
@@ -341,14 +350,15 @@ static void after_writing(void)
 /* Notes the manager that got the subnet: the greatest that the sweep saw. */
 static void after_handover(void)
 {
-	unsigned long long guid, greatest = 0;
+	unsigned long long guid, key, greatest = 0;
 	unsigned priority, most = 0;
 	char word[sizeof state];
 	const char *line;
 
 	phase = RESTS;
 	for (line = managers; *line; line = strchr(line, '\n') + 1)
-		if (sscanf(line, "manager %*s guid %llx priority %u state %15s", &guid, &priority, word) == 3 &&
+		if (sscanf(line, "manager %*s guid %llx priority %u key %llu state %15s", &guid, &priority, &key,
+			   word) == 4 && is_heard(key) &&
 		    (!strcmp(word, "standby") || !strcmp(word, "master")) &&
 		    (!greatest || priority > most || (priority == most && guid < greatest))) {
 			greatest = guid;

@@ -99,7 +99,8 @@ static void catch_signals(void)
 enum { PARTIAL = 256, SM_KEY };
 
 static const struct option words[] = {
-	{ "priority", 1, 0, 'p' }, { "sm-key", 1, 0, SM_KEY }, { "lmc", 1, 0, 'l' }, { "routing", 1, 0, 'R' }, { "roots", 1, 0, 'f' },
+	{ "priority", 1, 0, 'p' }, { "sm-key", 1, 0, SM_KEY }, { "lmc", 1, 0, 'l' }, { "routing", 1, 0, 'R' },
+	{ "roots", 1, 0, 'f' },
 	{ "order", 1, 0, 'o' }, { "ibsm", 1, 0, 'i' }, { "sweep", 1, 0, 's' }, { "poll", 1, 0, 'm' },
 	{ "after", 1, 0, 'a' }, { "dry-run", 0, 0, 'd' }, { "status", 1, 0, 'S' },
 	{ "partial", 0, 0, PARTIAL }, { "ca", 1, 0, 'C' },
@@ -169,9 +170,10 @@ static void start(void)
 	let_pass();
 	started = now();
 	start_manager();
-	if (!seat.dry_run)
-		be_manager();
 	begin_policy();
+	tell("state");	/* waits until the process answers */
+	if (!seat.dry_run && !manager_is_gone())
+		be_manager();
 }
 
 int main(int count, char **texts)

@@ -38,7 +38,7 @@ const char *tell(const char *format, ...) __attribute__((format(printf, 1, 2)));
 /* carry.c: packets. */
 void open_seat(void);
 void close_seat(void);
-/* Has the port say that a manager is here: others then ask it, so its process has to be there. */
+/* Has the port say that a manager is here. Others ask it then, so the process has to answer. */
 void be_manager(void);
 /* Has the port say anew that a manager is here: its agent then sends trap 144, and the master sweeps. */
 void announce_manager(void);
@@ -59,8 +59,9 @@ void begin_silent(void);
 size_t silent_requests(void);
 const char *silent_request(size_t place);
 
-/* The number of ports that a sweep reads as Initialize or Armed, since it began. */
+/* Begins the count of ports_not_active anew. */
 void begin_ports(void);
+/* Returns how many ports a sweep has read as Initialize or Armed since the count began. */
 unsigned ports_not_active(void);
 
 /* policy.c: when what is told. */

@@ -38,7 +38,7 @@ static void print_managers(FILE *file, const char *line)
 
 	fprintf(file, " \"managers\": [");
 	for (; line && *line; line = strchr(line, '\n') + 1)
-		if (sscanf(line, "manager %*s guid %16s priority %u state %15s", guid, &priority, state) == 3)
+		if (sscanf(line, "manager %*s guid %16s priority %u key %*u state %15s", guid, &priority, state) == 3)
 			fprintf(file, "%s{\"guid\": \"%s\", \"priority\": %u, \"state\": \"%s\"}",
 				count++ ? ", " : "", guid, priority, state);
 	fprintf(file, "],\n");
