@@ -1,5 +1,5 @@
 -- The words of the command line by the names of their arguments, and which of them contradict each other.
-use Rattle.std.specs.Prelude.{ℕ, Bool, false, List, Option, None, Some, codes, find, is_some, length, nat_le, not, option_and_then, option_map, slice_get, ◌&&◌, ◌||◌, if◌then◌else◌}
+use Rattle.std.specs.Prelude.{ℕ, Bool, true, false, List, Option, None, Some, codes, find, is_some, length, nat_le, not, option_and_then, option_map, slice_get, ◌&&◌, ◌||◌, if◌then◌else◌}
 use Rattle.std.specs.Char.{is_ascii_hexdigit}
 use Rattle.std.specs.List.{list_all}
 use Rattle.std.specs.Str.{bytes_eq}
