@@ -9,6 +9,7 @@ use smp_bytes::{Lid, Method, Smp, SmpClass};
 
 /// The method of a trap, and the one by which it is repressed (management methods).
 const TRAP: Method = Method(0x05);
+
 const TRAP_REPRESS: Method = Method(0x07);
 
 impl Manager {
