@@ -148,15 +148,17 @@ def turns(subnet: Subnet, tables: Tables) -> dict[int, set[tuple[int, int]]]:
     return found
 
 
-def told_order(subnet: Subnet, tables: Tables) -> list[int] | None:
+def told_order(subnet: Subnet, tables: Tables, preferred: list[int] | None = None) -> list[int] | None:
     """Returns an order of the switches by which the tables lead packets up and then down, or None. It is built from the
-    last switch on: each time the one of the greatest GUID at which no packet turns between two that are left."""
+    last switch on: each time, of those at which no packet turns between two that are left, the last in `preferred`, or
+    the one of the greatest GUID."""
     found, left, taken = turns(subnet, tables), set(subnet.switches), []
+    rank = {guid: number for number, guid in enumerate(preferred or subnet.switches)}
     while left:
         free = [guid for guid in left if not any(one in left and other in left for one, other in found[guid])]
         if not free:
             return None
-        taken.append(max(free))
+        taken.append(max(free, key=rank.get))
         left.remove(taken[-1])
     return taken[::-1]
 
@@ -255,6 +257,105 @@ def as_named(subnet: Subnet, named: Iterable[int]) -> Order:
     return Order(spread_rule.positions_of(graph, spread_rule.keys_as_named(graph, named)))
 
 
+def grown(graph: dict[int, list[tuple[int, int]]], order: Order) -> Order:
+    """Returns the order that grows by the places of another."""
+    return Order(spread_rule.positions_of(graph, {guid: (order.places[guid], guid) for guid in graph}))
+
+
+def tree_of(graph: dict[int, list[tuple[int, int]]], order: Order) -> dict[int, list[tuple[int, int]]]:
+    """Returns the edges between each switch and the earliest one beside it, if that is earlier than it."""
+    parents = {guid: min([guid, *(far for _, far in graph[guid])], key=order.places.get) for guid in graph}
+    return {
+        guid: [(port, far) for port, far in edges if parents[guid] == far or parents[far] == guid]
+        for guid, edges in graph.items()
+    }
+
+
+def two_orders(subnet: Subnet, held: Tables, plan: Order) -> tuple[Order, Order] | None:
+    """Returns the order by which a step goes from the held tables, if these tell one, and the next order."""
+    graph = subnet.graph()
+    by_plan = grown(graph, plan)
+    told = told_order(subnet, held, sorted(graph, key=by_plan.places.get))
+    if told is None:
+        return None
+    first = Order({guid: place for place, guid in enumerate(told)})
+    second = grown(graph, first)
+    if not second.is_right(subnet, held):
+        return first, second
+    return second, grown(tree_of(graph, second), plan)
+
+
+def labels_to(subnet: Subnet, orders: tuple[Order, Order], targets: set[int]) -> dict[int, tuple[bool, bool]]:
+    """Returns for each switch from which a packet gets to the targets whether its channel there leads up by each order.
+    A packet that came down by an order goes up by it no more. The labels come in four rounds, each until no switch gets
+    one."""
+    graph, found = subnet.graph(), dict.fromkeys(targets, (False, False))
+    for label in (False, False), (True, False), (False, True), (True, True):
+        while more := [
+            guid
+            for guid in graph
+            if guid not in found and any(leads_on(orders, found, label, guid, far) for _, far in graph[guid])
+        ]:
+            found.update(dict.fromkeys(more, label))
+    return found
+
+
+def leads_on(orders: tuple[Order, Order], labels: dict, label: tuple[bool, bool], one: int, other: int) -> bool:
+    """Returns whether a channel leads up by those orders by which the label says so, down by the others, and to a
+    switch whose label goes up by no more."""
+    if one == other or other not in labels:
+        return False
+    up = tuple(order.places[other] < order.places[one] for order in orders)
+    return up == label and all(before or not after for before, after in zip(label, labels[other]))
+
+
+def column_between(
+    subnet: Subnet,
+    orders: tuple[Order, Order],
+    held: dict[int, int],
+    owners: list[End],
+    planned: dict[int, int],
+    end: End,
+) -> dict[int, int]:
+    """Returns entries that lead packets to `end` up and then down by both orders: the held ones that do so, else the
+    plan's, else those of the least ports."""
+    by_held, by_plan, there = subnet.hops(held, owners), subnet.hops(planned, [end]), (TAKEN, end)
+    targets = {guid for guid, hop in by_plan.items() if hop == there}
+    labels, graph = labels_to(subnet, orders, targets), subnet.graph()
+
+    def entry(guid: int) -> int:
+        if guid in targets:
+            return planned[guid]
+        if guid not in labels:
+            return NO_WAY
+        for entries, hops in (held, by_held), (planned, by_plan):
+            kind, at = hops[guid]
+            if kind == ON and leads_on(orders, labels, labels[guid], guid, at):
+                return entries[guid]
+        return min(port for port, far in graph[guid] if leads_on(orders, labels, labels[guid], guid, far))
+
+    return {guid: entry(guid) for guid in held}
+
+
+def tables_between(subnet: Subnet, held: Tables, plan: Tables, orders: tuple[Order, Order]) -> Tables:
+    """Returns tables that lead packets up and then down by both orders."""
+    before, columns = held.owners(), {}
+    for lid, (end,) in plan.owners().items():
+        entries, planned = held.column(subnet.switches, lid), plan.column(subnet.switches, lid)
+        columns[lid] = column_between(subnet, orders, entries, before[lid], planned, end)
+    return assembled(subnet, held, plan, columns)
+
+
+def told_step(subnet: Subnet, held: Tables, plan: Tables, order: Order) -> tuple[Tables, Order | None]:
+    """Returns the next tables if a step may go by the order that the held tables tell, and that order if it does."""
+    orders = None if order.is_right(subnet, held) else two_orders(subnet, held, order)
+    if orders is not None:
+        goal = tables_between(subnet, held, plan, orders)
+        if orders[0].is_right(subnet, goal):
+            return next_tables(subnet, held, goal, orders[0]), orders[0]
+    return next_tables(subnet, held, plan, order), None
+
+
 def first_moved(held: Tables, plan: Tables) -> int | None:
     """Returns the least LID that the plan gives to an end and that another end holds, or None."""
     owners = held.owners()
@@ -263,9 +364,7 @@ def first_moved(held: Tables, plan: Tables) -> int | None:
 
 def next_tables(subnet: Subnet, held: Tables, plan: Tables, order: Order) -> Tables:
     """Returns the next tables. They follow the plan's order if the held tables are right by that order."""
-    made, before, after, is_right = Tables(), held.owners(), plan.owners(), order.is_right(subnet, held)
-    made.ranges = plan.ranges
-    made.tops = {guid: max(held.tops.get(guid, 0), plan.tops[guid]) for guid in subnet.switches}
+    before, after, is_right = held.owners(), plan.owners(), order.is_right(subnet, held)
     columns = {}
     for lid, (end,) in after.items():
         entries, planned = held.column(subnet.switches, lid), plan.column(subnet.switches, lid)
@@ -273,6 +372,14 @@ def next_tables(subnet: Subnet, held: Tables, plan: Tables, order: Order) -> Tab
             columns[lid] = order.next_column(subnet, entries, before[lid], planned, end)
         else:
             columns[lid] = next_column(subnet, entries, planned, end) if before[lid] == [end] else planned
+    return assembled(subnet, held, plan, columns)
+
+
+def assembled(subnet: Subnet, held: Tables, plan: Tables, columns: dict[int, dict[int, int]]) -> Tables:
+    """Returns the tables of these columns, with the plan's LIDs and the greater of both tops."""
+    made = Tables()
+    made.ranges = plan.ranges
+    made.tops = {guid: max(held.tops.get(guid, 0), plan.tops[guid]) for guid in subnet.switches}
     for guid, top in made.tops.items():
         entries = bytes(
             columns[lid][guid] if lid in columns else NO_WAY for lid in range((top // ENTRIES + 1) * ENTRIES)

@@ -12,7 +12,7 @@ COMMANDS = {
     "order": f"{FLOOR} {ORDERS}",
     "audit": f"{FLOOR} --all --max-load",
     "order-of": FLOOR,
-    "next": f"{FLOOR} {PLANS}",
+    "next": f"{FLOOR} {PLANS} --told-order",
     "run": PLANS,
     "serve": f"--sm-key {PLANS}",
     "help": "",

@@ -37,9 +37,12 @@ option_rule name = record (new_rule name) { long = Some name; value_names = 1; a
 abbrev pub floor_rule : Rule
 floor_rule = record (option_rule (codes "floor")) { parser = Some (Signed (pos 1) (pos 4294967295)) }
 
--- an option with no word behind it
+-- options with no word behind them
 abbrev pub all_rule : Rule
 all_rule = record (new_rule (codes "all")) { long = Some (codes "all"); action = Some SetTrue }
+
+abbrev pub told_order_rule : Rule
+told_order_rule = record (new_rule (codes "told-order")) { long = Some (codes "told-order"); action = Some SetTrue }
 
 abbrev pub max_load_rule : Rule
 max_load_rule = record (option_rule (codes "max-load")) { parser = Some (Signed (pos 0) (pos 4294967295)) }
@@ -107,7 +110,8 @@ abbrev pub order_of_shape : Shape
 order_of_shape = subcommand_shape (codes "order-of") (text_rule (codes "TABLES") ∷ of_files)
 
 abbrev pub next_shape : Bor (List (Bor Text)) → Shape
-next_shape words = subcommand_shape (codes "next") (text_rule (codes "TABLES") ∷ of_files ++ of_planning words)
+next_shape words =
+    subcommand_shape (codes "next") (text_rule (codes "TABLES") ∷ of_files ++ of_planning words ++ told_order_rule ∷ [])
 
 abbrev pub run_shape : Bor (List (Bor Text)) → Shape
 run_shape words =

@@ -51,6 +51,9 @@ pub const ALL: &str = "all";
 /// The option for the most pairs of adapter ports that a channel may carry.
 pub const MAX_LOAD: &str = "max-load";
 
+/// The flag by which a step may go by the order that held tables tell.
+pub const TOLD_ORDER: &str = "told-order";
+
 /// The option for the LMC of a plan.
 pub const LMC: &str = "lmc";
 

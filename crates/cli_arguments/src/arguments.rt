@@ -13,7 +13,7 @@ ghost use Rattle.cli_arguments.specs.CommandLine.{order_shape};
 ghost use Rattle.cli_arguments.specs.CommandLine.{command_line, of_files, of_order, of_planning, of_routing, of_seat};
 ghost use Rattle.cli_arguments.specs.CommandLine.{plan_shape, port_rule, priority_rule, program_app, run_shape, serve_shape};
 ghost use Rattle.cli_arguments.specs.CommandLine.{all_rule, files_rule, floor_rule, lmc_rule, max_load_rule};
-ghost use Rattle.cli_arguments.specs.CommandLine.{of_report, option_rule, routing_rule};
+ghost use Rattle.cli_arguments.specs.CommandLine.{of_report, option_rule, routing_rule, told_order_rule};
 ghost use Rattle.cli_arguments.specs.CommandLine.{text_rule};
 ghost use Rattle.cli_arguments.specs.WellFormed.{IsWellFormed};
 ghost use Rattle.cli_arguments.specs.Words.{has_conflict, has_conflict_behind, is_guid, is_guid_word, is_key};
@@ -22,8 +22,8 @@ ghost use Rattle.cli_arguments.specs.Words.{planning_conflict};
 
 use crate::argument_names::{
     ALL, AUDIT, BALANCE, FACTS, FILE, FLOOR, GUID, JOIN, LMC, MAX_LOAD, NEXT, ORDER, ORDER_OF,
-    PLAN, PORT, PRIORITY, ROOTS, ROUTING, RUN, SCHEDULE, SERVE, SM_KEY, SPREAD, TABLES, TOPOLOGY,
-    UPDOWN,
+    PLAN, PORT, PRIORITY, ROOTS, ROUTING, RUN, SCHEDULE, SERVE, SM_KEY, SPREAD, TABLES, TOLD_ORDER,
+    TOPOLOGY, UPDOWN,
 };
 use clap::error::ErrorKind;
 use clap::{Arg, ArgAction, ArgMatches, Command, Error, value_parser};
@@ -220,7 +220,7 @@ fn next<'a>(alloc: Global, routings: &'a [&'a str]) -> Result<Command<'a>, Alloc
              all the files, so that no packet for a LID that stays is lost meanwhile",
         )
         .after_help(NEXT_END);
-    with_planning(alloc, routings, of_tables(alloc, command)?)
+    with_planning(alloc, routings, of_tables(alloc, command)?)?.arg(told_order(alloc))
 }
 
 fn run<'a>(alloc: Global, routings: &'a [&'a str]) -> Result<Command<'a>, AllocError>
@@ -391,6 +391,20 @@ fn all<'a>(alloc: Global) -> Arg<'a>
     Arg::new(alloc, ALL)
         .long(ALL)
         .help("Prints all lines of each kind, and not the first 20 alone")
+        .action(ArgAction::SetTrue)
+}
+
+/// Returns the flag by which a step may go by the order that held tables tell.
+fn told_order<'a>(alloc: Global) -> Arg<'a>
+    ensures rule { rule_of result ≡ told_order_rule }
+    ensures own { result.global ≡ false }
+{
+    Arg::new(alloc, TOLD_ORDER)
+        .long(TOLD_ORDER)
+        .help(
+            "From tables that are not right by the order of the plan's switches, goes by the order that they \
+             tell by themselves, towards tables between both orders",
+        )
         .action(ArgAction::SetTrue)
 }
 

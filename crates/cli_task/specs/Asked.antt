@@ -93,7 +93,8 @@ audit_asked word = option_and_then (λ floor. option_map
 
 -- the step that is asked for
 abbrev pub step_asked : (List ℕ → Option (List ℕ)) → Option StepAsked
-step_asked word = option_and_then (λ by. option_map (λ floor. record { lmc = by.0; rule = by.1; floor = floor })
+step_asked word = option_and_then (λ by. option_map
+    (λ floor. record { lmc = by.0; rule = by.1; floor = floor; told = is_set (word (codes "told-order")) })
     (floor_asked (word (codes "floor")))) (planning_asked word)
 
 -- the GUID that 1 to 16 hex digits write

@@ -14,8 +14,8 @@ use audit_report::AuditAsked;
 use clap::ArgMatches;
 use cli_arguments::argument_names::{
     ALL, AUDIT, BALANCE, FACTS, FILE, FLOOR, GUID, JOIN, LMC, MAX_LOAD, NEXT, ORDER, ORDER_OF,
-    PLAN, PORT, PRIORITY, ROOTS, ROUTING, RUN, SCHEDULE, SERVE, SM_KEY, SPREAD, TABLES, TOPOLOGY,
-    UPDOWN,
+    PLAN, PORT, PRIORITY, ROOTS, ROUTING, RUN, SCHEDULE, SERVE, SM_KEY, SPREAD, TABLES, TOLD_ORDER,
+    TOPOLOGY, UPDOWN,
 };
 use next_run::StepAsked;
 use serve_lines::hex_number;
@@ -140,7 +140,12 @@ fn step_of(words: &ArgMatches<'_>) -> Option<StepAsked>
 {
     let (lmc, rule) = planning_of(words)?;
     let floor = floor_of(words)?;
-    Some(StepAsked { lmc, rule, floor })
+    Some(StepAsked {
+        lmc,
+        rule,
+        floor,
+        told: is_set(words, TOLD_ORDER),
+    })
 }
 
 /// Returns the manager that `words`, behind a subcommand, ask for.

@@ -1,1 +1,2 @@
+pub mod GoalLids
 pub mod StepIs

@@ -13,11 +13,11 @@ use Rattle.lft_blocks.specs.Rules.{RuleValue}
 use Rattle.plan_file.specs.Held.{HeldPlan}
 use Rattle.plan_file.specs.Printed.{held_plan}
 use Rattle.plan_file.specs.TablesText.{next_text}
-use Rattle.next_tables.specs.NextTables.{StepRuleValue, first_moved, next_tables}
+use Rattle.next_tables.specs.NextTables.{first_moved}
 use Rattle.sm_cli.proofs.Plans.{has_room}
 use Rattle.step_loops.specs.StepOrder.{NoneShorter, WaitInCycle}
 use Rattle.next_run.specs.LoopText.{loop_text}
-use Rattle.next_run.specs.RunNext.{IsCycleInStep, IsLoopInStep, IsSaid, IsStep, step_rule, stepped}
+use Rattle.next_run.specs.RunNext.{IsCycleInStep, IsLoopInStep, IsNextStep, IsSaid, IsStep, planned}
 
 pub is_empty : (xs : List ℕ) → IsTrue (length xs == 0) ↔ (xs ≡ [])
 is_empty xs = (λ t. nil_from_length xs (eqb-true _ _ t), λ e. ap (λ ys. length ys == 0) e)
@@ -34,27 +34,25 @@ pub was_said : {W : Type 0} (written : W → Option (List ℕ)) (has_failed : W 
 was_said written has_failed (Ok u) old new text ok err = inr ok
 was_said written has_failed (Err fault) old new text ok err = inl err
 
-module _ (lmc : ℕ) (rule : RuleValue) (facts : Facts) (held : HeldPlan) (plan : PlanValue) (is_plan : plan ≡ plan_of rule lmc (cells_of facts))
-    (from next : HeldPlan) (by : StepRuleValue) (is_from : from ≡ held) (is_by : by ≡ step_rule rule facts from)
-    (is_next : next ≡ next_tables (cells_of facts) by from (held_plan plan)) where
-  next_is : next ≡ stepped lmc rule facts held
+module _ (lmc : ℕ) (told : Bool) (rule : RuleValue) (facts : Facts) (held : HeldPlan) (plan : PlanValue) (is_plan : plan ≡ plan_of rule lmc (cells_of facts))
+    (from next : HeldPlan) (is_from : from ≡ held) (is_next : IsNextStep told rule facts from (held_plan plan) next) where
+  next_is : IsNextStep told rule facts held (planned lmc rule facts) next
   next_is =
-      is_next ∙ ap (λ b. next_tables (cells_of facts) b from (held_plan plan)) is_by
-      ∙ ap (λ h. next_tables (cells_of facts) (step_rule rule facts h) h (held_plan plan)) is_from
-      ∙ ap (λ p. next_tables (cells_of facts) (step_rule rule facts held) held (held_plan p)) is_plan
+      subst (λ (x : HeldPlan × PlanValue). IsNextStep told rule facts x.0 (held_plan x.1) next) (λ i. (is_from i, is_plan i)) is_next
 
   pub step_is : (prints says : List ℕ → Type 0) (passed : Bool) (known : Facts) (cycle lids : List ℕ) → known ≡ facts
       → lid_fault (no_room lmc (cells_of facts)) ≡ None → first_moved from (held_plan plan) ≡ None
       → IsLoopInStep (cells_of facts) from next cycle lids → prints (next_text plan.given next)
-      → says (loop_text (cells_of known) cycle lids) → IsTrue passed ↔ (cycle ≡ []) → IsStep lmc rule facts held prints says passed
+      → says (loop_text (cells_of known) cycle lids) → IsTrue passed ↔ (cycle ≡ []) → IsStep lmc told rule facts held prints says passed
   step_is prints says passed known cycle lids is_known room still waits printed said judged = record {
     has_room = has_room lmc facts room;
     no_move = sym (λ i. first_moved (is_from i) (held_plan (is_plan i))) ∙ still;
-    written = subst prints (λ i. next_text (is_plan i).given (next_is i)) printed;
+    next = next;
+    is_next = next_is;
+    written = subst prints (λ i. next_text (is_plan i).given next) printed;
     cycle = cycle;
     lids = lids;
-    waits = subst (λ (h : HeldPlan). IsLoopInStep (cells_of facts) h (stepped lmc rule facts held) cycle lids) is_from
-        (subst (λ (n : HeldPlan). IsLoopInStep (cells_of facts) from n cycle lids) next_is waits);
+    waits = subst (λ (h : HeldPlan). IsLoopInStep (cells_of facts) h next cycle lids) is_from waits;
     said = subst (λ (f : Facts). says (loop_text (cells_of f) cycle lids)) is_known said;
     judged = judged;
   }

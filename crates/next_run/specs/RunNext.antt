@@ -1,6 +1,6 @@
 -- What a step from held tables towards a plan does: it reads its inputs in order and writes the tables to write next,
 -- or says why it cannot.
-use Rattle.std.specs.Prelude.{◌≡◌, ◌⊎◌, ◌↔◌, ℕ, Bool, List, [], ◌∷◌, Option, None, Some, IsTrue, if◌then◌else◌}
+use Rattle.std.specs.Prelude.{◌≡◌, ◌⊎◌, ◌↔◌, ℕ, Bool, true, false, List, [], ◌∷◌, Option, None, Some, IsTrue, if◌then◌else◌}
 use Rattle.std.specs.Io.KnownBytes.{Appends}
 use Rattle.byte_io.specs.Source.{SourceState}
 use Rattle.fact_store.specs.View.{Facts, cells_of}
@@ -12,7 +12,8 @@ use Rattle.plan_file.specs.Held.{HeldPlan}
 use Rattle.plan_file.specs.Printed.{held_plan}
 use Rattle.plan_file.specs.TablesText.{next_text}
 use Rattle.next_tables.specs.ByOrder.{position_at}
-use Rattle.next_tables.specs.NextTables.{StepRuleValue, by_order, first_moved, next_tables, settled_first}
+use Rattle.between_orders.specs.Between.{Goal, IsGoal}
+use Rattle.next_tables.specs.NextTables.{StepRuleValue, by_order, first_moved, next_tables, settled_first, value_of}
 use Rattle.ordered_steps.specs.Rightness.{are_right}
 use Rattle.plan_order.specs.PlanOrder.{positions_by}
 use Rattle.next_tables.specs.declared.fault.StepFault.{StepFault}
@@ -27,6 +28,7 @@ use Rattle.sm_cli.specs.declared.fault.Fault.{Fault}
 use Rattle.sm_cli.specs.declared.fault.Fault.TheVariants.{NoRoom, Text, Write, Memory}
 use Rattle.sm_cli.specs.declared.text_fault.TextFault.TheVariants.{Moves}
 use Rattle.next_run.specs.declared.run_step.StepAsked.{StepAsked}
+use Rattle.next_run.specs.declared.step_rule.StepChoice.{StepChoice}
 
 -- steps -----------------------------------------------------------------------------------------
 
@@ -42,13 +44,58 @@ chosen_by cells positions held = if are_right cells (position_at positions) held
 abbrev pub step_rule : RuleValue → Facts → HeldPlan → StepRuleValue
 step_rule rule facts held = chosen_by (cells_of facts) (positions_by rule (cells_of facts)) held
 
--- the tables to write next towards the plan
+-- the tables to write next towards the plan, unless a step goes by the order that the held tables tell
 abbrev pub stepped : ℕ → RuleValue → Facts → HeldPlan → HeldPlan
 stepped lmc rule facts held = next_tables (cells_of facts) (step_rule rule facts held) held (planned lmc rule facts)
 
--- the text of the tables to write next, below the LIDs of the plan
+-- the text of tables to write next, below the LIDs of the plan
+abbrev pub text_of_step : ℕ → RuleValue → Facts → HeldPlan → List ℕ
+text_of_step lmc rule facts next = next_text (plan_of rule lmc (cells_of facts)).given next
+
 abbrev pub step_text : ℕ → RuleValue → Facts → HeldPlan → List ℕ
-step_text lmc rule facts held = next_text (plan_of rule lmc (cells_of facts)).given (stepped lmc rule facts held)
+step_text lmc rule facts held = text_of_step lmc rule facts (stepped lmc rule facts held)
+
+-- how a step chooses, and the tables that it goes towards, if those are not the plan's
+pub record Choice : Type 0 where
+  pub by : StepRuleValue
+  pub goal : Option HeldPlan
+
+abbrev pub choice_of : StepChoice → Choice
+choice_of choice = record { by = value_of choice.by; goal = choice.goal }
+
+-- the goal of a step by the order that the held tables tell: none unless `told`, nor if these are right by the order of
+-- the plan's switches
+abbrev pub IsGoalFrom : Bool → Bool → Cells → HeldPlan → HeldPlan → List ℕ → Option Goal → Type 0
+IsGoalFrom false right cells held plan positions goal = goal ≡ None
+IsGoalFrom true true cells held plan positions goal = goal ≡ None
+IsGoalFrom true false cells held plan positions goal = IsGoal cells held plan positions goal
+
+abbrev pub IsGoalOf : Bool → RuleValue → Facts → HeldPlan → HeldPlan → Option Goal → Type 0
+IsGoalOf told rule facts held plan goal =
+    IsGoalFrom told (are_right (cells_of facts) (position_at (positions_by rule (cells_of facts))) held) (cells_of facts)
+    held plan (positions_by rule (cells_of facts)) goal
+
+-- by the order that the held tables tell, towards tables between that order and the plan's, if there is such a goal
+abbrev pub choice_by : RuleValue → Facts → HeldPlan → Option Goal → Choice
+choice_by rule facts held None = record { by = step_rule rule facts held; goal = None }
+choice_by rule facts held (Some goal) = record { by = by_order goal.positions; goal = Some goal.tables }
+
+pub record IsChoice (told : Bool) (rule : RuleValue) (facts : Facts) (held plan : HeldPlan) (choice : Choice)
+    : Type 0 where
+  pub goal : Option Goal
+  pub goal_is : IsGoalOf told rule facts held plan goal
+  pub is : choice ≡ choice_by rule facts held goal
+
+-- the tables to write next, towards that goal or else the plan
+abbrev pub next_towards : RuleValue → Facts → HeldPlan → HeldPlan → Option Goal → HeldPlan
+next_towards rule facts held plan None = next_tables (cells_of facts) (step_rule rule facts held) held plan
+next_towards rule facts held plan (Some goal) = next_tables (cells_of facts) (by_order goal.positions) held goal.tables
+
+-- `next` are the tables to write next; `told` says whether the step may go by the order that the held tables tell
+pub record IsNextStep (told : Bool) (rule : RuleValue) (facts : Facts) (held plan next : HeldPlan) : Type 0 where
+  pub goal : Option Goal
+  pub goal_is : IsGoalOf told rule facts held plan goal
+  pub is : next ≡ next_towards rule facts held plan goal
 
 -- a shortest credit loop that some mixture of the two tables makes; empty if numbers rise
 abbrev pub IsCycleInStep : Cells → HeldPlan → HeldPlan → List ℕ → Type 0
@@ -66,15 +113,18 @@ abbrev pub IsSaid : {W : Type 0} → (W → Option (List ℕ)) → (W → Bool) 
 IsSaid written has_failed old new text = IsTrue (has_failed new) ⊎ Appends (written old) (written new) text
 
 -- there is room for the plan, and no LID moves; `prints` holds of the step's text, `says` of the text of a shortest
--- credit loop or that there is none, and `passed` is whether there is none
-pub record IsStep (lmc : ℕ) (rule : RuleValue) (facts : Facts) (held : HeldPlan) (prints says : List ℕ
+-- credit loop or that there is none, and `passed` is whether there is none; `told` says whether the step may go by the
+-- order that the held tables tell
+pub record IsStep (lmc : ℕ) (told : Bool) (rule : RuleValue) (facts : Facts) (held : HeldPlan) (prints says : List ℕ
     → Type 0) (passed : Bool) : Type 0 where
   pub has_room : no_room lmc (cells_of facts) ≡ None
   pub no_move : first_moved held (planned lmc rule facts) ≡ None
-  pub written : prints (step_text lmc rule facts held)
+  pub next : HeldPlan
+  pub is_next : IsNextStep told rule facts held (planned lmc rule facts) next
+  pub written : prints (text_of_step lmc rule facts next)
   pub cycle : List ℕ
   pub lids : List ℕ
-  pub waits : IsLoopInStep (cells_of facts) held (stepped lmc rule facts held) cycle lids
+  pub waits : IsLoopInStep (cells_of facts) held next cycle lids
   pub said : says (loop_text (cells_of facts) cycle lids)
   pub judged : IsTrue passed ↔ (cycle ≡ [])
 
@@ -85,10 +135,13 @@ fault_of_step at steps.Memory = Memory
 
 -- why there are no next tables: a LID of the held tables, the input `at`, moves to another end port in the plan; else
 -- memory was refused
+abbrev pub StopsBy : ℕ → Option ℕ → Fault → Type 0
+StopsBy at moved (Text input (Moves lid)) = (input ≡ at) × (moved ≡ Some lid)
+StopsBy at moved Memory = Unit {0}
+StopsBy at moved fault = ⊥
+
 abbrev pub StopsNext : ℕ → HeldPlan → HeldPlan → Fault → Type 0
-StopsNext at held plan (Text input (Moves lid)) = (input ≡ at) × (first_moved held plan ≡ Some lid)
-StopsNext at held plan Memory = Unit {0}
-StopsNext at held plan fault = ⊥
+StopsNext at held plan = StopsBy at (first_moved held plan)
 
 -- why there is no step: the plan has no room, or a LID of the held tables, the input `at`, moves; else the output has
 -- failed, or memory was refused
@@ -107,7 +160,7 @@ abbrev pub HasStepped : {S : Type 0} → (S → SourceState) → StepAsked → L
     → (List ℕ → Type 0) → (List ℕ → Type 0) → Bool → Type 0
 HasStepped state asked olds news prints says passed =
     WithInputs state (tables_reader state asked.floor) asked.rule olds news
-    (λ rule told. IsStep asked.lmc rule told.store told.held prints says passed)
+    (λ rule told. IsStep asked.lmc asked.told rule told.store told.held prints says passed)
 
 -- why a step over open inputs ends early: the inputs are not read, or the step is not written
 abbrev pub IsStepFault : {S : Type 0} → (S → SourceState) → StepAsked → List S → List S

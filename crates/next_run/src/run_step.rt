@@ -4,14 +4,14 @@ ghost use Rattle.std.specs.Io.KnownBytes.{Appends};
 ghost use Rattle.fact_store.specs.View.{cells_of};
 ghost use Rattle.lft_blocks.specs.Rules.{value_of};
 ghost use Rattle.sm_cli.specs.Asked.{texts_for};
-ghost use Rattle.next_run.specs.RunNext.{HasStepped, IsLoopInStep, IsSaid, IsStep, IsStepFault, StopsNext};
+ghost use Rattle.next_run.specs.RunNext.{HasStepped, IsLoopInStep, IsNextStep, IsSaid, IsStep, IsStepFault, StopsNext};
 ghost use Rattle.next_run.specs.RunNext.{StopsStep, fault_of_step};
 ghost use Rattle.next_tables.specs.NextTables.{first_moved, next_tables};
 ghost use Rattle.next_tables.specs.NextTables.{value_of as chosen_of};
 ghost use Rattle.plan_file.specs.Printed.{held_plan};
 
 use crate::step_loop::StepLoop;
-use crate::step_rule::step_rule;
+use crate::step_rule::step_choice;
 use attr_codec::Lmc;
 use audit::Network;
 use byte_io::{Sink, Source};
@@ -32,6 +32,9 @@ pub struct StepAsked {
     pub rule: RuleAsked,
     /// Facts of generations before this one are ignored.
     pub floor: Generation,
+    /// Whether a step from tables that are not right by the order of the plan's switches goes by the order that they
+    /// tell.
+    pub told: bool,
 }
 
 /// Reads the inputs in order (`read_inputs`): the text that the rule takes, the text of the held tables, then the
@@ -70,6 +73,7 @@ pub fn run_next<S: Source, W: Sink, E: Sink>(
             &read.held,
             &read.store,
             asked.lmc,
+            asked.told,
             &rule,
             sink,
             told,
@@ -79,18 +83,20 @@ pub fn run_next<S: Source, W: Sink, E: Sink>(
 }
 
 /// Writes the step from the held tables, whose text is the input number `input`, towards the plan of what a store
-/// holds. Writes to `told` whether channels can wait for each other in it, and returns whether none can.
+/// holds; `by_told` says whether it may go by the order that they tell. Writes to `told` whether channels can wait for
+/// each other in it, and returns whether none can.
 fn step<W: Sink, E: Sink>(
     alloc: Global,
     input: usize,
     held: &Held,
     store: &Store,
     lmc: Lmc,
+    by_told: bool,
     rule: &Rule,
     sink: &mut W,
     told: &mut E,
 ) -> Result<bool, Fault>
-    ensures done { IfOk result (IsStep lmc (value_of rule.now) store.now held.now
+    ensures done { IfOk result (IsStep lmc by_told (value_of rule.now) store.now held.now
         (Appends (W.written sink.old) (W.written sink.new))
         (IsSaid E.written E.has_failed told.old told.new)) }
     ensures flushed { OnOk result (IsTrue (W.is_flushed sink.new)) }
@@ -104,10 +110,7 @@ fn step<W: Sink, E: Sink>(
     let Ok(from) = Network::of(alloc, store, held) else {
         return Err(Fault::Memory);
     };
-    let Ok(by) = step_rule(alloc, store, rule, &from) else {
-        return Err(Fault::Memory);
-    };
-    let next = match next_towards(alloc, input, store, &by, &from, &plan) {
+    let next = match next_by(alloc, input, by_told, store, rule, &from, &plan) {
         Ok(next) => next,
         Err(fault) => return Err(fault),
     };
@@ -119,19 +122,19 @@ fn step<W: Sink, E: Sink>(
     Ok(found.is_none())
 }
 
-/// Returns the tables to write next by the rule `by`, from those of the network `from` towards a plan of the same
-/// facts. `input` is the number of the held tables' text, for faults.
-fn next_towards(
+/// Returns the tables to write next from those of the network `from`, towards a plan of the same facts by `rule`; `told`
+/// says whether the step may go by the order that they tell. `input` is the number of the held tables' text, for faults.
+fn next_by(
     alloc: Global,
     input: usize,
+    told: bool,
     store: &Store,
-    by: &StepRule,
+    rule: &Rule,
     from: &Network,
     plan: &Plan,
 ) -> Result<Held, Fault>
     requires { from.now.facts ≡ store.now }
-    ensures tables { IfOk result (λ next.
-        next ≡ next_tables (cells_of store.now) (chosen_of by.now) from.now.held (held_plan plan.now)) }
+    ensures tables { IfOk result (IsNextStep told (value_of rule.now) store.now from.now.held (held_plan plan.now)) }
     ensures still { OnOk result (first_moved from.now.held (held_plan plan.now) ≡ None) }
     ensures refused { IfErr result (StopsNext input from.now.held (held_plan plan.now)) }
 {
@@ -139,6 +142,34 @@ fn next_towards(
         return Err(Fault::Memory);
     };
     let Ok(to) = Network::of(alloc, store, &planned) else {
+        return Err(Fault::Memory);
+    };
+    let Ok(choice) = step_choice(alloc, told, store, rule, from, &to) else {
+        return Err(Fault::Memory);
+    };
+    match &choice.goal {
+        Some(goal) => next_towards(alloc, input, store, &choice.by, from, goal),
+        None => next_towards(alloc, input, store, &choice.by, from, &planned),
+    }
+}
+
+/// Returns the tables to write next by the rule `by`, from those of the network `from` towards those of `goal`. `input`
+/// is the number of the held tables' text, for faults.
+fn next_towards(
+    alloc: Global,
+    input: usize,
+    store: &Store,
+    by: &StepRule,
+    from: &Network,
+    goal: &Held,
+) -> Result<Held, Fault>
+    requires { from.now.facts ≡ store.now }
+    ensures tables { IfOk result (λ next.
+        next ≡ next_tables (cells_of store.now) (chosen_of by.now) from.now.held goal.now) }
+    ensures still { OnOk result (first_moved from.now.held goal.now ≡ None) }
+    ensures refused { IfErr result (StopsNext input from.now.held goal.now) }
+{
+    let Ok(to) = Network::of(alloc, store, goal) else {
         return Err(Fault::Memory);
     };
     match next_tables(alloc, by, from, &to) {

@@ -1,34 +1,89 @@
 //! How a step chooses.
-ghost use Rattle.std.specs.Prelude.{◌≡◌, IfOk};
+ghost use Rattle.std.specs.Prelude.{◌≡◌, IfOk, false, length};
+ghost use Rattle.std.specs.Option.{option_map};
+ghost use Rattle.fact_store.specs.View.{cells_of};
 ghost use Rattle.lft_blocks.specs.Rules.{value_of};
-ghost use Rattle.next_tables.specs.NextTables.{value_of as chosen_of};
-ghost use Rattle.next_run.specs.RunNext.{step_rule};
+ghost use Rattle.subnet_view.specs.Reading.{switches};
+ghost use Rattle.between_orders.specs.Between.{goal_of};
+ghost use Rattle.next_run.specs.RunNext.{IsChoice, IsGoalFrom, choice_of};
 
 use audit::Network;
+use between_orders::{StepGoal, between};
 use fact_store::Store;
 use lft_blocks::Rule;
 use next_tables::StepRule;
 use ordered_steps::are_right;
+use plan_file::Held;
 use plan_order::plan_positions;
 use std::alloc::{AllocError, Global};
 
-/// Returns how a step from the network's tables chooses entries, towards the plan of the same facts by `rule`: by the
-/// order of the plan's switches if the tables are right by that order, and else by settled entries.
-pub(crate) fn step_rule(
+/// How a step chooses entries, and the tables that it goes towards.
+#[derive(Drop)]
+pub(crate) struct StepChoice {
+    /// How it chooses.
+    pub by: StepRule,
+    /// The tables that it goes towards, if those are not the plan's.
+    pub goal: Option<Held>,
+}
+
+/// Returns how a step from the network's tables chooses entries, towards the tables of `plan`, the plan of the same facts
+/// by `rule`: by the order of the plan's switches if the tables are right by that order. Else, if `told`, by the order
+/// that the tables tell, towards tables between that order and the plan's, if there are such tables. Else by settled
+/// entries.
+pub(crate) fn step_choice(
     alloc: Global,
+    told: bool,
     store: &Store,
     rule: &Rule,
     from: &Network,
-) -> Result<StepRule, AllocError>
-    requires { from.now.facts ≡ store.now }
-    ensures { IfOk result (λ by. chosen_of by ≡ step_rule (value_of rule.now) store.now from.now.held) }
+    plan: &Network,
+) -> Result<StepChoice, AllocError>
+    requires from { from.now.facts ≡ store.now }
+    requires plan { plan.now.facts ≡ store.now }
+    ensures { IfOk result (λ choice.
+        IsChoice told (value_of rule.now) store.now from.now.held plan.now.held (choice_of choice)) }
 {
     let Ok(positions) = plan_positions(alloc, store, rule) else {
         return Err(AllocError);
     };
     if are_right(alloc, from, &positions)? {
-        Ok(StepRule::ByOrder(positions))
-    } else {
-        Ok(StepRule::SettledFirst)
+        return Ok(StepChoice {
+            by: StepRule::ByOrder(positions),
+            goal: None,
+        });
+    }
+    match goal_between(alloc, told, store, from, plan, &positions)? {
+        Some(StepGoal { positions, tables }) => Ok(StepChoice {
+            by: StepRule::ByOrder(positions),
+            goal: Some(tables),
+        }),
+        None => Ok(StepChoice {
+            by: StepRule::SettledFirst,
+            goal: None,
+        }),
+    }
+}
+
+/// Returns the goal of a step by the order that the tables tell, if `told` and there is one.
+fn goal_between(
+    alloc: Global,
+    told: bool,
+    store: &Store,
+    from: &Network,
+    plan: &Network,
+    positions: &[usize],
+) -> Result<Option<StepGoal>, AllocError>
+    requires from { from.now.facts ≡ store.now }
+    requires plan { plan.now.facts ≡ store.now }
+    requires positions { length positions.now ≡ length (switches (cells_of store.now)) }
+    ensures { IfOk result (λ found. IsGoalFrom told false (cells_of store.now) from.now.held plan.now.held positions.now
+        (option_map goal_of found)) }
+{
+    if !told {
+        return Ok(None);
+    }
+    match between(alloc, store, from, plan, positions) {
+        Ok(found) => Ok(found),
+        Err(_) => Err(AllocError),
     }
 }

@@ -2,6 +2,7 @@ pub mod Alone
 pub mod Ended
 pub mod Last
 pub mod NoLoop
+pub mod OneStep
 pub mod OrderedLast
 pub mod Own
 pub mod Reached

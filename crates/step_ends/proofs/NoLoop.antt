@@ -1,12 +1,12 @@
 -- From right tables no credit loop comes about in a step.
-use Rattle.std.proofs.Common.{◌≡◌, ◌≤◌, ◌<◌, ℕ, List, [], ◌∷◌, true, cond, refl, sym, ap, ◌∙◌, subst, arith}
+use Rattle.std.proofs.Common.{◌≡◌, ◌≤◌, ◌<◌, ℕ, Bool, List, [], ◌∷◌, Some, true, false, cond, refl, sym, ap, ◌∙◌, subst, arith}
 use Rattle.std.specs.Prelude.{slice_index_or}
-use Rattle.fact_store.specs.View.{cells_of}
+use Rattle.fact_store.specs.View.{Facts, cells_of}
 use Rattle.subnet_view.specs.Reading.{Cells}
 use Rattle.plan_file.specs.Held.{HeldPlan}
 use Rattle.plan_order.specs.PlanOrder.{positions_by}
 use Rattle.next_tables.specs.Mixtures.{RiseInStep}
-use Rattle.next_tables.specs.ByOrder.{numbers_by}
+use Rattle.next_tables.specs.ByOrder.{numbers_by, position_at}
 use Rattle.next_tables.specs.NextTables.{by_order, next_tables, settled_first}
 use Rattle.step_loops.specs.StepOrder.{WaitInCycle, WaitOn, WaitsFor}
 use Rattle.ordered_steps.specs.Rightness.{are_right}
@@ -14,8 +14,12 @@ use Rattle.ordered_steps.proofs.OrderedTables.{ordered_tables_are_next}
 use Rattle.ordered_steps.proofs.ToldRight.{rightness_is_told}
 use Rattle.plan_order_laws.specs.PlanLaws.{plan_position}
 use Rattle.plan_order_laws.proofs.PlanSteps.{steps_towards_plans}
-use Rattle.next_run.specs.RunNext.{IsCycleInStep, planned, stepped}
-use Rattle.step_ends.specs.StepEnds.{RightTablesMakeNoLoop}
+use Rattle.between_orders.specs.Between.{Goal, IsGoal}
+use Rattle.between_orders.specs.BetweenLaws.{next_towards as next_to}
+use Rattle.between_orders.proofs.Safe.{goals_are_safe}
+use Rattle.ordered_steps.proofs.Waits.{numbers_rise_by_order}
+use Rattle.next_run.specs.RunNext.{IsCycleInStep, IsGoalFrom, planned, stepped}
+use Rattle.step_ends.specs.StepEnds.{IsFreeByTold, RightTablesMakeNoLoop, ToldStepsMakeNoLoop}
 
 module _ (cells : Cells) (held next : HeldPlan) (numbers : List ℕ) (rise : RiseInStep cells held next numbers) where
   abbrev at : ℕ → ℕ
@@ -47,3 +51,26 @@ right_tables_make_no_loop rule lmc facts held range has_room right =
           (subst (λ (t : HeldPlan). RiseInStep cells held t (numbers_by cells q)) (sym same) towards.0) cycle is.0;
       right = subst (λ (t : HeldPlan). are_right cells q t ≡ true) (sym same) ((told next).1 towards.1);
     }
+
+-- nor in a step by the order that the held tables tell
+free_by_told : (facts : Facts) (held plan : HeldPlan) (by : List ℕ) (goal : Goal) → IsGoal (cells_of facts) held plan by (Some goal)
+    → IsFreeByTold facts held (next_to facts held goal) goal
+free_by_told facts held plan by goal is =
+    let cells = cells_of facts in
+    let q = position_at goal.positions in
+    let next = next_to facts held goal in
+    let safe = goals_are_safe facts held plan by goal is in
+    record {
+      loops = λ cycle lids found. none_in_cycle cells held next (numbers_by cells q) (numbers_rise_by_order cells q held goal.tables next safe.0) cycle found.0;
+      right = (rightness_is_told cells q next).1 safe.1;
+    }
+
+pub told_steps_make_no_loop : ToldStepsMakeNoLoop
+told_steps_make_no_loop rule lmc facts held goal is =
+    let positions = positions_by rule (cells_of facts) in
+    by_test (are_right (cells_of facts) (position_at positions) held) is
+  where
+    by_test : (b : Bool) → IsGoalFrom true b (cells_of facts) held (planned lmc rule facts) (positions_by rule (cells_of facts)) (Some goal)
+        → IsFreeByTold facts held (next_to facts held goal) goal
+    by_test true is = absurd (cc)
+    by_test false is = free_by_told facts held (planned lmc rule facts) (positions_by rule (cells_of facts)) goal is

@@ -1,5 +1,5 @@
 -- When steps of whole tables towards a plan end.
-use Rattle.std.specs.Prelude.{◌≡◌, ◌≤◌, ◌+◌, ◌*◌, ℕ, zero, suc, true, Contains, List, [], ◌∷◌, Some, length}
+use Rattle.std.specs.Prelude.{◌≡◌, ◌≤◌, ◌+◌, ◌*◌, ℕ, Bool, zero, suc, true, Contains, List, [], ◌∷◌, Some, length}
 use Rattle.fact_store.specs.View.{Facts, cells_of, AreInRange}
 use Rattle.subnet_view.specs.Reading.{Cells, switches}
 use Rattle.lid_assign.specs.Lids.{IsNoRoom, lids, top_of as greatest_of}
@@ -19,7 +19,9 @@ use Rattle.next_tables.specs.NextTables.{IsKept}
 use Rattle.next_tables.specs.StepLaws.{stepped as settled}
 use Rattle.ordered_steps.specs.Rightness.{are_right}
 use Rattle.plan_order_laws.specs.PlanLaws.{plan_position}
-use Rattle.next_run.specs.RunNext.{IsLoopInStep, planned, step_text, stepped}
+use Rattle.between_orders.specs.Between.{Goal}
+use Rattle.next_tables.specs.ByOrder.{position_at}
+use Rattle.next_run.specs.RunNext.{IsGoalOf, IsLoopInStep, IsNextStep, next_towards, planned, step_text, stepped}
 
 -- the plan delivers from each switch from which some tables deliver, at the end port that alone holds a LID in these
 -- tables and in the plan
@@ -61,6 +63,24 @@ RightTablesMakeNoLoop =
     (rule : RuleValue) (lmc : ℕ) (facts : Facts) (held : HeldPlan) → AreInRange facts
     → ¬ (IsNoRoom lmc (cells_of facts)) → are_right (cells_of facts) (plan_position rule (cells_of facts)) held ≡ true
     → IsFreeOfLoops lmc rule facts held
+
+-- equal facts, options and held tables give equal next tables
+abbrev pub StepsHaveOneResult : Type 0
+StepsHaveOneResult =
+    (told : Bool) (rule : RuleValue) (facts : Facts) (held plan next other : HeldPlan)
+    → IsNextStep told rule facts held plan next → IsNextStep told rule facts held plan other → next ≡ other
+
+-- a step by the order that held tables tell, towards tables between that order and the plan's, makes no credit loop, and
+-- the next tables are right by that order
+pub record IsFreeByTold (facts : Facts) (held next : HeldPlan) (goal : Goal) : Type 0 where
+  pub loops : (cycle lids : List ℕ) → IsLoopInStep (cells_of facts) held next cycle lids → cycle ≡ []
+  pub right : are_right (cells_of facts) (position_at goal.positions) next ≡ true
+
+abbrev pub ToldStepsMakeNoLoop : Type 0
+ToldStepsMakeNoLoop =
+    (rule : RuleValue) (lmc : ℕ) (facts : Facts) (held : HeldPlan) (goal : Goal)
+    → IsGoalOf true rule facts held (planned lmc rule facts) (Some goal)
+    → IsFreeByTold facts held (next_towards rule facts held (planned lmc rule facts) (Some goal)) goal
 
 -- what `next` prints after n steps from the tables of a text, each step from what was printed before
 abbrev pub printed : ℕ → RuleValue → Facts → List ℕ → ℕ → List ℕ

@@ -1,6 +1,7 @@
 //! The laws of repeated steps: what they come to, and that an order of switches keeps them free of credit loops.
 ghost use Rattle.step_ends.specs.StepEnds.{LastTextIsThePlans, PlansDeliverWhatTablesCan, PrintedStepsEnd};
-ghost use Rattle.step_ends.specs.StepEnds.{RightTablesMakeNoLoop, StepsEnd, WaysMeetAtMostAll};
+ghost use Rattle.step_ends.specs.StepEnds.{RightTablesMakeNoLoop, StepsEnd, StepsHaveOneResult};
+ghost use Rattle.step_ends.specs.StepEnds.{ToldStepsMakeNoLoop, WaysMeetAtMostAll};
 
 /// `next_tables` by settled entries, repeated, returns what it was given after as many steps as the longest way of the
 /// plan meets switches, and two at least, if the plan delivers from each switch from which tables can.
@@ -18,6 +19,18 @@ pub fn plans_deliver_what_tables_can()
 /// then up.
 pub fn right_tables_make_no_loop()
     ensures law { RightTablesMakeNoLoop }
+{}
+
+/// Equal facts, rules and held tables give equal next tables, with `--told-order` and without.
+pub fn steps_have_one_result()
+    ensures law { StepsHaveOneResult }
+{}
+
+/// A step of `next --told-order` by the order that the held tables tell can make no credit loop in any mixture, and its
+/// tables are right by that order. It goes so from tables that are not right by the order of the plan's switches, if
+/// they tell an order and the goal in between is right by it.
+pub fn told_steps_make_no_loop()
+    ensures law { ToldStepsMakeNoLoop }
 {}
 
 /// `next`, repeated with the same facts, LMC and rule, prints what it was given, byte for byte, after enough steps,

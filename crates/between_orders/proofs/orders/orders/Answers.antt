@@ -1,0 +1,27 @@
+-- From the told order.
+use Rattle.std.proofs.Common.{◌≡◌, ◌∙◌, ℕ, List, Option, Vec, Global, Some, ap, length, subst, sym}
+use Rattle.std.specs.Option.{option_map}
+use Rattle.std.proofs.lemmas.List.FromFn.{length-map-range_with_len}
+use Rattle.fact_store.specs.View.{cells_of}
+use Rattle.told_order.specs.ToldOrder.{IsTold, position_in}
+use Rattle.two_orders.specs.Growth.{grown_by}
+use Rattle.between_orders.specs.Orders.{orders_from, told_positions}
+use Rattle.between_orders.proofs.orders.orders.Goals as goal
+
+pub orders_from-requires-clause-told : goal.orders_from-requires-clause-told
+orders_from-requires-clause-told c =
+    ap (λ (xs : List ℕ). length xs) c.in_ok-told-in-Some.ensures
+    ∙ length-map-range_with_len (position_in c.deref-in-Some.result.now) 0 c.len.result ∙ c.len.ensures
+
+pub returns-in-Some : goal.returns-in-Some
+returns-in-Some c =
+    let cells = cells_of c.args.held.now.facts in
+    let held = c.args.held.now.held in
+    let edges = c.args.edges.now in
+    let plan = c.args.plan.now in
+    let preferred : c.deref.result.now ≡ grown_by edges plan = c.deref.ensures.value ∙ c.in_ok-preferred.ensures in
+    let told : IsTold cells held (grown_by edges plan) (Some c.in-Some.taken.items) =
+    subst (λ (ps : List ℕ). IsTold cells held ps (Some c.in-Some.taken.items)) preferred
+    (subst (λ (o : Option (Vec ℕ Global)). IsTold cells held c.deref.result.now (option_map (λ (v : Vec ℕ Global). v.items) o)) c.in-Some.is c.in_ok-taken.ensures) in
+    let positions = c.in_ok-told-in-Some.ensures ∙ (λ i. told_positions (c.deref-in-Some.ensures.value i) (c.len.ensures i)) in
+    (c.in-Some.taken.items, told, c.in_ok-orders-in-Some.ensures ∙ ap (orders_from cells held edges plan) positions)

@@ -1,0 +1,93 @@
+-- Tables between two orders, which lead packets up and then down by both.
+use Rattle.std.specs.Prelude.{◌≡◌, ℕ, ◌*◌, Bool, true, false, List, [], ◌∷◌, Option, None, Some, length, map, max, replicate, if◌then◌else◌}
+use Rattle.std.specs.List.{enumerate_from, find, range_with_len, zip}
+use Rattle.port_graph.specs.declared.edge.Edge.{Edge}
+use Rattle.port_graph.specs.Heads.{edges_at}
+use Rattle.subnet_view.specs.declared.end_port.EndPort.{EndPort}
+use Rattle.subnet_view.specs.Reading.{Cells, switches}
+use Rattle.lft_blocks.specs.Entries.{block_count}
+use Rattle.plan_file.specs.Held.{HeldPlan}
+use Rattle.held_tables.specs.Tables.{owners_of}
+use Rattle.audit.specs.declared.next_hop.NextHop.{NextHop}
+use Rattle.audit.specs.declared.next_hop.NextHop.TheVariants.{To, Ends}
+use Rattle.audit.specs.declared.switch_step.SwitchStep.{SwitchStep}
+use Rattle.audit.specs.Edges.{greatest_top}
+use Rattle.audit.specs.NextHops.{is_at, switch_step}
+use Rattle.next_tables.specs.Assembled.{all_blocks}
+use Rattle.next_tables.specs.NextTables.{next_switch}
+use Rattle.next_tables.specs.SwitchSteps.{Both}
+use Rattle.two_orders.specs.declared.labels.Sides.{Sides}
+use Rattle.two_orders.specs.Labels.{both_down, label_at, labels_from, leads_on}
+use Rattle.two_orders.specs.TwoOrders.{TwoOrders}
+
+-- the hop leads to the end port
+abbrev pub arrives : EndPort → NextHop → Bool
+arrives port (To j) = false
+arrives port (Ends e) = is_at port (Some e)
+
+-- at first the switches have a label from which the plan leads to the end port
+abbrev pub first_label : EndPort → SwitchStep → Option Sides
+first_label port plan = if arrives port plan.hop then Some both_down else None
+
+-- the hop of switch i leads on to the sides of its label
+abbrev pub fits : TwoOrders → List (Option Sides) → Sides → ℕ → NextHop → Bool
+fits orders labels sides i (To j) = leads_on orders labels sides i j
+fits orders labels sides i (Ends e) = false
+
+abbrev pub port_of : Option Edge → ℕ
+port_of None = 255
+port_of (Some e) = e.port
+
+-- the entry of a switch with this label: the held one if it fits, else the plan's if that does, else the least port by
+-- which a channel leads on
+abbrev pub entry_to : List (List Edge) → TwoOrders → List (Option Sides) → Sides → ℕ → Both → ℕ
+entry_to edges orders labels sides i x =
+    if fits orders labels sides i x.0.hop then x.0.entry else
+    (if fits orders labels sides i x.1.hop then x.1.entry else
+    port_of (find (λ e. leads_on orders labels sides i e.to) (edges_at edges i)))
+
+abbrev pub entry_with : List (List Edge) → TwoOrders → List (Option Sides) → Option Sides → ℕ → Both → ℕ
+entry_with edges orders labels None i x = 255
+entry_with edges orders labels (Some sides) i x = entry_to edges orders labels sides i x
+
+-- the plan's entry if that leads to the end port, else one by the label
+abbrev pub entry_between : EndPort → List (List Edge) → TwoOrders → List (Option Sides) → ℕ × Both → ℕ
+entry_between port edges orders labels x =
+    if arrives port x.1.1.hop then x.1.1.entry else entry_with edges orders labels (label_at labels x.0) x.0 x.1
+
+-- the entries of all switches towards an end port, from what each does by the held tables and by the plan
+abbrev pub labels_towards : EndPort → List (List Edge) → TwoOrders → List SwitchStep → List (Option Sides)
+labels_towards port edges orders plan = labels_from edges orders (map (first_label port) plan)
+
+unfoldable pub entries_towards : EndPort → List (List Edge) → TwoOrders → List SwitchStep → List SwitchStep → List ℕ
+entries_towards port edges orders held plan =
+    map (entry_between port edges orders (labels_towards port edges orders plan)) (enumerate_from 0 (zip held plan))
+
+-- those for a LID, towards the first of its owners; 255 if it has none
+abbrev pub column_for : Cells → List (List Edge) → TwoOrders → HeldPlan → HeldPlan → ℕ → List EndPort → List ℕ
+column_for cells edges orders held plan lid [] = replicate (length (switches cells)) 255
+column_for cells edges orders held plan lid (port ∷ ports) =
+    entries_towards port edges orders (map (switch_step cells held lid) (switches cells))
+    (map (switch_step cells plan lid) (switches cells))
+
+abbrev pub column_between : Cells → List (List Edge) → TwoOrders → HeldPlan → HeldPlan → ℕ → List ℕ
+column_between cells edges orders held plan lid = column_for cells edges orders held plan lid (owners_of plan lid)
+
+-- the plan's LIDs, and each usable switch with the greater of its tops and these entries, for each LID those of all
+-- switches
+abbrev pub tables_with : Cells → HeldPlan → HeldPlan → List (List ℕ) → HeldPlan
+tables_with cells held plan columns = record {
+  lids = plan.lids;
+  switches = map (next_switch held plan) (switches cells);
+  blocks = all_blocks columns 0 (map (next_switch held plan) (switches cells));
+}
+
+-- the number of blocks up to the greatest top
+abbrev pub most_blocks : Cells → HeldPlan → HeldPlan → ℕ
+most_blocks cells held plan = block_count (Some (max (greatest_top cells held) (greatest_top cells plan)))
+
+-- the tables between the two orders
+unfoldable pub tables_between : Cells → List (List Edge) → TwoOrders → HeldPlan → HeldPlan → HeldPlan
+tables_between cells edges orders held plan =
+    tables_with cells held plan
+    (map (column_between cells edges orders held plan) (range_with_len 0 (64 * most_blocks cells held plan)))

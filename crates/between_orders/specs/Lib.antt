@@ -1,0 +1,4 @@
+pub mod Between
+pub mod BetweenLaws
+pub mod Goal
+pub mod Orders

@@ -1,0 +1,42 @@
+-- The orders of switches by which a step goes from tables that tell an order by themselves: that order, and the next one.
+use Rattle.std.specs.Prelude.{◌≡◌, ℕ, List, Option, None, Some, length, map, if◌then◌else◌}
+use Rattle.std.specs.List.{range_with_len}
+use Rattle.port_graph.specs.declared.edge.Edge.{Edge}
+use Rattle.subnet_view.specs.Graph.{graph_of}
+use Rattle.subnet_view.specs.Reading.{Cells}
+use Rattle.plan_file.specs.Held.{HeldPlan}
+use Rattle.spread_routes.specs.Rule.{by_index}
+use Rattle.next_tables.specs.ByOrder.{position_at}
+use Rattle.ordered_steps.specs.Rightness.{are_right}
+use Rattle.told_order.specs.ToldOrder.{IsTold, position_in}
+use Rattle.two_orders.specs.Growth.{grown_by, positions_in}
+use Rattle.two_orders.specs.Trees.{tree}
+use Rattle.two_orders.specs.TwoOrders.{TwoOrders, two_orders}
+
+-- the switches with their wires
+abbrev pub edges_in : Cells → List (List Edge)
+edges_in cells = by_index (graph_of cells)
+
+-- the positions of n switches in a list that begins with the last one
+abbrev pub told_positions : List ℕ → ℕ → List ℕ
+told_positions taken n = map (position_in taken) (range_with_len 0 n)
+
+-- from the positions that tables tell: if the tables are right by the order that grows by these, that one, and the one
+-- that grows by the plan's positions over its tree; else the told order, and the one that grows by it
+abbrev pub orders_by : Cells → HeldPlan → List (List Edge) → List ℕ → List ℕ → List ℕ → TwoOrders
+orders_by cells held edges plan told grown =
+    if are_right cells (position_at (positions_in grown (length edges))) held
+    then two_orders (positions_in grown (length edges))
+    (grown_by (tree edges (positions_in grown (length edges))) plan) (length edges)
+    else two_orders told grown (length edges)
+
+abbrev pub orders_from : Cells → HeldPlan → List (List Edge) → List ℕ → List ℕ → TwoOrders
+orders_from cells held edges plan told = orders_by cells held edges plan told (grown_by edges told)
+
+-- the orders of a step from `held`: by the order that the tables tell, of several switches that may be last the last in
+-- the plan's order taken first; None if they tell none
+abbrev pub AreOrders : Cells → HeldPlan → List (List Edge) → List ℕ → Option TwoOrders → Type 0
+AreOrders cells held edges plan None = IsTold cells held (grown_by edges plan) None
+AreOrders cells held edges plan (Some orders) =
+    (taken : List ℕ) × IsTold cells held (grown_by edges plan) (Some taken)
+    × (orders ≡ orders_from cells held edges plan (told_positions taken (length edges)))

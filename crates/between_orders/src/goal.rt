@@ -1,0 +1,279 @@
+//! Tables between two orders.
+ghost use Rattle.std.specs.Prelude.{◌≡◌, ◌≤◌, ◌*◌, ◌/◌, IfOk, length, map, replicate, slice_get};
+ghost use Rattle.std.specs.List.{enumerate_from, find, range_with_len, zip};
+ghost use Rattle.fact_store.specs.View.{cells_of};
+ghost use Rattle.port_graph.specs.Heads.{edges_at};
+ghost use Rattle.held_tables.specs.Blocks.{AreBlocks};
+ghost use Rattle.between_orders.specs.Goal.{arrives, column_between, entries_towards, entry_between, entry_to, entry_with, first_label};
+ghost use Rattle.between_orders.specs.Goal.{fits, labels_towards, port_of, tables_between};
+ghost use Rattle.two_orders.specs.Labels.{leads_on};
+
+use crate::assembly::{most_blocks, tables_with};
+use audit::{Blocks, Network, NextHop, SwitchStep, is_at};
+use plan_file::Held;
+use port_graph::{Adjacency, Edge};
+use smp_bytes::Lid;
+use std::alloc::{AllocError, Global};
+use subnet_view::EndPort;
+use two_orders::{Orders, Sides, label_all, label_at, leads_on};
+
+/// Returns tables between two orders, with the entries of the held tables and of the plan's if they fit. `edges` has the
+/// wires of each switch. Takes four steps for each wire and each LID.
+pub(crate) fn tables_between(
+    alloc: Global,
+    edges: &Adjacency,
+    orders: &Orders,
+    held: &Network,
+    plan: &Network,
+) -> Result<Held, AllocError>
+    requires facts { plan.now.facts ≡ held.now.facts }
+    ensures { IfOk result (λ goal. goal
+        ≡ tables_between (cells_of held.now.facts) edges.now orders.now held.now.held plan.now.held) }
+{
+    let columns = columns(alloc, edges, orders, held, plan, most_blocks(held, plan))?;
+    tables_with(alloc, held, plan, &columns)
+}
+
+/// Returns the entries of all usable switches for each LID of `count` blocks, from LID 0 on.
+fn columns(
+    alloc: Global,
+    edges: &Adjacency,
+    orders: &Orders,
+    held: &Network,
+    plan: &Network,
+    count: usize,
+) -> Result<Vec<Vec<u8>>, AllocError>
+    requires facts { plan.now.facts ≡ held.now.facts }
+    requires few { count ≤ 1024 }
+    ensures { IfOk result (λ columns. map (λ column. column.items) columns.items
+        ≡ map (column_between (cells_of held.now.facts) edges.now orders.now held.now.held plan.now.held)
+        (range_with_len 0 (64 * count))) }
+{
+    let mut columns = Vec::with_capacity(alloc, 64 * count)?;
+    let mut held_blocks = held.blocks(alloc, 0)?;
+    let mut plan_blocks = plan.blocks(alloc, 0)?;
+    for number in 0..64 * count {
+        let lid = Lid::new(number as u16);
+        held_blocks = held.blocks_for(alloc, held_blocks, lid)?;
+        plan_blocks = plan.blocks_for(alloc, plan_blocks, lid)?;
+        let column = column(
+            alloc,
+            edges,
+            orders,
+            held,
+            plan,
+            &held_blocks,
+            &plan_blocks,
+            lid,
+        )?;
+        columns.push(column)?;
+    }
+    Ok(columns)
+}
+
+/// Returns the entries of all usable switches for `lid`.
+fn column(
+    alloc: Global,
+    edges: &Adjacency,
+    orders: &Orders,
+    held: &Network,
+    plan: &Network,
+    held_blocks: &Blocks,
+    plan_blocks: &Blocks,
+    lid: Lid,
+) -> Result<Vec<u8>, AllocError>
+    requires facts { plan.now.facts ≡ held.now.facts }
+    requires held { AreBlocks held.now.held held_blocks.now.number held_blocks.now.rows.items }
+    requires held_number { held_blocks.now.number ≡ lid / 64 }
+    requires plan { AreBlocks plan.now.held plan_blocks.now.number plan_blocks.now.rows.items }
+    requires plan_number { plan_blocks.now.number ≡ lid / 64 }
+    ensures { IfOk result (λ column. column.items
+        ≡ column_between (cells_of held.now.facts) edges.now orders.now held.now.held plan.now.held lid) }
+{
+    let owners = plan.owners(alloc, lid)?;
+    let Some(port) = first_owner(&owners) else {
+        return no_entries(alloc, held.switch_count());
+    };
+    let held_steps = held.switch_steps(alloc, held_blocks, lid)?;
+    let plan_steps = plan.switch_steps(alloc, plan_blocks, lid)?;
+    entries_towards(alloc, &port, edges, orders, &held_steps, &plan_steps)
+}
+
+/// Returns the first of `owners`.
+fn first_owner(owners: &[EndPort]) -> Option<EndPort>
+    ensures { result ≡ slice_get owners.now 0 }
+{
+    owners.first().copied()
+}
+
+/// Returns `count` times 255, no entry.
+fn no_entries(alloc: Global, count: usize) -> Result<Vec<u8>, AllocError>
+    ensures { IfOk result (λ entries. entries.items ≡ replicate count 255) }
+{
+    vec![in alloc; 255; count]
+}
+
+/// Returns the entries of all switches towards an end port, from what each does by the held tables and by the plan.
+fn entries_towards(
+    alloc: Global,
+    port: &EndPort,
+    edges: &Adjacency,
+    orders: &Orders,
+    held: &[SwitchStep],
+    plan: &[SwitchStep],
+) -> Result<Vec<u8>, AllocError>
+    ensures { IfOk result (λ entries. entries.items
+        ≡ entries_towards port.now edges.now orders.now held.now plan.now) }
+{
+    let labels = labels_towards(alloc, port, edges, orders, plan)?;
+    entries_by(alloc, port, edges, orders, &labels, held, plan)
+}
+
+/// Returns the label of each switch towards an end port, from what each does by the plan.
+fn labels_towards(
+    alloc: Global,
+    port: &EndPort,
+    edges: &Adjacency,
+    orders: &Orders,
+    plan: &[SwitchStep],
+) -> Result<Vec<Option<Sides>>, AllocError>
+    ensures { IfOk result (λ labels. labels.items ≡ labels_towards port.now edges.now orders.now plan.now) }
+{
+    let mut labels = first_labels(alloc, port, plan)?;
+    label_all(&mut labels, edges, orders);
+    Ok(labels)
+}
+
+/// Returns the labels at first: of the switches from which the plan leads to the end port.
+fn first_labels(
+    alloc: Global,
+    port: &EndPort,
+    plan: &[SwitchStep],
+) -> Result<Vec<Option<Sides>>, AllocError>
+    ensures { IfOk result (λ labels. labels.items ≡ map (first_label port.now) plan.now) }
+{
+    plan.iter()
+        .map(|step| first_label(port, step))
+        .collect(alloc)
+}
+
+/// Returns the label of a switch at first, from what it does by the plan.
+fn first_label(port: &EndPort, plan: &SwitchStep) -> Option<Sides>
+    ensures { result ≡ first_label port.now plan.now }
+{
+    if arrives(port, &plan.hop) {
+        Some(Sides {
+            first_up: false,
+            second_up: false,
+        })
+    } else {
+        None
+    }
+}
+
+/// Returns whether `hop` leads to the end port.
+fn arrives(port: &EndPort, hop: &NextHop) -> bool
+    ensures { result ≡ arrives port.now hop.now }
+{
+    match hop {
+        NextHop::To(_) => false,
+        NextHop::Ends(end) => is_at(port, &Some(*end)),
+    }
+}
+
+/// Returns the entry of each switch towards an end port, by the labels.
+fn entries_by(
+    alloc: Global,
+    port: &EndPort,
+    edges: &Adjacency,
+    orders: &Orders,
+    labels: &[Option<Sides>],
+    held: &[SwitchStep],
+    plan: &[SwitchStep],
+) -> Result<Vec<u8>, AllocError>
+    ensures { IfOk result (λ entries. entries.items
+        ≡ map (entry_between port.now edges.now orders.now labels.now) (enumerate_from 0 (zip held.now plan.now))) }
+{
+    held.iter()
+        .zip(plan.iter())
+        .enumerate()
+        .map(|(index, (held, plan))| entry(port, edges, orders, labels, index, held, plan))
+        .collect(alloc)
+}
+
+/// Returns the entry of the switch at `index`: the plan's if that leads to the end port, else one by its label.
+fn entry(
+    port: &EndPort,
+    edges: &Adjacency,
+    orders: &Orders,
+    labels: &[Option<Sides>],
+    index: usize,
+    held: &SwitchStep,
+    plan: &SwitchStep,
+) -> u8
+    ensures { result ≡ entry_between port.now edges.now orders.now labels.now (index, (held.now, plan.now)) }
+{
+    if arrives(port, &plan.hop) {
+        return plan.entry;
+    }
+    match label_at(labels, index) {
+        Some(sides) => entry_to(edges, orders, labels, sides, index, held, plan),
+        None => 255,
+    }
+}
+
+/// Returns the entry of the switch at `index` with the label `sides`: the held one if it fits, else the plan's if that
+/// does, else the least port by which a channel leads on.
+fn entry_to(
+    edges: &Adjacency,
+    orders: &Orders,
+    labels: &[Option<Sides>],
+    sides: Sides,
+    index: usize,
+    held: &SwitchStep,
+    plan: &SwitchStep,
+) -> u8
+    ensures { result ≡ entry_to edges.now orders.now labels.now sides index (held.now, plan.now) }
+{
+    if fits(orders, labels, sides, index, &held.hop) {
+        held.entry
+    } else if fits(orders, labels, sides, index, &plan.hop) {
+        plan.entry
+    } else {
+        first_port(edges.at(index), orders, labels, sides, index)
+    }
+}
+
+/// Returns whether `hop` of the switch at `index` leads on to the sides of its label.
+fn fits(
+    orders: &Orders,
+    labels: &[Option<Sides>],
+    sides: Sides,
+    index: usize,
+    hop: &NextHop,
+) -> bool
+    ensures { result ≡ fits orders.now labels.now sides index hop.now }
+{
+    match hop {
+        NextHop::To(to) => leads_on(orders, labels, sides, index, *to),
+        NextHop::Ends(_) => false,
+    }
+}
+
+/// Returns the port of the first of the edges of the switch at `index` that leads on, or 255 if none does.
+fn first_port(
+    edges: &[Edge],
+    orders: &Orders,
+    labels: &[Option<Sides>],
+    sides: Sides,
+    index: usize,
+) -> u8
+    ensures { result ≡ port_of (find (λ e. leads_on orders.now labels.now sides index e.to) edges.now) }
+{
+    for edge in edges {
+        if leads_on(orders, labels, sides, index, edge.to) {
+            return edge.port.number();
+        }
+    }
+    255
+}

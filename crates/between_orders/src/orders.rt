@@ -1,0 +1,89 @@
+//! The order that tables tell by themselves, and the next one on the way to a plan's order.
+ghost use Rattle.std.specs.Prelude.{◌≡◌, IfOk, length};
+ghost use Rattle.fact_store.specs.View.{cells_of};
+ghost use Rattle.port_graph.specs.Heads.{LeadToVertices};
+ghost use Rattle.spread_labels.specs.LabelLaws.{IsSymmetric};
+ghost use Rattle.told_order.specs.ToldOrder.{position_in};
+ghost use Rattle.between_orders.specs.Orders.{AreOrders, orders_from, told_positions};
+
+use audit::Network;
+use ordered_steps::are_right;
+use port_graph::Adjacency;
+use std::alloc::{AllocError, Global};
+use told_order::told_order;
+use two_orders::{Orders, grown_by, positions_in, tree};
+
+/// Returns the orders of a step from the tables of `held`: the one that they tell, of several that may be last the last
+/// in the plan's order taken first, and the next one. Returns `None` if they tell no order. `edges` has the wires of each
+/// switch, and `plan` the position of each in the plan's order. Takes what `told_order` and `are_right` take, and a step
+/// for each two switches.
+pub(crate) fn orders(
+    alloc: Global,
+    edges: &Adjacency,
+    held: &Network,
+    plan: &[usize],
+) -> Result<Option<Orders>, AllocError>
+    requires plan { length plan.now ≡ length edges.now }
+    requires lead { LeadToVertices edges.now }
+    requires symmetric { IsSymmetric edges.now }
+    ensures { IfOk result (AreOrders (cells_of held.now.facts) held.now.held edges.now plan.now) }
+{
+    let preferred = grown_by(alloc, edges, plan)?;
+    match told_order(alloc, held, &preferred)? {
+        Some(taken) => {
+            let told = told_positions(alloc, &taken, edges.len())?;
+            let orders = orders_from(alloc, edges, held, plan, told)?;
+            Ok(Some(orders))
+        }
+        None => Ok(None),
+    }
+}
+
+/// Returns the orders of a step from tables that tell `told`, the position of each switch: if the tables are right by the
+/// order that grows by these, that one, and the order that grows by the plan's positions over its tree; else the told one,
+/// and the one that grows by it.
+fn orders_from(
+    alloc: Global,
+    edges: &Adjacency,
+    held: &Network,
+    plan: &[usize],
+    told: Vec<usize>,
+) -> Result<Orders, AllocError>
+    requires plan { length plan.now ≡ length edges.now }
+    requires told { length told.items ≡ length edges.now }
+    requires lead { LeadToVertices edges.now }
+    requires symmetric { IsSymmetric edges.now }
+    ensures { IfOk result (λ orders.
+        orders ≡ orders_from (cells_of held.now.facts) held.now.held edges.now plan.now told.items) }
+{
+    let grown = grown_by(alloc, edges, &told)?;
+    let first = positions_in(alloc, &grown, edges.len())?;
+    if are_right(alloc, held, &first)? {
+        let tree = tree(alloc, edges, &first)?;
+        let rising = grown_by(alloc, &tree, plan)?;
+        Orders::of(alloc, first, rising, edges.len())
+    } else {
+        Orders::of(alloc, told, grown, edges.len())
+    }
+}
+
+/// Returns the positions of `count` vertices in a list that begins with the last one.
+fn told_positions(alloc: Global, taken: &[usize], count: usize) -> Result<Vec<usize>, AllocError>
+    ensures { IfOk result (λ positions. positions.items ≡ told_positions taken.now count) }
+{
+    (0..count)
+        .map(|vertex| position_in(taken, vertex))
+        .collect(alloc)
+}
+
+/// Returns how many vertices stand behind `vertex` in a list, or 0 if the list lacks it.
+fn position_in(taken: &[usize], vertex: usize) -> usize
+    ensures { result ≡ position_in taken.now vertex }
+{
+    for (index, other) in taken.iter().enumerate() {
+        if *other == vertex {
+            return taken.len() - 1 - index;
+        }
+    }
+    0
+}

@@ -1,0 +1,5 @@
+pub mod Growth
+pub mod LabelLaws
+pub mod Labels
+pub mod Trees
+pub mod TwoOrders

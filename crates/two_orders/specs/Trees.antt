@@ -1,0 +1,31 @@
+-- The tree of an order: the edges between each vertex and the earliest one beside it.
+use Rattle.std.specs.Prelude.{ℕ, ◌==◌, ◌||◌, Bool, List, filter, length, map, nat_lt}
+use Rattle.std.specs.List.{range_with_len}
+use Rattle.port_graph.specs.declared.edge.Edge.{Edge}
+use Rattle.port_graph.specs.Heads.{edges_at, heads}
+use Rattle.spread_labels.specs.Orders.{earliest}
+use Rattle.two_orders.specs.Growth.{number_at}
+
+-- vertex a has an earlier position than b
+abbrev pub is_earlier : List ℕ → ℕ → ℕ → Bool
+is_earlier positions a b = nat_lt (number_at positions a) (number_at positions b)
+
+-- the earliest of vertex v and those to which its edges lead
+abbrev pub earliest_beside : List (List Edge) → List ℕ → ℕ → ℕ
+earliest_beside edges positions v = earliest (is_earlier positions) v (heads edges v)
+
+abbrev pub all_earliest : List (List Edge) → List ℕ → List ℕ
+all_earliest edges positions = map (earliest_beside edges positions) (range_with_len 0 (length edges))
+
+-- an edge of v is in the tree if it leads to the earliest beside v, or if v is the earliest beside its other end
+abbrev pub is_in_tree : List ℕ → ℕ → Edge → Bool
+is_in_tree earliests v e = (number_at earliests v == e.to) || (number_at earliests e.to == v)
+
+abbrev pub tree_edges : List (List Edge) → List ℕ → ℕ → List Edge
+tree_edges edges earliests v = filter (is_in_tree earliests v) (edges_at edges v)
+
+abbrev pub tree_by : List (List Edge) → List ℕ → List (List Edge)
+tree_by edges earliests = map (tree_edges edges earliests) (range_with_len 0 (length edges))
+
+unfoldable pub tree : List (List Edge) → List ℕ → List (List Edge)
+tree edges positions = tree_by edges (all_earliest edges positions)

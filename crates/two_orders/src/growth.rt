@@ -1,0 +1,72 @@
+//! The order that grows by positions, and positions in a list.
+ghost use Rattle.std.specs.Prelude.{◌≡◌, IfOk, length, map};
+ghost use Rattle.port_graph.specs.Heads.{LeadToVertices};
+ghost use Rattle.spread_labels.specs.LabelLaws.{IsSymmetric};
+ghost use Rattle.spread_labels.specs.Orders.{position_of};
+ghost use Rattle.two_orders.specs.Growth.{grown_by, key_of, positions_in};
+
+use port_graph::Adjacency;
+use spread_labels::{VertexKey, grown_order};
+use std::alloc::{AllocError, Global};
+
+/// Returns the vertices in the order that grows by `positions`. Takes one step for each pair of vertices and for each
+/// edge.
+pub fn grown_by(
+    alloc: Global,
+    edges: &Adjacency,
+    positions: &[usize],
+) -> Result<Vec<usize>, AllocError>
+    requires positions { length positions.now ≡ length edges.now }
+    requires lead { LeadToVertices edges.now }
+    requires symmetric { IsSymmetric edges.now }
+    ensures { IfOk result (λ vertices. vertices.items ≡ grown_by edges.now positions.now) }
+{
+    let keys = keys_of(alloc, positions)?;
+    grown_order(alloc, edges, &keys)
+}
+
+/// Returns positions as keys.
+fn keys_of(alloc: Global, positions: &[usize]) -> Result<Vec<VertexKey>, AllocError>
+    ensures { IfOk result (λ keys. keys.items ≡ map key_of positions.now) }
+{
+    positions
+        .iter()
+        .map(|position| key_of(*position))
+        .collect(alloc)
+}
+
+/// Returns a position as a key.
+fn key_of(position: usize) -> VertexKey
+    ensures { result ≡ key_of position }
+{
+    VertexKey {
+        distance_class: 0,
+        distance: position,
+    }
+}
+
+/// Returns the positions of `count` vertices in a list; the length of the list for a vertex that it lacks. Takes a step
+/// for each vertex and each of the list.
+pub fn positions_in(
+    alloc: Global,
+    vertices: &[usize],
+    count: usize,
+) -> Result<Vec<usize>, AllocError>
+    ensures { IfOk result (λ positions. positions.items ≡ positions_in vertices.now count) }
+{
+    (0..count)
+        .map(|vertex| position_of(vertices, vertex))
+        .collect(alloc)
+}
+
+/// Returns the position of a vertex in a list, or the length of the list if it lacks the vertex.
+fn position_of(vertices: &[usize], vertex: usize) -> usize
+    ensures { result ≡ position_of vertices.now vertex }
+{
+    for (index, other) in vertices.iter().enumerate() {
+        if *other == vertex {
+            return index;
+        }
+    }
+    vertices.len()
+}

@@ -1,0 +1,179 @@
+//! Labels of vertices: by which edges a walk gets from each to a target, so that by two orders it goes up and then down.
+ghost use Rattle.std.specs.Prelude.{◌≡◌, slice_get};
+ghost use Rattle.std.specs.List.{list_any};
+ghost use Rattle.two_orders.specs.Labels.{all_labelled, gets_label, goes_on, is_open, is_side, label_at};
+ghost use Rattle.two_orders.specs.Labels.{labelled, labels_from, leads, leads_on, may_follow};
+
+use crate::orders::Orders;
+use crate::trees::is_earlier;
+use port_graph::{Adjacency, Edge};
+
+/// Whether an edge leads up, to an earlier vertex, by each of two orders; else it leads down, to a later one.
+#[derive(Clone, Copy, Debug, PartialEq, Eq)]
+pub struct Sides {
+    /// Whether it leads up by the first order.
+    pub first_up: bool,
+    /// Whether it leads up by the second order.
+    pub second_up: bool,
+}
+
+const BOTH_DOWN: Sides = Sides {
+    first_up: false,
+    second_up: false,
+};
+
+/// Labels the vertices from which walks get to those labelled at first: first those from which they go down by both
+/// orders, then those from which they go down by the second, then those from which they go down by the first, then all
+/// others. Takes at most four steps for each edge.
+pub fn label_all(labels: &mut Vec<Option<Sides>>, edges: &Adjacency, orders: &Orders)
+    ensures { labels.new.items ≡ labels_from edges.now orders.now labels.old.items }
+{
+    label_each(labels, edges, orders, BOTH_DOWN, orders.falling());
+    label_each(
+        labels,
+        edges,
+        orders,
+        to_sides(true, false),
+        orders.falling(),
+    );
+    label_each(
+        labels,
+        edges,
+        orders,
+        to_sides(false, true),
+        orders.rising(),
+    );
+    label_each(labels, edges, orders, to_sides(true, true), orders.rising());
+}
+
+/// Returns the sides to which an edge leads up or down.
+fn to_sides(first_up: bool, second_up: bool) -> Sides
+    ensures { result ≡ record { first_up = first_up; second_up = second_up } }
+{
+    Sides {
+        first_up,
+        second_up,
+    }
+}
+
+/// Labels the vertices of a list, one after the other, from which an edge to `sides` leads on.
+fn label_each(
+    labels: &mut Vec<Option<Sides>>,
+    edges: &Adjacency,
+    orders: &Orders,
+    sides: Sides,
+    vertices: &[usize],
+)
+    ensures { labels.new.items ≡ all_labelled edges.now orders.now sides labels.old.items vertices.now }
+{
+    for vertex in vertices {
+        label(labels, edges, orders, sides, *vertex);
+    }
+}
+
+/// Gives a vertex the label `sides` if it has none and an edge to these sides leads on.
+fn label(
+    labels: &mut Vec<Option<Sides>>,
+    edges: &Adjacency,
+    orders: &Orders,
+    sides: Sides,
+    vertex: usize,
+)
+    ensures { labels.new.items ≡ labelled edges.now orders.now sides labels.old.items vertex }
+{
+    if gets_label(labels, edges, orders, sides, vertex) {
+        labels[vertex] = Some(sides);
+    }
+}
+
+/// Returns whether a vertex has no label, and an edge to `sides` leads on from it.
+fn gets_label(
+    labels: &[Option<Sides>],
+    edges: &Adjacency,
+    orders: &Orders,
+    sides: Sides,
+    vertex: usize,
+) -> bool
+    ensures { result ≡ gets_label edges.now orders.now sides labels.now vertex }
+{
+    is_open(labels, vertex) && some_leads_on(edges.at(vertex), orders, labels, sides, vertex)
+}
+
+/// Returns whether one of the edges of a vertex leads on to `sides`.
+fn some_leads_on(
+    edges: &[Edge],
+    orders: &Orders,
+    labels: &[Option<Sides>],
+    sides: Sides,
+    vertex: usize,
+) -> bool
+    ensures { result ≡ list_any (λ e. leads_on orders.now labels.now sides vertex e.to) edges.now }
+{
+    edges
+        .iter()
+        .any(|edge| leads_on(orders, labels, sides, vertex, edge.to))
+}
+
+/// Returns whether the vertex at `index` has no label.
+fn is_open(labels: &[Option<Sides>], index: usize) -> bool
+    ensures { result ≡ is_open (slice_get labels.now index) }
+{
+    matches!(labels.get(index), Some(None))
+}
+
+/// Returns whether an edge leads from one vertex to another and to `sides`, and a walk may go on from there.
+pub fn leads_on(
+    orders: &Orders,
+    labels: &[Option<Sides>],
+    sides: Sides,
+    from: usize,
+    to: usize,
+) -> bool
+    ensures { result ≡ leads_on orders.now labels.now sides from to }
+{
+    leads(orders, sides, from, to) && goes_on(sides, label_at(labels, to))
+}
+
+/// Returns whether an edge leads from one vertex to another and to `sides`.
+fn leads(orders: &Orders, sides: Sides, from: usize, to: usize) -> bool
+    ensures { result ≡ leads orders.now sides from to }
+{
+    is_side(orders.first(), sides.first_up, from, to)
+        && is_side(orders.second(), sides.second_up, from, to)
+}
+
+/// Returns whether an edge leads from one vertex to another of an earlier position, if `up`, or of a later one.
+fn is_side(positions: &[usize], up: bool, from: usize, to: usize) -> bool
+    ensures { result ≡ is_side positions.now up from to }
+{
+    if up {
+        is_earlier(positions, to, from)
+    } else {
+        is_earlier(positions, from, to)
+    }
+}
+
+/// Returns whether a walk that came by an edge to `before` may go on from a vertex with this label.
+fn goes_on(before: Sides, label: Option<Sides>) -> bool
+    ensures { result ≡ goes_on before label }
+{
+    match label {
+        Some(after) => may_follow(before, after),
+        None => false,
+    }
+}
+
+/// Returns whether a walk that came by an edge to `before` may leave by one to `after`: up by an order only if it came
+/// up by it.
+fn may_follow(before: Sides, after: Sides) -> bool
+    ensures { result ≡ may_follow before after }
+{
+    (!after.first_up || before.first_up) && (!after.second_up || before.second_up)
+}
+
+/// Returns the label of the vertex at `index`, if it has one.
+pub fn label_at(labels: &[Option<Sides>], index: usize) -> Option<Sides>
+    ensures { result ≡ label_at labels.now index }
+{
+    labels.get(index).copied().unwrap_or(None)
+}

@@ -1,0 +1,13 @@
+//! Two orders of vertices: the tree of an order, orders that grow over it, and labels that lead up and then down by both.
+#![tactic(auto)]
+
+mod growth;
+mod labels;
+pub mod laws;
+mod orders;
+mod trees;
+
+pub use growth::{grown_by, positions_in};
+pub use labels::{Sides, label_all, label_at, leads_on};
+pub use orders::Orders;
+pub use trees::tree;

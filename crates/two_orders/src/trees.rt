@@ -1,0 +1,100 @@
+//! The tree of an order of switches: each with the earliest beside it.
+ghost use Rattle.std.specs.Prelude.{◌≡◌, IfOk, if◌then◌else◌};
+ghost use Rattle.two_orders.specs.Growth.{number_at};
+ghost use Rattle.two_orders.specs.Trees.{all_earliest, earliest_beside, is_earlier, is_in_tree, tree, tree_by, tree_edges};
+
+use port_graph::{Adjacency, Edge};
+use std::alloc::{AllocError, Global};
+
+/// Returns the edges between each vertex and the earliest one beside it by `positions`. Takes two steps for each edge.
+pub fn tree(alloc: Global, edges: &Adjacency, positions: &[usize]) -> Result<Adjacency, AllocError>
+    ensures { IfOk result (λ found. found ≡ tree edges.now positions.now) }
+{
+    let earliest = all_earliest(alloc, edges, positions)?;
+    tree_by(alloc, edges, &earliest)
+}
+
+/// Returns the edges of the tree of each vertex. `earliest` has the earliest vertex beside each.
+fn tree_by(alloc: Global, edges: &Adjacency, earliest: &[usize]) -> Result<Adjacency, AllocError>
+    ensures { IfOk result (λ found. found ≡ tree_by edges.now earliest.now) }
+{
+    let mut found = Adjacency::new(alloc);
+    for vertex in 0..edges.len() {
+        let row = tree_edges(alloc, edges, earliest, vertex)?;
+        found.push_vertex(&row)?;
+    }
+    Ok(found)
+}
+
+/// Returns for each vertex the earliest of itself and those to which its edges lead.
+fn all_earliest(
+    alloc: Global,
+    edges: &Adjacency,
+    positions: &[usize],
+) -> Result<Vec<usize>, AllocError>
+    ensures { IfOk result (λ found. found.items ≡ all_earliest edges.now positions.now) }
+{
+    (0..edges.len())
+        .map(|vertex| earliest_beside(edges, positions, vertex))
+        .collect(alloc)
+}
+
+/// Returns the earliest of a vertex and those to which its edges lead.
+fn earliest_beside(edges: &Adjacency, positions: &[usize], vertex: usize) -> usize
+    ensures { result ≡ earliest_beside edges.now positions.now vertex }
+{
+    let mut found = vertex;
+    for edge in edges.at(vertex) {
+        found = earlier(positions, found, edge.to);
+    }
+    found
+}
+
+/// Returns `other` if it is earlier than `found`, and else `found`.
+fn earlier(positions: &[usize], found: usize, other: usize) -> usize
+    ensures { result ≡ if is_earlier positions.now other found then other else found }
+{
+    if is_earlier(positions, other, found) {
+        other
+    } else {
+        found
+    }
+}
+
+/// Returns whether a vertex has an earlier position than another.
+pub(crate) fn is_earlier(positions: &[usize], one: usize, other: usize) -> bool
+    ensures { result ≡ is_earlier positions.now one other }
+{
+    number_at(positions, one) < number_at(positions, other)
+}
+
+/// Returns the edges of a vertex that are in the tree.
+fn tree_edges(
+    alloc: Global,
+    edges: &Adjacency,
+    earliest: &[usize],
+    vertex: usize,
+) -> Result<Vec<Edge>, AllocError>
+    ensures { IfOk result (λ found. found.items ≡ tree_edges edges.now earliest.now vertex) }
+{
+    edges
+        .at(vertex)
+        .iter()
+        .filter(|edge| is_in_tree(earliest, vertex, edge))
+        .copied()
+        .collect(alloc)
+}
+
+/// Returns whether an edge of `vertex` is in the tree.
+fn is_in_tree(earliest: &[usize], vertex: usize, edge: &Edge) -> bool
+    ensures { result ≡ is_in_tree earliest.now vertex edge.now }
+{
+    number_at(earliest, vertex) == edge.to || number_at(earliest, edge.to) == vertex
+}
+
+/// Returns the number at `index`, or 0 if there is none.
+fn number_at(numbers: &[usize], index: usize) -> usize
+    ensures { result ≡ number_at numbers.now index }
+{
+    numbers.get(index).copied().unwrap_or(0)
+}
