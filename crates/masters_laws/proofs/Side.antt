@@ -60,6 +60,7 @@ use Rattle.masters_laws.specs.InForce.{HoldsLids}
 use Rattle.masters_laws.specs.Runs.{WritesSwept}
 use Rattle.masters_laws.proofs.Acting.{AreCarried, Carried, Plans, WritesCarried, event_plans}
 use Rattle.masters_laws.proofs.Deliveries.{IsPlannedFrom, Sends}
+use Rattle.sm_state.specs.Conducts.{is_live}
 use Rattle.masters_laws.proofs.Scenes.{SendsSo}
 
 -- an old sweep may be left where none began
@@ -159,7 +160,7 @@ module _ (from : Scene) (seat : NodePort) where
 
       -- whether it keeps images
       abbrev keeps_so : Bool
-      keeps_so = false
+      keeps_so = is_live w.manager.standing.conduct
 
       abbrev queue : List Request
       queue = (started seat.port (next_generation w.manager.store) 1 keeps_so).queued
