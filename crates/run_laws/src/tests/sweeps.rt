@@ -68,55 +68,6 @@ fn numbers_are_spent(rt: HostRuntime) {
     assert!(rt; spends(rt.alloc()) == Some(true));
 }
 
-/// Returns SwitchInfo with a table of 16,384 LIDs and a lifetime of 18.
-fn a_second() -> [u8; 64] {
-    let mut data = [0; 64];
-    data[0] = 0x40;
-    data[11] = 18 << 3;
-    data
-}
-
-/// Returns PortInfo with the prefix of link-local GIDs, and a port that is Active.
-fn link_local() -> [u8; 64] {
-    let mut data = [0; 64];
-    data[8] = 0xFE;
-    data[9] = 0x80;
-    data[32] = 4;
-    data
-}
-
-/// Answers the next request of a sweep.
-fn answer_next(sweep: &mut Sweep, data: &[u8; 64]) -> Option<()> {
-    let reply = sweep.next_request()?.answer(DONE, data);
-    sweep.on_reply(reply.bytes()).ok()?;
-    Some(())
-}
-
-/// Returns the lifetime of a switch and the prefix of its management port, as a sweep keeps them.
-fn kept(alloc: Global, keeps: bool) -> Option<(Option<u8>, Option<u64>)> {
-    let generation = Generation::new(1)?;
-    let mut sweep = Sweep::start(alloc, PortNum::new(1), generation, 1, keeps).ok()?;
-    answer_next(&mut sweep, &ten_ports())?;
-    answer_next(&mut sweep, &a_second())?;
-    answer_next(&mut sweep, &link_local())?;
-    let switch = Guid::new(0x10);
-    let lifetime = match sweep.switch_image(switch) {
-        Some(info) => Some(info.life_time_value()),
-        None => None,
-    };
-    match sweep.port_image(switch, PortNum::MANAGEMENT) {
-        Some(info) => Some((lifetime, Some(info.gid_prefix()))),
-        None => Some((lifetime, None)),
-    }
-}
-
-#[test]
-fn images_are_kept(rt: HostRuntime) {
-    let alloc = rt.alloc();
-    assert!(rt; kept(alloc, true) == Some((Some(18), Some(0xFE80_0000_0000_0000))));
-    assert!(rt; kept(alloc, false) == Some((None, None)));
-}
-
 /// A source that fails if it is asked for more than `most` bytes at a time.
 #[derive(Drop)]
 struct AtMost<'b> {
