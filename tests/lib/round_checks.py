@@ -144,6 +144,8 @@ def rounds(room, program):
     if os.access(program, os.X_OK):
         for name in CUT_FABRICS:
             over_cuts(room, program, name)
+        for name in "torus", "dragonfly":
+            over_cuts(room, program, name, "--told-order", 5)
 
 
 def put_in_fab(room, **texts):
@@ -426,8 +428,9 @@ CUT_FABRICS = {
 }
 
 
-def over_cuts(room, program, name):
-    """Checks with the built program that rounds which keep an order go through after each of some cuts and repairs."""
+def over_cuts(room, program, name, flag="--keep-order", rounds=9):
+    """Checks with the built program that rounds which keep an order, or go by told ones, go through after each of some
+    cuts and repairs."""
     fabric, chance, down = CUT_FABRICS[name], random.Random(7), set()
     between = [(end, far) for end, far in fabric.peers.items() if end < far]
     cables = [cable for cable in between if all(fabric.is_switch(name) for name, _ in cable)]
@@ -444,14 +447,14 @@ def over_cuts(room, program, name):
     planned = subprocess.run(words, cwd=room.path, capture_output=True, check=True).stdout
     (room.path / "fab/held").write_bytes(planned)
     shutil.rmtree(room.path / "rc", ignore_errors=True)
-    for number in range(9):
+    for number in range(rounds):
         if number % 4 == 3:
             down.remove(chance.choice(sorted(down)))
         elif number:
             down.add(chance.choice([cable for cable in cables if cable not in down]))
         (room.path / "fab/facts").write_bytes(facts())
         room.run(
-            f"round rc --ibsm {program} --record ./record --send ./send --settle 0 --direct --keep-order "
+            f"round rc --ibsm {program} --record ./record --send ./send --settle 0 --direct {flag} "
             "--routing balance --busier --holes",
             0,
         )
@@ -459,7 +462,7 @@ def over_cuts(room, program, name):
         room.check(
             told["verdict"].startswith("the subnet holds the plan")
             and all(step["told"] == "credit loop none" for step in told["steps"]),
-            f"round {number} over a {name} with {len(down)} cables cut: {told}",
+            f"round {number} {flag} over a {name} with {len(down)} cables cut: {told}",
         )
 
 
