@@ -390,14 +390,12 @@ def repeated(bench, name):
 
 
 def repressed(bench):
-    """Checks that each trap of a link was answered by TrapRepress: a copy of the packet but for its method."""
+    """Checks that each trap of a link was answered by TrapRepress, with its number, attribute, modifier and data."""
     came, sent = (packets_of(bench.path / "traps.packets", word) for word in ("in", "out"))
     traps = [packet for packet in came if packet[1] == 1 and packet[3] == 5 and packet[68:70] == LINK_CHANGED]
     answers = [packet for packet in sent if packet[3] == 7 and packet[68:70] == LINK_CHANGED]
-    bench.check(
-        answers == [packet[:3] + b"\7" + packet[4:] for packet in traps] != [],
-        f"traps: {len(traps)}, each repressed",
-    )
+    told, said = ([packet[:3] + packet[8:24] + packet[64:128] for packet in group] for group in (traps, answers))
+    bench.check(said == told != [], f"traps: {len(traps)}, each repressed")
 
 
 def bent(bench):
