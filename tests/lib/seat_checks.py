@@ -116,7 +116,9 @@ def opensm(bench, host, priority, *words):
 
 def held(bench, name, host="H1"):
     """Returns what the subnet holds. Checks that it is the plan of a recording and passes the audit."""
-    bench.record("-q", "-g", 1, "-T", name, f"{name}.reports", seat=host)
+    status = bench.record("-q", "-g", 1, "-T", name, f"{name}.reports", seat=host)
+    if status != 0:
+        print(f"{name}: record ended with {status}: {bench.said}", flush=True)
     bench.texts(name, f"{name}.reports")
     bench.check(bench.same(name, f"{name}.plan"), f"{name}: held is the plan of a recording, byte for byte")
     status = bench.run(bench.program, "audit", name, f"{name}.reports")
