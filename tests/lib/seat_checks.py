@@ -692,6 +692,7 @@ class Soak:
     """Two seats on a torus, whose cables are cut and plugged in at random, and which are killed at random."""
 
     MOST_CUT = 3  # a torus without three cables is still in one piece
+    MOST_KILLED = 4  # between two recordings: ibsim has room for ten clients, and keeps a killed one for some time
     TIMING = ("-s", 3, "-m", 200, "-r", 1)
 
     def __init__(self, bench, stack, chance):
@@ -730,7 +731,8 @@ class Soak:
     def event(self):
         """Does one thing at random."""
         kind, host = self.chance.random(), self.chance.choice(sorted(self.hosts))
-        if kind < 0.2:
+        killed = sum(self.done.count(f"kill {it}") for it in self.hosts)
+        if kind < 0.2 and killed < self.MOST_KILLED:
             self.kill(host)
         elif kind < 0.3:
             self.kill_child(host)
