@@ -26,8 +26,8 @@ use Rattle.subnet_view.specs.Routing.{Routing, Passes, FollowsRule}
 use Rattle.subnet_view.proofs.Components.{component_itself, component_symm, component_trans, joined, rooted}
 use Rattle.subnet_view.proofs.Graphs.{edge_is_wire, edge_to_usable, graph_law, wire_end}
 use Rattle.subnet_view.proofs.GraphSwitches.{graph_guids, switch_usable, usable_switch}
-use Rattle.lft_blocks.specs.Rules.{RuleValue, routing_by}
-use Rattle.lft_blocks.proofs.RulesRoute.{rules_are_routings}
+use Rattle.lft_blocks.specs.Rules.{RuleValue}
+use Rattle.lft_blocks.proofs.RulesRoute.{lids_are_routed}
 use Rattle.lft_blocks.specs.Entries.{attachment_of}
 use Rattle.lft_blocks.proofs.HeldEntries.{entry_of as planned_entry, entry_by_attachment}
 use Rattle.lft_blocks.proofs.AttachmentSwitches.{attachment_is_switch}
@@ -50,6 +50,7 @@ use Rattle.plan_file.proofs.OwnedLids.{line_owned}
 use Rattle.held_tables.proofs.HeldPlans.{made, entry_counts}
 use Rattle.held_tables.proofs.HeldTables.{get_mapped}
 use Rattle.audit.proofs.PlanSteps.{contains_at, index_is, no_wire_at_0}
+use Rattle.lft_blocks.specs.Plan.{lid_routing}
 
 -- the switch at which an end port lies, and the root of its component
 pub record HasRoot (cells : Cells) (e : EndPort) (r : ℕ) : Type 0 where
@@ -89,7 +90,7 @@ module _ (by : RuleValue) (lmc : ℕ) (facts : Facts) (range : AreInRange facts)
   graph = graph_of cells
 
   abbrev rule : Routing
-  rule = routing_by by cells
+  rule = lid_routing by lmc cells (lids lmc cells)
 
   abbrev lid : ℕ
   lid = line.lid
@@ -230,8 +231,8 @@ module _ (by : RuleValue) (lmc : ℕ) (facts : Facts) (range : AreInRange facts)
     pub from_switch : (s i : ℕ) → slice_get (switches cells) i ≡ Some s → in_one_component graph s attachment.0 ≡ true → Comes (To i)
     from_switch s i at together =
         let there = is_in_graph s (contains_at (switches cells) i s at) in
-        let (n, cost) = (rules_are_routings by facts).reaches s attachment.0 there attachment_there together in
-        let way = (rules_are_routings by facts).leads lid s attachment.0 n there cost in
+        let (n, cost) = (lids_are_routed by lmc facts).reaches s attachment.0 there attachment_there together in
+        let way = (lids_are_routed by lmc facts).leads lid s attachment.0 n there cost in
         along way.edges s i at way.by_rule way.passes
 
     -- of one root, of one component

@@ -24,20 +24,20 @@ use Rattle.lft_blocks.specs.Entries.{attachment_of, port_to}
 use Rattle.lft_blocks.proofs.AttachmentSwitches.{attachment_is_switch}
 use Rattle.lft_blocks.specs.Rules.{RuleValue, routing_by}
 use Rattle.lft_blocks.proofs.RulesRoute.{rules_are_routings}
-use Rattle.lft_blocks.specs.Plan.{plan_of}
+use Rattle.lft_blocks.specs.Plan.{plan_of, lid_routing}
 use Rattle.plan_file.specs.Held.{HeldPlan, nothing_held}
 use Rattle.plan_file.specs.Printed.{held_plan}
 use Rattle.plan_file.proofs.NextPorts.{next_has_cost}
 use Rattle.plan_file.proofs.PlanRanges.{wire_small}
 use Rattle.audit.specs.Edges.{edge_by}
 use Rattle.held_tables.specs.Switches.{row_of}
-use Rattle.held_tables.specs.Tables.{counted, entry_for}
-use Rattle.held_tables.specs.Tables.{top_of as top_held}
+use Rattle.held_tables.specs.Tables.{counted, entry_for, top_of as top_held}
 use Rattle.held_tables.proofs.HeldPlans.{made, entry_counts, entry_held, top_of_switch}
 use Rattle.audit.proofs.Tops.{entry_above, no_edge_by, none_above, uncounted}
 use Rattle.audit_channels.specs.Waiting.{WaitsFor}
 use Rattle.audit_report.specs.Passing.{CanRise}
 use Rattle.audit.proofs.PlanSteps.{contains_at, of_column, leaves, on_way}
+use Rattle.lft_blocks.specs.LidNumbers.{lid_numbers}
 
 -- the number of a channel: the rule's, where its wire leads somewhere
 abbrev number_at : Routing → Cells → ℕ → ℕ → ℕ
@@ -117,7 +117,7 @@ module _ (by : RuleValue) (lmc : ℕ) (facts : Facts) (range : AreInRange facts)
   its_cells = cells_of facts
 
   abbrev its_rule : Routing
-  its_rule = routing_by by its_cells
+  its_rule = lid_routing by lmc its_cells (lids lmc its_cells)
 
   abbrev held : HeldPlan
   held = made by lmc its_cells top
@@ -168,7 +168,7 @@ module _ (by : RuleValue) (lmc : ℕ) (facts : Facts) (range : AreInRange facts)
       let same : on.attachment ≡ way.attachment = same_Some on.attachment way.attachment (sym on.attachment_is ∙ way.attachment_is) in
       let apart : (first.end.0 == t) ≡ false = (λ k. here k == (sym same k).0) ∙ on.apart in
       let next = (λ k. its_rule.next lid (here k) (sym same k).0) ∙ on.next in
-      let less = rises by facts lid t (attachment_is_switch facts e way.attachment way.attachment_is) g (entry_for held lid g) (entry_for held lid h) first.end
+      let less = rises by facts (lid_numbers lmc its_cells (lids lmc its_cells) lid) t (attachment_is_switch facts e way.attachment way.attachment_is) g (entry_for held lid g) (entry_for held lid h) first.end
       second.end
       g_there way.apart apart way.next next first.wire (ap (λ x. across its_cells x (entry_for held lid h)) here ∙ second.wire) in
       let a_is : a ≡ 256 * w.switch + entry_for held lid g = takes.channel_is ∙ ap (λ p. 256 * w.switch + p) first.port_is in
@@ -208,7 +208,7 @@ pub plans_rise : (rule : RuleValue) (lmc : ℕ) (facts : Facts) → AreInRange f
     → CanRise (cells_of facts) (held_plan (plan_of rule lmc (cells_of facts)))
 plans_rise by lmc facts range has_room =
     let cells = cells_of facts in
-    let rule = routing_by by cells in
+    let rule = lid_routing by lmc cells (lids lmc cells) in
     let told : Option ℕ → HeldPlan = λ o.
     option_map_or (λ top. made by lmc cells top) o nothing_held in
     elim (top_of (lids lmc cells)) as (λ o. top_of (lids lmc cells) ≡ o → CanRise cells (told o)) [

@@ -15,9 +15,9 @@ use Rattle.fact_gaps.specs.Gaps.{unusable_nodes}
 use Rattle.fact_gaps.proofs.Gaps.{nodes_law}
 use Rattle.lid_assign.specs.Lids.{Given, IsNoRoom, lids, lmc_of, top_of, top_among}
 use Rattle.lid_assign.proofs.LidLaws.{lids_law}
-use Rattle.lft_blocks.specs.Rules.{RuleValue, routing_by}
+use Rattle.lft_blocks.specs.Rules.{RuleValue}
 use Rattle.lft_blocks.specs.Entries.{attachment_of_lid, block_count, blocks}
-use Rattle.lft_blocks.specs.Plan.{SwitchTable, plan_of}
+use Rattle.lft_blocks.specs.Plan.{SwitchTable, plan_of, lid_routing}
 use Rattle.plan_file.specs.declared.held.HeldLid.{HeldLid}
 use Rattle.plan_file.specs.declared.held.HeldSwitch.{HeldSwitch}
 use Rattle.plan_file.specs.Held.{HeldPlan, nothing_held}
@@ -151,7 +151,7 @@ module _ (by : RuleValue) (lmc : ℕ) (facts : Facts) (has_room : ¬ (IsNoRoom l
   table_there : (g top : ℕ) → Contains (switches its_cells) g → HoldsTables (made by lmc its_cells top) g
   table_there g top there =
       let F : ℕ → SwitchTable = λ s.
-      record { guid = s; blocks = blocks (attachment_of_lid its_cells given) (routing_by by its_cells).next (block_count (top_of given)) s } in
+      record { guid = s; blocks = blocks (attachment_of_lid its_cells given) (lid_routing by lmc its_cells given).next (block_count (top_of given)) s } in
       record {
         switch = with_top top (F g);
         is_held = contains_map (with_top top) (map F (switches its_cells)) (F g) (contains_map F (switches its_cells) g there);

@@ -10,18 +10,16 @@ use Rattle.fact_store.specs.View.{Facts, cells_of}
 use Rattle.subnet_view.specs.Reading.{Cells, switches}
 use Rattle.subnet_view.proofs.Apart.{contains_map}
 use Rattle.subnet_view.proofs.UsableSwitches.{switches_law}
-use Rattle.lid_assign.specs.Lids.{Given, IsNoRoom, lids, owner_of}
-use Rattle.lid_assign.specs.Lids.{top_of as lid_top}
+use Rattle.lid_assign.specs.Lids.{Given, IsNoRoom, lids, owner_of, top_of as lid_top}
 use Rattle.lid_assign.proofs.LidLaws.{lids_law}
 use Rattle.subnet_view.specs.declared.end_port.EndPort.{EndPort}
 use Rattle.subnet_view.specs.Routing.{Routing}
-use Rattle.lft_blocks.specs.Rules.{RuleValue, routing_by}
+use Rattle.lft_blocks.specs.Rules.{RuleValue}
 use Rattle.lft_blocks.specs.Entries.{Next, attachment_of_lid, blocks, block_count}
-use Rattle.lft_blocks.specs.Plan.{SwitchTable, PlanValue, plan_of, tables_of}
+use Rattle.lft_blocks.specs.Plan.{SwitchTable, PlanValue, plan_of, tables_of, lid_routing}
 use Rattle.lft_blocks.specs.PlanLaws.{HasBlock, block_of}
 use Rattle.lft_blocks.proofs.BlockLaws.{made_at}
-use Rattle.lft_blocks.proofs.HeldEntries.{planned_block, owned_to_top, owned_from_one}
-use Rattle.lft_blocks.proofs.HeldEntries.{entry_of as planned_entry}
+use Rattle.lft_blocks.proofs.HeldEntries.{planned_block, owned_to_top, owned_from_one, entry_of as planned_entry}
 use Rattle.plan_file.specs.Held.{HeldPlan}
 use Rattle.plan_file.specs.Printed.{owned_lids, blocks_of, with_top}
 use Rattle.held_tables.specs.Tables.{counted, index_of, entry_in, entry_at, entry_for, entry_of, top_at}
@@ -59,7 +57,7 @@ module _ (rule : RuleValue) (lmc : ℕ) (facts : Facts) (has_room : ¬ (IsNoRoom
   given = lids lmc (cells_of facts)
 
   abbrev routing : Routing
-  routing = routing_by rule (cells_of facts)
+  routing = lid_routing rule lmc (cells_of facts) given
 
   module _ (top : ℕ) (top_is : lid_top (lids lmc (cells_of facts)) ≡ Some top) where
     abbrev pub cells : Cells

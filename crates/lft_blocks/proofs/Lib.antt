@@ -7,6 +7,8 @@ pub mod Enumerated
 pub mod FabricCases
 pub mod HeldEntries
 pub mod IndexedAttachments
+pub mod LidNumbers
+pub mod Unnumbered
 pub mod OwnerPorts
 pub mod Reached
 pub mod Rooms

@@ -22,20 +22,19 @@ use Rattle.subnet_view.specs.Components.{in_one_component}
 use Rattle.subnet_view.specs.Routing.{Routing, IsRouting, stops, Leads}
 use Rattle.subnet_view.proofs.Components.{component_itself}
 use Rattle.lft_blocks.specs.Rules.{RuleValue, routing_by}
-use Rattle.lft_blocks.proofs.RulesRoute.{rules_are_routings}
+use Rattle.lft_blocks.proofs.RulesRoute.{lids_are_routed}
+use Rattle.lft_blocks.proofs.Unnumbered.{all_arrive_by_rule}
+use Rattle.lft_blocks.specs.LidNumbers.{lid_numbers}
 use Rattle.subnet_view.proofs.GraphSwitches.{usable_switch}
 use Rattle.subnet_view.proofs.Graphs.{graph_law}
 use Rattle.subnet_view.proofs.PartWires.{IsTold, SwitchIn, one_index, switch_at_index}
 use Rattle.subnet_view.proofs.Joined.{LiesAt, HasAttachment, itself, by_wire, Meets, same, wired, apart, own_attachment, switch_in_graph, joined_meet}
-use Rattle.lft_blocks.specs.Plan.{plan_by, plan_of}
-use Rattle.lft_blocks.specs.Arrival.{guid_at, is_between_switches, switch_hops, switches_met, HoldsPlan, IsInForceWithin, IsRoutedWay}
-use Rattle.lft_blocks.specs.Arrival.{EveryPacketArrives, PacketsArriveByEachRouting, PacketsArriveWhereCovered}
+use Rattle.lft_blocks.specs.Plan.{lid_routing, plan_by, plan_of}
+use Rattle.lft_blocks.specs.Arrival.{guid_at, is_between_switches, switch_hops, switches_met, HoldsPlan, IsInForceWithin, IsRoutedWay, EveryPacketArrives, PacketsArriveByEachRouting, PacketsArriveWhereCovered}
 use Rattle.lft_blocks.proofs.HeldEntries.{entry_of, planned_block}
 use Rattle.lft_blocks.proofs.OwnerPorts.{IsPlanned, OwnerPort, owner_port, owner_there, lid_is_owners, owner_attachment}
-use Rattle.lft_blocks.proofs.Courses.{WayTaken, guid_there, way_taken, goes_on}
-use Rattle.lft_blocks.proofs.Courses.{switch_takes, switch_sends, entry_at_attachment}
-use Rattle.lft_blocks.proofs.Routed.{arrival_ports, arrivals, adapter_hops, way_arrivals, way_switch_hops, way_adapter_hops}
-use Rattle.lft_blocks.proofs.Routed.{routed_by_way, routed_past_switches}
+use Rattle.lft_blocks.proofs.Courses.{WayTaken, guid_there, way_taken, goes_on, switch_takes, switch_sends, entry_at_attachment}
+use Rattle.lft_blocks.proofs.Routed.{arrival_ports, arrivals, adapter_hops, way_arrivals, way_switch_hops, way_adapter_hops, routed_by_way, routed_past_switches}
 
 -- from a source to the switch that it lies at: no wire, or the one of an adapter port
 pub record Started (f : Fabric) (lid : ℕ) (source h : NodePort) (a : ℕ) : Type 0 where
@@ -264,4 +263,6 @@ packets_arrive_by_each_routing lmc facts rule routing has_room f origin is_origi
 pub every_packet_arrives : (rule : RuleValue) (lmc : ℕ) (facts : Facts) → ¬ (IsNoRoom lmc (cells_of facts))
     → EveryPacketArrives rule (cells_of facts) (plan_of rule lmc (cells_of facts))
 every_packet_arrives rule lmc facts has_room =
-    packets_arrive_by_each_routing lmc facts (routing_by rule (cells_of facts)) (rules_are_routings rule facts) has_room
+    all_arrive_by_rule (lid_numbers lmc (cells_of facts) (lids lmc (cells_of facts))) (routing_by rule (cells_of facts)) (cells_of facts)
+    (plan_of rule lmc (cells_of facts))
+    (packets_arrive_by_each_routing lmc facts (lid_routing rule lmc (cells_of facts) (lids lmc (cells_of facts))) (lids_are_routed rule lmc facts) has_room)

@@ -1,5 +1,5 @@
 -- Facts that differ in claims alone, and give the same LIDs, have the same plan.
-use Rattle.std.proofs.Common.{◌≡◌, ℕ, sym, false, cond, map}
+use Rattle.std.proofs.Common.{◌≡◌, ℕ, sym, false, cond, length, map}
 use Rattle.std.specs.Prelude.{None, Some, filter, not, option_and_then}
 use Rattle.std.specs.List.{filter_map, list_any, range_with_len}
 use Rattle.std.specs.Option.{option_map_or}
@@ -9,8 +9,11 @@ use Rattle.subnet_view.specs.declared.end_port.EndPort.{EndPort}
 use Rattle.subnet_view.proofs.BesideClaims.{is_claim, switch_same, usable_same, count_same, switches_same, across_same, attached_same}
 use Rattle.lid_assign.specs.Lids.{lids, owner_of, top_of}
 use Rattle.lid_assign.proofs.Staying.{same_but_claims, lids_settle}
-use Rattle.subnet_view.specs.Graph.{edge_at, graph_of}
-use Rattle.spread_routes.specs.LeafSwitches.{leaf_switches_of, is_leaf, has_adapter_at}
+use Rattle.subnet_view.specs.Graph.{edge_at, graph_of, guids_of}
+use Rattle.spread_labels.specs.Levels.{greatest}
+use Rattle.spread_routes.specs.LeafPlaces.{leaf_places}
+use Rattle.spread_routes.specs.LeafSwitches.{adapters_at, leaf_switches_of, is_leaf, has_adapter_at, most_adapters}
+use Rattle.lft_blocks.specs.LidNumbers.{lid_numbers, number_of, numbered}
 use Rattle.lft_blocks.specs.Rules.{RuleValue}
 use Rattle.lft_blocks.proofs.RulesRoute.{rules_stay}
 use Rattle.lft_blocks.specs.Entries.{attachment_of, block_count}
@@ -37,12 +40,24 @@ module _ (x y : Facts) (same : (key : Key) → is_claim key ≡ false → cell_f
   leaf_switches_same : leaf_switches_of (cells_of x) ≡ leaf_switches_of (cells_of y)
   leaf_switches_same = λ i. filter (λ g. is_leaf_same g i) (switches_same x y same i)
 
+  adapters_same : (g : ℕ) → adapters_at (cells_of x) g ≡ adapters_at (cells_of y) g
+  adapters_same g = λ i. length (filter (λ p. has_adapter_at_same g p i) (range_with_len 1 (count_same x y same g i)))
+
+  most_same : most_adapters (cells_of x) ≡ most_adapters (cells_of y)
+  most_same = λ i. greatest 0 (map (λ g. adapters_same g i) (switches_same x y same i))
+
+  numbers_same : (lmc : ℕ) → lids lmc (cells_of x) ≡ lids lmc (cells_of y)
+      → lid_numbers lmc (cells_of x) (lids lmc (cells_of x)) ≡ lid_numbers lmc (cells_of y) (lids lmc (cells_of y))
+  numbers_same lmc given =
+      λ i. number_of (record { lmc = lmc; places = leaf_places (graph_same i) (leaf_switches_same i); most = most_same i }) (guids_of (graph_same i))
+      (λ lid. option_and_then (λ e. attachment_same e i) (owner_of (given i) lid))
+
   plan_same : (rule : RuleValue) (lmc : ℕ) → lids lmc (cells_of x) ≡ lids lmc (cells_of y) → plan_of rule lmc (cells_of x) ≡ plan_of rule lmc (cells_of y)
   plan_same rule lmc given =
       λ i. record {
         given = given i;
         tables = tables_of (λ lid. option_and_then (λ e. attachment_same e i) (owner_of (given i) lid))
-            (rules_stay rule x y graph_same leaf_switches_same i).next
+            (numbered (numbers_same lmc given i) (rules_stay rule x y graph_same leaf_switches_same i)).next
             (block_count (top_of (given i))) (switches_same x y same i);
       }
 

@@ -6,6 +6,7 @@ use Rattle.subnet_view.specs.Reading.{Cells, switches}
 use Rattle.lid_assign.specs.Lids.{Given, lids, top_of}
 use Rattle.subnet_view.specs.Routing.{Routing}
 use Rattle.lft_blocks.specs.Rules.{RuleValue, routing_by}
+use Rattle.lft_blocks.specs.LidNumbers.{lid_numbers, numbered}
 use Rattle.lft_blocks.specs.Entries.{Next, attachment_of_lid, block_count, blocks}
 
 -- a usable switch and its blocks from 0 on
@@ -37,9 +38,13 @@ plan_by rule lmc cells =
           tables_of (attachment_of_lid cells given) rule.next (block_count (top_of given)) (switches cells);
     }
 
+-- the routing of LIDs by a rule that can be asked for: each LID goes as its number does
+abbrev pub lid_routing : RuleValue → ℕ → Cells → Given → Routing
+lid_routing rule lmc cells given = numbered (lid_numbers lmc cells given) (routing_by rule cells)
+
 -- the plan of a view by a rule that can be asked for
 abbrev pub plan_of : RuleValue → ℕ → Cells → PlanValue
-plan_of rule lmc cells = plan_by (routing_by rule cells) lmc cells
+plan_of rule lmc cells = plan_by (lid_routing rule lmc cells (lids lmc cells)) lmc cells
 
 -- block b of a switch; None if the GUID is no usable switch's, or there is no such block
 abbrev pub block_at : PlanValue → ℕ → ℕ → Option (List ℕ)

@@ -9,12 +9,12 @@ ghost use Rattle.subnet_view.specs.Graph.{guids_of};
 ghost use Rattle.subnet_view.specs.Reading.{switches};
 ghost use Rattle.updown_routes.specs.Updown.{updown};
 ghost use Rattle.lft_blocks.specs.Entries.{block_count};
-ghost use Rattle.lft_blocks.specs.Rules.{routing_by, rule_of, spread_in, up_and_down};
+ghost use Rattle.lft_blocks.specs.Rules.{routing_by, rule_of, spread_in, up_and_down, value_of};
 ghost use Rattle.spread_routes.specs.SwitchOrders.{order_value_of};
 ghost use Rattle.lft_blocks.specs.Arrival.{EveryPacketArrivesBy};
 ghost use Rattle.lft_blocks.specs.Attachments.{AreWithin};
 ghost use Rattle.lft_blocks.specs.TableRows.{attachment_by_index};
-ghost use Rattle.lft_blocks.specs.Plan.{tables_of, tables_by, plan_by, block_at, switches_of};
+ghost use Rattle.lft_blocks.specs.Plan.{tables_of, tables_by, plan_of, lid_routing, block_at, switches_of};
 
 use crate::Rule;
 use crate::attachment::{Attachment, attachments, index_of};
@@ -63,13 +63,13 @@ impl Plan {
     pub fn of(alloc: Global, store: &Store, lmc: Lmc, rule: &Rule) -> Result<Self, PlanFault>
         ensures judged { JudgesButFor is_memory result (lid_fault (no_room lmc (cells_of store.now))) }
         ensures plan { IfOk result (λ plan.
-            plan ≡ plan_by (rule_of rule.now (cells_of store.now)) lmc (cells_of store.now)) }
+            plan ≡ plan_of (value_of rule.now) lmc (cells_of store.now)) }
         ensures arrives { IfOk result (λ plan. EveryPacketArrivesBy
             (rule_of rule.now (cells_of store.now)) (cells_of store.now) plan) }
     {
         let lids = assign(alloc, store, lmc)?;
         let wires = Wires::of(alloc, store)?;
-        let (switches, tables) = tables_of(alloc, &wires, &lids, rule)?;
+        let (switches, tables) = tables_of(alloc, &wires, &lids, lmc, rule)?;
         Ok(Plan {
             lids,
             switches,
@@ -121,15 +121,17 @@ fn tables_of(
     alloc: Global,
     wires: &Wires,
     lids: &LidMap,
+    lmc: Lmc,
     rule: &Rule,
 ) -> Result<(Vec<Guid>, Vec<Table>), Refused>
     ensures switches { IfOk result (λ found. found.0.items ≡ switches (cells_of wires.now)) }
     ensures tables { IfOk result (λ found. found.1.items
-        ≡ tables_by (rule_of rule.now (cells_of wires.now)) (cells_of wires.now) lids.now) }
+        ≡ tables_by (lid_routing (value_of rule.now) lmc (cells_of wires.now) lids.now)
+        (cells_of wires.now) lids.now) }
 {
     match rule {
         Rule::UpDown => by_updown(alloc, wires, lids),
-        Rule::Spread { order } => by_spread(alloc, wires, lids, order),
+        Rule::Spread { order } => by_spread(alloc, wires, lids, lmc, order),
     }
 }
 
@@ -138,17 +140,18 @@ fn by_spread(
     alloc: Global,
     wires: &Wires,
     lids: &LidMap,
+    lmc: Lmc,
     order: &SwitchOrder,
 ) -> Result<(Vec<Guid>, Vec<Table>), Refused>
     ensures switches { IfOk result (λ found. found.0.items ≡ switches (cells_of wires.now)) }
     ensures tables { IfOk result (λ found. found.1.items
-        ≡ tables_by (routing_by (spread_in (order_value_of order.now)) (cells_of wires.now))
+        ≡ tables_by (lid_routing (spread_in (order_value_of order.now)) lmc (cells_of wires.now) lids.now)
         (cells_of wires.now) lids.now) }
 {
     let graph = SwitchGraph::of(alloc, wires)?;
     let count = block_count(lids.top());
     let attachments = attachments(alloc, wires, graph.switches(), lids, count)?;
-    let tables = spread_tables(alloc, wires, &graph, &attachments, order, count)?;
+    let tables = spread_tables(alloc, wires, &graph, &attachments, lmc, order, count)?;
     Ok((graph.into_switches(), tables))
 }
 

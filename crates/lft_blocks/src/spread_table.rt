@@ -1,5 +1,5 @@
 //! Tables by the rule that spreads.
-ghost use Rattle.std.specs.Prelude.{◌≡◌, ◌<◌, ◌≤◌, ◌*◌, All, IfOk, OnOk, length, map, replicate};
+ghost use Rattle.std.specs.Prelude.{◌≡◌, ◌<◌, ◌≤◌, ◌*◌, All, IfOk, OnOk, length, map, replicate, slice_index};
 ghost use Rattle.std.specs.List.{range_with_len};
 ghost use Rattle.fact_store.specs.View.{cells_of};
 ghost use Rattle.subnet_view.specs.Graph.{graph_of, guids_of};
@@ -8,14 +8,19 @@ ghost use Rattle.spread_routes.specs.Spread.{spread_at, spread_by};
 ghost use Rattle.spread_routes.specs.SwitchOrders.{order_value_of};
 ghost use Rattle.spread_routes.specs.Tables.{AreTowards};
 ghost use Rattle.lft_blocks.specs.Attachments.{AreWithin};
+ghost use Rattle.lft_blocks.specs.LidNumbers.{number_of, numbered, placing_of};
 ghost use Rattle.lft_blocks.specs.Plan.{tables_of};
 ghost use Rattle.lft_blocks.specs.TableRows.{AreLidsAt, AreRows, IsRow, attachment_by_index, table_of_row};
 
 use crate::attachment::Attachment;
+use crate::numbers::{Placing, lid_numbers};
 use crate::table::Table;
 use crate::table_row::{TableRow, lids_by_switch};
+use attr_codec::Lmc;
 use smp_bytes::{Guid, Lid};
-use spread_routes::{Exits, Spread, SwitchOrder, Towards, leaf_switches};
+use spread_routes::{
+    Exits, Spread, SwitchOrder, Towards, leaf_places, leaf_switches, most_adapters,
+};
 use std::alloc::{AllocError, Global};
 use std::mem;
 use subnet_view::{SwitchGraph, Wires};
@@ -26,6 +31,7 @@ pub(crate) fn spread_tables(
     wires: &Wires,
     graph: &SwitchGraph,
     attachments: &[Option<Attachment>],
+    lmc: Lmc,
     order: &SwitchOrder,
     count: usize,
 ) -> Result<Vec<Table>, AllocError>
@@ -35,13 +41,21 @@ pub(crate) fn spread_tables(
     requires all { length attachments.now ≡ 64 * count }
     ensures { IfOk result (λ tables. tables.items ≡ tables_of
         (attachment_by_index (guids_of graph.now) attachments.now)
-        (spread_by graph.now (leaf_switches_of (cells_of wires.now)) (order_value_of order.now)).next
+        (numbered (number_of (placing_of lmc (cells_of wires.now)) (guids_of graph.now)
+        (attachment_by_index (guids_of graph.now) attachments.now))
+        (spread_by graph.now (leaf_switches_of (cells_of wires.now)) (order_value_of order.now))).next
         count (guids_of graph.now)) }
 {
     let guids = graph.switches();
     let leaves = leaf_switches(alloc, wires, guids)?;
+    let placing = Placing {
+        lmc,
+        places: leaf_places(alloc, graph, &leaves)?,
+        most: most_adapters(wires, guids),
+    };
+    let numbers = lid_numbers(alloc, &placing, attachments)?;
     let spread = Spread::of(alloc, graph, &leaves, order)?;
-    let mut rows = rows(alloc, &spread, attachments, guids.len())?;
+    let mut rows = rows(alloc, &spread, attachments, &numbers, guids.len())?;
     tables_of(alloc, guids, &mut rows, count)
 }
 
@@ -50,12 +64,14 @@ fn rows(
     alloc: Global,
     spread: &Spread,
     attachments: &[Option<Attachment>],
+    numbers: &[u16],
     switches: usize,
 ) -> Result<Vec<TableRow>, AllocError>
     requires switches { switches ≡ length spread.now.graph }
     requires within { AreWithin switches attachments.now }
     requires few { length attachments.now ≤ 65536 }
-    ensures { IfOk result (λ rows. AreRows (spread_at spread.now).next
+    requires numbers { length numbers.now ≡ length attachments.now }
+    ensures { IfOk result (λ rows. AreRows (numbered (slice_index numbers.now) (spread_at spread.now)).next
         (guids_of spread.now.graph) attachments.now switches rows.items) }
 {
     let mut rows = no_ways(alloc, switches, attachments.len())?;
@@ -63,7 +79,15 @@ fn rows(
     let mut first = 0;
     'block: while first < switches {
         let towards = spread.towards(alloc, first)?;
-        write_rows(alloc, &mut rows, spread, &towards, attachments, &lids)?;
+        write_rows(
+            alloc,
+            &mut rows,
+            spread,
+            &towards,
+            attachments,
+            numbers,
+            &lids,
+        )?;
         first = towards.end();
     }
     Ok(rows)
@@ -76,20 +100,31 @@ fn write_rows(
     spread: &Spread,
     towards: &Towards,
     attachments: &[Option<Attachment>],
+    numbers: &[u16],
     lids: &[Vec<Lid>],
 ) -> Result<(), AllocError>
     requires towards { AreTowards spread.now towards.now }
+    requires numbers { length numbers.now ≡ length attachments.now }
     requires order { towards.now.first ≤ towards.now.end }
-    requires rows { AreRows (spread_at spread.now).next (guids_of spread.now.graph) attachments.now
-        towards.now.first rows.old }
+    requires rows { AreRows (numbered (slice_index numbers.now) (spread_at spread.now)).next
+        (guids_of spread.now.graph) attachments.now towards.now.first rows.old }
     requires lids { AreLidsAt attachments.now (length attachments.now) (length spread.now.graph)
         (map (λ lids. lids.items) lids.now) }
-    ensures { OnOk result (AreRows (spread_at spread.now).next (guids_of spread.now.graph) attachments.now
-        towards.now.end rows.new) }
+    ensures { OnOk result (AreRows (numbered (slice_index numbers.now) (spread_at spread.now)).next
+        (guids_of spread.now.graph) attachments.now towards.now.end rows.new) }
 {
     let mut exits = Exits::new(alloc)?;
     for (own, row) in rows.iter_mut().enumerate() {
-        write_row(row, own, spread, towards, attachments, lids, &mut exits)?;
+        write_row(
+            row,
+            own,
+            spread,
+            towards,
+            attachments,
+            numbers,
+            lids,
+            &mut exits,
+        )?;
     }
     Ok(())
 }
@@ -102,18 +137,20 @@ fn write_row(
     spread: &Spread,
     towards: &Towards,
     attachments: &[Option<Attachment>],
+    numbers: &[u16],
     lids: &[Vec<Lid>],
     exits: &mut Exits,
 ) -> Result<(), AllocError>
     requires own { own < length spread.now.graph }
     requires towards { AreTowards spread.now towards.now }
-    requires row { IsRow (spread_at spread.now).next (guids_of spread.now.graph) attachments.now
-        towards.now.first own row.old }
+    requires numbers { length numbers.now ≡ length attachments.now }
+    requires row { IsRow (numbered (slice_index numbers.now) (spread_at spread.now)).next
+        (guids_of spread.now.graph) attachments.now towards.now.first own row.old }
     requires order { towards.now.first ≤ towards.now.end }
     requires lids { AreLidsAt attachments.now (length attachments.now) (length spread.now.graph)
         (map (λ lids. lids.items) lids.now) }
-    ensures { OnOk result (IsRow (spread_at spread.now).next (guids_of spread.now.graph) attachments.now
-        towards.now.end own row.new) }
+    ensures { OnOk result (IsRow (numbered (slice_index numbers.now) (spread_at spread.now)).next
+        (guids_of spread.now.graph) attachments.now towards.now.end own row.new) }
 {
     spread.exits_from(own, towards, exits)?;
     let first = towards.first();
@@ -121,6 +158,7 @@ fn write_row(
         row.write(
             attachments,
             &lids[target],
+            numbers,
             exits,
             target - first,
             own == target,

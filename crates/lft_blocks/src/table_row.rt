@@ -1,6 +1,6 @@
 //! The entries of switches, LID by LID, written target by target.
 ghost use Rattle.std.specs.Prelude.{◌≡◌, ◌<◌, ◌≤◌, ◌+◌, ◌*◌, [], All, IfOk, None, length, map, replicate};
-ghost use Rattle.std.specs.Prelude.{slice_index_or};
+ghost use Rattle.std.specs.Prelude.{slice_index, slice_index_or};
 ghost use Rattle.spread_routes.specs.Tables.{port_by, with_entries};
 ghost use Rattle.lft_blocks.specs.Attachments.{AreWithin};
 ghost use Rattle.lft_blocks.specs.TableRows.{AreLidsAt, block_of_row, blocks_of_row, entry_by, attachment_port};
@@ -45,25 +45,27 @@ impl TableRow {
     }
 
     /// Writes the entries for these LIDs, which are attached to a target of the exits: the attachments' ports if
-    /// `is_own`, and otherwise the ports by which packets leave for the target.
+    /// `is_own`, and otherwise the ports by which packets leave for the target, by their numbers of `numbers`.
     pub(crate) fn write(
         &mut self,
         attachments: &[Option<Attachment>],
         lids: &[Lid],
+        numbers: &[u16],
         exits: &Exits,
         target: usize,
         is_own: bool,
     )
         requires lids { All (λ lid. lid < length self.old) lids.now }
         requires attachments { length self.old ≡ length attachments.now }
+        requires numbers { length numbers.now ≡ length self.old }
         requires target { target < 64 }
         ensures { self.new ≡ with_entries (λ lid. entry_by attachments.now is_own lid
-            (port_by exits.now target lid)) self.old lids.now }
+            (port_by exits.now target (slice_index numbers.now lid))) self.old lids.now }
     {
         if is_own {
             write_own(&mut self.entries, attachments, lids);
         } else {
-            exits.write(target, lids, NO_WAY, &mut self.entries);
+            exits.write(target, lids, numbers, NO_WAY, &mut self.entries);
         }
     }
 

@@ -24,9 +24,9 @@ use Rattle.lid_assign.specs.Lids.{IsNoRoom, lids, lid_of, lmc_of, range_of, top_
 use Rattle.lid_assign.proofs.LidLaws.{lids_law, ports_apart}
 use Rattle.lid_assign.proofs.Owners.{lid-from_given}
 use Rattle.lft_blocks.specs.Arrival.{HoldsBlock, HoldsPlan, HoldsPlanAt}
-use Rattle.lft_blocks.specs.Plan.{SwitchTable, plan_of, block_at, switches_of}
+use Rattle.lft_blocks.specs.Plan.{SwitchTable, plan_of, block_at, switches_of, lid_routing}
 use Rattle.lft_blocks.specs.Entries.{attachment_of_lid, block_count, blocks}
-use Rattle.lft_blocks.specs.Rules.{RuleValue, routing_by}
+use Rattle.lft_blocks.specs.Rules.{RuleValue}
 use Rattle.sweep.specs.Sweep.{Sweep}
 use Rattle.manager_laws.specs.Truth.{HasNode}
 use Rattle.manager_laws.specs.Written.{IsReached, IsHeldWhere}
@@ -40,7 +40,7 @@ module _ (rule : RuleValue) (lmc : ℕ) (facts : Facts) where
   table_of : ℕ → SwitchTable
   table_of s = record {
     guid = s;
-    blocks = blocks (attachment_of_lid (cells_of facts) (lids lmc (cells_of facts))) (routing_by rule (cells_of facts)).next
+    blocks = blocks (attachment_of_lid (cells_of facts) (lids lmc (cells_of facts))) (lid_routing rule lmc (cells_of facts) (lids lmc (cells_of facts))).next
         (block_count (top_of (lids lmc (cells_of facts)))) s;
   }
 

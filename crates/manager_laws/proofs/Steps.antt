@@ -33,9 +33,9 @@ use Rattle.lid_assign.proofs.Ranges.{some_width}
 use Rattle.lid_assign.proofs.RisingLids.{rising_lids_law}
 use Rattle.lid_assign.proofs.Tops.{top_below}
 use Rattle.lft_blocks.specs.Entries.{Next, attachment_of_lid, entry, block, block_count, blocks}
-use Rattle.lft_blocks.specs.Plan.{PlanValue, SwitchTable, plan_of, block_at, switches_of}
+use Rattle.lft_blocks.specs.Plan.{PlanValue, SwitchTable, plan_of, block_at, switches_of, lid_routing}
 use Rattle.lft_blocks.proofs.BlockLaws.{made_from}
-use Rattle.lft_blocks.specs.Rules.{RuleValue, routing_by}
+use Rattle.lft_blocks.specs.Rules.{RuleValue}
 use Rattle.sweep.specs.Sweep.{Sweep, path_to, seen_state, switch_image}
 use Rattle.plan_steps.specs.declared.step.Step.{Step}
 use Rattle.plan_steps.specs.declared.carried.PortRead.{PortRead}
@@ -310,7 +310,7 @@ module _ (rule : RuleValue) (lmc : ℕ) (few_lmc : lmc < 8) (facts : Facts) (has
       homes = attachment_of_lid (cells_of facts) (lids lmc (cells_of facts))
 
       next : Next
-      next = (routing_by rule (cells_of facts)).next
+      next = (lid_routing rule lmc (cells_of facts) (lids lmc (cells_of facts))).next
 
       n : ℕ
       n = block_count (top_of (lids lmc (cells_of facts)))
@@ -323,7 +323,7 @@ module _ (rule : RuleValue) (lmc : ℕ) (few_lmc : lmc < 8) (facts : Facts) (has
           let (s, is_switch, same) = contains-from_map
           (λ s. record {
             guid = s;
-            blocks = blocks (attachment_of_lid (cells_of facts) (lids lmc (cells_of facts))) (routing_by rule (cells_of facts)).next
+            blocks = blocks (attachment_of_lid (cells_of facts) (lids lmc (cells_of facts))) (lid_routing rule lmc (cells_of facts) (lids lmc (cells_of facts))).next
                 (block_count (top_of (lids lmc (cells_of facts)))) s;
           })
           (switches (cells_of facts)) table found.0 in

@@ -21,6 +21,9 @@ use Rattle.lft_blocks.specs.Rules.{RuleValue, routing_by, spread_in, up_and_down
 use Rattle.spread_routes.specs.Spread.{grading_of, keys_by, number_there, spread_by}
 use Rattle.spread_routes.specs.SwitchOrders.{OrderValue}
 use Rattle.lft_blocks.proofs.RulesRoute.{rules_are_routings}
+use Rattle.lid_assign.specs.Lids.{lids}
+use Rattle.lft_blocks.specs.LidNumbers.{lid_numbers}
+use Rattle.lft_blocks.specs.Plan.{lid_routing}
 
 abbrev HasCost : Routing → ℕ → ℕ → Type 0
 HasCost rule s t = (n : ℕ) × (rule.cost s t ≡ Some n)
@@ -65,3 +68,10 @@ next_is_edge rule facts lid s t port is_s is_t apart h =
     let (n, cost) = next_has_cost rule facts lid s t port is_s is_t h in
     let way = (rules_are_routings rule facts).leads lid s t n is_s cost in
     first_edge (graph_of (cells_of facts)) (routing_by rule (cells_of facts)) lid s t port way.edges apart h way.by_rule way.passes
+
+-- the routing of LIDs
+pub lid_has_cost : (rule : RuleValue) (lmc : ℕ) (facts : Facts) (lid s t port : ℕ) → IsSwitch (graph_of (cells_of facts)) s → IsSwitch (graph_of (cells_of facts)) t
+    → (lid_routing rule lmc (cells_of facts) (lids lmc (cells_of facts))).next lid s t ≡ Some port
+    → HasCost (lid_routing rule lmc (cells_of facts) (lids lmc (cells_of facts))) s t
+lid_has_cost rule lmc facts lid s t port is_s is_t h =
+    next_has_cost rule facts (lid_numbers lmc (cells_of facts) (lids lmc (cells_of facts)) lid) s t port is_s is_t h

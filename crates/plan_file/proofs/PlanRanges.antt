@@ -20,13 +20,12 @@ use Rattle.fact_store.specs.View.{Facts, cells_of, AreInRange}
 use Rattle.fact_store.proofs.Orders.{contained_get}
 use Rattle.smp_bytes.specs.NodeType.{is_switch}
 use Rattle.subnet_view.specs.declared.end_port.EndPort.{EndPort}
-use Rattle.subnet_view.specs.Reading.{Cells, port_count_of, switches}
+use Rattle.subnet_view.specs.Reading.{Cells, port_count_of, switches, is_switch_node, is_usable}
 use Rattle.subnet_view.specs.Wires.{across, attached}
 use Rattle.subnet_view.proofs.Members.{contains_here, contains_later}
 use Rattle.subnet_view.proofs.Taken.{found_in}
 use Rattle.subnet_view.proofs.WireLaws.{wire_law}
 use Rattle.std.proofs.lemmas.Option.{same_Some}
-use Rattle.subnet_view.specs.Reading.{is_switch_node, is_usable}
 use Rattle.std.specs.List.{filter_map}
 use Rattle.std.specs.List.Sorted.{IsStrictlyIncreasing}
 use Rattle.std.proofs.lemmas.Nat.{pow_pos}
@@ -40,17 +39,18 @@ use Rattle.lid_assign.proofs.Tops.{top_below}
 use Rattle.subnet_view.proofs.Apart.{contains_map}
 use Rattle.subnet_view.proofs.EndPortList.{end_ports_law}
 use Rattle.subnet_view.proofs.UsableSwitches.{switches_law}
-use Rattle.lft_blocks.specs.Plan.{tables_of, plan_of}
+use Rattle.lft_blocks.specs.Plan.{tables_of, plan_of, lid_routing}
 use Rattle.port_graph.specs.declared.edge.Edge.{Edge}
 use Rattle.subnet_view.specs.Graph.{graph_of, edges_at}
 use Rattle.subnet_view.specs.GraphLaws.{IsSwitch}
-use Rattle.lft_blocks.specs.Rules.{RuleValue, routing_by}
+use Rattle.lft_blocks.specs.Rules.{RuleValue}
 use Rattle.subnet_view.proofs.Graphs.{edge_is_wire}
 use Rattle.subnet_view.proofs.GraphSwitches.{graph_guids, switches_rise}
 use Rattle.lft_blocks.specs.Entries.{attachment_of, attachment_of_lid, port_to, entry, block, block_count}
 use Rattle.lft_blocks.proofs.AttachmentSwitches.{attachment_is_switch}
 use Rattle.plan_file.proofs.NextPorts.{next_is_edge}
 use Rattle.plan_file.specs.Printed.{IsLidInRange, IsBlock, IsTableInRange, IsPlanInRange}
+use Rattle.lft_blocks.specs.LidNumbers.{lid_numbers}
 
 -- of all elements
 all_of : {X : Type 0} (P : X → Type 0) (xs : List X) → ((x : X) → Contains xs x → P x) → AllByRecursion P xs
@@ -135,7 +135,7 @@ module _ (facts : Facts) (range : AreInRange facts) where
   -- under a rule and an LMC
   module _ (rule : RuleValue) (lmc : ℕ) where
     abbrev next : ℕ → ℕ → ℕ → Option ℕ
-    next = (routing_by rule cells).next
+    next = (lid_routing rule lmc cells (lids lmc cells)).next
 
     is_switch_of : (s : ℕ) → Contains (switches cells) s → IsSwitch (graph_of cells) s
     is_switch_of s there = subst (λ (xs : List ℕ). Contains xs s) (sym (graph_guids cells)) there
@@ -145,7 +145,7 @@ module _ (facts : Facts) (range : AreInRange facts) where
         elim (next lid s t) as (λ o. next lid s t ≡ o → unwrap_or o 255 < 256) [
           | None ↦ λ e. omega arith
           | Some p ↦ λ e.
-              let (x, is_edge, port) = next_is_edge rule facts lid s t p (is_switch_of s there) (is_switch_of t others) apart e in
+              let (x, is_edge, port) = next_is_edge rule facts (lid_numbers lmc cells (lids lmc cells) lid) s t p (is_switch_of s there) (is_switch_of t others) apart e in
               let small = edge_small s x is_edge in
               omega arith
         ] refl

@@ -10,11 +10,10 @@ use Rattle.subnet_view.specs.Reading.{Cells, switches}
 use Rattle.subnet_view.specs.Wires.{across}
 use Rattle.subnet_view.specs.Graph.{graph_of}
 use Rattle.subnet_view.specs.Routing.{Routing}
-use Rattle.lid_assign.specs.Lids.{greatest, lids, top_of}
+use Rattle.lid_assign.specs.Lids.{greatest, lids, top_of, IsNoRoom}
 use Rattle.lft_blocks.specs.Rules.{routing_by, spread_in}
-use Rattle.lft_blocks.specs.Plan.{plan_of}
+use Rattle.lft_blocks.specs.Plan.{plan_of, lid_routing}
 use Rattle.plan_file.specs.Printed.{held_plan}
-use Rattle.lid_assign.specs.Lids.{IsNoRoom}
 use Rattle.spread_labels.specs.declared.vertex_key.VertexKey.{VertexKey}
 use Rattle.spread_routes.specs.SwitchOrders.{OrderValue}
 use Rattle.plan_file.specs.Held.{HeldPlan, nothing_held}
@@ -25,8 +24,7 @@ use Rattle.spread_labels.specs.Ways.{channel_number}
 use Rattle.held_tables.specs.declared.far_end.Far.{Far}
 use Rattle.held_tables.specs.declared.far_end.Far.TheVariants.{Nothing}
 use Rattle.held_tables.specs.Switches.{row_of}
-use Rattle.held_tables.specs.Tables.{entry_for, owners_of}
-use Rattle.held_tables.specs.Tables.{top_of as top_held}
+use Rattle.held_tables.specs.Tables.{entry_for, owners_of, top_of as top_held}
 use Rattle.held_tables.proofs.HeldPlans.{made}
 use Rattle.audit.specs.declared.end.Cause.{Cause}
 use Rattle.audit.specs.declared.end.End.TheVariants.{Taken}
@@ -114,7 +112,7 @@ nothing_waits cells a b w =
 pub plan_turns_rise : PlanTurnsRise
 plan_turns_rise by lmc facts range has_room lid i j k =
     let cells = cells_of facts in
-    let rule = routing_by by cells in
+    let rule = lid_routing by lmc cells (lids lmc cells) in
     let told : Option ℕ → HeldPlan = λ o. option_map_or (λ top. made by lmc cells top) o nothing_held in
     elim (top_of (lids lmc cells)) as (λ o. top_of (lids lmc cells) ≡ o → 1 ≤ lid → Leads cells (told o) lid i j → Leads cells (told o) lid j k
     → rule.channel (switch_at cells i) (switch_at cells j) < rule.channel (switch_at cells j) (switch_at cells k)) [

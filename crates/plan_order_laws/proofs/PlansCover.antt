@@ -8,23 +8,22 @@ use Rattle.port_graph.specs.declared.edge.Edge.{Edge}
 use Rattle.subnet_view.specs.EndPorts.{end_ports}
 use Rattle.subnet_view.specs.Reading.{Cells, switches}
 use Rattle.subnet_view.specs.SwitchEdges.{SwitchEdges}
-use Rattle.subnet_view.specs.Graph.{graph_of}
+use Rattle.subnet_view.specs.Graph.{graph_of, edges_at as wires_at}
 use Rattle.subnet_view.specs.GraphLaws.{IsGraph, IsSwitch}
 use Rattle.subnet_view.specs.Components.{in_one_component}
 use Rattle.subnet_view.specs.Routing.{FollowsRule, Passes, Routing}
 use Rattle.subnet_view.proofs.Components.{component_itself, component_trans}
 use Rattle.subnet_view.proofs.EdgeLists.{has_end}
-use Rattle.subnet_view.specs.Graph.{edges_at as wires_at}
 use Rattle.subnet_view.proofs.Graphs.{graph_law}
 use Rattle.subnet_view.proofs.Members.{contains_none}
 use Rattle.lid_assign.specs.Lids.{IsNoRoom, lids, owner_of, top_of}
 use Rattle.lft_blocks.specs.Entries.{attachment_of, port_to}
-use Rattle.lft_blocks.specs.Rules.{RuleValue, routing_by}
-use Rattle.lft_blocks.proofs.RulesRoute.{rules_are_routings}
+use Rattle.lft_blocks.specs.Rules.{RuleValue}
+use Rattle.lft_blocks.proofs.RulesRoute.{lids_are_routed}
 use Rattle.plan_file.specs.declared.held.HeldLid.{HeldLid}
 use Rattle.plan_file.specs.Held.{HeldPlan, nothing_held}
-use Rattle.plan_file.proofs.NextPorts.{next_has_cost}
-use Rattle.held_tables.proofs.HeldPlans.{made}
+use Rattle.plan_file.proofs.NextPorts.{lid_has_cost}
+use Rattle.held_tables.proofs.HeldPlans.{made, entry_counts}
 use Rattle.held_tables.specs.Tables.{entry_for}
 use Rattle.audit.specs.declared.end.End.TheVariants.{Taken}
 use Rattle.audit.specs.declared.next_hop.NextHop.{NextHop}
@@ -32,7 +31,6 @@ use Rattle.audit.specs.declared.next_hop.NextHop.TheVariants.{To, Ends}
 use Rattle.audit.specs.NextHops.{next_hops_of}
 use Rattle.audit.specs.WalkEnds.{after}
 use Rattle.audit.proofs.Ended.{after_ended}
-use Rattle.held_tables.proofs.HeldPlans.{entry_counts}
 use Rattle.next_tables.specs.Next.{step_at}
 use Rattle.next_tables.proofs.Entries.{at_mapped, member}
 use Rattle.next_tables.proofs.Mixtures.{in_range}
@@ -44,6 +42,7 @@ use Rattle.next_tables.proofs.Hops.{none_taken, none_to, placed}
 use Rattle.plan_order_laws.proofs.PlanOrders.{in_one, is_switch}
 use Rattle.audit.proofs.PlanPackets.{attachment_there, from_switch, owned}
 use Rattle.plan_order_laws.proofs.UpdownRight.{same_component}
+use Rattle.lft_blocks.specs.Plan.{lid_routing}
 
 -- a way by wires stays in a component
 stays_in_one : (graph : List SwitchEdges) → IsGraph graph → (rule : Routing) (lid t : ℕ) (es : List Edge) (s : ℕ) → IsSwitch graph s → IsSwitch graph t
@@ -80,7 +79,7 @@ module _ (by : RuleValue) (lmc : ℕ) (facts : Facts) (range : AreInRange facts)
   tables = made by lmc (cells_of facts) top
 
   abbrev rule : Routing
-  rule = routing_by by (cells_of facts)
+  rule = lid_routing by lmc (cells_of facts) (lids lmc (cells_of facts))
 
   abbrev graph : List SwitchEdges
   graph = graph_of (cells_of facts)
@@ -115,8 +114,8 @@ module _ (by : RuleValue) (lmc : ℕ) (facts : Facts) (range : AreInRange facts)
               → in_one_component graph g a.0 ≡ true) [
                 | None ↦ λ none k. absurd (no_delivery (cells_of facts) tables line j less k d)
                 | Some p ↦ λ next k.
-                    let has = next_has_cost by facts line.lid g a.0 p is_g a_there next in
-                    let way = (rules_are_routings by facts).leads line.lid g a.0 has.0 is_g has.1 in
+                    let has = lid_has_cost by lmc facts line.lid g a.0 p is_g a_there next in
+                    let way = (lids_are_routed by lmc facts).leads line.lid g a.0 has.0 is_g has.1 in
                     stays_in_one graph (graph_law facts) rule line.lid a.0 way.edges g is_g a_there way.by_rule way.passes
               ]) refl e
         ]) refl entry

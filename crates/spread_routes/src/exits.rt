@@ -1,5 +1,6 @@
 //! How packets leave a switch towards others.
-ghost use Rattle.std.specs.Prelude.{◌≡◌, ◌<◌, [], All, OnOk, length, map, slice_index_or, unwrap_or};
+ghost use Rattle.std.specs.Prelude.{◌≡◌, ◌<◌, [], All, OnOk, length, map, slice_index, slice_index_or};
+ghost use Rattle.std.specs.Prelude.{unwrap_or};
 ghost use Rattle.spread_labels.specs.TargetSets.{EachTarget};
 ghost use Rattle.spread_labels.specs.MarkSets.{picked};
 ghost use Rattle.spread_routes.specs.Spread.{number_by};
@@ -66,12 +67,14 @@ impl Exits {
         self.lists.find(edges, sets)
     }
 
-    /// Writes for each LID the number of the port that it takes towards a target, or `none` if no way leads there.
-    /// Takes one step for each LID, and some more if LIDs are not consecutive.
-    pub fn write(&self, target: usize, lids: &[Lid], none: u8, entries: &mut [u8])
+    /// Writes for each LID the number of the port that it takes towards a target by its number of `numbers`, or `none`
+    /// if no way leads there. Takes one step for each LID, and some more if their numbers are not consecutive.
+    pub fn write(&self, target: usize, lids: &[Lid], numbers: &[u16], none: u8, entries: &mut [u8])
         requires target { target < 64 }
         requires lids { All (λ lid. lid < length entries.old) lids.now }
-        ensures { entries.new ≡ with_entries (λ lid. unwrap_or (port_by self.now target lid) none)
+        requires numbers { length numbers.now ≡ length entries.old }
+        ensures { entries.new
+            ≡ with_entries (λ lid. unwrap_or (port_by self.now target (slice_index numbers.now lid)) none)
             entries.old lids.now }
     {
         let ports = self.lists.at(target);
@@ -81,6 +84,7 @@ impl Exits {
             write_ports(
                 entries,
                 lids,
+                numbers,
                 ports,
                 &self.lid_digit,
                 self.higher.has(target),
@@ -103,6 +107,7 @@ fn write_none(entries: &mut [u8], lids: &[Lid], none: u8)
 fn write_ports(
     entries: &mut [u8],
     lids: &[Lid],
+    numbers: &[u16],
     ports: &[PortNum],
     lid_digit: &LidDigit,
     is_higher: bool,
@@ -110,13 +115,15 @@ fn write_ports(
     requires weight { 0 < lid_digit.now.digit_weight }
     requires ports { 0 < length ports.now }
     requires lids { All (λ lid. lid < length entries.old) lids.now }
-    ensures { entries.new
-        ≡ with_entries (λ lid. port_turn ports.now (number_by lid_digit.now is_higher lid)) entries.old lids.now }
+    requires numbers { length numbers.now ≡ length entries.old }
+    ensures { entries.new ≡ with_entries
+        (λ lid. port_turn ports.now (number_by lid_digit.now is_higher (slice_index numbers.now lid)))
+        entries.old lids.now }
 {
     let mut turn = lid_digit.turn(is_higher, ports.len());
     for lid in lids {
         let lid = usize::from(lid.number());
-        turn.go_to(lid);
+        turn.go_to(usize::from(numbers[lid]));
         entries[lid] = ports[turn.choice()].number();
     }
 }

@@ -6,13 +6,15 @@ mod index;
 pub mod laws;
 mod leaves;
 mod lid_digit;
+mod places;
 mod round_robin;
 mod spread;
 mod switch_keys;
 mod switch_order;
 
 pub use exits::Exits;
-pub use leaves::leaf_switches;
+pub use leaves::{leaf_switches, most_adapters};
+pub use places::leaf_places;
 pub use spread::{Spread, Towards};
 pub use switch_keys::switches_in_order;
 pub use switch_order::SwitchOrder;

@@ -20,17 +20,17 @@ use Rattle.subnet_view.proofs.Graphs.{graph_law}
 use Rattle.subnet_view.proofs.GraphSwitches.{graph_guids}
 use Rattle.lid_assign.specs.Lids.{IsNoRoom, lids, owner_of, top_of as greatest_of}
 use Rattle.lft_blocks.specs.Entries.{attachment_of, block_count, port_to}
-use Rattle.lft_blocks.specs.Plan.{PlanValue, SwitchTable, plan_of}
+use Rattle.lft_blocks.specs.Plan.{PlanValue, SwitchTable, plan_of, lid_routing}
 use Rattle.lft_blocks.specs.PlanText.{lids_text, table_text}
-use Rattle.lft_blocks.specs.Rules.{RuleValue, routing_by}
+use Rattle.lft_blocks.specs.Rules.{RuleValue}
 use Rattle.lft_blocks.proofs.HeldEntries.{entry_by_attachment, entry_of as planned_entry}
-use Rattle.lft_blocks.proofs.RulesRoute.{rules_are_routings}
+use Rattle.lft_blocks.proofs.RulesRoute.{lids_are_routed}
 use Rattle.plan_file.specs.declared.held.HeldLid.{HeldLid}
 use Rattle.plan_file.specs.Held.{HeldPlan, nothing_held}
 use Rattle.plan_file.specs.Printed.{blocks_of, held_plan, with_top}
 use Rattle.plan_file.specs.Reading.{held_of}
 use Rattle.plan_file.specs.TablesText.{next_text}
-use Rattle.plan_file.proofs.NextPorts.{next_has_cost}
+use Rattle.plan_file.proofs.NextPorts.{lid_has_cost}
 use Rattle.plan_file.proofs.OwnedLids.{line_owned, owner_listed as owner_has_line}
 use Rattle.plan_file.proofs.TablesText.{tables_are_text}
 use Rattle.held_tables.specs.Tables.{entry_for, is_owner, owners_of, top_of}
@@ -81,7 +81,7 @@ module _ (by : RuleValue) (lmc : ℕ) (facts : Facts) (range : AreInRange facts)
   graph = graph_of cells
 
   abbrev rule : Routing
-  rule = routing_by by cells
+  rule = lid_routing by lmc cells (lids lmc cells)
 
   abbrev P : HeldPlan
   P = made by lmc cells top
@@ -119,8 +119,8 @@ module _ (by : RuleValue) (lmc : ℕ) (facts : Facts) (range : AreInRange facts)
                 | None ↦ λ k. refl
                 | Some p ↦ λ k.
                     let is_a = attachment_there by lmc facts range has_room top top_is (record { lid = lid; port = x }) is_held is_end a e in
-                    let has = next_has_cost by facts lid g a.0 p is_g is_a k in
-                    let way = (rules_are_routings by facts).leads lid g a.0 has.0 is_g has.1 in
+                    let has = lid_has_cost by lmc facts lid g a.0 p is_g is_a k in
+                    let way = (lids_are_routed by lmc facts).leads lid g a.0 has.0 is_g has.1 in
                     absurd (its (stays_in_one graph (graph_law facts) rule lid a.0 way.edges g is_g way.by_rule way.passes))
               ] refl)
             ] refl)

@@ -1,5 +1,5 @@
 -- Views that tell one subnet have one plan, where they claim the same, or one claims the LIDs that the other gives.
-use Rattle.std.proofs.Common.{◌≡◌, ◌⊎◌, inl, inr, ℕ, List, [], ◌∷◌, refl, sym, ap, ◌∙◌, subst, Bool, true, false, cond, not, ◌&&◌, ◌||◌, map}
+use Rattle.std.proofs.Common.{◌≡◌, ◌⊎◌, inl, inr, ℕ, List, [], ◌∷◌, refl, sym, ap, ◌∙◌, subst, Bool, true, false, cond, not, ◌&&◌, ◌||◌, length, map}
 use Rattle.std.specs.Prelude.{◌↔◌, Option, None, Some, Contains, IsTrue, IsSome, MatchBool, filter, is_some, unwrap_or, option_and_then}
 use Rattle.std.specs.Option.{option_map_or}
 use Rattle.std.specs.List.{filter_map, list_any, range_with_len}
@@ -16,8 +16,8 @@ use Rattle.subnet_view.proofs.Members.{contains_here, contains_later, contains_c
 use Rattle.subnet_view.proofs.UsableSwitches.{switches_law}
 use Rattle.subnet_view.proofs.WireLaws.{wire_law}
 use Rattle.subnet_view.specs.SwitchEdges.{SwitchEdges}
-use Rattle.subnet_view.specs.Graph.{edge_at, edges_of, graph_of}
-use Rattle.spread_routes.specs.LeafSwitches.{leaf_switches_of, is_leaf, has_adapter_at}
+use Rattle.subnet_view.specs.Graph.{edge_at, edges_of, graph_of, guids_of}
+use Rattle.spread_routes.specs.LeafSwitches.{adapters_at, leaf_switches_of, is_leaf, has_adapter_at, most_adapters}
 use Rattle.lft_blocks.specs.Rules.{RuleValue}
 use Rattle.lft_blocks.proofs.RulesRoute.{rules_stay}
 use Rattle.lid_assign.specs.Ranges.{range_at, meets}
@@ -27,6 +27,9 @@ use Rattle.lft_blocks.specs.Entries.{attachment_of, block_count}
 use Rattle.lft_blocks.specs.Plan.{tables_of, plan_of}
 use Rattle.takeover_laws.specs.Alike.{IsAlike, ClaimAlike, AlikeViewsPlanAlike, ClaimedPlansStay}
 use Rattle.takeover_laws.proofs.Alike.{map_same, filter_same, end_ports_same, switches_same, usable_same, across_same, room_same}
+use Rattle.spread_labels.specs.Levels.{greatest}
+use Rattle.spread_routes.specs.LeafPlaces.{leaf_places}
+use Rattle.lft_blocks.specs.LidNumbers.{lid_numbers, number_of, numbered}
 
 -- readings by which switches are usable, and by wires ----------------------------------------------
 
@@ -119,11 +122,26 @@ module _ (x y : Facts) (alike : IsAlike (cells_of x) (cells_of y)) where
       (λ g h. λ i. list_any (λ p. has_adapter_at_same g p i) (range_with_len 1 (count_there g h i)))
       ∙ ap (filter (is_leaf (cells_of y))) (switches_same x y alike)
 
+  adapters_same : (g : ℕ) → Contains (switches (cells_of x)) g → adapters_at (cells_of x) g ≡ adapters_at (cells_of y) g
+  adapters_same g h = λ i. length (filter (λ p. has_adapter_at_same g p i) (range_with_len 1 (count_there g h i)))
+
+  most_same : most_adapters (cells_of x) ≡ most_adapters (cells_of y)
+  most_same =
+      ap (greatest 0) (map_same (adapters_at (cells_of x)) (adapters_at (cells_of y)) (switches (cells_of x)) adapters_same
+      ∙ ap (map (adapters_at (cells_of y))) (switches_same x y alike))
+
+  numbers_same : (lmc : ℕ) → lids lmc (cells_of x) ≡ lids lmc (cells_of y)
+      → lid_numbers lmc (cells_of x) (lids lmc (cells_of x)) ≡ lid_numbers lmc (cells_of y) (lids lmc (cells_of y))
+  numbers_same lmc given =
+      λ i. number_of (record { lmc = lmc; places = leaf_places (graph_same i) (leaf_switches_same i); most = most_same i }) (guids_of (graph_same i))
+      (λ lid. option_and_then (λ e. home_same e i) (owner_of (given i) lid))
+
   plan_same : (rule : RuleValue) (lmc : ℕ) → lids lmc (cells_of x) ≡ lids lmc (cells_of y) → plan_of rule lmc (cells_of x) ≡ plan_of rule lmc (cells_of y)
   plan_same rule lmc given =
       λ i. record {
         given = given i;
-        tables = tables_of (λ lid. option_and_then (λ e. home_same e i) (owner_of (given i) lid)) (rules_stay rule x y graph_same leaf_switches_same i).next
+        tables = tables_of (λ lid. option_and_then (λ e. home_same e i) (owner_of (given i) lid)) 
+            (numbered (numbers_same lmc given i) (rules_stay rule x y graph_same leaf_switches_same i)).next
             (block_count (top_of (given i))) (switches_same x y alike i);
       }
 

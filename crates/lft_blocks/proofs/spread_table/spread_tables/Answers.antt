@@ -29,12 +29,20 @@ returns c =
     let by = grading_of graph leaves order in
     let rows = c.in_ok-rows.rows.items in
     let theirs = c.switches-guids.ensures in
+    let numbers = c.in_ok-numbers.numbers.items in
     let is : c.in_ok-spread.spread ≡ by =
     c.in_ok-spread.ensures ∙ ap (λ (xs : List ℕ). grading_of graph xs order) (c.deref.ensures.value ∙ c.in_ok-leaves.ensures) in
-    let are : AreRows (spread_at by).next guids attachments (length guids) rows =
-    subst (λ (x : Grading × ℕ). AreRows (spread_at x.0).next (guids_of x.0.graph) attachments x.1 rows) (λ i. (is i, length (theirs i))) c.in_ok-rows.ensures in
     let rising : IsStrictlyIncreasing guids =
     subst (λ (g : List SwitchEdges). IsStrictlyIncreasing (guids_of g)) (sym c.requires.graph) (switches_rise c.args.wires.now) in
+    let placing : Placing = record { lmc = c.args.lmc; places = leaf_places graph leaves; most = most_adapters (cells_of c.args.wires.now) } in
+    let places : c.in_ok-places.result.items ≡ leaf_places graph leaves = c.in_ok-places.ensures ∙ ap (leaf_places graph) (c.deref.ensures.value ∙ c.in_ok-leaves.ensures) in
+    let same : (lid : ℕ) → get_or c.deref-3.result.now lid 0 ≡ number_of placing guids (attachment_by_index guids attachments) lid =
+    number_same placing guids rising attachments c.requires.within c.deref-3.result.now (c.deref-3.ensures.value ∙ c.in_ok-numbers.ensures) in
+    let number : ℕ → ℕ = number_of placing guids (attachment_by_index guids attachments) in
+    let next = (numbered number (spread_at by)).next in
+    let are : AreRows next guids attachments (length guids) rows =
+    subst (λ (x : Grading × (ℕ × (ℕ → ℕ))). AreRows (numbered x.1.1 (spread_at x.0)).next (guids_of x.0.graph) attachments x.1.0 rows)
+    (λ i. (is i, (length (theirs i), λ lid. same lid i))) c.in_ok-rows.ensures in
     let tables = (λ i. map (table_of_row (theirs i) (c.deref_mut.ensures.value i) count) (range_with_len 0 (length (theirs i))))
-    ∙ tables_are graph guids (λ i. guids) rising (spread_at by).next attachments c.requires.within count c.requires.all rows are in
+    ∙ tables_are graph guids (λ i. guids) rising next attachments c.requires.within count c.requires.all rows are in
     subst (λ (ts : List SwitchTable). IfOk c.tables_of.result (λ found. found.items ≡ ts)) tables c.tables_of.ensures

@@ -1,10 +1,11 @@
-use Rattle.std.proofs.Common.{◌≡◌, ◌<◌, ◌+◌, ◌-◌, ◌==◌, [], ℕ, List, Vec, Global, sym, ap, ◌∙◌, subst, arith, length, map, All}
+use Rattle.std.proofs.Common.{◌≡◌, ◌<◌, ◌+◌, ◌-◌, ◌==◌, [], ℕ, List, Vec, Global, sym, ap, ◌∙◌, subst, arith, length, map, All, get_or}
 use Rattle.std.proofs.lemmas.List.{get_or-map, length-map}
 use Rattle.std.specs.Prelude.{Option, slice_index, slice_index_or}
 use Rattle.subnet_view.specs.Graph.{guids_of}
 use Rattle.spread_routes.specs.Spread.{spread_at}
 use Rattle.spread_routes.specs.Tables.{port_by, with_entries}
 use Rattle.lft_blocks.specs.declared.attachment.Attachment.{Attachment}
+use Rattle.lft_blocks.specs.LidNumbers.{numbered}
 use Rattle.lft_blocks.specs.TableRows.{AreLidsAt, IsRow, entry_by, lids_at}
 use Rattle.lft_blocks.proofs.RowSteps.{lids_within, row_more}
 use Rattle.lft_blocks.proofs.spread_table.write_row.Goals as goal
@@ -32,7 +33,8 @@ write-requires-clause-lids c =
 pub loop-target-preserved : goal.loop-target-preserved
 loop-target-preserved c =
     let by = c.args.spread.now in
-    let next = (spread_at by).next in
+    let numbers = c.args.numbers.now in
+    let next = (numbered (λ lid. get_or numbers lid 0) (spread_at by)).next in
     let guids = guids_of by.graph in
     let attachments = c.args.attachments.now in
     let own = c.args.own in
@@ -46,8 +48,8 @@ loop-target-preserved c =
     let lids : c.deref.result.now ≡ lids_at attachments t =
     c.deref.ensures.value
     ∙ listed attachments (length by.graph) t c.args.lids.now c.index-lids-target.result c.requires.lids below c.index-lids-target.is in
-    let port : (lid : ℕ) → port_by exits k lid ≡ next lid (slice_index guids own) (slice_index guids t) =
-    λ lid. c.in_ok-exits_from.ensures k lid inside ∙ ap (λ x. next lid (slice_index guids own) (slice_index guids x)) there in
+    let port : (lid : ℕ) → port_by exits k (get_or numbers lid 0) ≡ next lid (slice_index guids own) (slice_index guids t) =
+    λ lid. c.in_ok-exits_from.ensures k (get_or numbers lid 0) inside ∙ ap (λ x. next lid (slice_index guids own) (slice_index guids x)) there in
     let is : c.write.new.self ≡ with_entries (λ lid. entry_by attachments (own == t) lid (next lid (slice_index guids own) (slice_index guids t)))
     c.loop-target.row (lids_at attachments t) =
     c.write.ensures ∙ (λ i. with_entries (λ lid. entry_by attachments (own == t) lid (port lid i)) c.loop-target.row (lids i)) in

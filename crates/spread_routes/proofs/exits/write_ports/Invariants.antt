@@ -1,4 +1,4 @@
-use Rattle.std.proofs.Common.{◌≡◌, cond, drop, length}
+use Rattle.std.proofs.Common.{◌≡◌, cond, drop, get_or, length}
 use Rattle.spread_routes.specs.Spread.{number_by}
 use Rattle.spread_routes.specs.Tables.{port_turn, with_entries}
 use Rattle.spread_routes.specs.RoundRobins.{IsTurn}
@@ -13,6 +13,6 @@ invariant-loop-lid l =
       count : l.turn.count ≡ length l.ports;
       offset : l.turn.offset ≡ l.lid_digit.offset;
       weight : l.turn.weight ≡ cond l.is_higher l.lid_digit.digit_weight 1;
-      left : with_entries (λ lid. port_turn l.ports (number_by l.lid_digit l.is_higher lid)) l.entries (drop l.lid-index l.lids)
-          ≡ with_entries (λ lid. port_turn l.ports (number_by l.lid_digit l.is_higher lid)) l.fn.entries l.lids;
+      left : with_entries (λ lid. port_turn l.ports (number_by l.lid_digit l.is_higher (get_or l.numbers lid 0))) l.entries (drop l.lid-index l.lids)
+          ≡ with_entries (λ lid. port_turn l.ports (number_by l.lid_digit l.is_higher (get_or l.numbers lid 0))) l.fn.entries l.lids;
     }

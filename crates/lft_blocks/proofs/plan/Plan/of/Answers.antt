@@ -2,12 +2,11 @@ use Rattle.std.proofs.Common.{sym, subst, ◌∙◌}
 use Rattle.fact_store.specs.View.{cells_of}
 use Rattle.lid_assign.specs.Lids.{top_of}
 use Rattle.lft_blocks.specs.Rules.{rule_of, value_of}
-use Rattle.lft_blocks.proofs.RulesRoute.{rules_are_routings}
 use Rattle.lft_blocks.specs.Entries.{attachment_of_lid, block_count}
 use Rattle.lft_blocks.specs.Arrival.{EveryPacketArrivesBy}
-use Rattle.lft_blocks.specs.Plan.{PlanValue, tables_by, tables_of}
+use Rattle.lft_blocks.specs.Plan.{PlanValue, lid_routing, tables_by, tables_of}
 use Rattle.lft_blocks.proofs.AttachmentTables.{switches_rise, are_tables}
-use Rattle.lft_blocks.proofs.Reached.{packets_arrive_by_each_routing}
+use Rattle.lft_blocks.proofs.Reached.{every_packet_arrives}
 use Rattle.lft_blocks.proofs.Rooms.{has_room}
 use Rattle.lft_blocks.proofs.plan.Plan.of.Goals as goal
 
@@ -16,7 +15,7 @@ invariant_of-result c =
     let facts = c.in_ok-wires.wires in
     let lids = c.in_ok-lids.lids in
     let cells = cells_of facts in
-    let next = (rule_of c.args.rule.now cells).next in
+    let next = (lid_routing (value_of c.args.rule.now) c.args.lmc cells lids).next in
     let count = block_count (top_of lids) in
     let guids = c.in_ok-switches.switches.items in
     let theirs = c.in_ok-switches.ensures.switches in
@@ -28,7 +27,7 @@ returns-clause-plan c =
     let rule = c.args.rule.now in
     let lids = c.in_ok-lids.ensures.lids in
     let tables = c.in_ok-switches.ensures.tables
-    ∙ (λ j. tables_by (rule_of rule (cells_of (c.in_ok-wires.ensures j))) (cells_of (c.in_ok-wires.ensures j)) (lids j)) in
+    ∙ (λ j. tables_by (lid_routing (value_of rule) c.args.lmc (cells_of (c.in_ok-wires.ensures j)) (lids j)) (cells_of (c.in_ok-wires.ensures j)) (lids j)) in
     λ i. record { given = lids i; tables = tables i }
 
 pub returns-clause-arrives : goal.returns-clause-arrives
@@ -36,5 +35,4 @@ returns-clause-arrives c =
     let facts = c.args.store.now in
     let rule = rule_of c.args.rule.now (cells_of facts) in
     subst (λ (plan : PlanValue). EveryPacketArrivesBy rule (cells_of facts) plan) (sym (returns-clause-plan c))
-    (packets_arrive_by_each_routing c.args.lmc facts rule (rules_are_routings (value_of c.args.rule.now) facts)
-    (has_room c.args.lmc (cells_of facts) c.in_ok-lids.ensures.judged))
+    (every_packet_arrives (value_of c.args.rule.now) c.args.lmc facts (has_room c.args.lmc (cells_of facts) c.in_ok-lids.ensures.judged))

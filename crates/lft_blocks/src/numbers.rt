@@ -1,0 +1,57 @@
+//! The numbers by which LIDs take their turns among ports.
+ghost use Rattle.std.specs.Prelude.{◌≡◌, ◌<◌, IfOk, MatchOption, length};
+ghost use Rattle.lft_blocks.specs.Attachments.{AreWithin};
+ghost use Rattle.lft_blocks.specs.LidNumbers.{indexed_numbers, number_at};
+
+use crate::attachment::Attachment;
+use attr_codec::Lmc;
+use std::alloc::{AllocError, Global};
+use std::marker::Model;
+
+/// What the numbers of LIDs follow from.
+#[derive(Drop)]
+pub(crate) struct Placing {
+    pub(crate) lmc: Lmc,
+    /// The place of each switch among the leaf switches, by rising GUID.
+    pub(crate) places: Vec<u16>,
+    /// The most adapter ports that are wired to one switch.
+    pub(crate) most: u16,
+}
+
+impl Model for Placing {
+    ghost use Rattle.lft_blocks.specs.LidNumbers.{Placing};
+
+    ghost Value = { Placing };
+
+    ghost view = { λ a. record { lmc = a.lmc; places = a.places.items; most = a.most } };
+}
+
+/// Returns the number of each LID that has an entry, at the LID: 0 if it has no attachment.
+pub(crate) fn lid_numbers(
+    alloc: Global,
+    by: &Placing,
+    attachments: &[Option<Attachment>],
+) -> Result<Vec<u16>, AllocError>
+    requires { AreWithin (length by.now.places) attachments.now }
+    ensures { IfOk result (λ numbers. numbers.items ≡ indexed_numbers by.now attachments.now) }
+{
+    let mut numbers = Vec::with_capacity(alloc, attachments.len())?;
+    for lid in 0..attachments.len() {
+        numbers.push(match attachments[lid] {
+            Some(attachment) => number_at(by, attachment, lid),
+            None => 0,
+        })?;
+    }
+    Ok(numbers)
+}
+
+/// Returns the number of a LID with this attachment, counted round at 2^16.
+fn number_at(by: &Placing, attachment: Attachment, lid: usize) -> u16
+    requires { attachment.switch < length by.now.places }
+    ensures { result ≡ number_at by.now attachment.switch attachment.port lid }
+{
+    let width = usize::from(by.lmc.width());
+    let place = usize::from(by.places[attachment.switch]);
+    let port = place * usize::from(by.most) + usize::from(attachment.port.number());
+    (port * width + lid % width) as u16
+}

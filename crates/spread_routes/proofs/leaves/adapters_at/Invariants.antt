@@ -1,0 +1,14 @@
+use Rattle.std.proofs.Common.{◌≡◌, ◌≤◌, length}
+use Rattle.std.specs.Prelude.{filter}
+use Rattle.std.specs.List.{range_with_len}
+use Rattle.fact_store.specs.View.{cells_of}
+use Rattle.spread_routes.specs.LeafSwitches.{has_adapter_at}
+use Rattle.spread_routes.proofs.leaves.adapters_at.Given as goal
+
+-- the ports so far
+abbrev pub invariant-loop-before : goal.invariant-loop-before
+invariant-loop-before l =
+    record {
+      count : l.count ≡ length (filter (has_adapter_at (cells_of l.wires) l.switch) (range_with_len 1 l.before));
+      few : l.count ≤ l.before;
+    }

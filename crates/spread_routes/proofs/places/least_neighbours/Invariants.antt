@@ -1,0 +1,7 @@
+use Rattle.std.proofs.Common.{◌≡◌, length, map, take}
+use Rattle.spread_routes.specs.LeafPlaces.{least_head}
+use Rattle.spread_routes.proofs.places.least_neighbours.Given as goal
+
+-- the vertices so far
+abbrev pub invariant-loop-vertex : goal.invariant-loop-vertex
+invariant-loop-vertex l = l.found.items ≡ map (least_head (length l.edges)) (take l.vertex l.edges)

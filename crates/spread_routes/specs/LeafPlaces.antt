@@ -1,0 +1,36 @@
+-- The order of leaf switches in which LIDs take their turns: leaf switches with a common neighbour come one after the
+-- other, so that their LIDs spread over the wires of that neighbour.
+use Rattle.std.specs.Prelude.{ℕ, ◌%◌, ◌^◌, Bool, ◌&&◌, ◌||◌, List, [], ◌∷◌, ◌==◌, filter, length, map, min, nat_lt, slice_index}
+use Rattle.port_graph.specs.declared.edge.Edge.{Edge}
+use Rattle.spread_labels.specs.Orders.{numbers_from}
+use Rattle.subnet_view.specs.SwitchEdges.{SwitchEdges}
+use Rattle.spread_routes.specs.Rule.{by_index}
+use Rattle.spread_routes.specs.Spread.{indices_of}
+
+-- the least of n and the numbers of the list
+abbrev pub least : ℕ → List ℕ → ℕ
+least n [] = n
+least n (m ∷ ms) = least (min n m) ms
+
+-- the least of n and the vertices that the edges lead to
+abbrev pub least_head : ℕ → List Edge → ℕ
+least_head n edges = least n (map (λ e. e.to) edges)
+
+-- the least neighbour of each vertex, the number of vertices if it has none
+abbrev pub least_neighbours : List (List Edge) → List ℕ
+least_neighbours edges = map (least_head (length edges)) edges
+
+-- whether vertex a comes before vertex b, given the least neighbours: its own is less, or they have one and a is less
+abbrev pub goes_first : List ℕ → ℕ → ℕ → Bool
+goes_first neighbours a b =
+    nat_lt (slice_index neighbours a) (slice_index neighbours b)
+    || (slice_index neighbours a == slice_index neighbours b && nat_lt a b)
+
+-- the place of vertex s: how many leaf vertices come before it, counted round at 2^16
+abbrev pub leaf_place : List ℕ → List ℕ → ℕ → ℕ
+leaf_place neighbours leaves s = length (filter (λ leaf. goes_first neighbours leaf s) leaves) % 2 ^ 16
+
+-- the place of each switch, by rising GUID
+abbrev pub leaf_places : List SwitchEdges → List ℕ → List ℕ
+leaf_places graph leaves =
+    map (leaf_place (least_neighbours (by_index graph)) (indices_of graph leaves)) (numbers_from 0 (length graph))

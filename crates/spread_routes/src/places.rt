@@ -1,0 +1,74 @@
+//! The order of leaf switches in which LIDs take their turns.
+ghost use Rattle.std.specs.Prelude.{◌≡◌, ◌<◌, All, IfOk, length};
+ghost use Rattle.spread_routes.specs.Spread.{indices_of};
+ghost use Rattle.spread_routes.specs.LeafPlaces.{goes_first, leaf_place, leaf_places, least_head, least_neighbours};
+
+use crate::index::indices;
+use port_graph::{Adjacency, Edge};
+use smp_bytes::Guid;
+use std::alloc::{AllocError, Global};
+use subnet_view::SwitchGraph;
+
+/// Returns the place of each switch among the leaf switches, by rising GUID, counted round at 2^16. Leaf switches with a
+/// common least neighbour come one after the other. Takes a search for each leaf switch, and as many steps for each
+/// switch as there are leaf switches.
+pub fn leaf_places(
+    alloc: Global,
+    graph: &SwitchGraph,
+    leaves: &[Guid],
+) -> Result<Vec<u16>, AllocError>
+    ensures { IfOk result (λ places. places.items ≡ leaf_places graph.now leaves.now) }
+{
+    let edges = graph.adjacency();
+    let neighbours = least_neighbours(alloc, edges)?;
+    let leaves = indices(alloc, graph, leaves)?;
+    let mut places = Vec::with_capacity(alloc, graph.len())?;
+    for index in 0..graph.len() {
+        places.push(leaf_place(&neighbours, &leaves, index))?;
+    }
+    Ok(places)
+}
+
+/// Returns the place of the vertex `index`: how many leaf vertices come before it, counted round at 2^16.
+fn leaf_place(neighbours: &[usize], leaves: &[usize], index: usize) -> u16
+    requires index { index < length neighbours.now }
+    requires leaves { All (λ leaf. leaf < length neighbours.now) leaves.now }
+    ensures { result ≡ leaf_place neighbours.now leaves.now index }
+{
+    let before = leaves
+        .iter()
+        .filter(|leaf| goes_first(neighbours, **leaf, index))
+        .count();
+    before as u16
+}
+
+/// Returns whether vertex `a` comes before vertex `b`.
+fn goes_first(neighbours: &[usize], a: usize, b: usize) -> bool
+    requires a { a < length neighbours.now }
+    requires b { b < length neighbours.now }
+    ensures { result ≡ goes_first neighbours.now a b }
+{
+    neighbours[a] < neighbours[b] || neighbours[a] == neighbours[b] && a < b
+}
+
+/// Returns the least neighbour of each vertex, the number of vertices if it has none.
+fn least_neighbours(alloc: Global, edges: &Adjacency) -> Result<Vec<usize>, AllocError>
+    ensures { IfOk result (λ found. found.items ≡ least_neighbours edges.now) }
+{
+    let mut found = Vec::with_capacity(alloc, edges.len())?;
+    for vertex in 0..edges.len() {
+        found.push(least_head(edges.at(vertex), edges.len()))?;
+    }
+    Ok(found)
+}
+
+/// Returns the least of `none` and the vertices that the edges lead to.
+fn least_head(edges: &[Edge], none: usize) -> usize
+    ensures { result ≡ least_head none edges.now }
+{
+    let mut least = none;
+    for edge in edges {
+        least = least.min(edge.to);
+    }
+    least
+}
