@@ -5,8 +5,10 @@ leads to, by rising port.
 """
 from __future__ import annotations
 
+import bisect
 import collections
 import heapq
+import math
 from collections.abc import Iterable, Sequence
 
 NO_WAY = 255
@@ -113,15 +115,35 @@ def weights_of(graph: Graph, levels: dict[int, int]) -> list[int]:
     return weights
 
 
+def numbers_of(
+    graph: Graph, leaves: Iterable[int], homes: dict[int, tuple[int, int]], lmc: int
+) -> dict[int, int]:
+    """Returns the number by which each LID takes its turns: by the place of its switch among the leaf switches, and the
+    port there."""
+    def turn(switch: int) -> tuple[float, int]:
+        return min((to for _, to in graph[switch]), default=math.inf), switch
+
+    in_turn = sorted(turn(leaf) for leaf in leaves)
+    places = {switch: bisect.bisect_left(in_turn, turn(switch)) for switch in graph}
+    adapters = collections.Counter(home for home, port in set(homes.values()) if port)
+    most = max(adapters.values(), default=0)
+    return {
+        lid: ((places[home] * most + port) * 2**lmc + lid % 2**lmc) % 65536
+        for lid, (home, port) in homes.items()
+    }
+
+
 def tables(
     graph: Graph,
     leaves: Sequence[int],
     homes: dict[int, tuple[int, int]],
     roots: Sequence[int] = (),
     named: Sequence[int] | None = None,
+    lmc: int = 0,
 ) -> dict[int, dict[int, int]]:
     """Returns the port by which packets for each LID leave each switch. `homes` has for each LID its owner's switch and
     the port there. The order grows from `roots`, or as switches are `named`."""
+    numbers = numbers_of(graph, leaves, homes, lmc)
     positions = positions_of(graph, keys_of(graph, leaves, roots) if named is None else keys_as_named(graph, named))
     levels = dict.fromkeys(graph, 0) | distances(graph, leaves)
     weights = weights_of(graph, levels)
@@ -141,5 +163,5 @@ def tables(
                 higher = any(levels[to] > levels[switch] for _, to in exits)
                 weight = weights[levels[switch]] if higher else 1
                 for lid in lids:
-                    found[switch][lid] = exits[(lid // weight + switch % 31) % len(exits)][0]
+                    found[switch][lid] = exits[(numbers[lid] // weight + switch % 31) % len(exits)][0]
     return found

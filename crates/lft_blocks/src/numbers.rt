@@ -53,5 +53,5 @@ fn number_at(by: &Placing, attachment: Attachment, lid: usize) -> u16
     let width = usize::from(by.lmc.width());
     let place = usize::from(by.places[attachment.switch]);
     let port = place * usize::from(by.most) + usize::from(attachment.port.number());
-    (port * width + lid % width) as u16
+    ((port * width + lid % width) % 65536) as u16
 }

@@ -6,6 +6,7 @@ pub mod Ports
 pub mod Whole
 pub mod Leaving
 pub mod Counting
+pub mod Turns
 pub mod AdapterCounts
 pub mod Standing
 pub mod OrderLaws

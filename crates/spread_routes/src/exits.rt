@@ -1,5 +1,5 @@
 //! How packets leave a switch towards others.
-ghost use Rattle.std.specs.Prelude.{◌≡◌, ◌<◌, [], All, OnOk, length, map, slice_index, slice_index_or};
+ghost use Rattle.std.specs.Prelude.{◌≡◌, ◌<◌, ◌^◌, [], All, OnOk, length, map, slice_index, slice_index_or};
 ghost use Rattle.std.specs.Prelude.{unwrap_or};
 ghost use Rattle.spread_labels.specs.TargetSets.{EachTarget};
 ghost use Rattle.spread_labels.specs.MarkSets.{picked};
@@ -123,7 +123,16 @@ fn write_ports(
     let mut turn = lid_digit.turn(is_higher, ports.len());
     for lid in lids {
         let lid = usize::from(lid.number());
-        turn.go_to(usize::from(numbers[lid]));
+        turn.go_to(number_of(numbers, lid));
         entries[lid] = ports[turn.choice()].number();
     }
+}
+
+/// Returns the number of a LID.
+fn number_of(numbers: &[u16], lid: usize) -> usize
+    requires { lid < length numbers.now }
+    ensures number { result ≡ slice_index numbers.now lid }
+    ensures small { result < 2 ^ 16 }
+{
+    usize::from(numbers[lid])
 }

@@ -1,5 +1,5 @@
 //! The order of leaf switches in which LIDs take their turns.
-ghost use Rattle.std.specs.Prelude.{◌≡◌, ◌<◌, All, IfOk, length};
+ghost use Rattle.std.specs.Prelude.{◌≡◌, ◌<◌, All, IfOk, filter, length};
 ghost use Rattle.spread_routes.specs.Spread.{indices_of};
 ghost use Rattle.spread_routes.specs.LeafPlaces.{goes_first, leaf_place, leaf_places, least_head, least_neighbours};
 
@@ -35,11 +35,19 @@ fn leaf_place(neighbours: &[usize], leaves: &[usize], index: usize) -> u16
     requires leaves { All (λ leaf. leaf < length neighbours.now) leaves.now }
     ensures { result ≡ leaf_place neighbours.now leaves.now index }
 {
-    let before = leaves
+    (count_before(neighbours, leaves, index) % 65536) as u16
+}
+
+/// Counts the leaf vertices that come before the vertex `index`.
+fn count_before(neighbours: &[usize], leaves: &[usize], index: usize) -> usize
+    requires index { index < length neighbours.now }
+    requires leaves { All (λ leaf. leaf < length neighbours.now) leaves.now }
+    ensures { result ≡ length (filter (λ leaf. goes_first neighbours.now leaf index) leaves.now) }
+{
+    leaves
         .iter()
         .filter(|leaf| goes_first(neighbours, **leaf, index))
-        .count();
-    before as u16
+        .count()
 }
 
 /// Returns whether vertex `a` comes before vertex `b`.
