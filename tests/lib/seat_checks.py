@@ -562,6 +562,65 @@ def without_a_master(bench):
         bench.check(held(bench, "found") == before, "tables are as they were")
 
 
+def equal_priorities(bench):
+    """Checks two seats of one priority: the one of lesser port GUID is master, whichever comes first, and the other
+    takes over."""
+    timing = ["-p", 5, "-s", 2, "-m", 200, "-r", 1]
+    lesser, greater = sorted(("H1", "H2"), key=lambda host: port_guid(bench, host))
+    with seated(bench, greater, *timing) as late, seated(bench, lesser, *timing) as early:
+        took = until(lambda: (early.status()["state"], late.status()["state"]) == ("master", "standby"), 40)
+        bench.check(took is not None and early.settles(), f"equal priorities: the lesser GUID wins: {took or -1:.1f} s")
+        before = held(bench, "equal", lesser)
+        early.end(signal.SIGKILL)
+        took = until(lambda: late.status()["state"] == "master", 40)
+        bench.check(took is not None and late.settles(), f"it is killed: the greater takes over: {took or -1:.1f} s")
+        bench.check(held(bench, "taken", greater) == before, "tables are as they were")
+        with seated(bench, lesser, *timing) as again:
+            took = until(lambda: (again.status()["state"], late.status()["state"]) == ("master", "standby"), 40)
+            bench.check(took is not None and again.settles(), f"the lesser GUID comes back: {took or -1:.1f} s")
+            bench.check(late.count("HANDOVER to") == 1, "it was handed over to once")
+            bench.check(held(bench, "again", lesser) == before, "tables are as they were")
+
+
+def announced_again(bench):
+    """Checks that a greater seat that stood by twice announced itself twice, and got the subnet both times."""
+    timing = ["-s", 0, "-m", 200, "-r", 1]
+    with seated(bench, "H2", "-p", 3, *timing) as lesser:
+        bench.check(lesser.settles(), "a lesser one is master")
+        for number in 1, 2:
+            with seated(bench, "H1", "-p", 5, *timing) as greater:
+                took = until(lambda: "SUBNET UP" in greater.said(), 40)
+                is_up = took is not None and greater.settles()
+                bench.check(is_up, f"a greater one gets it, {number}: {took or -1:.1f} s")
+                bench.check(greater.count("is to hand over") <= 1, "it was announced anew at most once")
+                bench.check(lesser.count("HANDOVER to") == number, "by a handover")
+                greater.end(signal.SIGKILL)
+                took = until(lambda: lesser.status()["state"] == "master", 40)
+                bench.check(took is not None and lesser.settles(), f"it is killed: taken back: {took or -1:.1f} s")
+
+
+def with_keys(bench):
+    """Checks that seats of one SM_Key elect a master, and that a seat of another key ignores them."""
+    timing = ["-s", 3, "-m", 200, "-r", 1]
+    with contextlib.ExitStack() as stack:
+        one = stack.enter_context(seated(bench, "H1", "-p", 5, "--sm-key", "2a", *timing))
+        bench.check(one.settles(), "a seat of SM_Key 2a is master")
+        other = stack.enter_context(seated(bench, "H2", "-p", 3, "--sm-key", "2a", *timing))
+        took = until(lambda: other.status()["state"] == "standby", 20)
+        bench.check(took is not None, f"another of this key stands by: {took or -1:.1f} s")
+        before = held(bench, "keyed")
+        hosts = [node for node in bench.fabric.nodes if not bench.fabric.is_switch(node)]
+        stranger = stack.enter_context(seated(bench, hosts[-1], "-p", 1, "--sm-key", "2b", *timing))
+        bench.check(stranger.settles(), "one of another key is master too")
+        time.sleep(4)
+        states = [seat.status()["state"] for seat in (one, other, stranger)]
+        bench.check(states == ["master", "standby", "master"], f"neither hands over to the other: {states}")
+        bench.check(held(bench, "strange") == before, "tables are as they were, since both plan alike")
+        one.end(signal.SIGKILL)
+        took = until(lambda: other.status()["state"] == "master", 40)
+        bench.check(took is not None, f"the master is killed: the one of its key takes over: {took or -1:.1f} s")
+
+
 def beside_opensm(bench):
     """Checks a seat beside OpenSM, first of higher and then of lower priority: the master is killed, and the other
     takes over."""
@@ -804,6 +863,8 @@ SEATED = (
         lambda: sample_fabrics.torus(3, 3),
         (brought_up, cable, losses, two_seats, killed_while_it_writes, without_a_master),
     ),
+    ("a torus of 9 switches, seats among themselves", lambda: sample_fabrics.torus(3, 3),
+     (equal_priorities, announced_again, with_keys)),
     ("a torus of 9 switches beside OpenSM", lambda: sample_fabrics.torus(3, 3), (beside_opensm, handovers)),
     # A fabric of its own for each: ibsim clears IsSM of a port late, when it finds an earlier process of it dead.
     ("a torus beside a lesser OpenSM", lambda: sample_fabrics.torus(3, 3), (above_at_once,)),
