@@ -1,12 +1,18 @@
 //! The numbers by which LIDs take their turns among ports.
-ghost use Rattle.std.specs.Prelude.{◌≡◌, ◌<◌, IfOk, MatchOption, length};
+ghost use Rattle.std.specs.Prelude.{◌≡◌, ◌<◌, IfOk, length};
+ghost use Rattle.fact_store.specs.View.{cells_of};
+ghost use Rattle.subnet_view.specs.Graph.{graph_of};
+ghost use Rattle.spread_routes.specs.LeafSwitches.{leaf_switches_of};
 ghost use Rattle.lft_blocks.specs.Attachments.{AreWithin};
-ghost use Rattle.lft_blocks.specs.LidNumbers.{indexed_numbers, number_at};
+ghost use Rattle.lft_blocks.specs.LidNumbers.{indexed_number, indexed_numbers, number_at, placing_of};
 
 use crate::attachment::Attachment;
 use attr_codec::Lmc;
+use smp_bytes::Guid;
+use spread_routes::{leaf_places, most_adapters};
 use std::alloc::{AllocError, Global};
 use std::marker::Model;
+use subnet_view::{SwitchGraph, Wires};
 
 /// What the numbers of LIDs follow from.
 #[derive(Drop)]
@@ -26,6 +32,24 @@ impl Model for Placing {
     ghost view = { λ a. record { lmc = a.lmc; places = a.places.items; most = a.most } };
 }
 
+/// Finds what the numbers of LIDs follow from, given the leaf switches. Takes two searches for each port of a switch, and
+/// what places take.
+pub(crate) fn place_lids(
+    alloc: Global,
+    wires: &Wires,
+    graph: &SwitchGraph,
+    leaves: &[Guid],
+    lmc: Lmc,
+) -> Result<Placing, AllocError>
+    requires graph { graph.now ≡ graph_of (cells_of wires.now) }
+    requires leaves { leaves.now ≡ leaf_switches_of (cells_of wires.now) }
+    ensures { IfOk result (λ placing. placing ≡ placing_of lmc (cells_of wires.now)) }
+{
+    let most = most_adapters(wires, graph.switches());
+    let places = leaf_places(alloc, graph, leaves)?;
+    Ok(Placing { lmc, places, most })
+}
+
 /// Returns the number of each LID that has an entry, at the LID: 0 if it has no attachment.
 pub(crate) fn lid_numbers(
     alloc: Global,
@@ -37,12 +61,20 @@ pub(crate) fn lid_numbers(
 {
     let mut numbers = Vec::with_capacity(alloc, attachments.len())?;
     for lid in 0..attachments.len() {
-        numbers.push(match attachments[lid] {
-            Some(attachment) => number_at(by, attachment, lid),
-            None => 0,
-        })?;
+        numbers.push(number_of(by, attachments, lid))?;
     }
     Ok(numbers)
+}
+
+/// Returns the number of a LID, 0 if it has no attachment.
+fn number_of(by: &Placing, attachments: &[Option<Attachment>], lid: usize) -> u16
+    requires { AreWithin (length by.now.places) attachments.now }
+    ensures { result ≡ indexed_number by.now attachments.now lid }
+{
+    match attachments.get(lid).copied().flatten() {
+        Some(attachment) => number_at(by, attachment, lid),
+        None => 0,
+    }
 }
 
 /// Returns the number of a LID with this attachment, counted round at 2^16.

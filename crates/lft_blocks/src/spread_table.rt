@@ -13,14 +13,12 @@ ghost use Rattle.lft_blocks.specs.Plan.{tables_of};
 ghost use Rattle.lft_blocks.specs.TableRows.{AreLidsAt, AreRows, IsRow, attachment_by_index, table_of_row};
 
 use crate::attachment::Attachment;
-use crate::numbers::{Placing, lid_numbers};
+use crate::numbers::{lid_numbers, place_lids};
 use crate::table::Table;
 use crate::table_row::{TableRow, lids_by_switch};
 use attr_codec::Lmc;
 use smp_bytes::{Guid, Lid};
-use spread_routes::{
-    Exits, Spread, SwitchOrder, Towards, leaf_places, leaf_switches, most_adapters,
-};
+use spread_routes::{Exits, Spread, SwitchOrder, Towards, leaf_switches};
 use std::alloc::{AllocError, Global};
 use std::mem;
 use subnet_view::{SwitchGraph, Wires};
@@ -48,11 +46,7 @@ pub(crate) fn spread_tables(
 {
     let guids = graph.switches();
     let leaves = leaf_switches(alloc, wires, guids)?;
-    let placing = Placing {
-        lmc,
-        places: leaf_places(alloc, graph, &leaves)?,
-        most: most_adapters(wires, guids),
-    };
+    let placing = place_lids(alloc, wires, graph, &leaves, lmc)?;
     let numbers = lid_numbers(alloc, &placing, attachments)?;
     let spread = Spread::of(alloc, graph, &leaves, order)?;
     let mut rows = rows(alloc, &spread, attachments, &numbers, guids.len())?;

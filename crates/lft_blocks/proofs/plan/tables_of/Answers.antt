@@ -3,10 +3,17 @@ use Rattle.std.proofs.Common.{◌≡◌, ap, sym, subst}
 use Rattle.std.specs.Prelude.{IfOk}
 use Rattle.fact_store.specs.View.{cells_of}
 use Rattle.subnet_view.specs.Routing.{Routing}
-use Rattle.lft_blocks.specs.Rules.{rule_of}
+use Rattle.lft_blocks.specs.Rules.{RuleValue, rule_of, value_of}
 use Rattle.lft_blocks.specs.LidNumbers.{lid_numbers, numbered}
-use Rattle.lft_blocks.specs.Plan.{tables_by}
+use Rattle.lft_blocks.specs.Plan.{lid_routing, tables_by}
 use Rattle.lft_blocks.proofs.plan.tables_of.Goals as goal
+
+pub returns-in-Spread-clause-tables : goal.returns-in-Spread-clause-tables
+returns-in-Spread-clause-tables c =
+    let cells = cells_of c.args.wires.now in
+    let lids = c.args.lids.now in
+    subst (λ (r : RuleValue). IfOk c.by_spread.result (λ found. found.1.items ≡ tables_by (lid_routing r c.args.lmc cells lids) cells lids))
+    (ap value_of (sym c.in-Spread.is)) c.by_spread.ensures.tables
 
 pub returns-in-UpDown-clause-tables : goal.returns-in-UpDown-clause-tables
 returns-in-UpDown-clause-tables c =

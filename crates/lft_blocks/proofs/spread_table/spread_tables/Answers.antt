@@ -1,21 +1,50 @@
-use Rattle.std.proofs.Common.{◌≡◌, ℕ, List, sym, ap, ◌∙◌, subst, length, map}
+use Rattle.std.proofs.Common.{◌≡◌, ℕ, List, sym, ap, ◌∙◌, subst, get_or, length, map}
+use Rattle.std.proofs.lemmas.List.{length-map}
+use Rattle.std.proofs.lemmas.List.FromFn.{length-map-range_with_len}
 use Rattle.std.specs.Prelude.{IfOk}
 use Rattle.std.specs.List.{range_with_len}
 use Rattle.std.specs.List.Sorted.{IsStrictlyIncreasing}
 use Rattle.fact_store.specs.View.{cells_of}
+use Rattle.spread_labels.proofs.Numbers.{numbers_long}
 use Rattle.subnet_view.specs.SwitchEdges.{SwitchEdges}
 use Rattle.subnet_view.specs.Graph.{guids_of}
 use Rattle.subnet_view.proofs.GraphSwitches.{graph_guids, switches_rise}
+use Rattle.spread_routes.specs.LeafPlaces.{leaf_place, leaf_places, least_neighbours}
 use Rattle.spread_routes.specs.LeafSwitches.{leaf_switches_of}
-use Rattle.spread_routes.specs.Spread.{Grading, grading_of, spread_at, spread_by}
+use Rattle.spread_routes.specs.Rule.{by_index}
+use Rattle.spread_routes.specs.Spread.{Grading, grading_of, indices_of, spread_at, spread_by}
 use Rattle.spread_routes.specs.SwitchOrders.{order_value_of}
+use Rattle.lft_blocks.specs.Attachments.{AreWithin}
+use Rattle.lft_blocks.specs.LidNumbers.{Placing, indexed_number, indexed_numbers, number_of, numbered, placing_of}
 use Rattle.lft_blocks.specs.Plan.{SwitchTable}
-use Rattle.lft_blocks.specs.TableRows.{AreRows, table_of_row}
+use Rattle.lft_blocks.specs.TableRows.{AreRows, attachment_by_index, table_of_row}
+use Rattle.lft_blocks.proofs.LidNumbers.{number_same}
 use Rattle.lft_blocks.proofs.RowSteps.{tables_are}
 use Rattle.lft_blocks.proofs.spread_table.spread_tables.Goals as goal
 
 pub leaf_switches-requires : goal.leaf_switches-requires
 leaf_switches-requires c = c.switches-guids.ensures ∙ ap guids_of c.requires.graph ∙ graph_guids (cells_of c.args.wires.now)
+
+pub place_lids-requires-clause-leaves : goal.place_lids-requires-clause-leaves
+place_lids-requires-clause-leaves c = c.deref.ensures.value ∙ c.in_ok-leaves.ensures
+
+-- each switch has a place
+places_long : (graph : List SwitchEdges) (leaves : List ℕ) → length (guids_of graph) ≡ length (leaf_places graph leaves)
+places_long graph leaves =
+    length-map graph (λ (s : SwitchEdges). s.guid)
+    ∙ sym (numbers_long (leaf_place (least_neighbours (by_index graph)) (indices_of graph leaves)) 0 (length graph))
+
+pub lid_numbers-requires : goal.lid_numbers-requires
+lid_numbers-requires c =
+    let cells = cells_of c.args.wires.now in
+    let long = places_long c.args.graph.now (leaf_switches_of cells) ∙ (λ i. length (leaf_places (c.requires.graph i) (leaf_switches_of cells)))
+    ∙ ap (λ (p : Placing). length p.places) (sym c.in_ok-placing.ensures) in
+    subst (λ (n : ℕ). AreWithin n c.args.attachments.now) long c.requires.within
+
+pub rows-requires-clause-numbers : goal.rows-requires-clause-numbers
+rows-requires-clause-numbers c =
+    ap length (c.deref-3.ensures.value ∙ c.in_ok-numbers.ensures)
+    ∙ length-map-range_with_len (indexed_number c.in_ok-placing.placing c.args.attachments.now) 0 (length c.args.attachments.now)
 
 pub returns : goal.returns
 unfolding spread_by
@@ -31,13 +60,13 @@ returns c =
     let theirs = c.switches-guids.ensures in
     let numbers = c.in_ok-numbers.numbers.items in
     let is : c.in_ok-spread.spread ≡ by =
-    c.in_ok-spread.ensures ∙ ap (λ (xs : List ℕ). grading_of graph xs order) (c.deref.ensures.value ∙ c.in_ok-leaves.ensures) in
+    c.in_ok-spread.ensures ∙ ap (λ (xs : List ℕ). grading_of graph xs order) (c.deref-2.ensures.value ∙ c.in_ok-leaves.ensures) in
     let rising : IsStrictlyIncreasing guids =
     subst (λ (g : List SwitchEdges). IsStrictlyIncreasing (guids_of g)) (sym c.requires.graph) (switches_rise c.args.wires.now) in
-    let placing : Placing = record { lmc = c.args.lmc; places = leaf_places graph leaves; most = most_adapters (cells_of c.args.wires.now) } in
-    let places : c.in_ok-places.result.items ≡ leaf_places graph leaves = c.in_ok-places.ensures ∙ ap (leaf_places graph) (c.deref.ensures.value ∙ c.in_ok-leaves.ensures) in
+    let placing = placing_of c.args.lmc (cells_of c.args.wires.now) in
     let same : (lid : ℕ) → get_or c.deref-3.result.now lid 0 ≡ number_of placing guids (attachment_by_index guids attachments) lid =
-    number_same placing guids rising attachments c.requires.within c.deref-3.result.now (c.deref-3.ensures.value ∙ c.in_ok-numbers.ensures) in
+    number_same placing guids rising attachments c.requires.within c.deref-3.result.now (c.deref-3.ensures.value ∙ c.in_ok-numbers.ensures
+    ∙ ap (λ p. indexed_numbers p attachments) c.in_ok-placing.ensures) in
     let number : ℕ → ℕ = number_of placing guids (attachment_by_index guids attachments) in
     let next = (numbered number (spread_at by)).next in
     let are : AreRows next guids attachments (length guids) rows =
