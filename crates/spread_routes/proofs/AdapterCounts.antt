@@ -15,8 +15,8 @@ count_more f b zero t is =
 count_more f b (suc k) t is =
     let later = count_more f (b + 1) k t (ap f (let same : b + 1 + k ≡ b + suc k = omega arith in same) ∙ is) in
     elim (f b) as
-        (λ c. length (cond c (b ∷ filter f (range_with_len (b + 1) (suc k))) (filter f (range_with_len (b + 1) (suc k))))
-        ≡ length (cond c (b ∷ filter f (range_with_len (b + 1) k)) (filter f (range_with_len (b + 1) k))) + cond t 1 0) [
+    (λ c. length (cond c (b ∷ filter f (range_with_len (b + 1) (suc k))) (filter f (range_with_len (b + 1) (suc k))))
+    ≡ length (cond c (b ∷ filter f (range_with_len (b + 1) k)) (filter f (range_with_len (b + 1) k))) + cond t 1 0) [
       | true ↦ omega (arith, later)
       | false ↦ later
     ]
