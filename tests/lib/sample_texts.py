@@ -76,7 +76,8 @@ SCHEDULE_FAULTS = (
 # Lines that are taken, and what they print.
 LINES = (
     ("sweep A", ""), ("merge b2 A", ""), ("merge A A", ""), ("handover b2", "refused NotMaster\n"),
-    ("poll A", "refused NotStandby\n"), ("poll b2 065535", "refused NotStandby\n"), ("floor b2 4294967295", ""), ("timeout b2", ""), ("facts A", ""), ("plan b2", ""),
+    ("poll A", "refused NotStandby\n"), ("poll b2 065535", "refused NotStandby\n"), ("floor b2 4294967295", ""),
+    ("timeout b2", ""), ("facts A", ""), ("plan b2", ""),
     ("progress b2", "progress b2 never\n"), ("silent b2", "silent b2 never\n"), ("silent\tA #", "silent A never\n"),
     ("written b2", "written b2 no\n"), ('manager c "H1"[2] 007', ""), ('cut "S 1"[255]', "refused NoSuchPort\n"),
     ('plug "S 1"[0] "H2"[001]', "refused NoSuchPort\n"), ("tables", "switch 0000000000000010 top 0\nblock 0 %\n"),

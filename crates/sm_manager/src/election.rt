@@ -42,10 +42,10 @@ pub(crate) fn end_sweep(standing: &mut Standing, seen: &[SeenManager])
 }
 
 impl Manager {
-    /// Sends a poll to the manager at `lid`. If that is `None`, polls one of those that the last sweep saw, over the path
-    /// by which that one was asked for SMInfo: the first master that this manager hears; if there is none, the greatest
-    /// of those that outrank it, of equals the first. The answer, or its timeout, counts once it comes. Walks what the
-    /// sweep saw.
+    /// Sends a poll to the manager at `lid`. If that is `None`, polls one of those that the last sweep saw, over the
+    /// path by which that one was asked for SMInfo: the first master that this manager hears; if there is none, the
+    /// greatest of those that outrank it, of equals the first. The answer, or its timeout, counts once it comes. Walks
+    /// what the sweep saw.
     ///
     /// # Errors
     ///

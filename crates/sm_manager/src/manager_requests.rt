@@ -242,14 +242,7 @@ fn poll_packet(number: u64, path: &Option<Path<63>>) -> Smp
     ensures { result ≡ poll_packet number path.now }
 {
     match path {
-        Some(path) => Smp::directed(
-            Method::GET,
-            AttributeId::SM_INFO,
-            0,
-            number,
-            path,
-            &[0; 64],
-        ),
+        Some(path) => Smp::directed(Method::GET, AttributeId::SM_INFO, 0, number, path, &[0; 64]),
         None => Smp::lid_routed(Method::GET, AttributeId::SM_INFO, 0, number, &[0; 64]),
     }
 }
