@@ -59,16 +59,16 @@ impl Manager {
         if !self.standing.is_in(SmState::Standby) {
             return Err(ManagerFault::NotStandby);
         }
-        let path = self.poll_path(lid)?;
+        let path = self.poll_path(&lid)?;
         make_room(1, 1, &mut self.requests, &mut self.outgoing)?;
         send_poll(lid, path, &mut self.requests, &mut self.outgoing);
         Ok(())
     }
 
     /// Returns the path of a poll, or `None` if it goes to `lid`.
-    fn poll_path(&self, lid: Option<Lid>) -> Result<Option<Path<63>>, ManagerFault>
-        ensures judged { Judges result (unless_way lid (polled_path self.now)) }
-        ensures path { IfOk result (λ path. path ≡ poll_path self.now lid) }
+    fn poll_path(&self, lid: &Option<Lid>) -> Result<Option<Path<63>>, ManagerFault>
+        ensures judged { Judges result (unless_way lid.now (polled_path self.now)) }
+        ensures path { IfOk result (λ path. path ≡ poll_path self.now lid.now) }
     {
         if lid.is_some() {
             return Ok(None);
