@@ -369,6 +369,7 @@ GROWING = (
 # Lines of a schedule that cost the same in a fabric of any size, but for a search among its ports.
 STEADY = (
     ("a poll that is answered", "poll B LID/drain 100"),
+    ("a poll over a path", "poll B/drain 100"),
     ("a floor that is no greater", "floor A 1"),
     ("a ping", "ping SEAT LID"),
     ("a state", "state B"),

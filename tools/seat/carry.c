@@ -314,10 +314,11 @@ static void count_port(const uint8_t *packet)
 		      (port_state == INITIALIZE || port_state == ARMED);
 }
 
-/* Returns whether an answer is that to a poll: sweeps ask by paths, and controls have a modifier. */
+/* Returns whether an answer is that to a poll: sweeps number their requests from 2^32 on, and controls have a
+   modifier. */
 static int is_poll(const uint8_t *packet)
 {
-	return !is_directed(packet) && get(packet + 16, 2) == SM_INFO && !get(packet + 20, 4);
+	return !get(packet + 8, 4) && get(packet + 16, 2) == SM_INFO && !get(packet + 20, 4);
 }
 
 static int answers(const uint8_t *packet, const uint8_t *request)

@@ -18,8 +18,8 @@ enum { OPENSM_KEY = 1 };	/* that of the process if none is given */
 static enum phase phase;
 static struct standing status;
 static char state[16], *kept_plan, *managers;
-static int has_news, is_wanted, repeats, faults, gaps, masterless, is_announced;
-static unsigned left_not_active, polled;
+static int has_news, is_wanted, repeats, faults, gaps, masterless, is_announced, has_master;
+static unsigned left_not_active;
 static uint32_t newest;
 static double earliest, next_sweep, next_poll, sweep_begun, began, handed_over;
 
@@ -150,21 +150,22 @@ static int is_heard(unsigned long long key)
 	return !own || key == own;
 }
 
-/* Finds the LID that a standby polls: that of the master seen by the sweep, or 0 if it saw none with a LID. Counts
-   sweeps in a row that saw none. A master that this manager wins over swept before this one stood by, or it would have
-   handed over: so this one is announced anew, once, and the master sweeps. */
+/* Notes whether the sweep saw a master, which a standby then polls. Counts sweeps in a row that saw none. A master that
+   this manager wins over swept before this one stood by, or it would have handed over: so this one is announced anew,
+   once, and the master sweeps. */
 static void look_for_master(void)
 {
-	unsigned long long node, guid, key;
-	unsigned port, priority;
-	char word[64], wanted[64];
-	const char *line, *facts;
+	unsigned long long guid, key;
+	unsigned priority;
+	char word[sizeof state];
+	const char *line;
 
 	for (line = managers; *line; line = strchr(line, '\n') + 1)
-		if (sscanf(line, "manager %llx/%u guid %llx priority %u key %llu state %63s", &node, &port, &guid,
-			   &priority, &key, word) == 6 && !strcmp(word, "master") && is_heard(key))
+		if (sscanf(line, "manager %*s guid %llx priority %u key %llu state %15s", &guid, &priority, &key,
+			   word) == 4 && !strcmp(word, "master") && is_heard(key))
 			break;
-	if (!*line) {
+	has_master = !!*line;
+	if (!has_master) {
 		masterless += status.is_whole;
 		return;
 	}
@@ -175,16 +176,11 @@ static void look_for_master(void)
 		announce_manager();
 		is_announced = 1;
 	}
-	snprintf(wanted, sizeof wanted, "\nclaim %016llx/%u ", node, port);
-	facts = strstr(tell("facts"), wanted);
-	if (facts)
-		polled = strtoul(facts + strlen(wanted), NULL, 10);
 }
 
 void heard_poll(int is_master)
 {
-	if (!is_master)
-		polled = 0;
+	has_master &= is_master;
 }
 
 /* Makes a standby discover anew, since nobody is master: all that are left may be standbys, and each of them answers
@@ -309,7 +305,7 @@ static void after_sweep(void)
 		return;
 	}
 	next_sweep = now() + seat.sweep_seconds;
-	polled = 0;
+	has_master = 0;
 	if (is_state("standby"))
 		look_for_master();
 	gaps = status.is_whole ? 0 : gaps + 1;
@@ -374,13 +370,13 @@ static void rest(void)
 
 	if (is_state("not-active"))
 		return;
-	if (is_state("standby") && polled && time >= next_poll) {
+	if (is_state("standby") && has_master && time >= next_poll) {
 		next_poll = time + seat.poll_ms / 1000.0;
-		tell("poll %u", polled);
+		tell("poll");
 		heard_news();
 		return;
 	}
-	is_wanted |= is_state("discovering") || (is_state("standby") && !polled);
+	is_wanted |= is_state("discovering") || (is_state("standby") && !has_master);
 	is_wanted |= is_state("master") && seat.sweep_seconds && time >= next_sweep;
 	if (is_wanted && time >= earliest)
 		begin_sweep();
@@ -394,7 +390,7 @@ void begin_policy(void)
 	forget_written();
 	is_wanted = 1;
 	has_news = 1;
-	polled = 0;
+	has_master = 0;
 	masterless = 0;
 	if (options.after && !newest)
 		newest = newest_in(options.after);

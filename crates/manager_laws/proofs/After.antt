@@ -9,7 +9,7 @@ use Rattle.fabric_model.specs.declared.cable.NodePort.{NodePort}
 use Rattle.smp_bytes.specs.Answers as smp
 use Rattle.fabric_model.specs.Cables.{is_same_port}
 use Rattle.fabric_model.proofs.Cabled.{same_port-is}
-use Rattle.smp_bytes.specs.Header.{get_resp}
+use Rattle.smp_bytes.specs.Header.{get_resp, sm_info}
 use Rattle.smp_bytes.specs.Field.{number_in}
 use Rattle.smp_bytes.specs.Packet.{attribute_id, attribute_modifier, hop_count, mgmt_class, status_word, method, transaction_id}
 use Rattle.smp_bytes.specs.Packet.{is_directed, is_response, status}
@@ -274,9 +274,9 @@ module _ (start : Simulation) (seat : NodePort) (plan : PlanValue) (c : ℕ) (ph
 
     -- the answer to a step that says that it was done was made when it was
     heard_is_done : (s : Simulation) (bytes : List ℕ) (p : Pending) → ((x y : StepSent) → Contains all x → Contains all y → x.number ≡ y.number → x ≡ y)
-        → ((x : StepSent) → Contains all x → c ≤ x.number) → (f : WaitsFor all p)
+        → ((x : StepSent) → Contains all x → c ≤ x.number) → (f : WaitsFor all p) → (f.step.step.attribute ≡ sm_info → ⊥)
         → IsForManager (Sends start seat plan c all) (Tells start seat plan c all s) start seat bytes → HeardBy bytes p → IsDone start seat plan s f.step
-    heard_is_done s bytes p once least f is heard =
+    heard_is_done s bytes p once least f no_info is heard =
         elim (is.course is_way) [
           | inl r ↦ absurd (cc (sym (asks r) ∙ responds bytes resp))
           | inr r ↦ by_answer r (r.is.tells refl)
@@ -304,10 +304,14 @@ module _ (start : Simulation) (seat : NodePort) (plan : PlanValue) (c : ℕ) (ph
         number : number_in transaction_id bytes ≡ f.step.number
         number = sym (eqb-true _ _ inner.0)
 
+        by_attribute : ((number_in attribute_id bytes == f.step.step.attribute) ≡ true)
+            × ((number_in attribute_modifier bytes == f.step.step.modifier && smp.goes_by bytes (Some f.step.step.path)) ≡ true)
+        by_attribute =
+            and_parts (number_in attribute_id bytes == f.step.step.attribute)
+            (number_in attribute_modifier bytes == f.step.step.modifier && smp.goes_by bytes (Some f.step.step.path)) inner.1
+
         is_way : is_directed bytes ≡ true
         is_way =
-            let by_attribute = and_parts (number_in attribute_id bytes == f.step.step.attribute)
-            (number_in attribute_modifier bytes == f.step.step.modifier && smp.goes_by bytes (Some f.step.step.path)) inner.1 in
             let by_modifier = and_parts (number_in attribute_modifier bytes == f.step.step.modifier)
             (smp.goes_by bytes (Some f.step.step.path)) by_attribute.1 in
             (and_parts (is_directed bytes) (number_in hop_count bytes == length f.step.step.path && smp.has_ports bytes 1 f.step.step.path) by_modifier.1).0
@@ -333,7 +337,9 @@ module _ (start : Simulation) (seat : NodePort) (plan : PlanValue) (c : ℕ) (ph
             elim told [
               | inl old ↦ elim old [
                 | inl below ↦ absurd (omega (arith, below, kept, number, from))
-                | inr above ↦ absurd (omega (arith, above, kept, low))
+                | inr (inl above) ↦ absurd (omega (arith, above, kept, low))
+                | inr (inr info) ↦ absurd (no_info (sym (eqb-true _ _ by_attribute.0)
+                    ∙ field_kept attribute_id r.answer bytes (inr (omega arith, omega arith)) r.kept ∙ info))
               ]
               | inr x ↦
                   let same : x.step ≡ f.step = once x.step f.step x.there f.there (sym x.number ∙ sym kept ∙ number) in
@@ -484,7 +490,8 @@ module _ (start : Simulation) (seat : NodePort) (plan : PlanValue) (c : ℕ) (ph
             | inl call ↦ beside_writes w (after_packet w.manager h.packet.bytes (Some h.packet.slid)).manager g call
             | inr ends ↦ subst (λ x. Writes (record w { manager = x })) (sym ends.is)
                 (step_writes w g ends.step ends.there (ap is_for_step ends.purpose_is) ends.was_done
-                (λ f was. heard_is_done g.all w.scene.fabric h.packet.bytes ends.step g.way.once g.way.least f (traced_at same) (ends.heard was)))
+                (λ f was. heard_is_done g.all w.scene.fabric h.packet.bytes ends.step g.way.once g.way.least f (goods w g f.step f.there).sendable.no_manager
+                (traced_at same) (ends.heard was)))
           ])
           (λ _. g)
         where

@@ -1,17 +1,18 @@
 -- What a call is to a manager: the end of a step that waits, or nothing to its writing.
-use Rattle.std.proofs.Common.{◌≡◌, ◌⊎◌, inl, inr, ℕ, ◌+◌, ◌<◌, ◌^◌, Bool, true, false, List, [], ◌∷◌, ◌++◌, length, replicate, refl, sym, ap, ◌∙◌, subst, arith}
-use Rattle.std.proofs.lemmas.Bool.{cond_both, and_parts, and_from, eqb-true}
+use Rattle.std.proofs.Common.{◌≡◌, ◌⊎◌, inl, inr, ℕ, ◌+◌, ◌<◌, ◌≤◌, ◌^◌, Bool, true, false, cond, List, [], ◌∷◌, ◌++◌, length, replicate, refl, sym, ap, ◌∙◌, subst, arith}
+use Rattle.std.proofs.lemmas.Bool.{cond_both, and_parts, and_from, eqb-true, ltb-false, ltb-true}
 use Rattle.std.proofs.lemmas.List.{append_assoc, append-nil, length-drop, length-replicate, length-take-le}
-use Rattle.std.specs.Prelude.{Contains, Option, Some, None, drop, is_none, nat_le, not, slice_get, if◌then◌else◌, ◌==◌}
+use Rattle.std.specs.Prelude.{Contains, Option, Some, None, drop, is_none, nat_le, nat_lt, not, option_and_then, slice_get, if◌then◌else◌, ◌==◌}
 use Rattle.fabric_model.specs.declared.cable.NodePort.{NodePort}
 use Rattle.smp_bytes.specs.declared.smp_fault.SmpFault.{SmpFault}
 use Rattle.fabric_model.specs.Cables.{is_same_port}
 use Rattle.smp_bytes.specs.Header.{get, get_resp, set, done, sm_info}
 use Rattle.smp_bytes.specs.Field.{bytes_in, number_in, with_bits}
-use Rattle.smp_bytes.specs.Packet.{attribute_data, attribute_id, attribute_modifier, fault_of, is_directed, is_response, method, mgmt_class, status, transaction_id}
-use Rattle.smp_bytes.specs.Requests.{answer_packet, lid_routed, request_entries}
-use Rattle.smp_bytes.specs.ReadBack.{HoldsAnswer}
+use Rattle.smp_bytes.specs.Packet.{attribute_data, attribute_id, attribute_modifier, fault_of, is_directed, is_response, max_hops, method, mgmt_class, status, transaction_id}
+use Rattle.smp_bytes.specs.Requests.{answer_packet, directed, lid_routed, request_entries}
+use Rattle.smp_bytes.specs.ReadBack.{FitsRequest, HoldsAnswer, HoldsRequest}
 use Rattle.smp_bytes.proofs.Answered.{answer_reads_back}
+use Rattle.smp_bytes.proofs.Made.{directed_reads_back}
 use Rattle.smp_bytes.proofs.FieldLaws.{length-with_bytes, length-with_number, length-with_numbers, number_in-with_numbers}
 use Rattle.smp_bytes.proofs.RequestLaws.{length-request, lid_routed_field}
 use Rattle.attr_codec.specs.declared.sm_info.SmInfo.{SmInfo}
@@ -34,16 +35,21 @@ use Rattle.sm_manager.specs.declared.pending.Purpose.{Purpose}
 use Rattle.sm_manager.specs.declared.pending.Purpose.TheVariants as purpose
 use Rattle.sm_state.specs.declared.standing.Standing.{Standing}
 use Rattle.sm_manager.specs.Election.{asked, control_sent, after_handover, handed_to, handover_fault, handover_move, successor_lid, poll_fault, after_poll, after_message}
+use Rattle.sm_manager.specs.Election.{if_way_out, is_way_out, path_seen, poll_out, poll_path, polled, polled_path, unless_way}
+use Rattle.sm_manager.specs.Plans.{number_fault, or_else}
+use Rattle.sm_manager.specs.declared.fault.ManagerFault.{ManagerFault}
+use Rattle.sm_manager.specs.declared.fault.ManagerFault.TheVariants.{NotStandby, SequenceSpent}
 use Rattle.sm_manager.specs.Manager.{Manager}
 use Rattle.sm_manager.specs.Packets.{Called, answers, after_timeout, is_for_sweep, is_info_request, packet_taken, pending_for, request_answered}
 use Rattle.sm_manager.specs.Packets.{request_gave_up, after_request, after_packet, unless_spent}
 use Rattle.sm_manager.specs.ManagerRequests.{is_for_step, is_step, with_number}
 use Rattle.sm_manager.specs.Served.{acknowledged_at, answer_data, answer_out, answering, controlled, is_control, moved_on, replying, request_counted, served, status_for}
 use Rattle.sm_manager.specs.Traps.{represses, repress_out, repressing, trap_repress}
-use Rattle.sm_state.specs.Standing.{after_request_heard, info_of, info_with, moved_to}
+use Rattle.sm_state.specs.Standing.{after_request_heard, info_of, info_with, is_in, moved_to}
+use Rattle.sm_state.specs.declared.state.SmState.TheVariants.{Standby}
 use Rattle.sm_manager.specs.Writing.{is_done_by, is_spent, after_step, without}
 use Rattle.manager_laws.specs.Scene.{Handed, asks_manager}
-use Rattle.manager_laws.proofs.Fair.{BesideCall, IsOwnPacket, answer_own, asked_are_own, lid_own, own_more}
+use Rattle.manager_laws.proofs.Fair.{BesideCall, IsOwnPacket, answer_own, asked_are_own, lid_own, own_more, path_own}
 use Rattle.manager_laws.proofs.WritingLists.{in_left, in_either}
 use Rattle.manager_laws.proofs.Numbered.{AreOnce, once_more, once_without, one_once, others_wait, others_waited}
 use Rattle.manager_laws.proofs.Scenes.{SetsInfoAlone}
@@ -93,6 +99,21 @@ length-sm_info info =
 
 length-data : (packet : List ℕ) → length packet ≡ 256 → length (bytes_in attribute_data packet) ≡ 64
 length-data packet long = length-take-le 64 (drop 64 packet) (omega (arith, length-drop 64 packet, long))
+
+-- a poll that is not refused has a way, and a number
+fault_parts : (stands_by : Bool) (way : Option ManagerFault) (counter : ℕ)
+    → cond stands_by (or_else way (number_fault (counter + 1))) (Some NotStandby) ≡ None → (way ≡ None) × (counter < 2 ^ 32)
+fault_parts false way counter e = absurd (cc)
+fault_parts true (Some why) counter e = absurd (cc)
+fault_parts true None counter e = (refl, by_test (nat_lt (2 ^ 32) (counter + 1)) refl e)
+  where
+    by_test : (b : Bool) → nat_lt (2 ^ 32) (counter + 1) ≡ b → cond b (Some SequenceSpent) None ≡ None → counter < 2 ^ 32
+    by_test true is e = absurd (cc)
+    by_test false is e = let most = ltb-false _ _ is in omega (arith, most)
+
+no_fault : (o : Option ManagerFault) → is_none o ≡ true → o ≡ None
+no_fault None e = refl
+no_fault (Some why) e = absurd (cc)
 
 -- a step that waits ends; where it was done, this is known -------------------------------------------------
 
@@ -171,12 +192,11 @@ module _ (start : Simulation) (seat : NodePort) (plan : PlanValue) (g : Ground s
           side = record { port = side.port; lmc = side.lmc; sweep = side.sweep; knows = side.knows };
         }
 
-  -- a request by LIDs goes out, and waits
-  asks : (m : Manager) → SweepSide start seat old m → AreOnce m.counter m.pending → (waits : Pending) (out : Outgoing) → waits.number ≡ m.counter
-      → is_step waits ≡ false
-      → length out.packet ≡ 256 → is_directed out.packet ≡ false → SetsInfoAlone out.packet → Beside m (asked m waits out)
+  -- a request of its own goes out, and waits
+  asks_own : (m : Manager) → SweepSide start seat old m → AreOnce m.counter m.pending → (waits : Pending) (out : Outgoing) → waits.number ≡ m.counter
+      → is_step waits ≡ false → ((c : ℕ) (all : List StepSent) → IsOwnPacket start seat plan c all handed out) → Beside m (asked m waits out)
   unfolding Beside
-  asks m side once waits out number other count by_lids sets =
+  asks_own m side once waits out number other own =
       record {
         writing = refl;
         steps_stay = λ q among is. in_left m.pending (waits ∷ []) q among;
@@ -190,18 +210,74 @@ module _ (start : Simulation) (seat : NodePort) (plan : PlanValue) (g : Ground s
             (λ q k. let same = ap (λ (x : Pending). x.number) (only q k) in omega (arith, same, number));
         more = out ∷ [];
         outgoing = refl;
-        own = λ c all. (lid_own start seat plan c all handed out count by_lids sets, tt);
+        own = λ c all. (own c all, tt);
         side = record { port = side.port; lmc = side.lmc; sweep = side.sweep; knows = side.knows };
       }
     where
       only : (q : Pending) → Contains (waits ∷ []) q → waits ≡ q
       only q k = elim (contains_cases waits q [] k) [ inl i ↦ i | inr none ↦ absurd (contains_none q none) ]
 
-  polls : (m : Manager) → SweepSide start seat old m → AreOnce m.counter m.pending → (lid : ℕ) → Beside m (after_poll m lid)
-  polls m side once lid =
-      let whole = length-replicate {A = ℕ} 64 0 in
-      asks m side once _ _ refl refl (length-lid_routed get sm_info 0 m.counter (replicate 64 0) whole)
-      (not_directed get sm_info 0 m.counter (replicate 64 0) whole) (info_alone get 0 m.counter (replicate 64 0) whole)
+  -- by LIDs
+  asks : (m : Manager) → SweepSide start seat old m → AreOnce m.counter m.pending → (waits : Pending) (out : Outgoing) → waits.number ≡ m.counter
+      → is_step waits ≡ false
+      → length out.packet ≡ 256 → is_directed out.packet ≡ false → SetsInfoAlone out.packet → Beside m (asked m waits out)
+  unfolding Beside
+  asks m side once waits out number other count by_lids sets =
+      asks_own m side once waits out number other (λ c all. lid_own start seat plan c all handed out count by_lids sets)
+
+  -- a poll, by LIDs or over a path that leaves by the seat's port
+  module _ (c : ℕ) (all : List StepSent) (number port : ℕ) (here : port ≡ seat.port) (few : number < 2 ^ 32) where
+    lid_poll : (lid : ℕ) → IsOwnPacket start seat plan c all handed (poll_out number (Some lid) None)
+    lid_poll lid =
+        let whole = length-replicate {A = ℕ} 64 0 in
+        lid_own start seat plan c all handed (poll_out number (Some lid) None) (length-lid_routed get sm_info 0 number (replicate 64 0) whole)
+        (not_directed get sm_info 0 number (replicate 64 0) whole) (info_alone get 0 number (replicate 64 0) whole)
+
+    path_poll : (path : List ℕ) → is_way_out port path ≡ true → IsOwnPacket start seat plan c all handed (poll_out number None (Some path))
+    path_poll [] is = absurd (cc)
+    path_poll (first ∷ path) is =
+        path_own start seat plan c all handed get sm_info 0 number (first ∷ path) (replicate 64 0) fits (omega arith) short
+        (eqb-true _ _ parts.0 ∙ here) (inl (inr (inr reads.attribute_id, reads.method)))
+      where
+        parts : ((first == port) ≡ true) × (nat_lt (length path) max_hops ≡ true)
+        parts = and_parts (first == port) (nat_lt (length path) max_hops) is
+
+        short : length (first ∷ path) ≤ 63
+        short = let less = ltb-true _ _ parts.1 in omega (arith, less)
+
+        fits : FitsRequest get sm_info 0 number (replicate 64 0)
+        fits =
+            record {
+              method = omega arith;
+              attribute_id = omega arith;
+              attribute_modifier = omega arith;
+              transaction_id = omega (arith, few);
+              attribute_data = length-replicate {A = ℕ} 64 0;
+            }
+
+        reads : HoldsRequest (directed get sm_info 0 number (first ∷ path) (replicate 64 0)) get sm_info 0 number (replicate 64 0)
+        reads = (directed_reads_back get sm_info 0 number (first ∷ path) (replicate 64 0) fits short).0
+
+    seen_poll : (path : Option (List ℕ)) → unless_way None (if_way_out port path) ≡ None
+        → IsOwnPacket start seat plan c all handed (poll_out number None (if_way_out port path))
+    seen_poll None some = absurd (cc)
+    seen_poll (Some path) some = by_test (is_way_out port path) refl some
+      where
+        by_test : (b : Bool) → is_way_out port path ≡ b → unless_way None (cond b (Some path) None) ≡ None
+            → IsOwnPacket start seat plan c all handed (poll_out number None (cond b (Some path) None))
+        by_test true is some = path_poll path is
+        by_test false is some = absurd (cc)
+
+  polls : (m : Manager) → SweepSide start seat old m → AreOnce m.counter m.pending → (lid : Option ℕ) → poll_fault m lid ≡ None → Beside m (after_poll m lid)
+  polls m side once lid none = asks_own m side once _ _ refl refl (λ c all. own c all lid parts.0)
+    where
+      parts : (unless_way lid (polled_path m) ≡ None) × (m.counter < 2 ^ 32)
+      parts = fault_parts (is_in Standby m.standing) (unless_way lid (polled_path m)) m.counter none
+
+      own : (c : ℕ) (all : List StepSent) (to : Option ℕ) → unless_way to (polled_path m) ≡ None
+          → IsOwnPacket start seat plan c all handed (poll_out m.counter to (poll_path m to))
+      own c all (Some to) way = lid_poll c all m.counter m.port side.port parts.1 to
+      own c all None way = seen_poll c all m.counter m.port side.port parts.1 (option_and_then (path_seen m.sweep) (polled m)) way
 
   controls : (m : Manager) → SweepSide start seat old m → AreOnce m.counter m.pending → (lid : ℕ) (control : Control) → Beside m (control_sent m lid control)
   controls m side once lid control =
@@ -408,11 +484,11 @@ module _ (start : Simulation) (seat : NodePort) (plan : PlanValue) (g : Ground s
 
     -- what the election asks for ------------------------------------------------------------------------------
 
-    pub polls_beside : (lid : ℕ) → BesideCall start seat plan old handed m (if is_none (poll_fault m) then after_poll m lid else m)
+    pub polls_beside : (lid : Option ℕ) → BesideCall start seat plan old handed m (if is_none (poll_fault m lid) then after_poll m lid else m)
     unfolding Beside
     polls_beside lid =
-        cond_both (is_none (poll_fault m)) _ _ (λ (x : Manager). BesideCall start seat plan old handed m x) (λ _. polls m side once lid)
-        (λ _. stays m side once)
+        cond_both (is_none (poll_fault m lid)) _ _ (λ (x : Manager). BesideCall start seat plan old handed m x)
+        (λ e. polls m side once lid (no_fault (poll_fault m lid) e)) (λ _. stays m side once)
 
     pub hands_over : BesideCall start seat plan old handed m (if is_none (handover_fault m) then after_handover m else m)
     unfolding Beside

@@ -104,7 +104,7 @@ module _ (start : Simulation) (seat : NodePort) (plan : PlanValue) where
   )
 
   -- requests over a path
-  path_own : (c : ℕ) (all : List StepSent) (handed : List Handed) (method attribute modifier tid : ℕ) (path payload : List ℕ)
+  pub path_own : (c : ℕ) (all : List StepSent) (handed : List Handed) (method attribute modifier tid : ℕ) (path payload : List ℕ)
       → FitsRequest method attribute modifier tid payload
       → method < 2 ^ 7 → length path ≤ 63 → BeginsWith seat.port path → IsOwn start seat plan c all (directed method attribute modifier tid path payload)
       → IsOwnPacket c all handed (record { packet = directed method attribute modifier tid path payload; to = None })
@@ -138,7 +138,7 @@ module _ (start : Simulation) (seat : NodePort) (plan : PlanValue) where
       subst (IsOwnPacket c all handed) (sym a.is)
       (path_own c all handed get (attribute_asked a.request.question) (modifier_asked a.request.question) (transaction_of a.generation a.request.number)
       a.request.path (replicate 64 0) fits (omega arith) a.sound.sound.short a.sound.sound.own
-      (inl (inr (let number = reads.transaction_id in let few = a.few.0 in omega (arith, number, few), reads.method))))
+      (inl (inr (inl (let number = reads.transaction_id in let few = a.few.0 in omega (arith, number, few)), reads.method))))
     where
       fits : FitsRequest get (attribute_asked a.request.question) (modifier_asked a.request.question) (transaction_of a.generation a.request.number)
           (replicate 64 0)

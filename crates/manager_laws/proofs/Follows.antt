@@ -316,7 +316,7 @@ module _ (start : Simulation) (seat : NodePort) (plan : PlanValue) (ground : Gro
       }) f
   event_followed w (Poll lid) u g quiet can_be f =
       quiet_followed w (after_manager_event w (Poll lid)) u (unseen w) refl
-      (cond_both (is_none (poll_fault w.manager)) _ _ (KeepsSweep w.manager) (λ _. record { sweep = refl; store = refl }) (λ _. kept w.manager)) f
+      (cond_both (is_none (poll_fault w.manager lid)) _ _ (KeepsSweep w.manager) (λ _. record { sweep = refl; store = refl }) (λ _. kept w.manager)) f
   event_followed w HandOver u g quiet can_be f =
       quiet_followed w (after_manager_event w HandOver) u (unseen w) refl
       (cond_both (is_none (handover_fault w.manager)) _ _ (KeepsSweep w.manager) (λ _. handed_keeps w.manager (successor_lid w.manager)) (λ _. kept w.manager))

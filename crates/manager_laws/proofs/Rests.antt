@@ -90,7 +90,7 @@ goes_on w (Hear which) never = inr (by_handed (slice_get w.scene.handed which))
 goes_on w (TimeOut transaction) never = inr (timed w.manager transaction never)
 goes_on w (Raise floor) never = inr never
 goes_on w (Merge floor sightings) never = inr never
-goes_on w (Poll lid) never = inr (cond_both (is_none (poll_fault w.manager)) _ _ (λ (x : Manager). x.sweep ≡ None) (λ _. never) (λ _. never))
+goes_on w (Poll lid) never = inr (cond_both (is_none (poll_fault w.manager lid)) _ _ (λ (x : Manager). x.sweep ≡ None) (λ _. never) (λ _. never))
 goes_on w HandOver never =
     inr (cond_both (is_none (handover_fault w.manager)) _ _ (λ (x : Manager). x.sweep ≡ None)
     (λ _. still w.manager _ never (handed_keeps w.manager (successor_lid w.manager))) (λ _. never))

@@ -7,7 +7,7 @@ use Rattle.std.specs.Prelude.{Contains, Option, Some, None, slice_get}
 use Rattle.std.specs.Option.{option_map_or}
 use Rattle.fabric_model.specs.declared.cable.NodePort.{NodePort}
 use Rattle.smp_bytes.specs.Header.{get, set, done, sm_info}
-use Rattle.smp_bytes.specs.Field.{number_in}
+use Rattle.smp_bytes.specs.Field.{Field, number_in}
 use Rattle.smp_bytes.specs.Packet.{attribute_id, method, transaction_id, status}
 use Rattle.smp_bytes.specs.Requests.{directed, answer_packet}
 use Rattle.smp_bytes.specs.ReadBack.{HoldsRequest, HoldsAnswer}
@@ -42,9 +42,13 @@ abbrev pub SetsInfoAlone : List ℕ → Type 0
 SetsInfoAlone bytes = number_in method bytes ≡ set → number_in attribute_id bytes ≡ sm_info
 
 module _ (start : Simulation) (seat : NodePort) (plan : PlanValue) (c : ℕ) (all : List StepSent) where
-  -- a number that no step has: one that was used up before, or one of a sweep
+  -- the number of a sweep, or SMInfo, for which no step asks
+  abbrev pub IsNoStep : List ℕ → Type 0
+  IsNoStep bytes = (2 ^ 32 ≤ number_in transaction_id bytes) ⊎ (number_in attribute_id bytes ≡ sm_info)
+
+  -- what no step has: a number that was used up before, or one of a sweep, or SMInfo
   abbrev pub IsOld : List ℕ → Type 0
-  IsOld bytes = (number_in transaction_id bytes < c) ⊎ (2 ^ 32 ≤ number_in transaction_id bytes)
+  IsOld bytes = (number_in transaction_id bytes < c) ⊎ IsNoStep bytes
 
   -- a step's Set
   pub record IsOfStep (request : List ℕ) : Type 0 where
@@ -53,10 +57,9 @@ module _ (start : Simulation) (seat : NodePort) (plan : PlanValue) (c : ℕ) (al
     pub small : step.number < 2 ^ 32
     pub is : request ≡ set_packet step.number step.step
 
-  -- a request whose number was used up before, or a sweep's, which sets nothing
+  -- a request whose number was used up before, or a sweep's or one for SMInfo, which sets nothing
   abbrev pub IsEarlier : List ℕ → Type 0
-  IsEarlier request =
-      (number_in transaction_id request < c) ⊎ ((2 ^ 32 ≤ number_in transaction_id request) × (number_in method request ≡ get))
+  IsEarlier request = (number_in transaction_id request < c) ⊎ (IsNoStep request × (number_in method request ≡ get))
 
   -- a request of the manager's own
   abbrev pub IsOwn : List ℕ → Type 0
@@ -119,31 +122,32 @@ module _ (start : Simulation) (seat : NodePort) (plan : PlanValue) (c : ℕ) (al
 
   -- answers --------------------------------------------------------------------------------------------
 
-  -- the number of an agent's answer is its request's
-  answered_number : (s : Simulation) (n : ℕ) (flight : Flight) (request : List ℕ) → Continues start (record { fabric = s; handed = [] })
-      → IsAskedBy s n flight request
-      → number_in transaction_id (answer_at s (port_of flight.whereabouts) request) ≡ number_in transaction_id request
-  answered_number s n flight request c asked = by_agent (agent_at s (port_of flight.whereabouts).node) refl
+  -- a field of an agent's answer that tells which request it answers
+  answered_field : (f : Field) → 6 ≤ f.at → f.at + f.len ≤ 64 → (s : Simulation) (n : ℕ) (flight : Flight) (request : List ℕ)
+      → Continues start (record { fabric = s; handed = [] }) → IsAskedBy s n flight request
+      → number_in f (answer_at s (port_of flight.whereabouts) request) ≡ number_in f request
+  answered_field f from to s n flight request c asked = by_agent (agent_at s (port_of flight.whereabouts).node) refl
     where
       of_agent : (a : Agent) → agent_at s (port_of flight.whereabouts).node ≡ Some a
-          → number_in transaction_id (after_answer a request (port_of flight.whereabouts).port).packet ≡ number_in transaction_id request
+          → number_in f (after_answer a request (port_of flight.whereabouts).port).packet ≡ number_in f request
       of_agent a there =
           let holds = answers_hold a request (port_of flight.whereabouts).port (agent_there s.agents (port_of flight.whereabouts).node a c.fabric.along.agents
           there)
           asked.whole in
-          number_in-alike transaction_id (after_answer a request (port_of flight.whereabouts).port).packet request
-          (λ id from less. holds.kept id (inr (inl (omega (arith, from), omega (arith, less)))))
+          number_in-alike f (after_answer a request (port_of flight.whereabouts).port).packet request
+          (λ id past less. holds.kept id (inr (inl (omega (arith, past, from), omega (arith, less, to)))))
 
       by_agent : (m : Option Agent) → agent_at s (port_of flight.whereabouts).node ≡ m
-          → number_in transaction_id (option_map_or (λ a. (after_answer a request (port_of flight.whereabouts).port).packet) m request)
-          ≡ number_in transaction_id request
+          → number_in f (option_map_or (λ a. (after_answer a request (port_of flight.whereabouts).port).packet) m request) ≡ number_in f request
       by_agent None there = refl
       by_agent (Some a) there = of_agent a there
 
   -- an answer to an old request is old
-  old_kept : (request answer : List ℕ) → number_in transaction_id answer ≡ number_in transaction_id request → IsEarlier request → IsOld answer
-  old_kept request answer number (inl low) = inl (omega (arith, low, number))
-  old_kept request answer number (inr (high, gets)) = inr (omega (arith, high, number))
+  old_kept : (request answer : List ℕ) → number_in transaction_id answer ≡ number_in transaction_id request
+      → number_in attribute_id answer ≡ number_in attribute_id request → IsEarlier request → IsOld answer
+  old_kept request answer number attribute (inl low) = inl (omega (arith, low, number))
+  old_kept request answer number attribute (inr (inl high, gets)) = inr (inl (omega (arith, high, number)))
+  old_kept request answer number attribute (inr (inr info, gets)) = inr (inr (attribute ∙ info))
 
   module _ (cables : AreCables start) (counts : (id : ℕ) → port_count start id ≤ 254)
       (good : (x : StepSent) → Contains all x → IsGood start seat plan x) where
@@ -161,7 +165,7 @@ module _ (start : Simulation) (seat : NodePort) (plan : PlanValue) (c : ℕ) (al
         → Tells (after_deliver s n).fabric r.origin (port_of flight.whereabouts) (answer_at s (port_of flight.whereabouts) request)
     agent_tells s n c flight request asked r same =
         elim (r.sent same) [
-          | inl old ↦ inl (old_kept r.request (answer_at s (port_of flight.whereabouts) request) number old)
+          | inl old ↦ inl (old_kept r.request (answer_at s (port_of flight.whereabouts) request) number attribute old)
           | inr x ↦ inr (record {
             step = x.step;
             there = x.there;
@@ -173,7 +177,14 @@ module _ (start : Simulation) (seat : NodePort) (plan : PlanValue) (c : ℕ) (al
         ]
       where
         number : number_in transaction_id (answer_at s (port_of flight.whereabouts) request) ≡ number_in transaction_id r.request
-        number = answered_number s n flight request c asked ∙ field_kept transaction_id r.request request (inr (omega arith, omega arith)) r.bytes_are.kept
+        number =
+            answered_field transaction_id (omega arith) (omega arith) s n flight request c asked
+            ∙ field_kept transaction_id r.request request (inr (omega arith, omega arith)) r.bytes_are.kept
+
+        attribute : number_in attribute_id (answer_at s (port_of flight.whereabouts) request) ≡ number_in attribute_id r.request
+        attribute =
+            answered_field attribute_id (omega arith) (omega arith) s n flight request c asked
+            ∙ field_kept attribute_id r.request request (inr (omega arith, omega arith)) r.bytes_are.kept
 
     -- what a manager answers to a request for SMInfo
     manager_tells : (s : Simulation) (h : Handed) (given : ℕ) (payload : List ℕ) (r : IsRequestFor Sends (Tells s) start h.at h.packet.bytes)
@@ -187,9 +198,15 @@ module _ (start : Simulation) (seat : NodePort) (plan : PlanValue) (c : ℕ) (al
             (λ id from less. holds.kept id (inr (inl (omega (arith, from), omega (arith, less)))))
             ∙ field_kept transaction_id r.request h.packet.bytes (inr (omega arith, omega arith)) r.bytes_are.kept
 
+        attribute : number_in attribute_id (answer_packet h.packet.bytes given payload) ≡ number_in attribute_id r.request
+        attribute =
+            number_in-alike attribute_id (answer_packet h.packet.bytes given payload) h.packet.bytes
+            (λ id from less. holds.kept id (inr (inl (omega (arith, from), omega (arith, less)))))
+            ∙ field_kept attribute_id r.request h.packet.bytes (inr (omega arith, omega arith)) r.bytes_are.kept
+
         -- no step asks for SMInfo
         by_request : IsOwn r.request → IsOld (answer_packet h.packet.bytes given payload)
-        by_request (inl old) = old_kept r.request (answer_packet h.packet.bytes given payload) number old
+        by_request (inl old) = old_kept r.request (answer_packet h.packet.bytes given payload) number attribute old
         by_request (inr x) =
             absurd ((good x.step x.there).sendable.no_manager
             (sym (step_reads x.step x.there x.small).attribute_id ∙ ap (number_in attribute_id) (sym x.is)

@@ -29,7 +29,7 @@ pub record Managing : Type 0 where
 -- Something happens on the fabric; the manager is told to begin a sweep, or to write its plan; it gives its first
 -- packet out; a packet that it gave out is sent from its seat, and may be sent again; a packet that was handed up at
 -- its seat is given to it, and may be given again; one of its requests times out; its floor is raised; facts of others
--- at a floor are merged with its own; it is told to poll a LID, or to hand over.
+-- at a floor are merged with its own; it is told to poll a LID, or whom its last sweep saw, or to hand over.
 pub data ManagerEvent : Type 0 where
   Around : (event : Event) → ManagerEvent
   Begin : ManagerEvent
@@ -40,7 +40,7 @@ pub data ManagerEvent : Type 0 where
   TimeOut : (transaction : ℕ) → ManagerEvent
   Raise : (floor : ℕ) → ManagerEvent
   Merge : (floor : ℕ) → (sightings : Sightings) → ManagerEvent
-  Poll : (lid : ℕ) → ManagerEvent
+  Poll : (lid : Option ℕ) → ManagerEvent
   HandOver : ManagerEvent
 
 -- which events there are --------------------------------------------------------------------------

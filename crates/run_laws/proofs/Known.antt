@@ -246,7 +246,7 @@ module _ (count : ℕ) (planning : Planning) where
   command_known nodes w accounts (command.Ask seat ask.Handover) known =
       sending_known w accounts seat handover_fault after_handover (λ m. handing_keeps m (successor_lid m)) known
   command_known nodes w accounts (command.Ask seat (ask.Poll lid)) known =
-      sending_known w accounts seat poll_fault (λ m. after_poll m lid) (λ m. record { store = refl; planning = refl }) known
+      sending_known w accounts seat (λ m. poll_fault m lid) (λ m. after_poll m lid) (λ m. record { store = refl; planning = refl }) known
   command_known nodes w accounts (command.Timeout seat) known = timeout_known w accounts seat known
   command_known nodes w accounts (command.Floor seat floor) known = floor_known w accounts seat floor known
   command_known nodes w accounts (command.Merge seat other) known = merge_known w accounts seat other known

@@ -339,7 +339,7 @@ module _ (plan : PlanValue) (own : OwnSets) (name : List ℕ) where
   command_lives nodes m (command.Ask seat ask.Write) is = absurd is
   command_lives nodes m (command.Ask zero ask.Handover) is = asked_lives m _ HandOver handover_fault after_handover refl tt tt tt
   command_lives nodes m (command.Ask (suc seat) ask.Handover) is = rests m _
-  command_lives nodes m (command.Ask zero (ask.Poll lid)) is = asked_lives m _ (Poll lid) poll_fault (λ x. after_poll x lid) refl tt tt tt
+  command_lives nodes m (command.Ask zero (ask.Poll lid)) is = asked_lives m _ (Poll lid) (λ x. poll_fault x lid) (λ x. after_poll x lid) refl tt tt tt
   command_lives nodes m (command.Ask (suc seat) (ask.Poll lid)) is = rests m _
   command_lives nodes m (command.Timeout seat) is = timeout_lives m _ seat
   command_lives nodes m (command.Floor seat floor) is = absurd is

@@ -51,7 +51,7 @@ pub record IsPort (p : PortName) : Type 0 where
   pub small : p.port ≤ 255
 
 abbrev pub IsAsk : Ask → Type 0
-IsAsk (Poll lid) = lid ≤ 0xFFFF
+IsAsk (Poll lid) = IfSome lid (λ n. n ≤ 0xFFFF)
 IsAsk what = Unit {0}
 
 abbrev pub IsWhich : Which → Type 0
@@ -140,7 +140,8 @@ packet_range fate word = mapped IsWhich IsNamed (which_of word) _ (which_range w
 asked_range : (word : List ℕ) → IfSome (asked_by word) IsAsk
 asked_range word =
     either IsAsk (bytes_eq word (codes "sweep")) _ _ tt
-    (either IsAsk (bytes_eq word (codes "write")) _ _ tt (either IsAsk (bytes_eq word (codes "handover")) _ None tt tt))
+    (either IsAsk (bytes_eq word (codes "write")) _ _ tt
+    (either IsAsk (bytes_eq word (codes "handover")) _ _ tt (either IsAsk (bytes_eq word (codes "poll")) _ None tt tt)))
 
 by_asked : (name : List ℕ) (asked : Option Ask) (other : Option NamedCommand) → IfSome asked IsAsk → IfSome other IsNamed
     → IfSome (option_map_or (λ what. ask what name) asked other) IsNamed
@@ -285,7 +286,8 @@ named_are_words (command.Manager name) is = absurd is
 named_are_words (command.Ask name Sweep) is = (keyword (codes "sweep") (omega arith) refl refl, (manager_word name is.0, tt))
 named_are_words (command.Ask name Write) is = (keyword (codes "write") (omega arith) refl refl, (manager_word name is.0, tt))
 named_are_words (command.Ask name Handover) is = (keyword (codes "handover") (omega arith) refl refl, (manager_word name is.0, tt))
-named_are_words (command.Ask name (Poll lid)) is =
+named_are_words (command.Ask name (Poll None)) is = (keyword (codes "poll") (omega arith) refl refl, (manager_word name is.0, tt))
+named_are_words (command.Ask name (Poll (Some lid))) is =
     let h = is.1 in (keyword (codes "poll") (omega arith) refl refl, (manager_word name is.0, (decimal_word lid (omega arith), tt)))
 named_are_words (command.Timeout name) is = (keyword (codes "timeout") (omega arith) refl refl, (manager_word name is, tt))
 named_are_words (command.Floor name floor) is =
@@ -355,7 +357,8 @@ named_in (command.Manager name) is = absurd is
 named_in (command.Ask name Sweep) is = rw (manager_read name is.0) refl
 named_in (command.Ask name Write) is = rw (manager_read name is.0) refl
 named_in (command.Ask name Handover) is = rw (manager_read name is.0) refl
-named_in (command.Ask name (Poll lid)) is =
+named_in (command.Ask name (Poll None)) is = rw (manager_read name is.0) refl
+named_in (command.Ask name (Poll (Some lid))) is =
     let h = is.1 in rw (manager_read name is.0, number_read 0xFFFF lid (omega arith) h) refl
 named_in (command.Timeout name) is = rw (manager_read name is) refl
 named_in (command.Floor name floor) is =

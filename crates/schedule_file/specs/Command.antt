@@ -108,7 +108,7 @@ merge one other = option_and_then (λ m. option_map (command.Merge m) (manager_n
 
 abbrev pub poll : List ℕ → List ℕ → Option NamedCommand
 poll name lid =
-    option_and_then (λ m. option_map (λ n. command.Ask m (Poll n)) (lid_of lid)) (manager_name_in name)
+    option_and_then (λ m. option_map (λ n. command.Ask m (Poll (Some n))) (lid_of lid)) (manager_name_in name)
 
 abbrev pub floor : List ℕ → List ℕ → Option NamedCommand
 floor name generation =
@@ -156,7 +156,8 @@ abbrev pub ask_words : Ask → List ℕ → List (List ℕ)
 ask_words Sweep name = codes "sweep" ∷ name ∷ []
 ask_words Write name = codes "write" ∷ name ∷ []
 ask_words Handover name = codes "handover" ∷ name ∷ []
-ask_words (Poll lid) name = codes "poll" ∷ name ∷ decimal lid ∷ []
+ask_words (Poll None) name = codes "poll" ∷ name ∷ []
+ask_words (Poll (Some lid)) name = codes "poll" ∷ name ∷ decimal lid ∷ []
 
 -- the words behind the priority of a new manager
 abbrev pub sm_key_words : Option ℕ → List (List ℕ)

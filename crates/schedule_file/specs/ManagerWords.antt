@@ -3,7 +3,7 @@ use Rattle.std.specs.Prelude.{ℕ, List, Option, None, Some, option_and_then, co
 use Rattle.std.specs.Str.{bytes_eq}
 use Rattle.text_words.specs.Number.{number_of}
 use Rattle.schedule_file.specs.declared.command.Ask.{Ask}
-use Rattle.schedule_file.specs.declared.command.Ask.TheVariants.{Sweep, Write, Handover}
+use Rattle.schedule_file.specs.declared.command.Ask.TheVariants.{Sweep, Write, Handover, Poll}
 use Rattle.schedule_file.specs.declared.command.Shown.{Shown}
 use Rattle.schedule_file.specs.declared.command.Shown.TheVariants.{Facts, Plan, Progress, Silent, State, Written}
 
@@ -13,6 +13,7 @@ asked_by word =
     if bytes_eq word (codes "sweep") then Some Sweep
     else if bytes_eq word (codes "write") then Some Write
     else if bytes_eq word (codes "handover") then Some Handover
+    else if bytes_eq word (codes "poll") then Some (Poll None)
     else None
 
 -- what of a manager `word` shows

@@ -42,8 +42,8 @@ pub enum Ask {
     Write,
     /// A handover to the greatest manager that wins over it.
     Handover,
-    /// A poll of the manager at the LID.
-    Poll(Lid),
+    /// A poll of the manager at the LID or, without one, of whom its last sweep saw.
+    Poll(Option<Lid>),
 }
 
 /// What is shown of a manager.

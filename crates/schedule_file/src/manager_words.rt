@@ -17,6 +17,8 @@ pub fn asked_by(word: &[u8]) -> Option<Ask>
         Some(Ask::Write)
     } else if is_word(word, "handover") {
         Some(Ask::Handover)
+    } else if is_word(word, "poll") {
+        Some(Ask::Poll(None))
     } else {
         None
     }

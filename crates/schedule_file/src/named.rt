@@ -132,7 +132,7 @@ fn poll(name: &[u8], lid: &[u8]) -> Option<NamedCommand>
     ensures { result ≡ poll name.now lid.now }
 {
     let name = ManagerName::new(name)?;
-    Some(Command::Ask(name, Ask::Poll(lid_of(lid)?)))
+    Some(Command::Ask(name, Ask::Poll(Some(lid_of(lid)?))))
 }
 
 fn floor(name: &[u8], generation: &[u8]) -> Option<NamedCommand>

@@ -166,7 +166,7 @@ pub(crate) fn new_seat(
 /// | `manager NAME "node"[port] PRIORITY` | priority 0 to 15 |
 /// | `manager NAME "node"[port] PRIORITY live KEY` | SM_Key of 64 bits |
 /// | `sweep NAME`, `write NAME`, `handover NAME`, `timeout NAME` | |
-/// | `poll NAME LID` | LID 0 to 65,535 |
+/// | `poll NAME`, `poll NAME LID` | LID 0 to 65,535 |
 /// | `floor NAME GENERATION` | generation 1 to 4,294,967,295 |
 /// | `facts NAME`, `plan NAME`, `progress NAME`, `state NAME` | |
 /// | `merge NAME NAME` | |

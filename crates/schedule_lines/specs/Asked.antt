@@ -24,7 +24,7 @@ abbrev pub asked_fault : Ask → Manager → Option ManagerFault
 asked_fault Sweep m = begin_fault m
 asked_fault Write m = writing_fault m
 asked_fault Handover m = handover_fault m
-asked_fault (Poll lid) m = poll_fault m
+asked_fault (Poll lid) m = poll_fault m lid
 
 -- the manager after a request that it does not refuse
 abbrev pub after_asked : Ask → Manager → Manager

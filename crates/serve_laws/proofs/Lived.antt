@@ -37,7 +37,7 @@ pub asked_lives : (m : Manager) (what : Asking) → (asked m what).manager ≡ a
 asked_lives m Sweep = asked_is m (begin_fault m) (after_begin_sweep m)
 asked_lives m Write = asked_is m (writing_fault m) (after_write_steps m)
 asked_lives m Handover = asked_is m (handover_fault m) (after_handover m)
-asked_lives m (Poll lid) = asked_is m (poll_fault m) (after_poll m lid)
+asked_lives m (Poll lid) = asked_is m (poll_fault m lid) (after_poll m lid)
 
 gave_up_lives : (m : Manager) (transactions : List ℕ)
     → (after_giving_up m transactions).now ≡ after_calls (map calls.Timeout transactions) m

@@ -80,7 +80,7 @@ bare_range word =
 
 one_range : (word arg : List ℕ) → IfSome (of_one word arg) IsRead
 one_range word arg =
-    either IsRead (bytes_eq word (codes "poll")) _ _ (mapped (λ _. Unit {0}) IsRead (lid_of arg) (λ lid. Ask (Poll lid)) (always _) (λ lid _. tt))
+    either IsRead (bytes_eq word (codes "poll")) _ _ (mapped (λ _. Unit {0}) IsRead (lid_of arg) (λ lid. Ask (Poll (Some lid))) (always _) (λ lid _. tt))
     (either IsRead (bytes_eq word (codes "floor")) _ _
     (mapped (λ n. (1 ≤ n) × (n ≤ 0xFFFFFFFF)) IsRead (generation_of arg) Floor (generation_range arg) (λ n h. h))
     (either IsRead (bytes_eq word (codes "timeout")) _ None (mapped (λ _. Unit {0}) IsRead (transaction_of arg) Timeout (always _) (λ n _. tt)) tt))

@@ -41,7 +41,7 @@ bare_of word =
 -- a line of two words
 abbrev pub of_one : List ℕ → List ℕ → Option ServeLine
 of_one word arg =
-    if bytes_eq word (codes "poll") then option_map (λ lid. Ask (Poll lid)) (lid_of arg)
+    if bytes_eq word (codes "poll") then option_map (λ lid. Ask (Poll (Some lid))) (lid_of arg)
     else if bytes_eq word (codes "floor") then option_map Floor (generation_of arg)
     else if bytes_eq word (codes "timeout") then option_map Timeout (transaction_of arg)
     else None

@@ -72,7 +72,7 @@ fn of_one(word: &[u8], arg: &[u8]) -> Option<ServeLine>
     ensures { result ≡ of_one word.now arg.now }
 {
     if is_word(word, "poll") {
-        Some(ServeLine::Ask(Ask::Poll(lid_of(arg)?)))
+        Some(ServeLine::Ask(Ask::Poll(Some(lid_of(arg)?))))
     } else if is_word(word, "floor") {
         Some(ServeLine::Floor(generation_of(arg)?))
     } else if is_word(word, "timeout") {

@@ -34,7 +34,7 @@ use Rattle.sm_manager.specs.declared.pending.Purpose.{Purpose}
 use Rattle.sm_manager.specs.declared.pending.Purpose.TheVariants as purpose
 use Rattle.sm_manager.specs.Answered.{BeginNone, BeginsNone, WrittenIsEachStepDone, counting_in, does_by_packet, does_request, does_step, one_if, steps_done}
 use Rattle.sm_manager.specs.Calls.{Call, BeginSweep, WriteSteps, Take, Packet, Timeout, Raise, Merge, Poll, Handover, after_call, after_calls}
-use Rattle.sm_manager.specs.Election.{asked, control_out, after_handover, handed_to, handover_fault, handover_move, successor_lid, info_pending, poll_fault, poll_out, after_poll, after_message}
+use Rattle.sm_manager.specs.Election.{asked, control_out, after_handover, handed_to, handover_fault, handover_move, successor_lid, info_pending, poll_fault, poll_out, poll_path, poll_pending, after_poll, after_message}
 use Rattle.sm_manager.specs.Manager.{Manager, Writing, begin_fault, new_manager, after_begin_sweep, taken_of}
 use Rattle.sm_manager.specs.Packets.{Called, answered_by, answers, after_timeout, is_for_sweep, is_info_request, packet_taken, pending_for, refused, request_answered}
 use Rattle.sm_manager.specs.Packets.{done as done_call, request_gave_up, after_request, sweep_answered, sweep_gave_up, sweep_timed_out, unless_spent}
@@ -337,8 +337,8 @@ call_rises m (Timeout transaction) rising = timeout_rises m transaction rising
 call_rises m (Raise floor) rising = rising
 call_rises m (Merge floor sightings) rising = rising
 call_rises m (Poll lid) rising =
-    cond_both (is_none (poll_fault m)) (after_poll m lid) m (λ (x : Manager). Rising x.counter x.pending)
-    (λ _. (asks_beside m (info_pending m.counter purpose.Poll 0) (poll_out m.counter lid) refl refl).rising rising) (λ _. rising)
+    cond_both (is_none (poll_fault m lid)) (after_poll m lid) m (λ (x : Manager). Rising x.counter x.pending)
+    (λ _. (asks_beside m (poll_pending m.counter (poll_path m lid)) (poll_out m.counter lid (poll_path m lid)) refl refl).rising rising) (λ _. rising)
 call_rises m Handover rising =
     cond_both (is_none (handover_fault m)) (after_handover m) m (λ (x : Manager). Rising x.counter x.pending)
     (λ _. (hands_beside m (successor_lid m)).rising rising) (λ _. rising)
@@ -534,8 +534,8 @@ module _ (m : Manager) (w : Writing) (writing : m.writing ≡ Some w) (first : C
   call_ends (Raise floor) begins = from_beside _ (record { writing = refl; many = refl; rising = λ r. r })
   call_ends (Merge floor sightings) begins = from_beside _ (record { writing = refl; many = refl; rising = λ r. r })
   call_ends (Poll lid) begins =
-      cond_both (is_none (poll_fault m)) (after_poll m lid) m (λ (x : Manager). StepsOn w m x 0)
-      (λ _. from_beside _ (asks_beside m (info_pending m.counter purpose.Poll 0) (poll_out m.counter lid) refl refl)) (λ _. from_beside m (nothing m))
+      cond_both (is_none (poll_fault m lid)) (after_poll m lid) m (λ (x : Manager). StepsOn w m x 0)
+      (λ _. from_beside _ (asks_beside m (poll_pending m.counter (poll_path m lid)) (poll_out m.counter lid (poll_path m lid)) refl refl)) (λ _. from_beside m (nothing m))
   call_ends Handover begins =
       cond_both (is_none (handover_fault m)) (after_handover m) m (λ (x : Manager). StepsOn w m x 0) (λ _. from_beside _ (hands_beside m (successor_lid m)))
       (λ _. from_beside m (nothing m))

@@ -2,6 +2,7 @@ pub mod Handovers
 pub mod Lives
 pub mod Numbers
 pub mod Over
+pub mod PollAnswers
 pub mod Newest
 pub mod Refusals
 pub mod Replies

@@ -184,7 +184,7 @@ module _ (m : Manager) where
   takes (Raise floor) = record { store = raised_is_merge m.store floor; planning = refl }
   takes (Merge floor sightings) = record { store = refl; planning = refl }
   takes (Poll lid) =
-      let t = stays (Poll lid) (cond_both (is_none (poll_fault m)) (after_poll m lid) m (λ (x : Manager). Keeps m x) (λ _. record {
+      let t = stays (Poll lid) (cond_both (is_none (poll_fault m lid)) (after_poll m lid) m (λ (x : Manager). Keeps m x) (λ _. record {
         store = refl;
         planning =
             refl;

@@ -21,7 +21,8 @@ use Rattle.sm_manager.specs.Traps.{represses}
 use Rattle.sm_manager.specs.Plans.{writing_fault}
 use Rattle.sm_manager.specs.Writing.{after_write_steps}
 
--- what may change a manager; a merged store is given by its floor and by sightings that it is the view of at that floor
+-- what may change a manager; a merged store is given by its floor and by sightings that it is the view of at that
+-- floor; a poll goes to a LID, or to whom the last sweep saw
 pub data Call : Type 0 where
   BeginSweep : Call
   WriteSteps : Call
@@ -30,7 +31,7 @@ pub data Call : Type 0 where
   Timeout : (transaction : ℕ) → Call
   Raise : (floor : ℕ) → Call
   Merge : (floor : ℕ) → (sightings : Sightings) → Call
-  Poll : (lid : ℕ) → Call
+  Poll : (lid : Option ℕ) → Call
   Handover : Call
 
 -- a refused call leaves the manager as it is, and so does one that is refused memory, which is like a life without it
@@ -42,7 +43,7 @@ after_call m (Packet bytes from) = (after_packet m bytes from).manager
 after_call m (Timeout transaction) = (after_timeout m transaction).manager
 after_call m (Raise floor) = after_raise_floor m floor
 after_call m (Merge floor sightings) = after_merge m (view_at floor sightings)
-after_call m (Poll lid) = if is_none (poll_fault m) then after_poll m lid else m
+after_call m (Poll lid) = if is_none (poll_fault m lid) then after_poll m lid else m
 after_call m Handover = if is_none (handover_fault m) then after_handover m else m
 
 abbrev pub after_calls : List Call → Manager → Manager

@@ -1,8 +1,9 @@
 -- What a manager sends to other managers: polls, and controls as it hands over or takes over.
 -- InfiniBand Architecture Specification, Volume 1: subnet management, subnet manager (polling, handover); SMInfo.
-use Rattle.std.specs.Prelude.{ℕ, ◌+◌, List, [], ◌∷◌, ◌++◌, replicate, is_none, if◌then◌else◌, Option, Some, None, option_and_then}
+use Rattle.std.specs.Prelude.{ℕ, ◌+◌, Bool, false, ◌&&◌, List, [], ◌∷◌, ◌++◌, length, replicate, is_none, nat_lt, ◌==◌, if◌then◌else◌, Option, Some, None, option_and_then}
 use Rattle.smp_bytes.specs.Header.{get, set, sm_info}
-use Rattle.smp_bytes.specs.Requests.{lid_routed}
+use Rattle.smp_bytes.specs.Packet.{max_hops}
+use Rattle.smp_bytes.specs.Requests.{directed, lid_routed}
 use Rattle.attr_codec.specs.SmInfo.{sm_info_bytes}
 use Rattle.fact_store.specs.View.{cells_of}
 use Rattle.subnet_view.specs.declared.end_port.EndPort.{EndPort}
@@ -24,9 +25,10 @@ use Rattle.sm_manager.specs.declared.pending.Purpose.{Purpose}
 use Rattle.sm_manager.specs.declared.pending.Purpose.TheVariants as purpose
 use Rattle.sm_state.specs.declared.election.SeenManager.{SeenManager}
 use Rattle.sm_state.specs.declared.standing.Standing.{Standing}
+use Rattle.sweep.specs.Sweep.{Sweep, path_to}
 use Rattle.sm_manager.specs.Manager.{Manager}
 use Rattle.sm_manager.specs.Plans.{number_fault, or_else, plan_fault}
-use Rattle.sm_state.specs.Election.{successor_of}
+use Rattle.sm_state.specs.Election.{polled_of, successor_of}
 use Rattle.sm_state.specs.Standing.{info_of, info_with, is_in, moved_to}
 
 -- requests for SMInfo ---------------------------------------------------------------------------
@@ -36,9 +38,18 @@ abbrev pub info_pending : ℕ → Purpose → ℕ → Pending
 info_pending number purpose modifier =
     record { number = number; purpose = purpose; attribute = sm_info; modifier = modifier; path = None }
 
+-- a poll over a path, or by LIDs if there is none, that waits for its answer
+abbrev pub poll_pending : ℕ → Option (List ℕ) → Pending
+poll_pending number path = record (info_pending number purpose.Poll 0) { path = path }
+
 -- a poll: a Get with no data
-abbrev pub poll_out : ℕ → ℕ → Outgoing
-poll_out number lid = record { packet = lid_routed get sm_info 0 number (replicate 64 0); to = Some lid }
+abbrev pub poll_packet : ℕ → Option (List ℕ) → List ℕ
+poll_packet number None = lid_routed get sm_info 0 number (replicate 64 0)
+poll_packet number (Some path) = directed get sm_info 0 number path (replicate 64 0)
+
+-- a poll goes to the LID, or over the path
+abbrev pub poll_out : ℕ → Option ℕ → Option (List ℕ) → Outgoing
+poll_out number lid path = record { packet = poll_packet number path; to = lid }
 
 -- a control: a Set with the SMInfo that its sender sends with it
 abbrev pub control_out : Standing → ℕ → ℕ → Control → Outgoing
@@ -53,9 +64,6 @@ control_out s number lid control =
 abbrev pub asked : Manager → Pending → Outgoing → Manager
 asked m waits out =
     record m { counter = m.counter + 1; pending = m.pending ++ waits ∷ []; outgoing = m.outgoing ++ out ∷ [] }
-
-abbrev pub after_poll : Manager → ℕ → Manager
-after_poll m lid = asked m (info_pending m.counter purpose.Poll 0) (poll_out m.counter lid)
 
 abbrev pub control_sent : Manager → ℕ → Control → Manager
 control_sent m lid control =
@@ -89,9 +97,48 @@ after_message m (Some lid) (Some message) = control_sent m lid (control_of_messa
 
 -- polls -----------------------------------------------------------------------------------------
 
--- why no poll is sent, except for lack of memory
-abbrev pub poll_fault : Manager → Option ManagerFault
-poll_fault m = if is_in Standby m.standing then number_fault (m.counter + 1) else Some fault.NotStandby
+-- the path leaves by the port `port`, and is no longer than a path may be; each path of a manager's sweeps is so
+abbrev pub is_way_out : ℕ → List ℕ → Bool
+is_way_out port [] = false
+is_way_out port (first ∷ path) = first == port && nat_lt (length path) max_hops
+
+abbrev pub if_way_out : ℕ → Option (List ℕ) → Option (List ℕ)
+if_way_out port None = None
+if_way_out port (Some path) = if is_way_out port path then Some path else None
+
+-- the path by which the last sweep first reached the port where a manager was seen, and asked that for SMInfo
+abbrev pub path_seen : Option Sweep → SeenManager → Option (List ℕ)
+path_seen None s = None
+path_seen (Some sweep) s = path_to sweep s.guid s.port
+
+-- the one of the managers seen by the last sweep that is polled if no LID is told
+abbrev pub polled : Manager → Option SeenManager
+polled m = polled_of (info_of m.standing) m.seen
+
+abbrev pub polled_path : Manager → Option (List ℕ)
+polled_path m = if_way_out m.port (option_and_then (path_seen m.sweep) (polled m))
+
+-- the path of a poll; one to a LID has none
+abbrev pub poll_path : Manager → Option ℕ → Option (List ℕ)
+poll_path m (Some lid) = None
+poll_path m None = polled_path m
+
+-- a fault if there are neither a LID nor a path
+abbrev pub unless_way : Option ℕ → Option (List ℕ) → Option ManagerFault
+unless_way (Some lid) path = None
+unless_way None (Some path) = None
+unless_way None None = Some fault.Nobody
+
+-- why no poll is sent, except for lack of memory: to a LID, or over the path to whom the last sweep saw if no LID is
+-- told
+abbrev pub poll_fault : Manager → Option ℕ → Option ManagerFault
+poll_fault m lid =
+    if is_in Standby m.standing then or_else (unless_way lid (polled_path m)) (number_fault (m.counter + 1))
+    else Some fault.NotStandby
+
+abbrev pub after_poll : Manager → Option ℕ → Manager
+after_poll m lid =
+    asked m (poll_pending m.counter (poll_path m lid)) (poll_out m.counter lid (poll_path m lid))
 
 -- handing over ----------------------------------------------------------------------------------
 

@@ -9,6 +9,7 @@ pub mod ManagerRequests
 pub mod NotedManagers
 pub mod Packets
 pub mod Plans
+pub mod PollLaws
 pub mod Served
 pub mod Traps
 pub mod Writing

@@ -1,15 +1,17 @@
 //! What a manager does about other managers: what its sweep saw decides its state, and it polls and hands over.
 ghost use Rattle.std.specs.Prelude.{◌≡◌, ◌<◌, ◌+◌, ◌≤◌, ◌^◌, ◌∷◌, ◌++◌, [], None, Some, true, IfOk, OnOk, OnErr};
+ghost use Rattle.std.specs.Prelude.{option_copied};
 ghost use Rattle.std.specs.VecDeque.{deque_capacity, deque_len};
 ghost use Rattle.fact_store.specs.View.{cells_of};
 ghost use Rattle.lid_assign.specs.Lids.{lid_of, lids};
 ghost use Rattle.subnet_view.specs.EndPorts.{is_end_port};
-ghost use Rattle.smp_bytes.specs.Judges.{JudgesButFor};
+ghost use Rattle.smp_bytes.specs.Judges.{Judges, JudgesButFor};
 ghost use Rattle.sm_manager.specs.Election.{after_handover, handover_fault, successor_fault, successor_lid};
 ghost use Rattle.sm_manager.specs.Election.{port_seen};
-ghost use Rattle.sm_manager.specs.Election.{control_out, info_pending, poll_fault, poll_out, after_poll};
+ghost use Rattle.sm_manager.specs.Election.{control_out, info_pending, poll_fault, poll_out, poll_path, poll_pending};
+ghost use Rattle.sm_manager.specs.Election.{after_poll, is_way_out, path_seen, polled_path, unless_way};
 ghost use Rattle.sm_manager.specs.Election.{message_count, message_out, message_pending};
-ghost use Rattle.sm_manager.specs.declared.pending.Purpose.TheVariants.{Control as ForControl, Poll as ForPoll};
+ghost use Rattle.sm_manager.specs.declared.pending.Purpose.TheVariants.{Control as ForControl};
 ghost use Rattle.sm_state.specs.Controls.{modifier_of_control};
 ghost use Rattle.sm_manager.specs.Fault.{is_memory};
 ghost use Rattle.sm_manager.specs.Manager.{after_verdict};
@@ -25,9 +27,9 @@ use attr_codec::Attribute;
 use fact_store::Store;
 use lid_assign::{LidFault, LidMap, assign, no_room};
 use sm_state::{
-    Control, Event, Message, SeenManager, SmState, Standing, step, successor, sweep_verdict,
+    Control, Event, Message, SeenManager, SmState, Standing, polled, step, successor, sweep_verdict,
 };
-use smp_bytes::{Lid, Method};
+use smp_bytes::{Lid, Method, Path, PortNum};
 use std::collections::VecDeque;
 use subnet_view::{EndPort, is_end_port};
 
@@ -40,22 +42,64 @@ pub(crate) fn end_sweep(standing: &mut Standing, seen: &[SeenManager])
 }
 
 impl Manager {
-    /// Sends a poll to the master at `lid`. The answer, or its timeout, counts once it comes.
+    /// Sends a poll to the manager at `lid`. If that is `None`, polls one of those that the last sweep saw, over the
+    /// path by which that one was asked for SMInfo: the first master that this manager hears; if there is none, the
+    /// greatest of those that outrank it, of equals the first. The answer, or its timeout, counts once it comes. Walks
+    /// what the sweep saw.
     ///
     /// # Errors
     ///
-    /// `NotStandby`, `SequenceSpent` and `Memory`, in this order.
-    pub fn poll(&mut self, lid: Lid) -> Result<(), ManagerFault>
-        ensures judged { JudgesButFor is_memory result (poll_fault self.old) }
+    /// `NotStandby`; `Nobody` if `lid` is `None` and the sweep saw none of these; `SequenceSpent`; `Memory`, in this
+    /// order.
+    pub fn poll(&mut self, lid: Option<Lid>) -> Result<(), ManagerFault>
+        ensures judged { JudgesButFor is_memory result (poll_fault self.old lid) }
         ensures ok { OnOk result (self.new ≡ after_poll self.old lid) }
         ensures err { OnErr result (self.new ≡ self.old) }
     {
         if !self.standing.is_in(SmState::Standby) {
             return Err(ManagerFault::NotStandby);
         }
+        let path = self.poll_path(&lid)?;
         make_room(1, 1, &mut self.requests, &mut self.outgoing)?;
-        send_poll(lid, &mut self.requests, &mut self.outgoing);
+        send_poll(lid, path, &mut self.requests, &mut self.outgoing);
         Ok(())
+    }
+
+    /// Returns the path of a poll, or `None` if it goes to `lid`.
+    fn poll_path(&self, lid: &Option<Lid>) -> Result<Option<Path<63>>, ManagerFault>
+        ensures judged { Judges result (unless_way lid.now (polled_path self.now)) }
+        ensures path { IfOk result (λ path. path ≡ poll_path self.now lid.now) }
+    {
+        if lid.is_some() {
+            return Ok(None);
+        }
+        match self.polled_path() {
+            Some(path) => Ok(Some(path.copy())),
+            None => Err(ManagerFault::Nobody),
+        }
+    }
+
+    /// Returns the path to the manager that is polled, of those that the last sweep saw.
+    fn polled_path(&self) -> Option<&Path<63>>
+        ensures { option_copied result ≡ polled_path self.now }
+    {
+        let polled = polled(&self.standing.info(), &self.seen)?;
+        let path = self.path_seen(&polled)?;
+        if is_way_out(self.port, path) {
+            Some(path)
+        } else {
+            None
+        }
+    }
+
+    /// Returns the path by which the last sweep first reached the port where a manager was seen.
+    fn path_seen(&self, seen: &SeenManager) -> Option<&Path<63>>
+        ensures { option_copied result ≡ path_seen self.now.sweep seen.now }
+    {
+        match &self.sweep {
+            Some(sweep) => sweep.path_to(seen.guid, seen.port),
+            None => None,
+        }
     }
 
     /// Tells the successor to take over: the greatest of the managers that the last sweep saw in Standby or Master and
@@ -157,22 +201,34 @@ fn port_seen(store: &Store, seen: &SeenManager) -> Option<EndPort>
     })
 }
 
-/// Queues a poll to the LID `to`. Takes no memory.
-fn send_poll(to: Lid, requests: &mut ManagerRequests, outgoing: &mut VecDeque<Outgoing>)
+/// Returns whether a path leaves by `port`, and is no longer than a path may be.
+fn is_way_out(port: PortNum, path: &Path<63>) -> bool
+    ensures { result ≡ is_way_out port path.now }
+{
+    match path.get(0) {
+        Some(first) => first == port && path.len() <= 63,
+        None => false,
+    }
+}
+
+/// Queues a poll to `lid`, or over the path. Takes no memory.
+fn send_poll(
+    lid: Option<Lid>,
+    path: Option<Path<63>>,
+    requests: &mut ManagerRequests,
+    outgoing: &mut VecDeque<Outgoing>,
+)
     requires number { requests.old.counter < 2 ^ 32 }
     requires room { 0 < requests.old.room }
     requires outgoing { deque_len outgoing.old < deque_capacity outgoing.old }
     ensures counter { requests.new.counter ≡ requests.old.counter + 1 }
     ensures pending { requests.new.pending
-        ≡ requests.old.pending ++ info_pending requests.old.counter ForPoll 0 ∷ [] }
+        ≡ requests.old.pending ++ poll_pending requests.old.counter path ∷ [] }
     ensures outgoing { outgoing.new.items
-        ≡ outgoing.old.items ++ poll_out requests.old.counter to ∷ [] }
+        ≡ outgoing.old.items ++ poll_out requests.old.counter lid path ∷ [] }
 {
-    let packet = requests.send_info(Purpose::Poll, Method::GET, 0, &[0; 64]);
-    outgoing.push_back_reserved(Outgoing {
-        packet,
-        to: Some(to),
-    });
+    let packet = requests.send_poll(path);
+    outgoing.push_back_reserved(Outgoing { packet, to: lid });
 }
 
 /// Queues `message` as a control to the LID `to`, if there are both. Takes no memory.

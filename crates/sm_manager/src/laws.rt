@@ -2,6 +2,7 @@
 ghost use Rattle.sm_manager.specs.HandoverLaws.{HandoversLeaveAMaster};
 ghost use Rattle.sm_manager.specs.Answered.{WrittenIsEachStepDone};
 ghost use Rattle.sm_manager.specs.Calls.{KnowsWhatItTookIn, SameTakenInSamePlan};
+ghost use Rattle.sm_manager.specs.PollLaws.{AnswersReachPolls};
 
 /// After any calls, in whatever order, a manager knows the view of all sightings that it took in, at the greatest
 /// floor: the sightings of the reports that it accepted, and those behind the stores that it merged; the floors that
@@ -31,4 +32,11 @@ pub fn written_is_each_step_done()
 /// either of them meanwhile. The sender stays master unless the answer has status 0, and whoever answers so took over.
 pub fn handovers_leave_a_master()
     ensures { HandoversLeaveAMaster }
+{}
+
+/// An answer to a poll with its number, by LIDs or over the path, is taken for the answer to that poll, and not for a
+/// reply to a sweep, whatever else it says.
+#[tactic(auto, using(crate::proofs::PollAnswers::answers_reach_polls))]
+pub fn answers_reach_polls()
+    ensures { AnswersReachPolls }
 {}

@@ -4,7 +4,7 @@ ghost use Rattle.plan_steps.specs.Step.{set_packet};
 ghost use Rattle.request_table.specs.Numbers.{IsIndexFor};
 ghost use Rattle.smp_bytes.specs.Header.{sm_info};
 ghost use Rattle.smp_bytes.specs.Requests.{lid_routed};
-ghost use Rattle.sm_manager.specs.Election.{info_pending};
+ghost use Rattle.sm_manager.specs.Election.{info_pending, poll_packet, poll_pending};
 ghost use Rattle.sm_manager.specs.ManagerRequests.{AreNumbered, how_many, is_for_step, is_step, no_step_waits};
 ghost use Rattle.sm_manager.specs.ManagerRequests.{none_counts, with_number, without_number};
 ghost use Rattle.sm_manager.specs.Packets.{answers};
@@ -20,7 +20,7 @@ use crate::outgoing::Outgoing;
 use crate::pending::{Pending, Purpose};
 use plan_steps::Step;
 use request_table::RequestTable;
-use smp_bytes::{AttributeId, Method, Smp};
+use smp_bytes::{AttributeId, Method, Path, Smp};
 use std::alloc::{AllocError, Global};
 use std::collections::VecDeque;
 use std::marker::Model;
@@ -152,6 +152,28 @@ impl ManagerRequests {
         Smp::lid_routed(method, AttributeId::SM_INFO, modifier, number, payload)
     }
 
+    /// Adds a poll under the next number, over the path or, if there is none, by LIDs, and returns its packet. Takes no
+    /// memory.
+    pub(crate) fn send_poll(&mut self, path: Option<Path<63>>) -> Smp
+        requires room { 0 < self.old.room }
+        requires number { self.old.counter < 2 ^ 32 }
+        ensures packet { result ≡ poll_packet self.old.counter path }
+        ensures counter { self.new.counter ≡ self.old.counter + 1 }
+        ensures pending { self.new.pending
+            ≡ self.old.pending ++ poll_pending self.old.counter path ∷ [] }
+    {
+        let number = self.table.next();
+        let packet = poll_packet(number, &path);
+        self.table.push(Pending {
+            number: number as u32,
+            purpose: Purpose::Poll,
+            attribute: AttributeId::SM_INFO.0,
+            modifier: 0,
+            path,
+        });
+        packet
+    }
+
     /// Returns the request at `index`, in the order of numbers.
     pub(crate) fn get(&self, index: usize) -> Option<&Pending>
         ensures { option_copied result ≡ slice_get self.now.pending index }
@@ -211,6 +233,17 @@ impl ManagerRequests {
             self.counting -= 1;
         }
         ended
+    }
+}
+
+/// Returns a poll: over the path or, if there is none, by LIDs.
+fn poll_packet(number: u64, path: &Option<Path<63>>) -> Smp
+    requires { number < 2 ^ 32 }
+    ensures { result ≡ poll_packet number path.now }
+{
+    match path {
+        Some(path) => Smp::directed(Method::GET, AttributeId::SM_INFO, 0, number, path, &[0; 64]),
+        None => Smp::lid_routed(Method::GET, AttributeId::SM_INFO, 0, number, &[0; 64]),
     }
 }
 

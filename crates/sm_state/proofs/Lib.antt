@@ -1,3 +1,4 @@
 pub mod Moves
 pub mod Successors
+pub mod WhomToPoll
 pub mod Winning

@@ -98,7 +98,7 @@ one_more managers (Some b) s h = by (wins s.info b.info) refl
 
 module _ (own : SmInfo) where
   one_more_seen : (seen : List SeenManager) (best : Option SeenManager) (s : SeenManager) → IsSuccessorOrNone (filter (is_candidate own) seen) best
-      → IsSuccessorOrNone (filter (is_candidate own) (seen ++ s ∷ [])) (next_best own best s)
+      → IsSuccessorOrNone (filter (is_candidate own) (seen ++ s ∷ [])) (next_best (is_candidate own s) best s)
   one_more_seen seen best s h = by (is_candidate own s) refl
     where
       by : (t : Bool) → is_candidate own s ≡ t → IsSuccessorOrNone (filter (is_candidate own) (seen ++ s ∷ [])) (cond t (Some (better best s)) best)
@@ -115,12 +115,12 @@ module _ (own : SmInfo) where
           h
 
   all_seen : (seen rest : List SeenManager) (best : Option SeenManager) → IsSuccessorOrNone (filter (is_candidate own) seen) best
-      → IsSuccessorOrNone (filter (is_candidate own) (seen ++ rest)) (best_with own rest best)
+      → IsSuccessorOrNone (filter (is_candidate own) (seen ++ rest)) (best_with (is_candidate own) rest best)
   all_seen seen [] best h = subst (λ (xs : List SeenManager). IsSuccessorOrNone (filter (is_candidate own) xs) best) (sym (append-nil seen)) h
   all_seen seen (s ∷ rest) best h =
-      subst (λ (xs : List SeenManager). IsSuccessorOrNone (filter (is_candidate own) xs) (best_with own rest (next_best own best s)))
+      subst (λ (xs : List SeenManager). IsSuccessorOrNone (filter (is_candidate own) xs) (best_with (is_candidate own) rest (next_best (is_candidate own s) best s)))
       (append_assoc seen (s ∷ []) rest)
-      (all_seen (seen ++ s ∷ []) rest (next_best own best s) (one_more_seen seen best s h))
+      (all_seen (seen ++ s ∷ []) rest (next_best (is_candidate own s) best s) (one_more_seen seen best s h))
 
 pub successor_law : SuccessorLaw
 successor_law own seen = all_seen own [] seen None refl

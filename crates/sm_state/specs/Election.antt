@@ -1,7 +1,8 @@
--- The managers that a sweep saw: which of them outrank a manager, and which it hands over to.
+-- The managers that a sweep saw: which of them outrank a manager, which it hands over to, and which it polls.
 -- InfiniBand Architecture Specification, Volume 1: subnet management, subnet manager (states, priorities).
-use Rattle.std.specs.Prelude.{◌≡◌, Bool, true, false, ◌&&◌, ◌||◌, not, List, [], ◌∷◌, ◌++◌, filter, ◌==◌, if◌then◌else◌, Option, Some, None}
+use Rattle.std.specs.Prelude.{◌≡◌, Bool, true, false, ◌&&◌, ◌||◌, not, List, [], ◌∷◌, ◌++◌, filter, find, Contains, ◌==◌, if◌then◌else◌, Option, Some, None}
 use Rattle.std.specs.List.{AllByRecursion, list_any}
+use Rattle.std.specs.Option.{option_or}
 use Rattle.attr_codec.specs.declared.sm_info.SmInfo.{SmInfo}
 use Rattle.sm_state.specs.declared.event.Event.{Event}
 use Rattle.sm_state.specs.declared.event.Event.TheVariants.{Outranked, Unrivalled}
@@ -39,16 +40,20 @@ abbrev pub better : Option SeenManager → SeenManager → SeenManager
 better None s = s
 better (Some best) s = if wins s.info best.info then s else best
 
-abbrev pub next_best : SmInfo → Option SeenManager → SeenManager → Option SeenManager
-next_best own best s = if is_candidate own s then Some (better best s) else best
+abbrev pub next_best : Bool → Option SeenManager → SeenManager → Option SeenManager
+next_best passes best s = if passes then Some (better best s) else best
 
-abbrev pub best_with : SmInfo → List SeenManager → Option SeenManager → Option SeenManager
-best_with own [] best = best
-best_with own (s ∷ seen) best = best_with own seen (next_best own best s)
+abbrev pub best_with : (SeenManager → Bool) → List SeenManager → Option SeenManager → Option SeenManager
+best_with test [] best = best
+best_with test (s ∷ seen) best = best_with test seen (next_best (test s) best s)
 
--- the greatest of the candidates, and of equals the first
+-- the greatest of those that pass a test, and of equals the first
+abbrev pub greatest_of : (SeenManager → Bool) → List SeenManager → Option SeenManager
+greatest_of test seen = best_with test seen None
+
+-- the greatest of the candidates
 abbrev pub successor_of : SmInfo → List SeenManager → Option SeenManager
-successor_of own seen = best_with own seen None
+successor_of own seen = greatest_of (is_candidate own) seen
 
 -- in words: the successor wins over each manager before it, and none after it wins over it
 pub record IsFirstGreatest (managers : List SeenManager) (successor : SeenManager) : Type 0 where
@@ -66,3 +71,25 @@ IsSuccessorOrNone managers (Some successor) = IsFirstGreatest managers successor
 abbrev pub SuccessorLaw : Type 0
 SuccessorLaw = (own : SmInfo) (seen : List SeenManager)
     → IsSuccessorOrNone (filter (is_candidate own) seen) (successor_of own seen)
+
+-- whom to poll -------------------------------------------------------------------------------------
+
+-- the manager `s` is heard, and is a master
+abbrev pub is_heard_master : SmInfo → SeenManager → Bool
+is_heard_master own s = is_heard own s.info && says Master s.info
+
+-- the manager `s` outranks `own`
+abbrev pub is_above : SmInfo → SeenManager → Bool
+is_above own s = outranks own s.info
+
+-- the first master that is heard; if there is none, the greatest of those that outrank `own`
+abbrev pub polled_of : SmInfo → List SeenManager → Option SeenManager
+polled_of own seen = option_or (find (is_heard_master own) seen) (greatest_of (is_above own) seen)
+
+-- who is polled was seen, and outranks `own`; there is nobody to poll only if none outranks it
+abbrev pub IsPolledOrNone : SmInfo → List SeenManager → Option SeenManager → Type 0
+IsPolledOrNone own seen None = any_outranks own seen ≡ false
+IsPolledOrNone own seen (Some polled) = Contains seen polled × (outranks own polled.info ≡ true)
+
+abbrev pub PolledLaw : Type 0
+PolledLaw = (own : SmInfo) (seen : List SeenManager) → IsPolledOrNone own seen (polled_of own seen)

@@ -1,8 +1,8 @@
 //! The choice among the managers that a sweep saw.
-ghost use Rattle.std.specs.Prelude.{◌≡◌, Some, if◌then◌else◌};
+ghost use Rattle.std.specs.Prelude.{◌≡◌, Some, find, if◌then◌else◌};
 ghost use Rattle.sm_state.specs.Conducts.{is_heard};
-ghost use Rattle.sm_state.specs.Election.{any_outranks, better, next_best, successor_of, is_candidate};
-ghost use Rattle.sm_state.specs.Election.{outranks, says, sweep_verdict};
+ghost use Rattle.sm_state.specs.Election.{any_outranks, better, greatest_of, next_best, successor_of, is_above};
+ghost use Rattle.sm_state.specs.Election.{is_candidate, is_heard_master, outranks, polled_of, says, sweep_verdict};
 
 use crate::{Event, SmState, wins};
 use attr_codec::SmInfo;
@@ -43,16 +43,44 @@ pub fn successor(own: &SmInfo, seen: &[SeenManager]) -> Option<SeenManager>
 {
     let mut best = None;
     for other in seen {
-        best = next_best(own, best, *other);
+        best = next_best(is_candidate(own, other), best, *other);
     }
     best
 }
 
-/// Returns the best candidate so far, given one more manager.
-fn next_best(own: &SmInfo, best: Option<SeenManager>, other: SeenManager) -> Option<SeenManager>
-    ensures { result ≡ next_best own.now best other }
+/// Returns the manager to poll: of those that are heard the first master; if there is none, of those that outrank `own`
+/// the greatest, of equals the first. Walks all of them.
+pub fn polled(own: &SmInfo, seen: &[SeenManager]) -> Option<SeenManager>
+    ensures { result ≡ polled_of own.now seen.now }
 {
-    if is_candidate(own, &other) {
+    first_master(own, seen).or(greatest_above(own, seen))
+}
+
+/// Returns the first master that is heard.
+fn first_master(own: &SmInfo, seen: &[SeenManager]) -> Option<SeenManager>
+    ensures { result ≡ find (is_heard_master own.now) seen.now }
+{
+    seen.iter()
+        .copied()
+        .find(|other| is_heard_master(own, other))
+}
+
+/// Returns the greatest of those that outrank `own`, of equals the first.
+fn greatest_above(own: &SmInfo, seen: &[SeenManager]) -> Option<SeenManager>
+    ensures { result ≡ greatest_of (is_above own.now) seen.now }
+{
+    let mut best = None;
+    for other in seen {
+        best = next_best(outranks(own, &other.info), best, *other);
+    }
+    best
+}
+
+/// Returns the best so far, given one more manager, which counts if it passes.
+fn next_best(passes: bool, best: Option<SeenManager>, other: SeenManager) -> Option<SeenManager>
+    ensures { result ≡ next_best passes best other }
+{
+    if passes {
         Some(better(best, other))
     } else {
         best
@@ -81,6 +109,13 @@ fn is_candidate(own: &SmInfo, other: &SeenManager) -> bool
 {
     let is_ready = says(SmState::Standby, &other.info) || says(SmState::Master, &other.info);
     is_heard(own, &other.info) && is_ready && wins(&other.info, own)
+}
+
+/// Returns whether `other` is heard, and is a master.
+fn is_heard_master(own: &SmInfo, other: &SeenManager) -> bool
+    ensures { result ≡ is_heard_master own.now other.now }
+{
+    is_heard(own, &other.info) && says(SmState::Master, &other.info)
 }
 
 /// Returns whether `other` is heard, and is a master, or wins over `own` and is not inactive.

@@ -1,6 +1,6 @@
 //! The laws of managers' states.
 ghost use Rattle.sm_state.specs.Ranks.{WinsIsAnOrder};
-ghost use Rattle.sm_state.specs.Election.{SuccessorLaw};
+ghost use Rattle.sm_state.specs.Election.{PolledLaw, SuccessorLaw};
 ghost use Rattle.sm_state.specs.StateLaws.{HandoversAreTaken, MastersStay, NothingElseMoves, OthersAreTold};
 ghost use Rattle.sm_state.specs.StateLaws.{StatesAreNumbered};
 
@@ -42,4 +42,10 @@ pub fn states_are_numbered()
 #[tactic(auto, using(crate::proofs::Successors::successor_law))]
 pub fn successor_is_the_first_of_the_greatest()
     ensures { SuccessorLaw }
+{}
+
+/// Whom a manager polls was seen, and outranks it. There is nobody to poll only if none that was seen outranks it.
+#[tactic(auto, using(crate::proofs::WhomToPoll::polled_law))]
+pub fn polled_managers_outrank()
+    ensures { PolledLaw }
 {}

@@ -255,7 +255,7 @@ module _ (fab : Fabric) (start : Simulation) (seat : NodePort) (plan : PlanValue
       }) f
   event_followed w (Poll lid) u g quiet can_be f now lids =
       quiet_followed fab w (after_manager_event w (Poll lid)) u (nothing_seen fab w.scene) refl
-      (cond_both (is_none (poll_fault w.manager)) _ _ (KeepsSweep w.manager) (λ _. record { sweep = refl; store = refl }) (λ _. kept w.manager)) f
+      (cond_both (is_none (poll_fault w.manager lid)) _ _ (KeepsSweep w.manager) (λ _. record { sweep = refl; store = refl }) (λ _. kept w.manager)) f
   event_followed w HandOver u g quiet can_be f now lids =
       quiet_followed fab w (after_manager_event w HandOver) u (nothing_seen fab w.scene) refl
       (cond_both (is_none (handover_fault w.manager)) _ _ (KeepsSweep w.manager) (λ _. handed_keeps w.manager (successor_lid w.manager)) (λ _. kept w.manager))

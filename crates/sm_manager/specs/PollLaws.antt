@@ -1,0 +1,18 @@
+-- What an answer to a poll is taken for.
+use Rattle.std.specs.Prelude.{◌≡◌, ℕ, ◌<◌, ◌≤◌, ◌^◌, true, false, List, length, IfSome, Option}
+use Rattle.smp_bytes.specs.Packet.{max_hops}
+use Rattle.smp_bytes.specs.Requests.{answer_packet}
+use Rattle.sm_manager.specs.Election.{poll_packet, poll_pending}
+use Rattle.sm_manager.specs.Packets.{answers, is_for_sweep}
+
+-- the packet is taken for the answer to the poll that waits, and not for a reply to a sweep
+pub record IsTakenForPoll (packet : List ℕ) (number : ℕ) (path : Option (List ℕ)) : Type 0 where
+  pub answers : answers packet (poll_pending number path) ≡ true
+  pub no_sweep : is_for_sweep packet ≡ false
+
+-- so is each answer to a poll, which went by LIDs or over a path
+abbrev pub AnswersReachPolls : Type 0
+AnswersReachPolls =
+    (number : ℕ) (path : Option (List ℕ)) (status : ℕ) (payload : List ℕ) → number < 2 ^ 32
+    → IfSome path (λ ports. length ports ≤ max_hops) → status < 2 ^ 15 → length payload ≡ 64
+    → IsTakenForPoll (answer_packet (poll_packet number path) status payload) number path
