@@ -12,4 +12,5 @@ pub mod Simulation
 pub mod Tells
 pub mod ThereAndBack
 pub mod TrapCalls
+pub mod TrapLaws
 pub mod Traps

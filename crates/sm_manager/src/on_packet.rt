@@ -1,6 +1,6 @@
-ghost use Rattle.std.specs.Prelude.{◌≡◌, ◌-◌, IfOk, OnOk, OnErr};
+ghost use Rattle.std.specs.Prelude.{◌≡◌, ◌-◌, None, IfOk, OnOk, OnErr};
 ghost use Rattle.sm_manager.specs.Packets.{HasSender, IsFaultWithoutRoom, is_for_sweep, is_info_request};
-ghost use Rattle.sm_manager.specs.Packets.{sweep_answered, after_packet, trap_told};
+ghost use Rattle.sm_manager.specs.Packets.{sweep_answered, after_packet, packet_taken, trap_told};
 ghost use Rattle.smp_bytes.specs.Judges.{JudgesButFor};
 ghost use Rattle.sm_manager.specs.Fault.{is_memory, refusal_of};
 ghost use Rattle.sweep.specs.Replies.{judged};
@@ -62,8 +62,8 @@ impl Manager {
     /// Handles a packet.
     fn take(&mut self, smp: &Smp, from: Option<Lid>) -> Result<(), ManagerFault>
         requires { HasSender smp.now from }
-        ensures judged { JudgesButFor is_memory result (after_packet self.old smp.now from).fault }
-        ensures ok { OnOk result (self.new ≡ (after_packet self.old smp.now from).manager) }
+        ensures judged { JudgesButFor is_memory result (packet_taken self.old smp.now from None).fault }
+        ensures ok { OnOk result (self.new ≡ (packet_taken self.old smp.now from None).manager) }
         ensures err { OnErr result (self.new ≡ self.old) }
     {
         if is_info_request(smp) {
