@@ -31,7 +31,6 @@ pub fn there_and_back()
 
 /// A TrapRepress that has come by LIDs to its switch is discarded with no answer, and ends the trap of its TransactionID
 /// there, and no other trap.
-#[tactic(auto, using(crate::proofs::TrapsEnd::represses_end_traps))]
 pub fn represses_end_traps()
     ensures { RepressesEndTraps }
 {}
