@@ -245,9 +245,11 @@ module _ (count : ℕ) (planning : Planning) where
       by_node true = refl
       by_node false = refl
 
-  parting_same : (w : WorldValue) (p : NodePort) (other : Option NodePort) → (after_parting w p other).now.managers ≡ w.managers
-  parting_same w p None = refl
-  parting_same w p (Some q) = told_same w p q
+  parting_same : (w : WorldValue) (p : NodePort) (other : Option NodePort) (result : Result (Unit {0}) FabricFault)
+      → (after_parting w p other result).now.managers ≡ w.managers
+  parting_same w p None (Ok done) = refl
+  parting_same w p (Some q) (Ok done) = told_same w p q
+  parting_same w p other (Err fault) = refl
 
   change_same : (w : WorldValue) (p q : NodePort) (result : Result (Unit {0}) FabricFault) → (after_change w p q result).now.managers ≡ w.managers
   change_same w p q (Ok done) = told_same w p q
@@ -285,7 +287,8 @@ module _ (count : ℕ) (planning : Planning) where
   command_known nodes w accounts (command.Packet which fate.Repeat) known = which_known w accounts which (after_fate w fate.Repeat) known (λ serial. refl)
   command_known nodes w accounts (command.Drain most) known = drain_known most w accounts known
   command_known nodes w accounts (command.Cut p) known =
-      same_known _ w accounts (parting_same (after_fabric_call w (after_cut w.fabric p)).now p (across w.fabric.peers p)) known
+      let called = after_cut w.fabric p in
+      same_known _ w accounts (parting_same (after_fabric_call w called).now p (across w.fabric.peers p) called.result) known
   command_known nodes w accounts (command.Plug p q) known =
       let called = after_plug w.fabric p q in
       same_known _ w accounts (change_same (after_fabric_call w called).now p q called.result) known

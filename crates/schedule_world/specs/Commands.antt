@@ -158,14 +158,15 @@ abbrev pub after_change : WorldValue → NodePort → NodePort → Result (Unit 
 after_change w p q (Ok done) = after_tell_ends w p q
 after_change w p q (Err fault) = quiet w
 
-abbrev pub after_parting : WorldValue → NodePort → Option NodePort → Outcome WorldValue
-after_parting w p None = quiet w
-after_parting w p (Some q) = after_tell_ends w p q
+-- the same, for a cable with this other end
+abbrev pub after_parting : WorldValue → NodePort → Option NodePort → Result (Unit {0}) FabricFault → Outcome WorldValue
+after_parting w p other (Ok done) = option_map_or (after_tell_ends w p) other (quiet w)
+after_parting w p other (Err fault) = quiet w
 
 -- `cut "n"[p]`: the cable is cut, and the agents at both ends are told
 unfoldable pub after_cut_line : WorldValue → NodePort → Outcome WorldValue
-after_cut_line w p =
-    and_then (after_fabric_call w (after_cut w.fabric p)) (λ now. after_parting now p (across w.fabric.peers p))
+after_cut_line w p = let called = after_cut w.fabric p in
+    and_then (after_fabric_call w called) (λ now. after_parting now p (across w.fabric.peers p) called.result)
 
 -- `plug "n"[p] "m"[q]`: the cable is plugged in, and the agents at both ends are told
 unfoldable pub after_plug_line : WorldValue → NodePort → NodePort → Outcome WorldValue
