@@ -55,7 +55,8 @@ SCHEDULE_FAULTS = (
     *((line, "line 3: syntax") for line in (
         "Sweep A", "sweep", "sweep A A", 'sweep "A"', "sweep A_", "sweep ABCDEFGHIJKLMNOPQ", "merge A", "merge A A A",
         "deliver", "deliver Last", "deliver 18446744073709551616", "lose 184467440737095516150", "repeat -1",
-        "drain 1000001", "drain last", "tables A", "flight 0", 'cut "S 1"[256]', 'cut "S 1" [1]', "cut S[1]",
+        "drain 1000001", "drain last", "tables A", "flight 0", "traps A", "resend 1", "Resend",
+        'cut "S 1"[256]', 'cut "S 1" [1]', "cut S[1]",
         'cut ""[1]', 'plug "S 1"[1]', 'ping "S 1"[1]', 'ping "S 1"[1] 65536', 'ping "S 1"[1] 0x1',
         'manager c "H1"[2] 16', 'manager c "H1"[2]', 'manager c "H1"[2] 1 1', "write", "handover", "handover A b2",
         "poll", "poll 1 A 1", "poll A 65536", "floor A", "floor A 0", "floor A 4294967296", "state", "silent",
@@ -81,6 +82,7 @@ LINES = (
     ("progress b2", "progress b2 never\n"), ("silent b2", "silent b2 never\n"), ("silent\tA #", "silent A never\n"),
     ("written b2", "written b2 no\n"), ('manager c "H1"[2] 007', ""), ('cut "S 1"[255]', "refused NoSuchPort\n"),
     ('plug "S 1"[0] "H2"[001]', "refused NoSuchPort\n"), ("tables", "switch 0000000000000010 top 0\nblock 0 %\n"),
+    ("traps", ""), ("resend", ""), ("traps # on\ntraps\nresend", ""),
     ("flight\r\n", ""), ("deliver last", "refused NoSuchPacket\n"), ("lose 0", "refused NoSuchPacket\n"),
     ("repeat 0018446744073709551615", "refused NoSuchPacket\n"), ("drain 0", ""), ("drain 001000000#", ""),
     ("sweep A\r\n\t# next\n" * 1000, "refused SweepRunning\n" * 999),

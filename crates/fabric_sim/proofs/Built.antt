@@ -20,6 +20,7 @@ use Rattle.node_agents.specs.Agent.{Agent, IsAgent, IsAgentNode, fresh_agent, ha
 use Rattle.node_agents.proofs.Made.{agents_are_made}
 use Rattle.fabric_sim.specs.Simulation.{Simulation, IsSimulation, across, has_cable_port}
 use Rattle.fabric_sim.specs.Changes.{cabled_at}
+use Rattle.fabric_sim.specs.Traps.{no_traps}
 use Rattle.fabric_sim.specs.Build.{agent_node, new_agent, no_peers, uncabled, cabled}
 use Rattle.fabric_sim.proofs.AgentLists.{cable_ports_stay}
 use Rattle.fabric_sim.proofs.PeerLists.{same_or_apart}
@@ -325,12 +326,12 @@ nodes_in_more t agents now peers listed node agent row so_far at is_agent is_row
 -- all nodes are in
 pub all_nodes : (t : Layout) (agents : List Agent) (peers : List (List (Option NodePort))) (first : ℕ) → NodesIn t agents peers
     → slice_get t.nodes (length agents) ≡ None
-    → ◌≡◌ {A = Simulation} (record { agents = agents; peers = peers; flights = []; next = first }) (uncabled t.nodes first)
+    → ◌≡◌ {A = Simulation} (record { agents = agents; peers = peers; flights = []; next = first; traps = no_traps }) (uncabled t.nodes first)
 all_nodes t agents peers first so_far none =
     let past : length t.nodes ≤ length agents = by t.nodes (length agents) none in
     let all : take (length agents) t.nodes ≡ t.nodes = take_all (length agents) t.nodes past in
-    ap (λ xs. record { agents = xs; peers = peers; flights = []; next = first }) (so_far.made ∙ ap (map new_agent) all)
-    ∙ ap (λ xs. record { agents = map new_agent t.nodes; peers = xs; flights = []; next = first }) (so_far.listed ∙ ap (map no_peers) all)
+    ap (λ xs. record { agents = xs; peers = peers; flights = []; next = first; traps = no_traps }) (so_far.made ∙ ap (map new_agent) all)
+    ∙ ap (λ xs. record { agents = map new_agent t.nodes; peers = xs; flights = []; next = first; traps = no_traps }) (so_far.listed ∙ ap (map no_peers) all)
   where
     by : (nodes : List Node) (i : ℕ) → slice_get nodes i ≡ None → length nodes ≤ i
     by [] i e = omega arith
@@ -339,6 +340,6 @@ all_nodes t agents peers first so_far none =
 
 pub all_nodes_are : (t : Layout) (agents : List Agent) (peers : List (List (Option NodePort))) (first : ℕ) → NodesIn t agents peers
     → slice_get t.nodes (length agents) ≡ None → first < 2 ^ 64
-    → IsSimulation (record { agents = agents; peers = peers; flights = []; next = first })
+    → IsSimulation (record { agents = agents; peers = peers; flights = []; next = first; traps = no_traps })
 all_nodes_are t agents peers first so_far none fits =
     subst IsSimulation (sym (all_nodes t agents peers first so_far none)) (uncabled_is t.nodes first so_far.topology.few so_far.topology.nodes fits)

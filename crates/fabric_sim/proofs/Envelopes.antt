@@ -13,7 +13,7 @@ use Rattle.fabric_sim.specs.declared.envelope.Envelope.{Envelope}
 use Rattle.fabric_sim.specs.declared.flight.Flight.{Flight}
 use Rattle.fabric_sim.specs.declared.flight.Whereabouts.{Whereabouts}
 use Rattle.fabric_sim.specs.declared.packet.Packet.{Packet}
-use Rattle.fabric_sim.specs.Outcome.{Outcome, Moves, Asks, HandsUp, Drops}
+use Rattle.fabric_sim.specs.Outcome.{Outcome, Moves, Asks, HandsUp, Represses, Drops}
 use Rattle.fabric_sim.specs.Simulation.{Simulation, IsSimulation, Finds, flight_with}
 use Rattle.fabric_sim.specs.Called.{Called}
 use Rattle.fabric_sim.specs.Delivery.{CanFare, IsEnvelopeAt, after_deliver, after_outcome, delivered_flight, envelope_of, flight_in, outcome_by, outcome_of, packet_in, without}
@@ -60,6 +60,7 @@ with_other_bytes : (s : Simulation) (f : Flight) (bytes : List ℕ) (o : Outcome
 with_other_bytes s f bytes (Moves whereabouts packet) = refl
 with_other_bytes s f bytes (Asks request slid dlid) = refl
 with_other_bytes s f bytes (HandsUp packet) = refl
+with_other_bytes s f bytes (Represses number) = refl
 with_other_bytes s f bytes (Drops reason) = refl
 
 -- an action does what the delivery does

@@ -19,6 +19,7 @@ use Rattle.fabric_sim.specs.declared.flight.Whereabouts.TheVariants.{Seat, Arriv
 use Rattle.fabric_sim.specs.declared.flight.Flight.{Flight}
 use Rattle.fabric_sim.specs.declared.packet.Packet.{Packet}
 use Rattle.fabric_sim.specs.Simulation.{Simulation, IsSimulation, AreUncabledDown, CanWait, IsWaiting, AreRising, agent_at, across, has_cable_port, is_numbered, with_moved, fabric_of, port_of, answer_whereabouts}
+use Rattle.fabric_sim.specs.Traps.{Traps}
 use Rattle.fabric_sim.specs.Delivery.{with_changed, with_flight, without, moved_to, asked}
 use Rattle.fabric_sim.specs.Changes.{changed_at}
 use Rattle.fabric_sim.proofs.AgentLists.{AllRelated, KeepsSeats, KeepsDown, before, cable_ports_stay, seats_stay, Related, keeps_down_same, keeps_down_from_shape, length-changed, all_changed, related_changed, NoNewSeats, no_new_seats_same, seats_before, changed_at_id, others_stay}
@@ -95,6 +96,25 @@ with_agents s agents is count all keeps sits =
     let there : has_cable_port s.agents p ≡ true = sym (cable_ports_stay s.agents agents (seats-of s.agents agents keeps) p) ∙ port in
     let down = is.cables.down p old.agent old.there there in
     (λ h. down.0 (old.related.to p.port h), λ h. old.related.from p.port (down.1 h)))
+
+-- where traps change -----------------------------------------------------------------------
+
+pub with_traps_is : (s : Simulation) (traps : Traps) → IsSimulation s → IsSimulation (record s { traps = traps })
+with_traps_is s traps is =
+    let t : Simulation = record s { traps = traps } in
+    record {
+      few = is.few;
+      agents = is.agents;
+      seats = is.seats;
+      cables = record { lists = is.cables.lists; fit = is.cables.fit; ends = is.cables.ends; lead_back = is.cables.lead_back; down = is.cables.down };
+      waiting = All-weaker (IsWaiting s) (IsWaiting t) (λ f w. record {
+        whereabouts = record { port = w.whereabouts.port; seat = w.whereabouts.seat };
+        given =
+            w.given;
+      }) s.flights is.waiting;
+      rising = is.rising;
+      next = is.next;
+    }
 
 -- where packets change ---------------------------------------------------------------------
 

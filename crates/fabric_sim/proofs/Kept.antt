@@ -7,7 +7,8 @@ use Rattle.std.specs.Option.{option_map_or}
 use Rattle.fabric_model.specs.declared.cable.NodePort.{NodePort}
 use Rattle.fabric_model.specs.declared.course.Course.{Course}
 use Rattle.fabric_model.specs.declared.course.Course.TheVariants as course_is
-use Rattle.smp_bytes.specs.Packet.{fault_of, is_directed, is_response}
+use Rattle.smp_bytes.specs.Field.{number_in}
+use Rattle.smp_bytes.specs.Packet.{fault_of, is_directed, is_response, method, transaction_id}
 use Rattle.fabric_model.specs.Forwarding.{course}
 use Rattle.dr_forward.specs.declared.verdict.Verdict.{Verdict}
 use Rattle.dr_forward.specs.declared.verdict.Verdict.TheVariants.{Out, ToAgent, ToManager, Discard}
@@ -19,12 +20,13 @@ use Rattle.fabric_sim.specs.declared.flight.Flight.{Flight}
 use Rattle.fabric_sim.specs.declared.fault.FabricFault.TheVariants.{NoSuchPacket, NoSuchPort, SerialsSpent}
 use Rattle.fabric_sim.specs.declared.delivered.Delivered.TheVariants.{Answered}
 use Rattle.fabric_sim.specs.declared.delivered.Reason.TheVariants.{Down, Unreadable, Course as OffCourse}
-use Rattle.fabric_sim.specs.Outcome.{Outcome, Moves, Asks, HandsUp, Drops}
+use Rattle.fabric_sim.specs.Outcome.{Outcome, Moves, Asks, HandsUp, Represses, Drops}
 use Rattle.fabric_sim.specs.Simulation.{Simulation, IsSimulation, IsWaiting, CanWait, across, is_seat_at, fabric_of, port_of, is_at_seat, is_by_wire, is_numbered, flight_with}
 use Rattle.fabric_sim.specs.Called.{refused}
+use Rattle.fabric_sim.specs.Notices.{trap_repress}
 use Rattle.fabric_sim.specs.Delivery.{CanFare, carrying, leaving, is_for_manager, here_at, at_agent, by_verdict, directed_outcome, by_course, lid_routed_outcome, outcome_of, with_flight, without, asked, after_enqueue, after_outcome, delivered_flight, after_deliver}
 use Rattle.fabric_sim.specs.Changes.{addressed, after_inject, copied, after_repeat, after_lose}
-use Rattle.fabric_sim.proofs.Invariants.{with_flight_is, without_is, moved_to_is, asked_is}
+use Rattle.fabric_sim.proofs.Invariants.{with_flight_is, without_is, moved_to_is, asked_is, with_traps_is}
 
 -- where a packet goes it can wait -------------------------------------------------------------
 
@@ -53,7 +55,9 @@ module _ (s : Simulation) (is : IsSimulation s) where
 
   fares_by_course : (p : NodePort) (packet : Packet) (c : Course) → CanFare s (by_course s p packet c)
   fares_by_course p packet (course_is.Delivers q) =
-      both (is_response packet.bytes || is_for_manager s p packet.bytes) (HandsUp packet) (Asks packet.bytes packet.dlid packet.slid) tt tt
+      both (is_response packet.bytes || is_for_manager s p packet.bytes) (HandsUp packet) _ tt
+      (both (number_in method packet.bytes == trap_repress) (Represses (number_in transaction_id packet.bytes))
+      (Asks packet.bytes packet.dlid packet.slid) tt tt)
   fares_by_course p packet (course_is.LeavesBy out) = leaves out packet
   fares_by_course p packet course_is.Drops = tt
 
@@ -92,6 +96,7 @@ module _ (s : Simulation) (is : IsSimulation s) where
       by_serial true e = is
       by_serial false e = asked_is s flight request slid dlid is waits (left e)
   brought_is flight (HandsUp packet) waits can = without_is s flight.serial is
+  brought_is flight (Represses number) waits can = with_traps_is _ _ (without_is s flight.serial is)
   brought_is flight (Drops reason) waits can = without_is s flight.serial is
 
   pub delivered_is : (serial : ℕ) → IsSimulation (after_deliver s serial).fabric

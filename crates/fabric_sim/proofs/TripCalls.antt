@@ -12,7 +12,7 @@ use Rattle.node_agents.specs.Answers.{after_answer}
 use Rattle.fabric_sim.specs.declared.packet.Packet.{Packet}
 use Rattle.fabric_sim.specs.declared.flight.Whereabouts.{Whereabouts}
 use Rattle.fabric_sim.specs.declared.flight.Flight.{Flight}
-use Rattle.fabric_sim.specs.Outcome.{Outcome, Moves, Asks, HandsUp, Drops}
+use Rattle.fabric_sim.specs.Outcome.{Outcome, Moves, Asks, HandsUp, Represses, Drops}
 use Rattle.fabric_sim.specs.declared.flight.Whereabouts.TheVariants.{Seat as AtSeat}
 use Rattle.fabric_sim.specs.declared.fault.FabricFault.TheVariants.{NoSuchPacket, NoSuchPort, PortTaken, SerialsSpent}
 use Rattle.fabric_sim.specs.declared.delivered.Delivered.TheVariants.{Answered}
@@ -84,6 +84,9 @@ module _ (keep : KeepAgents) {start : Simulation} where
       by_serial true = along
       by_serial false = along_asked s flight request slid dlid along
   along_brought s flight (HandsUp packet) given along = one_less s flight.serial along
+  along_brought s flight (Represses number) given along =
+      let gone = one_less s flight.serial along in
+      record { nodes = gone.nodes; peers = gone.peers; agents = gone.agents; given = gone.given; next = gone.next }
   along_brought s flight (Drops reason) given along = one_less s flight.serial along
 
   along_launched : (s : Simulation) (whereabouts : Whereabouts) (packet : Packet) → IsAlong start s → IsAlong start (after_enqueue s whereabouts packet).fabric
@@ -191,6 +194,7 @@ module _ (n : ℕ) (f : Flight) where
           })
           n f (found_without s.flights flight.serial n apart ∙ there)
   kept_brought s flight (HandsUp packet) apart there = found_without s.flights flight.serial n apart ∙ there
+  kept_brought s flight (Represses number) apart there = found_without s.flights flight.serial n apart ∙ there
   kept_brought s flight (Drops reason) apart there = found_without s.flights flight.serial n apart ∙ there
 
   pub kept_call : (s : Simulation) (call : Call) → AreGiven s.next s.flights → KeepsPacket n call → is_delivery_of n call ≡ false

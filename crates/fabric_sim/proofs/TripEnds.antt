@@ -3,7 +3,7 @@ use Rattle.std.proofs.Common.{◌≡◌, ◌≢◌, ℕ, zero, suc, ◌+◌, ◌
 use Rattle.std.proofs.lemmas.Bool.{ne_eqb}
 use Rattle.std.proofs.lemmas.List.Elements.{All-head, All-tail}
 use Rattle.std.proofs.lemmas.List.{ext_get_or, get_or-drop, get_or-take, length-drop, length-take-le}
-use Rattle.std.specs.Prelude.{Option, Some, None, slice_get, slice_set, slice_index, All, Ok, count_by, take, drop, not}
+use Rattle.std.specs.Prelude.{Option, Some, None, Bool, slice_get, slice_set, slice_index, All, Ok, count_by, take, drop, not, ◌||◌}
 use Rattle.std.specs.Option.{option_map_or}
 use Rattle.fabric_model.specs.declared.cable.NodePort.{NodePort}
 use Rattle.smp_bytes.specs.Header.{sm_info}
@@ -20,7 +20,7 @@ use Rattle.smp_bytes.proofs.Made.{directed_reads_back}
 use Rattle.smp_bytes.proofs.OffsetLaws.{bytes_in-alike}
 use Rattle.dr_forward.specs.Step.{Stepped, moved_on}
 use Rattle.dr_forward.proofs.Rows.{passed}
-use Rattle.dr_forward.proofs.Trips.{IsKeptFrom, field_kept, IsRequestOver, IsOut, ComesToAgent, comes_to_agent, out_asks, IsBack, Turns, turns}
+use Rattle.dr_forward.proofs.Trips.{IsKeptFrom, field_kept, IsRequestOver, IsOut, ComesToAgent, comes_to_agent, out_asks, out_directed, IsBack, Turns, turns}
 use Rattle.node_agents.specs.Agent.{Agent, IsAgent, has_seat}
 use Rattle.node_agents.specs.Answers.{after_request, after_answer, status_told, payload_told}
 use Rattle.node_agents.specs.AnswerLaws.{IsPacket}
@@ -35,7 +35,8 @@ use Rattle.fabric_sim.specs.Outcome.{Asks}
 use Rattle.fabric_sim.specs.Simulation.{Simulation, IsSimulation, IsWaiting, agent_at, port_count, is_seat_at, fabric_of, port_of, flight_with, without_flight, answer_whereabouts}
 use Rattle.fabric_sim.specs.declared.delivered.Delivered.{Delivered}
 use Rattle.fabric_sim.specs.Called.{Called}
-use Rattle.fabric_sim.specs.Delivery.{with_changed, with_flight, by_verdict, carrying, outcome_of, after_outcome, asked, answer_at, delivered_flight, after_deliver}
+use Rattle.fabric_sim.specs.Notices.{trap}
+use Rattle.fabric_sim.specs.Delivery.{with_changed, with_flight, by_verdict, carrying, is_for_manager, is_trap, outcome_of, after_outcome, asked, answer_at, delivered_flight, after_deliver}
 use Rattle.fabric_sim.specs.Changes.{after_inject}
 use Rattle.fabric_sim.specs.Calls.{Call, Inject, Deliver, after_calls, is_delivery_of}
 use Rattle.fabric_sim.specs.ThereAndBack.{ThereAndBack, directed_packet, BeginsWith, IsAnswerOver, IsAnsweredAt, ComesHome, KeepsPacket}
@@ -144,6 +145,10 @@ pub changed_there : (agents : List Agent) (id : ℕ) (a : Agent) (change : Agent
 changed_there agents id a change h =
     ap (λ o. slice_get (option_map_or (λ x. slice_set agents id (change x)) o agents) id) h ∙ set_there agents id a (change a) h
 
+and_false : (b : Bool) → (b && false) ≡ false
+and_false true = refl
+and_false false = refl
+
 module _ {start : Simulation} {origin end : NodePort} {path request : List ℕ} (t : Trip start origin end path request) (s : Simulation) (n : ℕ)
     (along : IsAlong start s) (left : s.next < 2 ^ 64) (no_manager : number_in field.attribute_id request ≢ sm_info) (some : 1 ≤ port_count start end.node)
     (whole : IsPacket request) (o : IsOutThere t s n (length path)) where
@@ -170,14 +175,24 @@ module _ {start : Simulation} {origin end : NodePort} {path request : List ℕ} 
   no_business : (number_in field.attribute_id bytes == sm_info) ≡ false
   no_business = ne_eqb _ _ (λ e. no_manager (sym asks_the_same.attribute_is ∙ e))
 
+  is_directed_there : is_directed bytes ≡ true
+  is_directed_there = out_directed t.asks (noted t) (noted_small t) then
+
+  no_trap : is_trap bytes ≡ false
+  no_trap = ap (λ b. number_in field.method bytes == trap && not b) is_directed_there ∙ and_false (number_in field.method bytes == trap)
+
+  for_nobody : is_for_manager s (port_of o.flight.whereabouts) bytes ≡ false
+  for_nobody =
+      ap (λ b. (b || is_trap bytes) && is_seat_at s (port_of o.flight.whereabouts)) no_business
+      ∙ ap (λ b. b && is_seat_at s (port_of o.flight.whereabouts)) no_trap
+
   outcome_turn : outcome_of s o.flight.whereabouts o.flight.packet ≡ Asks bytes o.flight.packet.slid o.flight.packet.dlid
   unfolding bytes here
   outcome_turn =
       outcome_here t s n along (length path) o (omega arith)
       ∙ ap (λ (x : Stepped). by_verdict s (port_of o.flight.whereabouts) (carrying o.flight.packet x.packet) x.verdict) comes.step_is
       ∙ passed (is_response bytes) _ _ _ (out_asks t.asks (noted t) (noted_small t) then)
-      (passed (number_in field.attribute_id bytes == sm_info && is_seat_at s (port_of o.flight.whereabouts)) _ _ _
-      (ap (λ b. b && is_seat_at s (port_of o.flight.whereabouts)) no_business) refl)
+      (passed (is_for_manager s (port_of o.flight.whereabouts) bytes) _ _ _ for_nobody refl)
 
   turned_is : after_deliver s n ≡ record {
     fabric = asked s o.flight bytes o.flight.packet.slid o.flight.packet.dlid;

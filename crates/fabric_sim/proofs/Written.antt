@@ -1,6 +1,6 @@
 -- What the bodies write is what the calls are to leave.
 use Rattle.std.proofs.Common.{◌≡◌, ℕ, ◌+◌, ◌^◌, ◌<◌, Bool, true, false, List, [], ◌∷◌, ◌++◌, length, get_or, take, drop, refl, arith, ap, sym, ◌∙◌, subst}
-use Rattle.std.specs.Prelude.{Option, Some, None, IfSome, OnSome, SomeIff, remove, slice_get, slice_set, ◌==◌}
+use Rattle.std.specs.Prelude.{Option, Some, None, is_some, IfSome, OnSome, SomeIff, remove, slice_get, slice_set, ◌==◌}
 use Rattle.std.specs.Option.{option_map_or}
 use Rattle.std.proofs.lemmas.Bool.{ne_eqb}
 use Rattle.std.proofs.lemmas.List.{take_at}
@@ -218,6 +218,14 @@ pub other_is : (s : Simulation) (p : NodePort) (m : Option NodePort) → IsSimul
     → IfSome m (λ other. has_cable_port s.agents other ≡ true)
 other_is s p None is e = tt
 other_is s p (Some other) is e = is.cables.ends other p (is.cables.lead_back p other (sym e))
+
+-- a port with a cable is a cable port
+pub cabled_is : (s : Simulation) (p : NodePort) → IsSimulation s → is_some (across s.peers p) ≡ true → has_cable_port s.agents p ≡ true
+cabled_is s p is h = by (across s.peers p) refl h
+  where
+    by : (m : Option NodePort) → across s.peers p ≡ m → is_some m ≡ true → has_cable_port s.agents p ≡ true
+    by None e k = cc
+    by (Some other) e k = is.cables.ends p other e
 
 -- after the first end was written -----------------------------------------------------------
 

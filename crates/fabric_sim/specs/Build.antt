@@ -6,6 +6,7 @@ use Rattle.topo_file.specs.declared.node.Node.{Node}
 use Rattle.topo_file.specs.Topology.{Layout}
 use Rattle.node_agents.specs.declared.agent_node.AgentNode.{AgentNode}
 use Rattle.node_agents.specs.Agent.{Agent, fresh_agent}
+use Rattle.fabric_sim.specs.Traps.{no_traps}
 use Rattle.fabric_sim.specs.Simulation.{Simulation}
 use Rattle.fabric_sim.specs.Changes.{cabled_at}
 
@@ -26,9 +27,9 @@ new_agent node = fresh_agent (agent_node node)
 abbrev pub no_peers : Node → List (Option NodePort)
 no_peers node = replicate (node.ports + 1) None
 
--- the nodes, with no cable and nothing in flight
+-- the nodes, with no cable and nothing in flight; switches send no traps
 abbrev pub uncabled : List Node → ℕ → Simulation
-uncabled nodes first = record { agents = map new_agent nodes; peers = map no_peers nodes; flights = []; next = first }
+uncabled nodes first = record { agents = map new_agent nodes; peers = map no_peers nodes; flights = []; next = first; traps = no_traps }
 
 -- the fabric with a cable for each link
 abbrev pub cabled : List Cable → Simulation → Simulation

@@ -7,7 +7,7 @@ use Rattle.fabric_model.specs.declared.course.Course.{Course}
 use Rattle.fabric_model.specs.declared.course.Course.TheVariants as course_is
 use Rattle.smp_bytes.specs.Header.{sm_info}
 use Rattle.smp_bytes.specs.Field.{number_in}
-use Rattle.smp_bytes.specs.Packet.{attribute_id, fault_of, is_directed, is_response}
+use Rattle.smp_bytes.specs.Packet.{attribute_id, fault_of, is_directed, is_response, method, transaction_id}
 use Rattle.fabric_model.specs.Fabric.{is_switch_at}
 use Rattle.fabric_model.specs.Forwarding.{course}
 use Rattle.dr_forward.specs.declared.verdict.Verdict.{Verdict}
@@ -26,11 +26,13 @@ use Rattle.fabric_sim.specs.declared.envelope.Envelope.{Envelope}
 use Rattle.fabric_sim.specs.declared.action.Action.{Action}
 use Rattle.fabric_sim.specs.declared.action.Action.TheVariants as action_is
 use Rattle.fabric_sim.specs.declared.delivered.Reason.{Reason}
-use Rattle.fabric_sim.specs.declared.delivered.Reason.TheVariants.{Course as OffCourse, Transit, OutPort, Down, Unreadable, NoRoute}
+use Rattle.fabric_sim.specs.declared.delivered.Reason.TheVariants.{Course as OffCourse, Transit, OutPort, Down, Unreadable, NoRoute, Repress}
 use Rattle.fabric_sim.specs.declared.delivered.Delivered.{Delivered}
 use Rattle.fabric_sim.specs.declared.delivered.Delivered.TheVariants as delivered_is
 use Rattle.fabric_sim.specs.Called.{Called, refused}
-use Rattle.fabric_sim.specs.Outcome.{Outcome, Moves, Asks, HandsUp, Drops}
+use Rattle.fabric_sim.specs.Outcome.{Outcome, Moves, Asks, HandsUp, Represses, Drops}
+use Rattle.fabric_sim.specs.Traps.{without_trap}
+use Rattle.fabric_sim.specs.Notices.{trap, trap_repress}
 use Rattle.fabric_sim.specs.declared.fault.FabricFault.{FabricFault}
 use Rattle.fabric_sim.specs.declared.fault.FabricFault.TheVariants.{Memory, NoSuchPacket, SerialsSpent}
 use Rattle.fabric_sim.specs.Simulation.{Simulation, agent_at, port_count, is_seat_at, across, fabric_of, port_of, is_at_seat, is_by_wire, answer_whereabouts, flight_with, without_flight, with_moved, CanWait}
@@ -45,9 +47,13 @@ carrying packet bytes = record packet { bytes = bytes }
 abbrev pub leaving : Simulation → NodePort → Packet → Outcome
 leaving s out packet = option_map_or (λ into. Moves (Arrived into) packet) (across s.peers out) (Drops Down)
 
--- a manager sits at the port, and the packet is for it
+-- the packet is a trap that goes by LIDs
+abbrev pub is_trap : List ℕ → Bool
+is_trap bytes = number_in method bytes == trap && not (is_directed bytes)
+
+-- a manager sits at the port, and the packet is for it: about SMInfo, or a trap
 abbrev pub is_for_manager : Simulation → NodePort → List ℕ → Bool
-is_for_manager s p bytes = number_in attribute_id bytes == sm_info && is_seat_at s p
+is_for_manager s p bytes = (number_in attribute_id bytes == sm_info || is_trap bytes) && is_seat_at s p
 
 -- a packet on a directed route
 
@@ -82,12 +88,13 @@ directed_outcome s p packet =
 
 -- a packet that is forwarded by its DLID
 
--- what becomes of a packet at the port that it is for: it is handed up or answered; the answer's addresses are those of
--- the request exchanged
+-- what becomes of a packet at the port that it is for: it is handed up, represses a trap, or is answered; the answer's
+-- addresses are those of the request exchanged
 abbrev pub arrived : Simulation → NodePort → Packet → Outcome
 arrived s p packet =
-    if is_response packet.bytes
-    || is_for_manager s p packet.bytes then HandsUp packet else Asks packet.bytes packet.dlid packet.slid
+    if is_response packet.bytes || is_for_manager s p packet.bytes then HandsUp packet
+    else if number_in method packet.bytes == trap_repress then Represses (number_in transaction_id packet.bytes)
+    else Asks packet.bytes packet.dlid packet.slid
 
 abbrev pub by_course : Simulation → NodePort → Packet → Course → Outcome
 by_course s p packet (course_is.Delivers q) = arrived s p packet
@@ -141,6 +148,7 @@ abbrev pub outcome_by : Packet → Action → Outcome
 outcome_by packet (action_is.Moves whereabouts) = Moves whereabouts packet
 outcome_by packet (action_is.Asks slid dlid) = Asks packet.bytes slid dlid
 outcome_by packet action_is.HandsUp = HandsUp packet
+outcome_by packet action_is.Represses = Represses (number_in transaction_id packet.bytes)
 outcome_by packet (action_is.Drops reason) = Drops reason
 
 -- a packet that moves can wait where it moves to
@@ -148,6 +156,7 @@ abbrev pub CanFare : Simulation → Outcome → Type 0
 CanFare s (Moves whereabouts packet) = CanWait s whereabouts
 CanFare s (Asks request slid dlid) = Unit {0}
 CanFare s (HandsUp packet) = Unit {0}
+CanFare s (Represses number) = Unit {0}
 CanFare s (Drops reason) = Unit {0}
 
 -- what a delivery leaves ----------------------------------------------------------------------
@@ -177,6 +186,10 @@ after_enqueue s whereabouts packet =
 -- the fabric without the packet with this serial number
 abbrev pub without : Simulation → ℕ → Simulation
 without s serial = record s { flights = without_flight s.flights serial }
+
+-- the trap with this TransactionID waits at the node no longer
+abbrev pub repressed_at : Simulation → ℕ → ℕ → Simulation
+repressed_at s id number = record s { traps = without_trap s.traps id number }
 
 -- the fabric with the packet at other whereabouts
 abbrev pub moved_to : Simulation → ℕ → Whereabouts → Packet → Simulation
@@ -214,6 +227,11 @@ after_outcome s flight (HandsUp packet) =
       fabric = without s flight.serial;
       result =
           Ok (delivered_is.ToManager (port_of flight.whereabouts) packet);
+    }
+after_outcome s flight (Represses number) =
+    record {
+      fabric = repressed_at (without s flight.serial) (port_of flight.whereabouts).node number;
+      result = Ok (delivered_is.Discarded Repress);
     }
 after_outcome s flight (Drops reason) =
     record { fabric = without s flight.serial; result = Ok (delivered_is.Discarded reason) }

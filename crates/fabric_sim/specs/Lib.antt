@@ -4,9 +4,13 @@ pub mod Calls
 pub mod Changes
 pub mod Delivery
 pub mod FabricFault
+pub mod Notices
 pub mod Outcome
 pub mod Ping
 pub mod SeenFabric
 pub mod Simulation
 pub mod Tells
 pub mod ThereAndBack
+pub mod TrapCalls
+pub mod TrapLaws
+pub mod Traps

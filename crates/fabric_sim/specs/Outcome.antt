@@ -5,9 +5,10 @@ use Rattle.fabric_sim.specs.declared.flight.Whereabouts.{Whereabouts}
 use Rattle.fabric_sim.specs.declared.delivered.Reason.{Reason}
 
 -- the packet moves to other whereabouts; the agent answers the request, with this SLID and DLID; the packet is handed
--- to the subnet manager; it is discarded
+-- to the subnet manager; it represses the trap with this TransactionID, and is discarded; it is discarded
 pub data Outcome : Type 0 where
   Moves : (whereabouts : Whereabouts) → (packet : Packet) → Outcome
   Asks : (request : List ℕ) → (slid : ℕ) → (dlid : ℕ) → Outcome
   HandsUp : (packet : Packet) → Outcome
+  Represses : (number : ℕ) → Outcome
   Drops : (reason : Reason) → Outcome

@@ -9,15 +9,17 @@ use Rattle.node_agents.specs.Agent.{Agent, IsAgent, node_of, state_at, base_lid_
 use Rattle.fabric_sim.specs.declared.flight.Whereabouts.{Whereabouts}
 use Rattle.fabric_sim.specs.declared.flight.Whereabouts.TheVariants.{Seat, Arrived, Made}
 use Rattle.fabric_sim.specs.declared.flight.Flight.{Flight}
+use Rattle.fabric_sim.specs.Traps.{Traps}
 
 -- The agents by the ids of their nodes; for each node the other ends of the cables in its ports, from port 0 on, which
--- never has a cable; the packets in flight, by rising serial number; and the next serial number, 2 ^ 64 if none is
--- left.
+-- never has a cable; the packets in flight, by rising serial number; the next serial number, 2 ^ 64 if none is left; and
+-- the traps that wait at switches.
 pub record Simulation : Type 0 where
   pub agents : List Agent
   pub peers : List (List (Option NodePort))
   pub flights : List Flight
   pub next : ℕ
+  pub traps : Traps
 
 -- the next serial number; none is left after 2 ^ 64 - 1
 abbrev pub next_serial : Option ℕ → ℕ

@@ -11,6 +11,8 @@ pub(crate) enum Action {
     Asks(Lid, Lid),
     /// It is handed to the subnet manager.
     HandsUp,
+    /// It represses a trap of the node, and is discarded.
+    Represses,
     /// It is discarded.
     Drops(Reason),
 }

@@ -8,6 +8,7 @@ ghost use Rattle.fabric_sim.specs.Build.{agent_node, uncabled, simulation_of};
 
 use crate::fabric::Fabric;
 use crate::peers::Peers;
+use crate::traps::Traps;
 use attr_codec::{Attribute, NodeDescription};
 use fabric_model::NodeId;
 use node_agents::{Agent, AgentNode};
@@ -17,7 +18,8 @@ use topo_file::{Node, Topology};
 
 impl Fabric {
     /// Builds the fabric of a topology: an agent for each of its nodes, to which nothing was written, and a cable for
-    /// each of its links. Nothing is in flight, and serial numbers count from `first_serial`. Takes a step for each
+    /// each of its links. Nothing is in flight, serial numbers count from `first_serial`, and switches send no
+    /// traps. Takes a step for each
     /// port of each node. Returns an error only for lack of memory.
     pub fn of(alloc: Global, topology: &Topology, first_serial: u64) -> Result<Fabric, AllocError>
         ensures fabric { IfOk result (λ fabric.
@@ -49,6 +51,7 @@ fn uncabled(alloc: Global, topology: &Topology, first_serial: u64) -> Result<Fab
         peers,
         flights: VecDeque::new(alloc),
         next: Some(first_serial),
+        traps: Traps::none(alloc),
     })
 }
 

@@ -6,7 +6,7 @@ ghost use Rattle.fabric_sim.specs.declared.delivered.Delivered.TheVariants.{Disc
 ghost use Rattle.fabric_sim.specs.Simulation.{port_of, is_cable_port, IsFlightAt};
 ghost use Rattle.fabric_sim.specs.Delivery.{here_at, is_for_manager, leaving, at_agent, arrived, directed_outcome};
 ghost use Rattle.fabric_sim.specs.Delivery.{lid_routed_outcome, outcome_of, packet_in, flight_in, IsEnvelopeAt};
-ghost use Rattle.fabric_sim.specs.Delivery.{outcome_by, CanFare, after_outcome, after_deliver, without};
+ghost use Rattle.fabric_sim.specs.Delivery.{outcome_by, CanFare, after_outcome, after_deliver, is_trap, repressed_at, without};
 
 use crate::action::Action;
 use crate::delivered::{Delivered, Reason};
@@ -14,14 +14,15 @@ use crate::envelope::Envelope;
 use crate::fabric::Fabric;
 use crate::fault::FabricFault;
 use crate::flight::{Flight, Whereabouts};
+use crate::notice::{TRAP, TRAP_REPRESS};
 use crate::packet::Packet;
 use dr_forward::{Here, Verdict, step};
-use fabric_model::{Course, NodePort};
+use fabric_model::{Course, NodeId, NodePort};
 use smp_bytes::{AttributeId, Lid, Smp, SmpClass};
 
 impl Fabric {
     /// Performs one step of the packet in flight with this serial number: it moves over a wire, is answered, is handed
-    /// to a subnet manager, or is discarded. Takes no memory. Takes one search step for the first packet in flight, and
+    /// to a subnet manager, or is discarded. One that represses a trap ends it. Takes no memory. Takes one search step for the first packet in flight, and
     /// for any other as many as the number of packets has binary digits; the others close its gap.
     ///
     /// # Errors
@@ -74,8 +75,21 @@ impl Fabric {
                 let packet = envelope.packet(smp);
                 Ok(Delivered::ToManager(envelope.whereabouts.port(), packet))
             }
+            Action::Represses => {
+                let at = envelope.whereabouts.port();
+                self.remove(i, serial);
+                self.repress(at.node, smp.transaction_id());
+                Ok(Delivered::Discarded(Reason::Repress))
+            }
             Action::Drops(reason) => Ok(self.discard(i, serial, reason)),
         }
+    }
+
+    /// Ends the trap with this TransactionID, if it waits at the node.
+    fn repress(&mut self, node: NodeId, number: u64)
+        ensures { self.new ≡ repressed_at self.old node number }
+    {
+        self.traps.repress(node, number);
     }
 
     /// Discards the packet at index `i` among those in flight.
@@ -207,6 +221,8 @@ impl Fabric {
     {
         if smp.is_response() || self.is_for_manager(at, smp) {
             Action::HandsUp
+        } else if smp.method() == TRAP_REPRESS {
+            Action::Represses
         } else {
             Action::Asks(envelope.dlid, envelope.slid)
         }
@@ -226,6 +242,14 @@ impl Fabric {
     fn is_for_manager(&self, at: &NodePort, smp: &Smp) -> bool
         ensures { result ≡ is_for_manager self.now at.now smp.now }
     {
-        smp.attribute_id() == AttributeId::SM_INFO && self.is_seat(at)
+        let is_for_managers = smp.attribute_id() == AttributeId::SM_INFO || is_trap(smp);
+        is_for_managers && self.is_seat(at)
     }
+}
+
+/// Returns whether a packet is a trap that goes by LIDs.
+fn is_trap(smp: &Smp) -> bool
+    ensures { result ≡ is_trap smp.now }
+{
+    smp.method() == TRAP && smp.class() == SmpClass::LidRouted
 }

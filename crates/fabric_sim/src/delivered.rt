@@ -17,6 +17,8 @@ pub enum Reason {
     Unreadable,
     /// The node neither takes nor forwards packets for its DLID.
     NoRoute,
+    /// It represses a trap, and asks for no answer.
+    Repress,
 }
 
 impl From<DiscardReason> for Reason {

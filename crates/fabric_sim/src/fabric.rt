@@ -1,17 +1,18 @@
-ghost use Rattle.std.specs.Prelude.{◌≡◌, ◌<◌, length, slice_get, option_copied, true, Some, IfSome};
+ghost use Rattle.std.specs.Prelude.{◌≡◌, ◌<◌, length, slice_get, option_copied, is_some, true, Some, IfSome};
 ghost use Rattle.fabric_model.specs.Fabric.{is_switch_at};
 ghost use Rattle.fabric_sim.specs.Simulation.{agent_at, across, is_seat_at, is_cable_port, fabric_of};
 
 use crate::flight::Flight;
 use crate::peers::Peers;
+use crate::traps::Traps;
 use fabric_model::{NodeId, NodePort};
 use node_agents::Agent;
 use smp_bytes::Lid;
 use std::collections::VecDeque;
 use std::marker::Model;
 
-/// A simulated fabric. Contracts see the agents, the other ends of the cables, the packets in flight and the next
-/// serial number.
+/// A simulated fabric. Contracts see the agents, the other ends of the cables, the packets in flight, the next serial
+/// number, and the traps that wait.
 #[derive(Drop)]
 pub struct Fabric {
     pub(crate) agents: Vec<Agent>,
@@ -21,6 +22,8 @@ pub struct Fabric {
     pub(crate) flights: VecDeque<Flight>,
     /// The next serial number, or `None` after the greatest.
     pub(crate) next: Option<u64>,
+    /// The traps that wait at switches.
+    pub(crate) traps: Traps,
 }
 
 impl Model for Fabric {
@@ -34,6 +37,7 @@ impl Model for Fabric {
       flights = f.flights.items;
       next =
           next_serial f.next;
+      traps = f.traps;
     } };
 
     ghost invariant = { λ f. IsSimulation (record {
@@ -42,6 +46,7 @@ impl Model for Fabric {
       flights = f.flights.items;
       next =
           next_serial f.next;
+      traps = f.traps;
     }) };
 }
 
@@ -80,6 +85,17 @@ impl Fabric {
         ensures port { IfSome result (λ other. is_cable_port self.now other ≡ true) }
     {
         self.peers.get(port.node.number())?.across(port.port)
+    }
+
+    /// Returns whether a cable is in a port.
+    pub(crate) fn has_cable(&self, port: &NodePort) -> bool
+        ensures cable { result ≡ is_some (across self.now.peers port.now) }
+        ensures port { result ≡ true → is_cable_port self.now port.now ≡ true }
+    {
+        match self.peers.get(port.node.number()) {
+            Some(peers) => peers.across(port.port).is_some(),
+            None => false,
+        }
     }
 
     /// Returns whether a subnet manager sits at a port.

@@ -2,6 +2,7 @@
 ghost use Rattle.fabric_sim.specs.Ping.{PingsTell, PingsFind};
 ghost use Rattle.fabric_sim.specs.SeenFabric.{SimulationsAreFabrics};
 ghost use Rattle.fabric_sim.specs.ThereAndBack.{ThereAndBack};
+ghost use Rattle.fabric_sim.specs.TrapLaws.{RepressesEndTraps};
 
 /// What packets see of a simulated fabric is a fabric: nodes of 1 to 254 ports, and cables that lead back to where they
 /// lead from.
@@ -26,4 +27,10 @@ pub fn pings_find()
 #[tactic(auto, using(crate::proofs::TripEnds::there_and_back))]
 pub fn there_and_back()
     ensures { ThereAndBack }
+{}
+
+/// A TrapRepress that has come by LIDs to its switch is discarded with no answer, and ends the trap of its TransactionID
+/// there, and no other trap.
+pub fn represses_end_traps()
+    ensures { RepressesEndTraps }
 {}

@@ -14,10 +14,13 @@ mod flight;
 mod flights;
 mod inject;
 pub mod laws;
+mod notice;
 mod packet;
 mod peers;
 mod ping;
 mod seats;
+mod trap_calls;
+mod traps;
 
 pub use delivered::{Delivered, Reason};
 pub use fabric::Fabric;

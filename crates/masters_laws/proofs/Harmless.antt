@@ -32,10 +32,11 @@ use Rattle.fabric_sim.specs.declared.delivered.Reason.TheVariants.{Down}
 use Rattle.fabric_sim.specs.declared.fault.FabricFault.{FabricFault}
 use Rattle.fabric_sim.specs.declared.fault.FabricFault.TheVariants.{NoSuchPacket, SerialsSpent}
 use Rattle.fabric_sim.specs.Called.{Called, refused}
+use Rattle.fabric_sim.specs.Notices.{trap_repress}
 use Rattle.fabric_sim.specs.Changes.{addressed, after_inject, after_lose, after_repeat, copied}
 use Rattle.fabric_sim.specs.Delivery.{after_deliver, after_enqueue, after_outcome, answer_at, asked, by_course, by_verdict, carrying, delivered_flight, here_at}
 use Rattle.fabric_sim.specs.Delivery.{is_for_manager, leaving, outcome_of, with_changed}
-use Rattle.fabric_sim.specs.Outcome.{Outcome, Moves, Asks, HandsUp, Drops}
+use Rattle.fabric_sim.specs.Outcome.{Outcome, Moves, Asks, HandsUp, Represses, Drops}
 use Rattle.fabric_sim.specs.Simulation.{Simulation, AreCables, IsSimulation, across, agent_at, fabric_of, flight_with, is_at_seat, is_by_wire, is_cable_port}
 use Rattle.fabric_sim.specs.Simulation.{is_numbered, is_seat_at, port_count, port_of, with_moved, without_flight}
 use Rattle.fabric_sim.proofs.Kept.{found_waits}
@@ -145,6 +146,7 @@ abbrev HarmlessOutcome : List ℕ → Outcome → Type 0
 HarmlessOutcome old (Moves whereabouts packet) = IsHarmless packet.bytes
 HarmlessOutcome old (Asks request slid dlid) = IsHarmless request × AskSame request old
 HarmlessOutcome old (HandsUp packet) = Unit {0}
+HarmlessOutcome old (Represses number) = Unit {0}
 HarmlessOutcome old (Drops reason) = Unit {0}
 
 module _ (s : Simulation) (p : NodePort) (old : List ℕ) where
@@ -167,7 +169,8 @@ module _ (s : Simulation) (p : NodePort) (old : List ℕ) where
 
   course_harmless : (x : Packet) → IsHarmless x.bytes → AskSame x.bytes old → (c : Course) → Fine (by_course s p x c)
   course_harmless x is same (course_is.Delivers q) =
-      cond_both (is_response x.bytes || is_for_manager s p x.bytes) _ _ Fine (λ _. tt) (λ _. (is, same))
+      cond_both (is_response x.bytes || is_for_manager s p x.bytes) _ _ Fine (λ _. tt)
+      (λ _. cond_both (number_in method x.bytes == trap_repress) _ _ Fine (λ _. tt) (λ _. (is, same)))
   course_harmless x is same (course_is.LeavesBy out) = leaving_harmless out x is
   course_harmless x is same course_is.Drops = tt
 
@@ -260,6 +263,7 @@ module _ (Sends : NodePort → List ℕ → Type 0) (Tells : NodePort → NodePo
         (λ _. harmless_more (without_flight s.flights flight.serial) _ (harmless_without s.flights flight.serial harmless)
         (answer_harmless (port_of flight.whereabouts) request well its.0))
     by_outcome flight (HandsUp packet) well its = harmless_without s.flights flight.serial harmless
+    by_outcome flight (Represses number) well its = harmless_without s.flights flight.serial harmless
     by_outcome flight (Drops reason) well its = harmless_without s.flights flight.serial harmless
 
     pub delivered_harmless : AreHarmless (after_deliver s n).fabric.flights
@@ -313,6 +317,7 @@ module _ (Sends : NodePort → List ℕ → Type 0) (Tells : NodePort → NodePo
     unfolding Fares
     asks_by flight there (Moves whereabouts packet) e well its = inl (nobody flight there (Moves whereabouts packet) e refl (λ k h. cc))
     asks_by flight there (HandsUp packet) e well its = inl (nobody flight there (HandsUp packet) e refl (λ k h. cc))
+    asks_by flight there (Represses number) e well its = inl (nobody flight there (Represses number) e refl (λ k h. cc))
     asks_by flight there (Drops reason) e well its = inl (nobody flight there (Drops reason) e refl (λ k h. cc))
     asks_by flight there (Asks request slid dlid) e well its = by_serial (s.next == 2 ^ 64) refl
       where

@@ -39,6 +39,10 @@ base_lid_at a port = (port_at a port).base_lid
 abbrev pub lmc_at : Agent → ℕ → ℕ
 lmc_at a port = (port_at a port).lmc
 
+-- the LID of the subnet manager that was set at a port
+abbrev pub master_sm_lid_at : Agent → ℕ → ℕ
+master_sm_lid_at a port = (port_at a port).master_sm_lid
+
 -- the LID and the LMC of a port
 abbrev pub range_at : Agent → ℕ → ℕ × ℕ
 range_at a port = (base_lid_at a port, lmc_at a port)

@@ -1,6 +1,7 @@
 ghost use Rattle.std.specs.Prelude.{◌≡◌, ◌≤◌, false, IfOk};
 ghost use Rattle.node_agents.specs.Agent.{IsAgentNode, fresh_agent, is_switch, port_at, state_at, base_lid_at};
-ghost use Rattle.node_agents.specs.Agent.{lmc_at, has_seat, entry_at, owns, after_set_wired, after_set_seat};
+ghost use Rattle.node_agents.specs.Agent.{lmc_at, master_sm_lid_at, has_seat, entry_at, owns, after_set_wired};
+ghost use Rattle.node_agents.specs.Agent.{after_set_seat};
 ghost use Rattle.node_agents.specs.Answers.{after_answer};
 
 use crate::agent_node::AgentNode;
@@ -146,6 +147,13 @@ impl Agent {
         ensures { result ≡ lmc_at self.now port }
     {
         self.port(port).lmc
+    }
+
+    /// Returns the LID of the subnet manager that was set at a port, 0 for none.
+    pub fn master_sm_lid(&self, port: PortNum) -> Lid
+        ensures { result ≡ master_sm_lid_at self.now port }
+    {
+        self.port(port).master_sm_lid
     }
 
     /// Returns whether `lid` is one of the port's own, so that a packet for it has arrived there. A port with LID 0

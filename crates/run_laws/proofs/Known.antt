@@ -1,5 +1,5 @@
 -- After every run each manager knows the view of what it took in.
-use Rattle.std.proofs.Common.{◌≡◌, ℕ, zero, suc, List, [], ◌∷◌, length, refl, sym, ap, ◌∙◌, subst}
+use Rattle.std.proofs.Common.{◌≡◌, ℕ, zero, suc, ◌+◌, Bool, true, false, cond, ◌==◌, List, [], ◌∷◌, length, refl, sym, ap, ◌∙◌, subst}
 use Rattle.std.proofs.lemmas.Bool.{cond_both}
 use Rattle.std.specs.Prelude.{Option, Some, None, Result, Ok, Err, slice_get}
 use Rattle.std.specs.Option.{option_map_or}
@@ -15,7 +15,9 @@ use Rattle.schedule_file.specs.declared.command.Command.TheVariants as command
 use Rattle.schedule_file.specs.declared.command.Fate.TheVariants as fate
 use Rattle.schedule_file.specs.declared.command.Which.{Which}
 use Rattle.fabric_sim.specs.FabricFault.{fabric_fault_name}
+use Rattle.fabric_sim.specs.Changes.{after_cut, after_plug}
 use Rattle.fabric_sim.specs.Delivery.{after_deliver}
+use Rattle.fabric_sim.specs.Simulation.{across}
 use Rattle.fabric_sim.specs.declared.delivered.Delivered.{Delivered}
 use Rattle.fabric_sim.specs.declared.delivered.Delivered.TheVariants as delivered_is
 use Rattle.fabric_sim.specs.declared.fault.FabricFault.{FabricFault}
@@ -47,7 +49,8 @@ use Rattle.sm_manager.specs.Served.{served}
 use Rattle.sm_manager.specs.Writing.{is_spent, after_write_steps}
 use Rattle.sm_manager.proofs.Refusals.{packet_leaves}
 use Rattle.sm_manager.proofs.Lives.{Keeps, handing_keeps, planning_stays, takes_call, timeout_keeps}
-use Rattle.schedule_world.specs.Commands.{after_arrival, after_ask_line, after_command, after_commands, after_cut_line, after_drain_line}
+use Rattle.schedule_world.specs.Commands.{after_arrival, after_ask_line, after_change, after_command, after_commands, after_cut_line, after_drain_line}
+use Rattle.schedule_world.specs.Commands.{after_parting, after_resend, after_resends, after_tell, after_tell_ends, after_traps_line, heard_text}
 use Rattle.schedule_world.specs.Commands.{after_fate, after_floor_line, after_give_up, after_giving_up, after_hand_up, after_manager_line, after_merge_line}
 use Rattle.schedule_world.specs.Commands.{after_packet_line, after_plug_line, after_step, after_take, after_take_and_send, after_timeout_line}
 use Rattle.schedule_world.specs.Commands.{seat_at, world_of}
@@ -137,14 +140,14 @@ module _ (count : ℕ) (planning : Planning) where
     where
       by_call : (s : SeatedValue) → slice_get w.managers seat ≡ Some s
           → AreKnown count planning
-          (after_manager_call quiet w seat s (after_packet s.manager packet.bytes (Some packet.slid)).fault (after_packet s.manager packet.bytes
+          (after_manager_call (shows (heard_text w seat packet)) w seat s (after_packet s.manager packet.bytes (Some packet.slid)).fault (after_packet s.manager packet.bytes
           (Some packet.slid)).manager).now.managers
           (with_more accounts seat (record { told = sightings_of_call s.manager (calls.Packet packet.bytes (Some packet.slid)); floor = 1 }))
       by_call s there =
           let after = after_packet s.manager packet.bytes (Some packet.slid) in
           let told : Account = record { told = sightings_of_call s.manager (calls.Packet packet.bytes (Some packet.slid)); floor = 1 } in
           let takes = takes_call s.manager (calls.Packet packet.bytes (Some packet.slid)) in
-          called_is quiet w seat s after.fault after.manager (λ x. AreKnown count planning x.managers (with_more accounts seat told))
+          called_is (shows (heard_text w seat packet)) w seat s after.fault after.manager (λ x. AreKnown count planning x.managers (with_more accounts seat told))
           (λ why e. repeated count planning w accounts known seat s told there
           (ap (λ (m : Manager). m.store) (sym (packet_leaves s.manager packet.bytes (Some packet.slid) (fault_of packet.bytes) why e)) ∙ takes))
           (grown count planning w accounts known seat s after.manager told there (planning_stays s.manager (calls.Packet packet.bytes (Some packet.slid)))
@@ -153,7 +156,7 @@ module _ (count : ℕ) (planning : Planning) where
       by_seat : (o : Option SeatedValue) → ((s : SeatedValue) → o ≡ Some s → slice_get w.managers seat ≡ Some s)
           → AreKnown count planning
           (option_map_or
-          (λ s. after_manager_call quiet w seat s (after_packet s.manager packet.bytes (Some packet.slid)).fault
+          (λ s. after_manager_call (shows (heard_text w seat packet)) w seat s (after_packet s.manager packet.bytes (Some packet.slid)).fault
           (after_packet s.manager packet.bytes (Some packet.slid)).manager)
           o (quiet w)).now.managers
           (option_map_or (λ s. with_more accounts seat (record {
@@ -232,11 +235,39 @@ module _ (count : ℕ) (planning : Planning) where
       by_serial None = known
       by_serial (Some serial) = subst (λ managers. AreKnown count planning managers accounts) (sym (same serial)) known
 
+  -- cables, and traps that tell of them ------------------------------------------------------------------
+
+  told_same : (w : WorldValue) (p q : NodePort) → (after_tell_ends w p q).now.managers ≡ w.managers
+  unfolding after_tell_ends
+  told_same w p q = by_node (q.node == p.node)
+    where
+      by_node : (b : Bool) → (cond b (quiet (after_tell w p.node).now) (after_tell (after_tell w p.node).now q.node)).now.managers ≡ w.managers
+      by_node true = refl
+      by_node false = refl
+
+  parting_same : (w : WorldValue) (p : NodePort) (other : Option NodePort) (result : Result (Unit {0}) FabricFault)
+      → (after_parting w p other result).now.managers ≡ w.managers
+  parting_same w p None (Ok done) = refl
+  parting_same w p (Some q) (Ok done) = told_same w p q
+  parting_same w p other (Err fault) = refl
+
+  change_same : (w : WorldValue) (p q : NodePort) (result : Result (Unit {0}) FabricFault) → (after_change w p q result).now.managers ≡ w.managers
+  change_same w p q (Ok done) = told_same w p q
+  change_same w p q (Err fault) = refl
+
+  resends_same : (left : ℕ) (w : WorldValue) (id : ℕ) → (after_resends w id left).now.managers ≡ w.managers
+  resends_same zero w id = refl
+  resends_same (suc left) w id = resends_same left (after_resend w id).now (id + 1)
+
+  same_known : (managers : List SeatedValue) (w : WorldValue) (accounts : Accounts) → managers ≡ w.managers → AreKnown count planning w.managers accounts
+      → AreKnown count planning managers accounts
+  same_known managers w accounts same known = subst (λ ms. AreKnown count planning ms accounts) (sym same) known
+
   -- all lines ----------------------------------------------------------------------------------------------
 
   pub command_known : (nodes : List Node) (w : WorldValue) (accounts : Accounts) (command : SeatCommand) → AreKnown count planning w.managers accounts
       → AreKnown count planning (after_command nodes w command).now.managers (told_by_command w accounts command)
-  unfolding after_manager_line after_ask_line after_packet_line after_cut_line after_plug_line
+  unfolding after_manager_line after_ask_line after_packet_line after_cut_line after_plug_line after_traps_line
   command_known nodes w accounts (command.Manager seat) known =
       at_seat_is w seat _ (λ x. AreKnown count planning x.managers accounts) (λ _. known) (λ s there. known)
   command_known nodes w accounts (command.Ask seat ask.Sweep) known =
@@ -255,8 +286,14 @@ module _ (count : ℕ) (planning : Planning) where
   command_known nodes w accounts (command.Packet which fate.Lose) known = which_known w accounts which (after_fate w fate.Lose) known (λ serial. refl)
   command_known nodes w accounts (command.Packet which fate.Repeat) known = which_known w accounts which (after_fate w fate.Repeat) known (λ serial. refl)
   command_known nodes w accounts (command.Drain most) known = drain_known most w accounts known
-  command_known nodes w accounts (command.Cut p) known = known
-  command_known nodes w accounts (command.Plug p q) known = known
+  command_known nodes w accounts (command.Cut p) known =
+      let called = after_cut w.fabric p in
+      same_known _ w accounts (parting_same (after_fabric_call w called).now p (across w.fabric.peers p) called.result) known
+  command_known nodes w accounts (command.Plug p q) known =
+      let called = after_plug w.fabric p q in
+      same_known _ w accounts (change_same (after_fabric_call w called).now p q called.result) known
+  command_known nodes w accounts command.Traps known = known
+  command_known nodes w accounts command.Resend known = same_known _ w accounts (resends_same (length w.fabric.agents) w 0) known
   command_known nodes w accounts (command.Ping p lid) known = known
   command_known nodes w accounts command.Tables known = known
   command_known nodes w accounts command.Flight known = known

@@ -36,7 +36,8 @@ use Rattle.manager_laws.specs.WritingPings.{AreNoSweeps, BeginsNoSweep}
 use Rattle.manager_laws.specs.Sets.{OwnSets}
 use Rattle.manager_laws.specs.Written.{AllKeep, Keeps}
 use Rattle.schedule_world.specs.Commands.{after_arrival, after_ask_line, after_command, after_commands, after_drain_line, after_fate, after_give_up}
-use Rattle.schedule_world.specs.Commands.{after_giving_up, after_hand_up, after_packet_line, after_step, after_take_and_send, after_timeout_line, seat_at}
+use Rattle.schedule_world.specs.Commands.{after_giving_up, after_hand_up, after_packet_line, after_step, after_take_and_send, after_timeout_line, heard_text}
+use Rattle.schedule_world.specs.Commands.{seat_at}
 use Rattle.schedule_world.specs.Flights.{packet_out, serial_of}
 use Rattle.schedule_lines.specs.Refusals.{refusal_line}
 use Rattle.schedule_lines.specs.Outcome.{and_then, quiet, shows}
@@ -246,7 +247,8 @@ module _ (plan : PlanValue) (own : OwnSets) (name : List ℕ) where
 
       by_fault : (o : Option ManagerFault)
           → Lives m premise
-          (after_manager_call quiet (as_world name m) 0 (seated_as name m) o (after_packet m.manager h.packet.bytes (Some h.packet.slid)).manager).now
+          (after_manager_call (shows (heard_text (as_world name m) 0 h.packet)) (as_world name m) 0 (seated_as name m) o
+          (after_packet m.manager h.packet.bytes (Some h.packet.slid)).manager).now
       by_fault (Some why) = rests m premise
       by_fault None = happens m premise (Hear which) (record m {
         manager = (after_packet m.manager h.packet.bytes
@@ -361,6 +363,8 @@ module _ (plan : PlanValue) (own : OwnSets) (name : List ℕ) where
   command_lives nodes m (command.Drain most) is = drain_lives most m
   command_lives nodes m (command.Cut p) is = absurd is
   command_lives nodes m (command.Plug p q) is = absurd is
+  command_lives nodes m command.Traps is = absurd is
+  command_lives nodes m command.Resend is = absurd is
   command_lives nodes m (command.Ping p lid) is = rests m _
   command_lives nodes m command.Tables is = rests m _
   command_lives nodes m command.Flight is = rests m _

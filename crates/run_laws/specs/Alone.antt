@@ -26,8 +26,8 @@ use Rattle.schedule_world.specs.Flights.{serial_of}
 use Rattle.schedule_world.specs.World.{SeatedValue, WorldValue}
 use Rattle.run_laws.specs.Reached.{EachPingSaysReached}
 
--- lines by which no sweep or writing begins, no cable moves, no manager comes to sit, and none is given facts or a
--- floor
+-- lines by which no sweep or writing begins, no cable moves, no trap is sent, no manager comes to sit, and none is
+-- given facts or a floor
 abbrev pub IsLine : SeatCommand → Type 0
 IsLine (command.Manager seat) = ⊥
 IsLine (command.Ask seat ask.Sweep) = ⊥
@@ -36,6 +36,8 @@ IsLine (command.Merge seat other) = ⊥
 IsLine (command.Floor seat floor) = ⊥
 IsLine (command.Cut p) = ⊥
 IsLine (command.Plug p q) = ⊥
+IsLine command.Traps = ⊥
+IsLine command.Resend = ⊥
 IsLine command = Unit {0}
 
 abbrev pub AreLines : List SeatCommand → Type 0

@@ -79,7 +79,8 @@ pub fn written_plans_are_reached()
 /// Each `ping` from an end port that is joined to the only manager's port, for a LID of its plan, prints that it
 /// reached the port of the LID's owner, after each schedule that begins a sweep of this manager, which is new, and some
 /// lines later a writing, if the sweep has every answer when the writing begins, the line `written` prints `yes` in the
-/// end, no cable moves, and each Set that an agent takes is one of the writing's own or carries the plan's values.
+/// end, no cable moves, no line is `traps` or `resend`, and each Set that an agent takes is one of the writing's own or
+/// carries the plan's values.
 pub fn runs_of_one_are_reached()
     ensures { RunsOfOneAreReached }
 {}

@@ -71,6 +71,8 @@ IsNamed (command.Drain most) = most ≤ 1000000
 IsNamed (command.Cut p) = IsPort p
 IsNamed (command.Plug p q) = IsPort p × IsPort q
 IsNamed (command.Ping p lid) = IsPort p × (lid ≤ 0xFFFF)
+IsNamed command.Traps = Unit {0}
+IsNamed command.Resend = Unit {0}
 IsNamed command.Tables = Unit {0}
 IsNamed command.Flight = Unit {0}
 
@@ -126,7 +128,9 @@ port_range word =
 
 bare_range : (word : List ℕ) → IfSome (bare_of word) IsNamed
 bare_range word =
-    either IsNamed (bytes_eq word (codes "tables")) _ _ tt (either IsNamed (bytes_eq word (codes "flight")) _ None tt tt)
+    either IsNamed (bytes_eq word (codes "tables")) _ _ tt
+    (either IsNamed (bytes_eq word (codes "flight")) _ _ tt
+    (either IsNamed (bytes_eq word (codes "traps")) _ _ tt (either IsNamed (bytes_eq word (codes "resend")) _ None tt tt)))
 
 ask_range : (what : Ask) (name : List ℕ) → IsAsk what → IfSome (ask what name) IsNamed
 ask_range what name h = mapped IsName IsNamed (manager_name_in name) _ (manager_range name) (λ n is. (is, h))
@@ -300,6 +304,8 @@ named_are_words (command.Cut p) is = (keyword (codes "cut") (omega arith) refl r
 named_are_words (command.Plug p q) is = (keyword (codes "plug") (omega arith) refl refl, (port_is_word p is.0, (port_is_word q is.1, tt)))
 named_are_words (command.Ping p lid) is =
     let h = is.1 in (keyword (codes "ping") (omega arith) refl refl, (port_is_word p is.0, (decimal_word lid (omega arith), tt)))
+named_are_words command.Traps is = (keyword (codes "traps") (omega arith) refl refl, tt)
+named_are_words command.Resend is = (keyword (codes "resend") (omega arith) refl refl, tt)
 named_are_words command.Tables is = (keyword (codes "tables") (omega arith) refl refl, tt)
 named_are_words command.Flight is = (keyword (codes "flight") (omega arith) refl refl, tt)
 
@@ -380,6 +386,8 @@ named_in (command.Drain most) is = rw (number_read 1000000 most (omega arith) is
 named_in (command.Cut p) is = rw (port_read p is) refl
 named_in (command.Plug p q) is = rw (port_read p is.0, port_read q is.1) refl
 named_in (command.Ping p lid) is = let h = is.1 in rw (port_read p is.0, number_read 0xFFFF lid (omega arith) h) refl
+named_in command.Traps is = refl
+named_in command.Resend is = refl
 named_in command.Tables is = refl
 named_in command.Flight is = refl
 

@@ -99,6 +99,8 @@ words_again nodes seats more (command.Plug p q) c is e =
 words_again nodes seats more (command.Ping p lid) c is e =
     let m = mapped_some (λ a. command.Ping a lid) (port_of nodes p) c e in
     ap (command_words nodes (seats ++ more)) (sym m.2) ∙ ap (λ n. named_words (command.Ping n lid)) (port_found nodes p m.0 m.1)
+words_again nodes seats more command.Traps c is e = let same : command.Traps ≡ c = cc in ap (command_words nodes (seats ++ more)) (sym same)
+words_again nodes seats more command.Resend c is e = let same : command.Resend ≡ c = cc in ap (command_words nodes (seats ++ more)) (sym same)
 words_again nodes seats more command.Tables c is e = let same : command.Tables ≡ c = cc in ap (command_words nodes (seats ++ more)) (sym same)
 words_again nodes seats more command.Flight c is e = let same : command.Flight ≡ c = cc in ap (command_words nodes (seats ++ more)) (sym same)
 

@@ -53,6 +53,8 @@ command_range nodes seats (command.Plug p q) =
     then_some (λ _. Unit {0}) (NamesManagers (length seats)) (port_of nodes p) _ (always _) (λ a _.
     mapped (λ _. Unit {0}) (NamesManagers (length seats)) (port_of nodes q) _ (always _) (λ b _. tt))
 command_range nodes seats (command.Ping p lid) = mapped (λ _. Unit {0}) (NamesManagers (length seats)) (port_of nodes p) _ (always _) (λ a _. tt)
+command_range nodes seats command.Traps = tt
+command_range nodes seats command.Resend = tt
 command_range nodes seats command.Tables = tt
 command_range nodes seats command.Flight = tt
 
@@ -96,6 +98,8 @@ more count (command.Drain most) h = tt
 more count (command.Cut p) h = tt
 more count (command.Plug p q) h = tt
 more count (command.Ping p lid) h = tt
+more count command.Traps h = tt
+more count command.Resend h = tt
 more count command.Tables h = tt
 more count command.Flight h = tt
 

@@ -69,6 +69,8 @@ abbrev pub bare_of : List ℕ → Option NamedCommand
 bare_of word =
     if bytes_eq word (codes "tables") then Some command.Tables
     else if bytes_eq word (codes "flight") then Some command.Flight
+    else if bytes_eq word (codes "traps") then Some command.Traps
+    else if bytes_eq word (codes "resend") then Some command.Resend
     else None
 
 -- commands of two words --------------------------------------------------------------------------
@@ -177,6 +179,8 @@ named_words (command.Drain most) = codes "drain" ∷ decimal most ∷ []
 named_words (command.Cut p) = codes "cut" ∷ port_word p ∷ []
 named_words (command.Plug p q) = codes "plug" ∷ port_word p ∷ port_word q ∷ []
 named_words (command.Ping p lid) = codes "ping" ∷ port_word p ∷ decimal lid ∷ []
+named_words command.Traps = codes "traps" ∷ []
+named_words command.Resend = codes "resend" ∷ []
 named_words command.Tables = codes "tables" ∷ []
 named_words command.Flight = codes "flight" ∷ []
 

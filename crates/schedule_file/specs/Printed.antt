@@ -35,6 +35,8 @@ command_words nodes seats (command.Drain most) = named_words (command.Drain most
 command_words nodes seats (command.Cut p) = named_words (command.Cut (port_at nodes p))
 command_words nodes seats (command.Plug p q) = named_words (command.Plug (port_at nodes p) (port_at nodes q))
 command_words nodes seats (command.Ping p lid) = named_words (command.Ping (port_at nodes p) lid)
+command_words nodes seats command.Traps = named_words command.Traps
+command_words nodes seats command.Resend = named_words command.Resend
 command_words nodes seats command.Tables = named_words command.Tables
 command_words nodes seats command.Flight = named_words command.Flight
 

@@ -76,6 +76,8 @@ command_of nodes seats (command.Cut p) = option_map command.Cut (port_of nodes p
 command_of nodes seats (command.Plug p q) =
     option_and_then (λ a. option_map (command.Plug a) (port_of nodes q)) (port_of nodes p)
 command_of nodes seats (command.Ping p lid) = option_map (λ a. command.Ping a lid) (port_of nodes p)
+command_of nodes seats command.Traps = Some command.Traps
+command_of nodes seats command.Resend = Some command.Resend
 command_of nodes seats command.Tables = Some command.Tables
 command_of nodes seats command.Flight = Some command.Flight
 

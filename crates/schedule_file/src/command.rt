@@ -25,6 +25,10 @@ pub enum Command<M, P> {
     Cut(P),
     /// A cable joins two ports.
     Plug(P, P),
+    /// The agents of switches send traps from here on.
+    Traps,
+    /// The traps that wait are sent again.
+    Resend,
     /// A packet is sent from the port to the LID.
     Ping(P, Lid),
     /// The forwarding tables are shown.

@@ -47,6 +47,10 @@ fn bare(word: &[u8]) -> Option<NamedCommand>
         Some(Command::Tables)
     } else if is_word(word, "flight") {
         Some(Command::Flight)
+    } else if is_word(word, "traps") {
+        Some(Command::Traps)
+    } else if is_word(word, "resend") {
+        Some(Command::Resend)
     } else {
         None
     }

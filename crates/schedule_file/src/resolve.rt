@@ -56,6 +56,8 @@ fn command_of(topology: &Topology, seats: &[Seat], command: NamedCommand) -> Opt
             Command::Plug(one, port(topology, &other)?)
         }
         Command::Ping(name, lid) => Command::Ping(port(topology, &name)?, lid),
+        Command::Traps => Command::Traps,
+        Command::Resend => Command::Resend,
         Command::Tables => Command::Tables,
         Command::Flight => Command::Flight,
     })

@@ -1,5 +1,5 @@
 -- The lines that commands print.
-use Rattle.std.specs.Prelude.{ℕ, Bool, true, false, List, ◌++◌, codes, decimal, Option, None, Some, option_map}
+use Rattle.std.specs.Prelude.{ℕ, Bool, true, false, List, [], ◌++◌, codes, decimal, Option, None, Some, option_map}
 use Rattle.std.specs.Borrow.{Bor}
 use Rattle.fabric_model.specs.declared.cable.NodePort.{NodePort}
 use Rattle.text_words.specs.Printed.{bracketed_text, quoted_text}
@@ -11,6 +11,7 @@ use Rattle.sm_state.specs.declared.state.SmState.{SmState}
 use Rattle.sm_state.specs.States.{state_word}
 use Rattle.sm_manager.specs.declared.progress.Progress.{Progress}
 use Rattle.sm_manager.specs.declared.progress.Progress.TheVariants.{Never, Running, Done}
+use Rattle.sm_manager.specs.declared.traps.Trap.{Trap}
 
 -- words, and a number
 abbrev pub count_text : List ℕ → ℕ → List ℕ
@@ -62,6 +63,15 @@ written_line manager written = head_text (codes "written") manager ++ end_word (
 -- the state of a manager
 abbrev pub state_line : Option (List ℕ) → SmState → List ℕ
 state_line manager state = head_text (codes "state") manager ++ end_word (state_word state)
+
+-- a manager repressed a trap that a port with this LID issued
+abbrev pub trap_line : Option (List ℕ) → ℕ → List ℕ
+trap_line manager issuer = head_text (codes "trap") manager ++ count_text (codes " ") issuer ++ codes "\n"
+
+-- the line of the trap that was repressed, empty if there is none
+abbrev pub trap_text : Option (List ℕ) → Option Trap → List ℕ
+trap_text manager None = []
+trap_text manager (Some trap) = trap_line manager trap.issuer
 
 -- a port: its node's name in quotes, and its number in brackets
 abbrev pub port_text : List Node → NodePort → List ℕ

@@ -12,5 +12,5 @@ pub use asked::{ask_manager, waiting};
 pub use lines::{write_flight, write_ping};
 pub use refusals::{refuse_fabric, refuse_manager};
 pub use run_fault::RunFault;
-pub use shown::show_manager;
+pub use shown::{show_manager, show_trap};
 pub use tables::show_tables;

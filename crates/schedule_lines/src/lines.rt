@@ -6,7 +6,7 @@ ghost use Rattle.topo_file.specs.Printed.{name_at};
 ghost use Rattle.schedule_lines.specs.Lines.{count_text, counts_text, end_text, flight_line, ping_line};
 ghost use Rattle.schedule_lines.specs.Lines.{port_text, progress_line, start_text, stage_text, state_line};
 ghost use Rattle.schedule_lines.specs.Lines.{answer_word, end_word, head_text, name_of, silent_line, silent_text};
-ghost use Rattle.schedule_lines.specs.Lines.{written_line};
+ghost use Rattle.schedule_lines.specs.Lines.{trap_line, written_line};
 
 use byte_io::{Sink, WriteFault, write_number};
 use fabric_model::{NodeId, NodePort};
@@ -133,6 +133,20 @@ pub fn write_state<W: Sink>(
 {
     write_head(sink, b"state", manager)?;
     write_end_word(sink, state.word())
+}
+
+/// Prints that a manager repressed a trap that a port with the LID `issuer` issued.
+pub(crate) fn write_trap<W: Sink>(
+    sink: &mut W,
+    manager: Option<&str>,
+    issuer: Lid,
+) -> Result<(), WriteFault>
+    ensures writes { Writes W.written W.has_failed result sink.old sink.new
+        (trap_line (name_of manager.entry) issuer) }
+{
+    write_head(sink, b"trap", manager)?;
+    write_count(sink, b" ", u64::from(issuer.number()))?;
+    sink.write(b"\n")
 }
 
 /// Prints how many requests were not answered, and how many ports lead too far.

@@ -1,18 +1,18 @@
 //! What is shown of managers.
 ghost use Rattle.fact_store.specs.View.{cells_of};
 ghost use Rattle.schedule_lines.specs.Asked.{plan_or_refusal, text_of};
-ghost use Rattle.schedule_lines.specs.Lines.{name_of};
+ghost use Rattle.schedule_lines.specs.Lines.{name_of, trap_text};
 ghost use Rattle.schedule_lines.specs.Prints.{PrintsUnless};
 ghost use Rattle.sm_manager.specs.Plans.{plan_fault};
 
-use crate::lines::{write_progress, write_silent, write_state, write_written};
+use crate::lines::{write_progress, write_silent, write_state, write_trap, write_written};
 use crate::refusals::refuse_manager;
 use crate::run_fault::RunFault;
 use byte_io::Sink;
 use lft_blocks::write_plan;
 use record_file::write_facts;
 use schedule_file::Shown;
-use sm_manager::Manager;
+use sm_manager::{Manager, Trap};
 
 /// Prints something of a manager, with its name if there is one.
 #[tactic(auto, using(crate::proofs::Printing::wrote))]
@@ -32,6 +32,22 @@ pub fn show_manager<W: Sink>(
         Shown::Silent => write_silent(sink, name, manager.silent_managers())?,
         Shown::Written => write_written(sink, name, manager.written())?,
         Shown::State => write_state(sink, name, manager.state())?,
+    }
+    Ok(())
+}
+
+/// Prints the trap that a manager repressed, if it did, with the manager's name if there is one.
+#[tactic(auto, using(crate::proofs::Printing::wrote))]
+pub fn show_trap<W: Sink>(
+    sink: &mut W,
+    name: Option<&str>,
+    trap: Option<Trap>,
+) -> Result<(), RunFault>
+    ensures prints { PrintsUnless W.written W.has_failed result sink.old sink.new
+        (trap_text (name_of name.entry) trap) }
+{
+    if let Some(trap) = trap {
+        write_trap(sink, name, trap.issuer)?;
     }
     Ok(())
 }

@@ -11,7 +11,7 @@ use Rattle.schedule_lines.specs.declared.run_fault.RunFault.{RunFault}
 use Rattle.schedule_world.specs.declared.world.World.{World}
 use Rattle.schedule_lines.proofs.Printing.{ends_in, failed_with, prints_same, prints_then}
 
-abbrev done_with : Unit {0} → Result (Unit {0}) RunFault
+abbrev pub done_with : Unit {0} → Result (Unit {0}) RunFault
 done_with u = Ok u
 
 module _ {W : Type 0} (written : W → Option (List ℕ)) (has_failed : W → Bool) where

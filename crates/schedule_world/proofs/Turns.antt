@@ -11,7 +11,7 @@ use Rattle.schedule_file.specs.Schedule.{SeatCommand}
 use Rattle.std.proofs.Math.Seq.{drop-cons}
 use Rattle.std.proofs.Math.ListN.{drop_of_length-le}
 use Rattle.fabric_sim.specs.declared.flight.Flight.{Flight}
-use Rattle.schedule_world.specs.Commands.{after_command, after_commands, after_drain_line, after_give_up, after_giving_up, after_step}
+use Rattle.schedule_world.specs.Commands.{after_command, after_commands, after_drain_line, after_give_up, after_giving_up, after_resend, after_resends, after_step}
 use Rattle.schedule_lines.specs.Tables.{blocks_to}
 use Rattle.schedule_lines.specs.Outcome.{Outcome, and_then, quiet, shows}
 use Rattle.schedule_world.specs.World.{WorldValue}
@@ -43,6 +43,15 @@ drain_none w (suc most) there = ap (λ o. option_map_or (λ (f : Flight). and_th
 
 pub drain_end : (w : WorldValue) (most i : ℕ) → most ≤ i → after_drain_line w (most - i) ≡ quiet w
 drain_end w most i h = let none : most - i ≡ 0 = omega arith in ap (after_drain_line w) none
+
+-- traps that are sent again ------------------------------------------------------------------------------------
+
+pub resend_next : (w : WorldValue) (count i : ℕ) → i < count
+    → after_resends w i (count - i) ≡ and_then (after_resend w i) (λ now. after_resends now (i + 1) (count - (i + 1)))
+resend_next w count i h = let left : count - i ≡ suc (count - (i + 1)) = omega arith in ap (after_resends w i) left
+
+pub resend_end : (w : WorldValue) (count i : ℕ) → count ≤ i → after_resends w i (count - i) ≡ quiet w
+resend_end w count i h = let none : count - i ≡ 0 = omega arith in ap (after_resends w i) none
 
 -- commands that are run ------------------------------------------------------------------------------------------
 

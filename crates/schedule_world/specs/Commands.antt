@@ -1,5 +1,5 @@
 -- What each line of a schedule does, what it prints, and what a run prints.
-use Rattle.std.specs.Prelude.{ℕ, zero, suc, ◌+◌, List, [], ◌∷◌, map, position, slice_get, if◌then◌else◌, Option, None, Some, Result, Ok, Err}
+use Rattle.std.specs.Prelude.{ℕ, zero, suc, ◌+◌, ◌==◌, List, [], ◌∷◌, length, map, position, slice_get, if◌then◌else◌, Option, None, Some, Result, Ok, Err}
 use Rattle.std.specs.List.{flat_map}
 use Rattle.std.specs.Option.{option_map_or}
 use Rattle.fabric_model.specs.Cables.{is_same_port}
@@ -22,7 +22,8 @@ use Rattle.fabric_sim.specs.Changes.{after_cut, after_lose, after_seat, after_pl
 use Rattle.fabric_sim.specs.Delivery.{after_deliver}
 use Rattle.fabric_sim.specs.FabricFault.{fabric_fault_name}
 use Rattle.fabric_sim.specs.Ping.{ping, ping_fault}
-use Rattle.fabric_sim.specs.Simulation.{Simulation, fabric_of, is_seat_at, port_of}
+use Rattle.fabric_sim.specs.Simulation.{Simulation, across, fabric_of, is_seat_at, port_of}
+use Rattle.fabric_sim.specs.TrapCalls.{after_begin_traps, after_port_change, after_send_trap}
 use Rattle.fabric_sim.specs.declared.delivered.Delivered.{Delivered}
 use Rattle.fabric_sim.specs.declared.delivered.Delivered.TheVariants as delivered_is
 use Rattle.fabric_sim.specs.declared.fault.FabricFault.{FabricFault}
@@ -34,7 +35,7 @@ use Rattle.sm_manager.specs.Manager.{after_raise_floor, after_merge, new_manager
 use Rattle.sm_manager.specs.Packets as manager
 use Rattle.schedule_world.specs.Flights.{serial_of}
 use Rattle.schedule_lines.specs.Asked.{after_asked, asked_fault, text_of}
-use Rattle.schedule_lines.specs.Lines.{flight_line, ping_line}
+use Rattle.schedule_lines.specs.Lines.{flight_line, ping_line, trap_text}
 use Rattle.schedule_lines.specs.Refusals.{refusal_line}
 use Rattle.schedule_lines.specs.Tables.{tables_text}
 use Rattle.schedule_lines.specs.Outcome.{Outcome, and_then, quiet, shows}
@@ -79,10 +80,15 @@ after_timeout_line w seat =
 
 -- packets ------------------------------------------------------------------------------------------
 
--- the manager of a seat takes in a packet, or refuses it
+-- the line of the trap that the manager of a seat represses, if the packet is one
+abbrev pub heard_text : WorldValue → ℕ → Packet → List ℕ
+heard_text w seat packet =
+    option_map_or (λ s. trap_text (Some s.name) (manager.trap_told s.manager packet.bytes)) (slice_get w.managers seat) []
+
+-- the manager of a seat takes in a packet, and prints the trap that it represses; or it refuses the packet
 abbrev pub after_take : WorldValue → ℕ → Packet → Outcome WorldValue
 after_take w seat packet =
-    after_ask quiet w seat (λ m. (manager.after_packet m packet.bytes (Some packet.slid)).fault)
+    after_ask (shows (heard_text w seat packet)) w seat (λ m. (manager.after_packet m packet.bytes (Some packet.slid)).fault)
     (λ m. (manager.after_packet m packet.bytes (Some packet.slid)).manager)
 
 -- the manager of a seat takes in a packet, or refuses it, and then sends what it has queued
@@ -138,13 +144,53 @@ flights_text nodes flights = flat_map (flight_shown nodes) flights
 
 -- cables and ports -----------------------------------------------------------------------------------
 
--- `cut "n"[p]`
-unfoldable pub after_cut_line : WorldValue → NodePort → Outcome WorldValue
-after_cut_line w p = after_fabric_call w (after_cut w.fabric p)
+-- the state of a port of a node has changed, and its agent is told
+abbrev pub after_tell : WorldValue → ℕ → Outcome WorldValue
+after_tell w id = after_fabric_call w (after_port_change w.fabric id)
 
--- `plug "n"[p] "m"[q]`
+-- the agents at both ends of a cable are told, the one of the first end first; a node at both ends is told once
+unfoldable pub after_tell_ends : WorldValue → NodePort → NodePort → Outcome WorldValue
+after_tell_ends w p q =
+    and_then (after_tell w p.node) (λ now. if q.node == p.node then quiet now else after_tell now q.node)
+
+-- the agents are told if the cable was plugged in or cut
+abbrev pub after_change : WorldValue → NodePort → NodePort → Result (Unit {0}) FabricFault → Outcome WorldValue
+after_change w p q (Ok done) = after_tell_ends w p q
+after_change w p q (Err fault) = quiet w
+
+-- the same, for a cable with this other end
+abbrev pub after_parting : WorldValue → NodePort → Option NodePort → Result (Unit {0}) FabricFault → Outcome WorldValue
+after_parting w p other (Ok done) = option_map_or (after_tell_ends w p) other (quiet w)
+after_parting w p other (Err fault) = quiet w
+
+-- `cut "n"[p]`: the cable is cut, and the agents at both ends are told
+unfoldable pub after_cut_line : WorldValue → NodePort → Outcome WorldValue
+after_cut_line w p = let called = after_cut w.fabric p in
+    and_then (after_fabric_call w called) (λ now. after_parting now p (across w.fabric.peers p) called.result)
+
+-- `plug "n"[p] "m"[q]`: the cable is plugged in, and the agents at both ends are told
 unfoldable pub after_plug_line : WorldValue → NodePort → NodePort → Outcome WorldValue
-after_plug_line w p q = after_fabric_call w (after_plug w.fabric p q)
+after_plug_line w p q = let called =
+    after_plug w.fabric p q in and_then (after_fabric_call w called) (λ now. after_change now p q called.result)
+
+-- traps ----------------------------------------------------------------------------------------------
+
+-- `traps`: switches send traps from here on
+unfoldable pub after_traps_line : WorldValue → Outcome WorldValue
+after_traps_line w = after_fabric_call w (after_begin_traps w.fabric)
+
+-- the trap that waits at a node is sent again
+abbrev pub after_resend : WorldValue → ℕ → Outcome WorldValue
+after_resend w id = after_fabric_call w (after_send_trap w.fabric id)
+
+-- so many traps are sent again, from that of the node `id` on
+abbrev pub after_resends : WorldValue → ℕ → ℕ → Outcome WorldValue
+after_resends w id zero = quiet w
+after_resends w id (suc left) = and_then (after_resend w id) (λ now. after_resends now (id + 1) left)
+
+-- `resend`: each trap that waits is sent again, in the order of the nodes
+abbrev pub after_resend_line : WorldValue → Outcome WorldValue
+after_resend_line w = after_resends w 0 (length w.fabric.agents)
 
 -- `ping "n"[p] L`: where the packet ends, or why it cannot be sent
 abbrev pub ping_text : List Node → Simulation → NodePort → ℕ → Option FabricFault → List ℕ
@@ -179,6 +225,8 @@ after_command nodes w (command.Drain most) = after_drain_line w most
 after_command nodes w (command.Cut p) = after_cut_line w p
 after_command nodes w (command.Plug p q) = after_plug_line w p q
 after_command nodes w (command.Ping p lid) = shows (ping_shown nodes w p lid) w
+after_command nodes w command.Traps = after_traps_line w
+after_command nodes w command.Resend = after_resend_line w
 after_command nodes w command.Tables = shows (tables_text w.fabric) w
 after_command nodes w command.Flight = shows (flights_text nodes w.fabric.flights) w
 

@@ -69,6 +69,8 @@ impl World<'_> {
             Command::Cut(port) => self.cut(port, sink),
             Command::Plug(one, other) => self.plug(one, other, sink),
             Command::Ping(from, lid) => self.show_ping(topology, from, lid, sink),
+            Command::Traps => self.begin_traps(alloc, sink),
+            Command::Resend => self.resend(sink),
             Command::Tables => show_tables(alloc, &self.fabric, sink),
             Command::Flight => self.show_flight(topology, sink),
         }

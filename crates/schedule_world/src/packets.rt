@@ -5,12 +5,12 @@ ghost use Rattle.schedule_world.specs.Commands.{after_packet_line, after_step, a
 ghost use Rattle.schedule_world.specs.Flights.{serial_of};
 ghost use Rattle.schedule_world.specs.World.{Does, value_of};
 
-use crate::world::World;
+use crate::world::{Seated, World};
 use byte_io::Sink;
 use fabric_model::NodePort;
 use fabric_sim::{Delivered, Fabric, FabricFault, Packet};
 use schedule_file::{Fate, Which};
-use schedule_lines::{RunFault, refuse_fabric, refuse_manager};
+use schedule_lines::{RunFault, refuse_fabric, refuse_manager, show_trap};
 
 impl World<'_> {
     /// Lets a packet in flight meet its fate.
@@ -104,7 +104,7 @@ impl World<'_> {
         self.send(seat, sink)
     }
 
-    /// Hands a packet to a manager.
+    /// Hands a packet to a manager, and prints the trap that the manager represses, if it is one.
     fn take_in<W: Sink>(
         &mut self,
         seat: usize,
@@ -115,9 +115,9 @@ impl World<'_> {
         ensures does { Does W.written W.has_failed self.old self.new result sink.old sink.new
             (after_take (value_of self.old) seat packet.now) }
     {
-        let manager = &mut self.managers[seat].manager;
+        let Seated { seat, manager } = &mut self.managers[seat];
         match manager.on_packet(&packet.bytes, Some(packet.slid)) {
-            Ok(()) => Ok(()),
+            Ok(trap) => show_trap(sink, Some(seat.name.as_str()), trap),
             Err(fault) => refuse_manager(sink, fault),
         }
     }

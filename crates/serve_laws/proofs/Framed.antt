@@ -45,7 +45,8 @@ use Rattle.sm_state.specs.declared.election.SeenManager.{SeenManager}
 use Rattle.sm_state.specs.declared.state.SmState.{SmState}
 use Rattle.sm_state.specs.declared.state.SmState.TheVariants.{NotActive, Discovering, Standby, Master}
 use Rattle.sm_manager.specs.Manager.{outstanding, progress_of, silent_in}
-use Rattle.sm_manager.specs.Packets.{after_packet, after_timeout}
+use Rattle.sm_manager.specs.Packets.{after_packet, after_timeout, trap_told}
+use Rattle.sm_manager.specs.declared.traps.Trap.{Trap}
 use Rattle.sm_manager.specs.Plans.{plan_fault}
 use Rattle.sm_manager.specs.Writing.{is_written}
 use Rattle.sm_manager.specs.declared.progress.Progress.{Progress}
@@ -57,7 +58,7 @@ use Rattle.serve_lines.specs.declared.line.ServeLine.TheVariants as is
 use Rattle.schedule_file.specs.declared.command.Shown.TheVariants as shown
 use Rattle.serve_lines.specs.declared.line.ServeLine.{ServeLine}
 use Rattle.schedule_file.specs.declared.command.Shown.{Shown}
-use Rattle.serve_run.specs.Served.{after_giving_up, after_line, asked, fault_text, seen_line, send_line, to_text, told_state, told_text, where_text, served}
+use Rattle.serve_run.specs.Served.{after_giving_up, after_line, asked, fault_text, heard_text, seen_line, send_line, to_text, told_state, told_text, where_text, served}
 use Rattle.serve_laws.specs.Framed.{AnswersEndOnce, has_dot, is_line_end}
 
 -- texts ---------------------------------------------------------------------------------------------------
@@ -379,9 +380,14 @@ shown_passes shown.Written m = head (codes "written") refl refl then (mid (codes
 
 -- lines -----------------------------------------------------------------------------------------------------
 
+heard_passes : (trap : Option Trap) (fault : Option ManagerFault) → Passes true (heard_text trap fault) true
+heard_passes None None = nothing
+heard_passes (Some trap) None = head (codes "trap") refl refl then (mid (codes " ") refl refl then number trap.issuer) then newline
+heard_passes None (Some fault) = refused_passes fault
+heard_passes (Some trap) (Some fault) = refused_passes fault
+
 fault_passes : (fault : Option ManagerFault) → Passes true (fault_text fault) true
-fault_passes None = nothing
-fault_passes (Some fault) = refused_passes fault
+fault_passes fault = heard_passes None fault
 
 giving_up_passes : (m : Manager) (transactions : List ℕ) → Passes true (after_giving_up m transactions).text true
 giving_up_passes m [] = nothing
@@ -392,7 +398,7 @@ giving_up_passes m (transaction ∷ later) =
 line_passes : (m : Manager) (line : ServeLine) → Passes true (after_line m line).text true
 line_passes m (is.Ask what) = fault_passes (asked m what).fault
 line_passes m (is.Floor floor) = nothing
-line_passes m (is.Packet bytes from) = fault_passes (after_packet m bytes (Some from)).fault
+line_passes m (is.Packet bytes from) = heard_passes (trap_told m bytes) (after_packet m bytes (Some from)).fault
 line_passes m (is.Timeout transaction) = fault_passes (after_timeout m transaction).fault
 line_passes m is.GiveUp = giving_up_passes m (outstanding m)
 line_passes m (is.Show what) = shown_passes what m

@@ -7,6 +7,7 @@ use Rattle.sm_manager.specs.Manager.{Manager}
 use Rattle.sm_manager.specs.Packets.{Called}
 use Rattle.sm_manager.specs.declared.fault.ManagerFault.{ManagerFault}
 use Rattle.sm_manager.specs.declared.fault.ManagerFault.TheVariants as manager
+use Rattle.sm_manager.specs.declared.traps.Trap.{Trap}
 use Rattle.sm_manager.proofs.Refusals.{RefusalLeaves}
 use Rattle.schedule_file.specs.declared.command.Ask.{Ask}
 use Rattle.schedule_lines.specs.Asked.{after_asked, asked_fault, manager_line}
@@ -16,7 +17,7 @@ use Rattle.schedule_lines.specs.declared.run_fault.RunFault.{RunFault}
 use Rattle.schedule_lines.proofs.Printing.{prints_nothing, prints_same}
 use Rattle.schedule_lines.proofs.Refused.{IsMemory, memory_is, refusal_prints, refuses}
 use Rattle.serve_run.specs.Lives.{Lives}
-use Rattle.serve_run.specs.Served.{after_called, asked, asked_with, fault_text, send_line}
+use Rattle.serve_run.specs.Served.{after_called, after_heard, asked, asked_with, fault_text, heard_text, send_line}
 
 abbrev pub all_well : Result (Unit {0}) RunFault
 all_well = Ok tt
@@ -43,18 +44,25 @@ module _ {W : Type 0} (written : W → Option (List ℕ)) (has_failed : W → Bo
     prints = prints_same written has_failed all_well sink sink [] (fault_text c.fault) (ap fault_text (sym none)) (prints_nothing written has_failed sink);
   }
 
+  -- a packet that was refused
+  pub refused_packet : (trap : Option Trap) (m new : Manager) (c : Called) (given : ManagerFault) (result : Result (Unit {0}) RunFault) (sink sink' : W)
+      → RefusalLeaves m c → new ≡ m → (is_memory given ≡ false → c.fault ≡ Some given) → IsMemory result given
+      → PrintsUnless written has_failed result sink sink' (manager_line given) → (given ≡ manager.Memory → sink' ≡ sink)
+      → Lives written has_failed new result sink sink' (after_heard c trap)
+  refused_packet trap m new c given result sink sink' leaves same only memory prints unprinted =
+      let run : Option ManagerFault → Outcome Manager = λ why. record { now = c.manager; text = heard_text trap why } in
+      record {
+        leaves = leaves_of m new c given result leaves same only memory;
+        prints = refusal_prints written has_failed given c.manager (after_heard c trap) result sink sink'
+            (refuses given c.fault c.manager run (λ fault. refl) only) memory prints unprinted;
+      }
+
   -- a call that was refused
   pub refused_call : (m new : Manager) (c : Called) (given : ManagerFault) (result : Result (Unit {0}) RunFault) (sink sink' : W) → RefusalLeaves m c
       → new ≡ m → (is_memory given ≡ false → c.fault ≡ Some given) → IsMemory result given
       → PrintsUnless written has_failed result sink sink' (manager_line given) → (given ≡ manager.Memory → sink' ≡ sink)
       → Lives written has_failed new result sink sink' (after_called c)
-  refused_call m new c given result sink sink' leaves same only memory prints unprinted =
-      let run : Option ManagerFault → Outcome Manager = λ why. record { now = c.manager; text = fault_text why } in
-      record {
-        leaves = leaves_of m new c given result leaves same only memory;
-        prints = refusal_prints written has_failed given c.manager (after_called c) result sink sink'
-            (refuses given c.fault c.manager run (λ fault. refl) only) memory prints unprinted;
-      }
+  refused_call m new c given result sink sink' = refused_packet None m new c given result sink sink'
 
   -- what one manager sends, another one that is the same does
   pub sends_same : (result : Result (Unit {0}) RunFault) (old new : W) (m other : Manager) → m ≡ other

@@ -6,6 +6,7 @@ use Rattle.hex.specs.Hex.{encode_lower}
 use Rattle.smp_bytes.specs.Text.{guid_text, port_text}
 use Rattle.schedule_file.specs.declared.command.Ask.{Ask as Asking}
 use Rattle.schedule_lines.specs.Asked.{after_asked, asked_fault, emptied, manager_line, text_of}
+use Rattle.schedule_lines.specs.Lines.{trap_text}
 use Rattle.schedule_lines.specs.Outcome.{Outcome, and_then, quiet, shows}
 use Rattle.serve_lines.specs.ServeLine.{lines_told}
 use Rattle.serve_lines.specs.declared.line.ServeLine.{ServeLine}
@@ -14,9 +15,10 @@ use Rattle.attr_codec.specs.declared.sm_info.SmInfo.{SmInfo}
 use Rattle.sm_state.specs.States.{state_of_number, state_word}
 use Rattle.sm_state.specs.declared.election.SeenManager.{SeenManager}
 use Rattle.sm_manager.specs.Manager.{Manager, after_raise_floor, outstanding}
-use Rattle.sm_manager.specs.Packets.{Called, after_packet, after_timeout, done, refused}
+use Rattle.sm_manager.specs.Packets.{Called, after_packet, after_timeout, done, refused, trap_told}
 use Rattle.sm_manager.specs.declared.fault.ManagerFault.{ManagerFault}
 use Rattle.sm_manager.specs.declared.outgoing.Outgoing.{Outgoing}
+use Rattle.sm_manager.specs.declared.traps.Trap.{Trap}
 
 -- texts ------------------------------------------------------------------------------------------
 
@@ -51,16 +53,24 @@ told_text info =
 unfoldable pub seen_line : SeenManager → List ℕ
 seen_line s = where_text s ++ told_text s.info
 
+-- the line of a refusal, or else of the trap that was repressed; empty if there is neither
+abbrev pub heard_text : Option Trap → Option ManagerFault → List ℕ
+heard_text trap None = trap_text None trap
+heard_text trap (Some fault) = manager_line fault
+
 -- the line of a refusal, empty if there is none
 abbrev pub fault_text : Option ManagerFault → List ℕ
-fault_text None = []
-fault_text (Some fault) = manager_line fault
+fault_text fault = heard_text None fault
 
 -- lines ------------------------------------------------------------------------------------------
 
 -- what a call leaves and prints: the manager then, and the line of its refusal
 abbrev pub after_called : Called → Outcome Manager
 after_called c = record { now = c.manager; text = fault_text c.fault }
+
+-- what a packet leaves and prints: the manager then, and the line of its refusal, or of the trap that was repressed
+abbrev pub after_heard : Called → Option Trap → Outcome Manager
+after_heard c trap = record { now = c.manager; text = heard_text trap c.fault }
 
 -- a manager is asked, and refuses with the fault, if any
 abbrev pub asked_with : Manager → Option ManagerFault → Manager → Called
@@ -80,7 +90,7 @@ after_giving_up m (transaction ∷ later) =
 abbrev pub after_line : Manager → ServeLine → Outcome Manager
 after_line m (Ask what) = after_called (asked m what)
 after_line m (Floor floor) = quiet (after_raise_floor m floor)
-after_line m (Packet bytes from) = after_called (after_packet m bytes (Some from))
+after_line m (Packet bytes from) = after_heard (after_packet m bytes (Some from)) (trap_told m bytes)
 after_line m (Timeout transaction) = after_called (after_timeout m transaction)
 after_line m GiveUp = after_giving_up m (outstanding m)
 after_line m (Show what) = shows (text_of what None m) m

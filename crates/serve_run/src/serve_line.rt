@@ -1,16 +1,16 @@
 //! Handling one line: it is answered, what is queued goes out, and the answer ends.
 ghost use Rattle.std.specs.Prelude.{◌≡◌, OnOk, IsTrue, Some};
-ghost use Rattle.sm_manager.specs.Packets.{after_packet, after_timeout};
+ghost use Rattle.sm_manager.specs.Packets.{after_packet, after_timeout, trap_told};
 ghost use Rattle.sm_manager.specs.Manager.{outstanding};
 ghost use Rattle.schedule_lines.specs.Prints.{PrintsUnless};
 ghost use Rattle.serve_run.specs.Lives.{Lives};
-ghost use Rattle.serve_run.specs.Served.{after_called, after_giving_up, after_line, asked, end_line, served};
+ghost use Rattle.serve_run.specs.Served.{after_called, after_giving_up, after_heard, after_line, asked, end_line, served};
 
 use crate::managers::show_managers;
 use crate::outgoing::send_all;
 use byte_io::Sink;
 use schedule_file::Ask;
-use schedule_lines::{RunFault, ask_manager, refuse_manager, show_manager, waiting};
+use schedule_lines::{RunFault, ask_manager, refuse_manager, show_manager, show_trap, waiting};
 use serve_lines::ServeLine;
 use sm_manager::Manager;
 use smp_bytes::Lid;
@@ -89,7 +89,8 @@ fn ask<W: Sink>(manager: &mut Manager, what: Ask, sink: &mut W) -> Result<(), Ru
     }
 }
 
-/// Passes `manager` a packet that came to its port from the LID `from`; prints why if it is refused.
+/// Passes `manager` a packet that came to its port from the LID `from`; prints why if it is refused, or the trap that
+/// was repressed.
 fn take_in<W: Sink>(
     manager: &mut Manager,
     bytes: &[u8; 256],
@@ -97,10 +98,10 @@ fn take_in<W: Sink>(
     sink: &mut W,
 ) -> Result<(), RunFault>
     ensures does { Lives W.written W.has_failed manager.new result sink.old sink.new
-        (after_called (after_packet manager.old bytes.now (Some from))) }
+        (after_heard (after_packet manager.old bytes.now (Some from)) (trap_told manager.old bytes.now)) }
 {
     match manager.on_packet(bytes, Some(from)) {
-        Ok(()) => Ok(()),
+        Ok(trap) => show_trap(sink, None, trap),
         Err(fault) => refuse_manager(sink, fault),
     }
 }

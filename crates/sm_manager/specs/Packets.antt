@@ -19,13 +19,14 @@ use Rattle.sm_manager.specs.declared.fault.ManagerFault.{ManagerFault}
 use Rattle.sm_manager.specs.declared.fault.ManagerFault.TheVariants as fault
 use Rattle.sm_manager.specs.declared.pending.Pending.{Pending}
 use Rattle.sm_manager.specs.declared.pending.Purpose.{Purpose}
+use Rattle.sm_manager.specs.declared.traps.Trap.{Trap}
 use Rattle.sm_manager.specs.declared.pending.Purpose.TheVariants.{Poll, Control, Step}
 use Rattle.sm_state.specs.declared.standing.Standing.{Standing}
 use Rattle.sm_manager.specs.Manager.{Manager, with_sweep, after_sweep}
 use Rattle.sm_manager.specs.ManagerRequests.{with_number}
 use Rattle.sm_manager.specs.NotedManagers.{with_seen}
 use Rattle.sm_manager.specs.Served.{served}
-use Rattle.sm_manager.specs.Traps.{represses, repressing}
+use Rattle.sm_manager.specs.Traps.{represses, repressing, trap_in}
 use Rattle.sm_state.specs.declared.control.Control.TheVariants as control
 use Rattle.sm_state.specs.declared.event.Event.TheVariants as event
 use Rattle.sm_state.specs.Conducts.{is_live}
@@ -138,6 +139,10 @@ packet_taken m packet from None =
 -- a packet comes to the manager's port, from the LID `from`
 abbrev pub after_packet : Manager → List ℕ → Option ℕ → Called
 after_packet m packet from = packet_taken m packet from (fault_of packet)
+
+-- the trap that the manager represses, if the packet is one
+abbrev pub trap_told : Manager → List ℕ → Option Trap
+trap_told m packet = if not (is_info_request packet) && represses m packet then Some (trap_in packet) else None
 
 -- timeouts --------------------------------------------------------------------------------------
 

@@ -1,10 +1,11 @@
 -- Traps: what a manager by the live conduct answers, so that the agent does not send the trap again.
 -- InfiniBand Architecture Specification, Volume 1: subnet management, traps; management methods (TrapRepress).
 use Rattle.std.specs.Prelude.{ℕ, Bool, ◌&&◌, not, List, [], ◌∷◌, ◌++◌, ◌==◌, Option}
-use Rattle.smp_bytes.specs.Field.{bytes_in, number_in}
+use Rattle.smp_bytes.specs.Field.{Field, bytes_in, number_in}
 use Rattle.smp_bytes.specs.Packet.{attribute_data, attribute_id, attribute_modifier, is_directed, method, transaction_id}
 use Rattle.smp_bytes.specs.Requests.{lid_routed}
 use Rattle.sm_manager.specs.declared.outgoing.Outgoing.{Outgoing}
+use Rattle.sm_manager.specs.declared.traps.Trap.{Trap}
 use Rattle.sm_manager.specs.Manager.{Manager}
 use Rattle.sm_state.specs.Conducts.{is_live}
 
@@ -26,6 +27,14 @@ repress_out packet from =
           (number_in transaction_id packet) (bytes_in attribute_data packet);
       to = from;
     }
+
+-- the LID of the port that issued the notice of a trap
+abbrev pub issuer_lid : Field
+issuer_lid = record { at = 70; len = 2 }
+
+-- what a trap tells
+abbrev pub trap_in : List ℕ → Trap
+trap_in packet = record { issuer = number_in issuer_lid packet }
 
 abbrev pub repressing : Manager → List ℕ → Option ℕ → Manager
 repressing m packet from = record m { outgoing = m.outgoing ++ repress_out packet from ∷ [] }

@@ -24,3 +24,4 @@ pub use manager::Manager;
 pub use outgoing::Outgoing;
 pub use pending::{Pending, Purpose};
 pub use progress::Progress;
+pub use traps::Trap;

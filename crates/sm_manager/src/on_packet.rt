@@ -1,6 +1,6 @@
-ghost use Rattle.std.specs.Prelude.{◌≡◌, ◌-◌, OnOk, OnErr};
+ghost use Rattle.std.specs.Prelude.{◌≡◌, ◌-◌, None, IfOk, OnOk, OnErr};
 ghost use Rattle.sm_manager.specs.Packets.{HasSender, IsFaultWithoutRoom, is_for_sweep, is_info_request};
-ghost use Rattle.sm_manager.specs.Packets.{sweep_answered, after_packet};
+ghost use Rattle.sm_manager.specs.Packets.{sweep_answered, after_packet, packet_taken, trap_told};
 ghost use Rattle.smp_bytes.specs.Judges.{JudgesButFor};
 ghost use Rattle.sm_manager.specs.Fault.{is_memory, refusal_of};
 ghost use Rattle.sweep.specs.Replies.{judged};
@@ -10,6 +10,7 @@ use crate::fault::ManagerFault;
 use crate::manager::Manager;
 use crate::note_seen::note_seen;
 use crate::outgoing::send_queued;
+use crate::traps::Trap;
 use fact_store::ReportFault;
 use smp_bytes::{AttributeId, Lid, Method, Smp, SmpClass};
 use sweep::{Sweep, SweepFault};
@@ -23,7 +24,8 @@ impl Manager {
     /// A reply to the sweep adds its facts, or notes another manager, and queues the next requests. If that ends the
     /// sweep, the state changes by what the sweep saw. An answer to a poll, a control or a step of a writing ends that
     /// request; the last one of a phase queues the next phase. A request for SMInfo is answered, and a control is
-    /// obeyed if the table of states has a move for it. By the live conduct a trap by LIDs is repressed.
+    /// obeyed if the table of states has a move for it. By the live conduct a trap by LIDs is repressed; what it tells
+    /// is returned.
     ///
     /// The work does not grow with what is known, except for searches and, at the end of a sweep, for the managers that
     /// it saw.
@@ -33,11 +35,16 @@ impl Manager {
     /// `Sweep` with the fault of bytes that are not a packet; `Unasked` if the packet answers no request, is not a
     /// request for SMInfo and is not repressed; `Sweep` if the sweep refuses the reply; `SequenceSpent` if no numbers
     /// are left for what goes out; `Memory`.
-    pub fn on_packet(&mut self, bytes: &[u8; 256], from: Option<Lid>) -> Result<(), ManagerFault>
+    pub fn on_packet(
+        &mut self,
+        bytes: &[u8; 256],
+        from: Option<Lid>,
+    ) -> Result<Option<Trap>, ManagerFault>
         requires { HasSender bytes.now from }
         ensures judged { JudgesButFor is_memory result (after_packet self.old bytes.now from).fault }
         ensures ok { OnOk result (self.new ≡ (after_packet self.old bytes.now from).manager) }
         ensures err { OnErr result (self.new ≡ self.old) }
+        ensures trap { IfOk result (λ trap. trap ≡ trap_told self.old bytes.now) }
     {
         let smp = match Smp::parse(bytes) {
             Ok(smp) => smp,
@@ -45,14 +52,39 @@ impl Manager {
                 return Err(ManagerFault::Sweep(SweepFault::Bad(ReportFault::Smp(fault))));
             }
         };
-        if is_info_request(&smp) {
-            self.serve(&smp, from)
-        } else if self.represses(&smp) {
-            self.repress(&smp, from)
-        } else if is_for_sweep(&smp) {
-            self.take_reply(&smp)
+        let trap = self.trap_told(&smp);
+        match self.take(&smp, from) {
+            Ok(()) => Ok(trap),
+            Err(fault) => Err(fault),
+        }
+    }
+
+    /// Handles a packet.
+    fn take(&mut self, smp: &Smp, from: Option<Lid>) -> Result<(), ManagerFault>
+        requires { HasSender smp.now from }
+        ensures judged { JudgesButFor is_memory result (packet_taken self.old smp.now from None).fault }
+        ensures ok { OnOk result (self.new ≡ (packet_taken self.old smp.now from None).manager) }
+        ensures err { OnErr result (self.new ≡ self.old) }
+    {
+        if is_info_request(smp) {
+            self.serve(smp, from)
+        } else if self.represses(smp) {
+            self.repress(smp, from)
+        } else if is_for_sweep(smp) {
+            self.take_reply(smp)
         } else {
-            self.take_answer(&smp)
+            self.take_answer(smp)
+        }
+    }
+
+    /// Returns the trap that the manager represses, if the packet is one.
+    fn trap_told(&self, smp: &Smp) -> Option<Trap>
+        ensures { result ≡ trap_told self.now smp.now }
+    {
+        if !is_info_request(smp) && self.represses(smp) {
+            Some(Trap::of(smp))
+        } else {
+            None
         }
     }
 

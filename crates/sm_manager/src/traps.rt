@@ -1,16 +1,38 @@
 //! The answers to traps.
 ghost use Rattle.std.specs.Prelude.{◌≡◌, Err, OnErr, OnOk};
-ghost use Rattle.sm_manager.specs.Traps.{represses, repress_out, repressing};
+ghost use Rattle.sm_manager.specs.Traps.{represses, repress_out, repressing, trap_in};
 
 use crate::fault::ManagerFault;
 use crate::manager::Manager;
 use crate::outgoing::Outgoing;
+use smp_bytes::wire::u16_at;
 use smp_bytes::{Lid, Method, Smp, SmpClass};
 
 /// The method of a trap, and the one by which it is repressed (management methods).
 const TRAP: Method = Method(0x05);
 
 const TRAP_REPRESS: Method = Method(0x07);
+
+/// The offset of IssuerLID in a packet that carries a Notice (subnet management, Notice).
+const ISSUER_LID: usize = 70;
+
+/// What a trap tells that a manager represses.
+#[derive(Clone, Copy, Debug, PartialEq, Eq)]
+pub struct Trap {
+    /// The LID of the port that issued the notice.
+    pub issuer: Lid,
+}
+
+impl Trap {
+    /// Reads what a trap tells.
+    pub(crate) fn of(smp: &Smp) -> Trap
+        ensures { result ≡ trap_in smp.now }
+    {
+        Trap {
+            issuer: Lid::new(u16_at(smp.bytes(), ISSUER_LID)),
+        }
+    }
+}
 
 impl Manager {
     /// Returns whether a packet is a trap that the manager represses: by the live conduct, one that came by LIDs.

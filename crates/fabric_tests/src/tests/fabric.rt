@@ -77,6 +77,7 @@ fn said(delivered: Result<Delivered, FabricFault>) -> (&'static str, u64) {
             Reason::Down => ("down", 0),
             Reason::Unreadable => ("unreadable", 0),
             Reason::NoRoute => ("no route", 0),
+            Reason::Repress => ("repress", 0),
         },
         Err(_) => ("refused", 0),
     }

@@ -1,7 +1,8 @@
 use Rattle.std.proofs.Common.{◌≡◌, ◌<◌, ◌^◌, List, length, ap, sym, ◌∙◌, subst, rules}
 use Rattle.std.specs.Prelude.{Some, None, slice_get}
 use Rattle.fabric_sim.specs.declared.flight.Flight.{Flight}
-use Rattle.fabric_sim.specs.Simulation.{IsSimulation}
+use Rattle.fabric_sim.specs.Simulation.{Simulation, IsSimulation}
+use Rattle.fabric_sim.specs.Traps.{Traps, no_traps}
 use Rattle.fabric_sim.proofs.Built.{nodes_in_more, all_nodes, all_nodes_are}
 use Rattle.fabric_sim.proofs.build.uncabled.Goals as goal
 
@@ -15,7 +16,7 @@ loop-node-preserved c =
     (search rules) (search rules) (search rules) (search rules)
 
 -- no node is left
-none : (c : goal.After-new-2) → slice_get c.args.topology.now.nodes (length c.loop-node.agents.items) ≡ None
+none : (c : goal.After-none) → slice_get c.args.topology.now.nodes (length c.loop-node.agents.items) ≡ None
 none c =
     let count : c.new.result ≡ length c.loop-node.agents.items = search rules in
     ap (λ n. slice_get c.args.topology.now.nodes n) (sym count) ∙ sym c.in_default.ensures.node
@@ -23,13 +24,25 @@ none c =
 pub invariant_of-result : goal.invariant_of-result
 invariant_of-result c =
     let fits : c.args.first_serial < 2 ^ 64 = search rules in
-    let P : List Flight → Type 0 =
-    λ fs. IsSimulation (record { agents = c.loop-node.agents.items; peers = c.loop-node.peers.items; flights = fs; next = c.args.first_serial }) in
-    subst P (sym c.new-2.ensures.items) (all_nodes_are c.args.topology.now c.loop-node.agents.items c.loop-node.peers.items c.args.first_serial
-    c.loop-node.invariant (none c) fits)
+    let P : List Flight → Traps → Type 0 = λ fs traps. IsSimulation (record {
+      agents = c.loop-node.agents.items;
+      peers = c.loop-node.peers.items;
+      flights = fs;
+      next = c.args.first_serial;
+      traps = traps;
+    }) in
+    subst (P _) (sym c.none.ensures) (subst (λ fs. P fs no_traps) (sym c.new-2.ensures.items)
+    (all_nodes_are c.args.topology.now c.loop-node.agents.items c.loop-node.peers.items c.args.first_serial c.loop-node.invariant (none c) fits))
 
 pub returns-clause-fabric : goal.returns-clause-fabric
 returns-clause-fabric c =
-    ap (λ (fs : List Flight). record { agents = c.loop-node.agents.items; peers = c.loop-node.peers.items; flights = fs; next = c.args.first_serial })
-    c.new-2.ensures.items
+    let made : List Flight → Traps → Simulation = λ fs traps. record {
+      agents = c.loop-node.agents.items;
+      peers = c.loop-node.peers.items;
+      flights = fs;
+      next = c.args.first_serial;
+      traps = traps;
+    } in
+    ap (λ (traps : Traps). made c.new-2.result.items traps) c.none.ensures
+    ∙ ap (λ (fs : List Flight). made fs no_traps) c.new-2.ensures.items
     ∙ all_nodes c.args.topology.now c.loop-node.agents.items c.loop-node.peers.items c.args.first_serial c.loop-node.invariant (none c)

@@ -69,6 +69,7 @@ now_at c id =
       peers = c.self.inside.peers.items;
       flights = c.push_back_reserved.new.self.items;
       next = next_serial c.checked_add-self-inside.result;
+      traps = c.self.inside.traps;
     }
 
 written : (c : goal.After-self-2-1) → ◌≡◌ {A = Simulation}
@@ -78,6 +79,7 @@ written : (c : goal.After-self-2-1) → ◌≡◌ {A = Simulation}
       flights =
           c.push_back_reserved.new.self.items;
       next = next_serial c.checked_add-self-inside.result;
+      traps = c.self.inside.traps;
     })
     (asked c.args.self.now (there c).flight c.args.request.now c.args.slid c.args.dlid)
 written c =
@@ -90,6 +92,7 @@ written c =
       flights = c.self.inside.flights.items;
       next =
           next_serial c.self.inside.next;
+      traps = c.self.inside.traps;
     }) (there c).flight c.args.request.now c.answer-answer.result c.port-at.result c.index_mut-agent.result.now
     c.answer-answer.new.self (port c) (port_there c) read c.answer-answer.ensures.state c.answer-answer.ensures.answer in
     ap (λ (n : ℕ). now_at c n) c.number.ensures

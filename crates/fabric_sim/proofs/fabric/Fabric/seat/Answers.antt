@@ -22,6 +22,7 @@ now_at c id =
       peers = c.self.inside.peers.items;
       flights = c.self.inside.flights.items;
       next = next_serial c.self.inside.next;
+      traps = c.self.inside.traps;
     }
 
 written : (c : goal.After-self-1) → ◌≡◌ {A = Simulation}
@@ -31,6 +32,7 @@ written : (c : goal.After-self-1) → ◌≡◌ {A = Simulation}
       flights =
           c.self.inside.flights.items;
       next = next_serial c.self.inside.next;
+      traps = c.self.inside.traps;
     })
     (changed_at c.args.self.now c.args.at after_set_seat)
 written c =

@@ -74,6 +74,18 @@ returns-in-Plug g c = record {
       (ap (after_command c.args.topology.now.nodes (value_of c.args.self.now)) (sym c.in-Plug.is)) c.plug.ensures.does;
 }
 
+pub returns-in-Traps : goal.returns-in-Traps
+returns-in-Traps g c = record {
+  does = does_same g.W.Sink.written g.W.Sink.has_failed c.args.self.now c.begin_traps.new.self c.begin_traps.result c.args.sink.now
+      c.begin_traps.new.sink _ _ (ap (after_command c.args.topology.now.nodes (value_of c.args.self.now)) (sym c.in-Traps.is)) c.begin_traps.ensures.does;
+}
+
+pub returns-in-Resend : goal.returns-in-Resend
+returns-in-Resend g c = record {
+  does = does_same g.W.Sink.written g.W.Sink.has_failed c.args.self.now c.resend.new.self c.resend.result c.args.sink.now c.resend.new.sink _ _
+      (ap (after_command c.args.topology.now.nodes (value_of c.args.self.now)) (sym c.in-Resend.is)) c.resend.ensures.does;
+}
+
 pub returns-in-Show : goal.returns-in-Show
 returns-in-Show g c = record {
   does = does_same g.W.Sink.written g.W.Sink.has_failed c.args.self.now c.args.self.now c.show.result c.args.sink.now c.show.new.sink _ _

@@ -1,0 +1,39 @@
+-- What switches send: the trap of a change of the state of a link.
+-- InfiniBand Architecture Specification, Volume 1: management methods (Trap, TrapRepress); subnet management, the
+-- attribute Notice, and trap 128.
+use Rattle.std.specs.Prelude.{ℕ, List, [], ◌∷◌, replicate}
+use Rattle.smp_bytes.specs.Field.{Entry, with_numbers}
+use Rattle.smp_bytes.specs.Requests.{lid_routed}
+
+-- methods
+abbrev pub trap : ℕ
+trap = 0x05
+
+abbrev pub trap_repress : ℕ
+trap_repress = 0x07
+
+-- the attribute of a trap
+abbrev pub notice : ℕ
+notice = 0x0002
+
+-- the number of the trap by which a switch tells that the state of a link at one of its ports has changed
+abbrev pub link_state_change : ℕ
+link_state_change = 128
+
+-- what the notice of a switch with this LID says: it is generic and urgent; its producer is a switch; the trap's number;
+-- the LID of the issuer; and in the details the same LID once more
+abbrev pub link_entries : ℕ → List Entry
+link_entries lid =
+    record { field = record { at = 0; len = 1 }; number = 0x81 }
+    ∷ record { field = record { at = 1; len = 3 }; number = 2 }
+    ∷ record { field = record { at = 4; len = 2 }; number = link_state_change }
+    ∷ record { field = record { at = 6; len = 2 }; number = lid }
+    ∷ record { field = record { at = 10; len = 2 }; number = lid } ∷ []
+
+-- the 64 bytes of that notice; all else is 0
+abbrev pub link_notice : ℕ → List ℕ
+link_notice lid = with_numbers (link_entries lid) (replicate 64 0)
+
+-- the trap of a switch with this LID, under a TransactionID
+abbrev pub link_trap : ℕ → ℕ → List ℕ
+link_trap lid number = lid_routed trap notice 0 number (link_notice lid)

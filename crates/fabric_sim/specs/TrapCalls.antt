@@ -1,0 +1,79 @@
+-- What switches tell of changes at their ports: which traps wait, and which are sent.
+use Rattle.std.specs.Prelude.{ℕ, Bool, ◌&&◌, ◌==◌, nat_lt, length, if◌then◌else◌, Option, Some, None, is_some, Ok}
+use Rattle.std.specs.Option.{option_map_or}
+use Rattle.fabric_model.specs.declared.cable.NodePort.{NodePort}
+use Rattle.fabric_model.specs.declared.course.Course.{Course}
+use Rattle.fabric_model.specs.declared.course.Course.TheVariants as course_is
+use Rattle.fabric_model.specs.Fabric.{is_switch_at}
+use Rattle.fabric_model.specs.Forwarding.{course, sent_from}
+use Rattle.node_agents.specs.Agent.{master_sm_lid_at}
+use Rattle.fabric_sim.specs.declared.packet.Packet.{Packet}
+use Rattle.fabric_sim.specs.declared.flight.Whereabouts.TheVariants.{Made}
+use Rattle.fabric_sim.specs.Called.{Called}
+use Rattle.fabric_sim.specs.Traps.{Traps, begun, next_trap, trap_at, with_new_trap}
+use Rattle.fabric_sim.specs.Notices.{link_trap}
+use Rattle.fabric_sim.specs.Simulation.{Simulation, across, agent_at, fabric_of}
+use Rattle.fabric_sim.specs.Delivery.{after_enqueue}
+
+-- the fabric with these traps
+abbrev pub with_traps : Simulation → Traps → Simulation
+with_traps s traps = record s { traps = traps }
+
+-- a call that only lack of memory can refuse
+abbrev pub leaving_just : Simulation → Called (Unit {0})
+leaving_just s = record { fabric = s; result = Ok tt }
+
+-- switches send traps from here on
+abbrev pub after_begin_traps : Simulation → Called (Unit {0})
+after_begin_traps s = leaving_just (with_traps s (begun s.traps (length s.agents)))
+
+-- where a trap goes ------------------------------------------------------------------------------
+
+-- port 0 of a node
+abbrev pub port_zero : ℕ → NodePort
+port_zero id = record { node = id; port = 0 }
+
+-- the LID of the subnet manager that was set at a node's port 0, 0 for none
+abbrev pub master_lid : Simulation → ℕ → ℕ
+master_lid s id = option_map_or (λ a. master_sm_lid_at a 0) (agent_at s id) 0
+
+-- the port by which a packet leaves, if a cable is in it
+abbrev pub cabled_out : Simulation → Course → Option NodePort
+cabled_out s (course_is.LeavesBy out) = if is_some (across s.peers out) then Some out else None
+cabled_out s (course_is.Delivers p) = None
+cabled_out s course_is.Drops = None
+
+-- the port by which a node forwards its trap to the subnet manager, if the node has a LID and a cable is in that port
+abbrev pub trap_out : Simulation → ℕ → Option NodePort
+trap_out s id =
+    if (fabric_of s).base_lid (port_zero id) == 0 then None
+    else cabled_out s (course (fabric_of s) (master_lid s id) (sent_from (port_zero id)))
+
+-- the trap of a node, from its LID to that of the subnet manager
+abbrev pub trap_packet : Simulation → ℕ → ℕ → Packet
+trap_packet s id number =
+    let lid = (fabric_of s).base_lid (port_zero id) in
+    record { bytes = link_trap lid number; slid = lid; dlid = master_lid s id }
+
+-- the trap waits where it leaves; it is not sent if it cannot leave, or no serial number is left
+abbrev pub with_trap_sent : Simulation → ℕ → ℕ → Option NodePort → Simulation
+with_trap_sent s id number None = s
+with_trap_sent s id number (Some out) = (after_enqueue s (Made out) (trap_packet s id number)).fabric
+
+abbrev pub trap_sent : Simulation → ℕ → ℕ → Simulation
+trap_sent s id number = with_trap_sent s id number (trap_out s id)
+
+-- calls ------------------------------------------------------------------------------------------
+
+-- the trap that waits at a node is sent, if one waits there
+unfoldable pub after_send_trap : Simulation → ℕ → Called (Unit {0})
+after_send_trap s id = leaving_just (option_map_or (trap_sent s id) (trap_at s.traps id) s)
+
+-- the node is a switch, and switches send traps
+abbrev pub sends_traps : Simulation → ℕ → Bool
+sends_traps s id = nat_lt id (length s.traps.waiting) && is_switch_at (fabric_of s) id
+
+-- the state of a port of a node has changed: at a switch that sends traps a new trap waits, and is sent
+unfoldable pub after_port_change : Simulation → ℕ → Called (Unit {0})
+after_port_change s id =
+    leaving_just (if sends_traps s id then with_traps (trap_sent s id (next_trap s.traps)) (with_new_trap s.traps id) else s)

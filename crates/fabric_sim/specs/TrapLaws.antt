@@ -1,0 +1,48 @@
+-- What ends a trap that waits at a switch.
+use Rattle.std.specs.Prelude.{◌≡◌, ◌≢◌, ℕ, true, false, is_some, Some, None, Ok}
+use Rattle.fabric_model.specs.declared.cable.NodePort.{NodePort}
+use Rattle.fabric_model.specs.declared.course.Course.TheVariants.{Delivers}
+use Rattle.fabric_model.specs.Fabric.{is_switch_at}
+use Rattle.fabric_model.specs.Forwarding.{course}
+use Rattle.smp_bytes.specs.Field.{number_in}
+use Rattle.smp_bytes.specs.Packet.{fault_of, is_directed, method, transaction_id}
+use Rattle.fabric_sim.specs.declared.delivered.Delivered.{Delivered}
+use Rattle.fabric_sim.specs.declared.delivered.Delivered.TheVariants.{Discarded}
+use Rattle.fabric_sim.specs.declared.delivered.Reason.TheVariants.{Repress}
+use Rattle.fabric_sim.specs.declared.flight.Flight.{Flight}
+use Rattle.fabric_sim.specs.Called.{Called}
+use Rattle.fabric_sim.specs.Delivery.{after_deliver}
+use Rattle.fabric_sim.specs.Notices.{trap_repress}
+use Rattle.fabric_sim.specs.Simulation.{Simulation, IsSimulation, across, fabric_of, flight_with, is_by_wire, port_of}
+use Rattle.fabric_sim.specs.Traps.{trap_at}
+
+-- a packet by LIDs with the method TrapRepress and this TransactionID, at a port with a cable of the switch `id`, which
+-- delivers it to itself
+pub record IsRepress (s : Simulation) (flight : Flight) (id number : ℕ) : Type 0 where
+  pub parses : fault_of flight.packet.bytes ≡ None
+  pub by_lids : is_directed flight.packet.bytes ≡ false
+  pub represses : number_in method flight.packet.bytes ≡ trap_repress
+  pub transaction : number_in transaction_id flight.packet.bytes ≡ number
+  pub node : (port_of flight.whereabouts).node ≡ id
+  pub switch : is_switch_at (fabric_of s) id ≡ true
+  pub cable : is_some (across s.peers (port_of flight.whereabouts)) ≡ true
+  pub end : NodePort
+  pub arrives : course (fabric_of s) flight.packet.dlid (record {
+    at = port_of flight.whereabouts;
+    by_wire =
+        is_by_wire flight.whereabouts;
+  }) ≡ Delivers end
+
+-- a delivery discards the packet, with no answer; the trap with this TransactionID waits at the node no longer, and any
+-- other trap waits as before
+pub record EndsTrap (s : Simulation) (done : Called Delivered) (id number : ℕ) : Type 0 where
+  pub discarded : done.result ≡ Ok (Discarded Repress)
+  pub ended : trap_at s.traps id ≡ Some number → trap_at done.fabric.traps id ≡ None
+  pub newer : trap_at s.traps id ≢ Some number → trap_at done.fabric.traps id ≡ trap_at s.traps id
+  pub others : (other : ℕ) → other ≢ id → trap_at done.fabric.traps other ≡ trap_at s.traps other
+
+-- what represses a trap ends it, once it has come to its switch
+abbrev pub RepressesEndTraps : Type 0
+RepressesEndTraps = (s : Simulation) (serial id number : ℕ) (flight : Flight) → IsSimulation s
+    → flight_with s.flights serial ≡ Some flight → IsRepress s flight id number
+    → EndsTrap s (after_deliver s serial) id number

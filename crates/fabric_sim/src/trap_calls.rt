@@ -1,0 +1,145 @@
+//! What switches tell of changes at their ports.
+ghost use Rattle.std.specs.Prelude.{◌≡◌, ◌<◌, length, true, IfSome};
+ghost use Rattle.fabric_sim.specs.Simulation.{is_cable_port};
+ghost use Rattle.fabric_sim.specs.Called.{ComesTo};
+ghost use Rattle.fabric_sim.specs.TrapCalls.{after_begin_traps, after_port_change, after_send_trap, leaving_just};
+ghost use Rattle.fabric_sim.specs.TrapCalls.{master_lid, port_zero, sends_traps, trap_out, trap_packet, trap_sent};
+ghost use Rattle.fabric_sim.specs.TrapCalls.{with_traps};
+ghost use Rattle.fabric_sim.specs.Traps.{with_new_trap};
+
+use crate::fabric::Fabric;
+use crate::fault::FabricFault;
+use crate::flight::Whereabouts;
+use crate::notice::link_trap;
+use crate::packet::Packet;
+use fabric_model::{Course, NodeId, NodePort};
+use smp_bytes::{Lid, PortNum};
+use std::alloc::Global;
+
+impl Fabric {
+    /// Lets the agents of switches send traps from here on. Takes memory for each node.
+    ///
+    /// # Errors
+    ///
+    /// `Memory`.
+    pub fn begin_traps(&mut self, alloc: Global) -> Result<(), FabricFault>
+        ensures { ComesTo result self.old self.new (after_begin_traps self.old) }
+    {
+        let nodes = self.agents.len();
+        match self.traps.begin(alloc, nodes) {
+            Ok(()) => Ok(()),
+            Err(_) => Err(FabricFault::Memory),
+        }
+    }
+
+    /// Tells the agent of a node that the state of one of its ports has changed. If it is a switch that sends traps, a
+    /// new trap waits there, and is sent.
+    ///
+    /// # Errors
+    ///
+    /// `Memory`.
+    #[tactic(auto, unfolding(crate::specs::TrapCalls::after_port_change))]
+    pub fn tell_port_change(&mut self, node: NodeId) -> Result<(), FabricFault>
+        ensures { ComesTo result self.old self.new (after_port_change self.old node) }
+    {
+        if !self.sends_traps(node) {
+            return Ok(());
+        }
+        let number = self.traps.next();
+        self.send_numbered(node, number)?;
+        self.add_trap(node);
+        Ok(())
+    }
+
+    /// Sends the trap that waits at a node, if one does. It is not sent if the node has no LID, the table leads to no
+    /// cable, or no serial number is left.
+    ///
+    /// # Errors
+    ///
+    /// `Memory`.
+    #[tactic(auto, unfolding(crate::specs::TrapCalls::after_send_trap))]
+    pub fn send_trap(&mut self, node: NodeId) -> Result<(), FabricFault>
+        ensures { ComesTo result self.old self.new (after_send_trap self.old node) }
+    {
+        match self.traps.at(node) {
+            Some(number) => self.send_numbered(node, number),
+            None => Ok(()),
+        }
+    }
+
+    /// Sends the trap with a TransactionID from a node.
+    fn send_numbered(&mut self, node: NodeId, number: u64) -> Result<(), FabricFault>
+        ensures { ComesTo result self.old self.new (leaving_just (trap_sent self.old node number)) }
+    {
+        let Some(out) = self.trap_out(node) else {
+            return Ok(());
+        };
+        let packet = self.trap_packet(node, number);
+        match self.enqueue(Whereabouts::Made(out), packet) {
+            Err(FabricFault::Memory) => Err(FabricFault::Memory),
+            _ => Ok(()),
+        }
+    }
+
+    /// Lets a new trap wait at a node.
+    fn add_trap(&mut self, node: NodeId)
+        requires { node < length self.old.traps.waiting }
+        ensures { self.new ≡ with_traps self.old (with_new_trap self.old.traps node) }
+    {
+        self.traps.add(node);
+    }
+
+    /// Returns whether a node is a switch that sends traps.
+    fn sends_traps(&self, node: NodeId) -> bool
+        ensures { result ≡ sends_traps self.now node }
+    {
+        self.traps.has_room(node) && self.is_switch_at(node)
+    }
+
+    /// Returns the port by which a node's trap leaves. A cable is in it.
+    fn trap_out(&self, node: NodeId) -> Option<NodePort>
+        ensures out { result ≡ trap_out self.now node }
+        ensures port { IfSome result (λ out. is_cable_port self.now out ≡ true) }
+    {
+        let at = port_zero(node);
+        if self.base_lid(&at).number() == 0 {
+            return None;
+        }
+        match self.course(self.master_lid(node), &at, false) {
+            Course::LeavesBy(out) if self.has_cable(&out) => Some(out),
+            _ => None,
+        }
+    }
+
+    /// Returns the packet of a node's trap.
+    fn trap_packet(&self, node: NodeId, number: u64) -> Packet
+        ensures { result ≡ trap_packet self.now node number }
+    {
+        let lid = self.base_lid(&port_zero(node));
+        Packet {
+            bytes: *link_trap(lid, number).bytes(),
+            slid: lid,
+            dlid: self.master_lid(node),
+        }
+    }
+
+    /// Returns the LID of the subnet manager that was set at a node's port 0, 0 for none.
+    fn master_lid(&self, node: NodeId) -> Lid
+        ensures { result ≡ master_lid self.now node }
+    {
+        match self.agent(node) {
+            Some(agent) => agent.master_sm_lid(PortNum::new(0)),
+            None => Lid::NONE,
+        }
+    }
+}
+
+/// Returns port 0 of a node.
+fn port_zero(node: NodeId) -> NodePort
+    ensures { result ≡ port_zero node }
+{
+    NodePort {
+        node,
+        port: PortNum::new(0),
+    }
+}

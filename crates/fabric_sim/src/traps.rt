@@ -1,0 +1,87 @@
+//! The traps that wait at switches.
+ghost use Rattle.std.specs.Prelude.{◌≡◌, ◌<◌, length, nat_lt, OnOk, OnErr};
+ghost use Rattle.fabric_sim.specs.Traps.{begun, next_trap, no_traps, trap_at, with_new_trap, without_trap};
+
+use fabric_model::NodeId;
+use std::alloc::{AllocError, Global};
+use std::marker::Model;
+
+/// For each node the TransactionID of the trap that waits there until it is repressed.
+#[derive(Drop)]
+pub(crate) struct Traps {
+    /// Empty while switches send no traps.
+    waiting: Vec<Option<u64>>,
+    /// The TransactionID of the last trap that began.
+    last: u64,
+}
+
+impl Model for Traps {
+    ghost use Rattle.fabric_sim.specs.Traps.{Traps as TrapsValue};
+
+    ghost Value = { TrapsValue };
+
+    ghost view = { λ t. record { waiting = t.waiting.items; last = t.last } };
+}
+
+impl Traps {
+    /// Creates the traps of switches that send none.
+    pub(crate) fn none(alloc: Global) -> Traps
+        ensures { result ≡ no_traps }
+    {
+        Traps {
+            waiting: Vec::new(alloc),
+            last: 0,
+        }
+    }
+
+    /// Lets switches among so many nodes send traps, if they do not yet.
+    pub(crate) fn begin(&mut self, alloc: Global, nodes: usize) -> Result<(), AllocError>
+        ensures ok { OnOk result (self.new ≡ begun self.old nodes) }
+        ensures err { OnErr result (self.new ≡ self.old) }
+    {
+        if self.waiting.is_empty() {
+            self.waiting = vec![in alloc; None; nodes]?;
+        }
+        Ok(())
+    }
+
+    /// Returns whether there is room for a trap at a node, as there is once switches send traps.
+    pub(crate) fn has_room(&self, node: NodeId) -> bool
+        ensures { result ≡ nat_lt node (length self.now.waiting) }
+    {
+        node.number() < self.waiting.len()
+    }
+
+    /// Returns the TransactionID of the trap that waits at a node.
+    pub(crate) fn at(&self, node: NodeId) -> Option<u64>
+        ensures { result ≡ trap_at self.now node }
+    {
+        self.waiting.get(node.number()).copied().flatten()
+    }
+
+    /// Returns the TransactionID of the next trap.
+    pub(crate) fn next(&self) -> u64
+        ensures { result ≡ next_trap self.now }
+    {
+        self.last.wrapping_add(1)
+    }
+
+    /// Lets a new trap wait at a node, in place of the one before.
+    pub(crate) fn add(&mut self, node: NodeId)
+        requires { node < length self.old.waiting }
+        ensures { self.new ≡ with_new_trap self.old node }
+    {
+        let number = self.next();
+        self.waiting[node.number()] = Some(number);
+        self.last = number;
+    }
+
+    /// Ends the trap with this TransactionID, if it waits at the node.
+    pub(crate) fn repress(&mut self, node: NodeId, number: u64)
+        ensures { self.new ≡ without_trap self.old node number }
+    {
+        if self.at(node) == Some(number) {
+            self.waiting[node.number()] = None;
+        }
+    }
+}
