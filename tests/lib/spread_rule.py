@@ -118,17 +118,17 @@ def weights_of(graph: Graph, levels: dict[int, int]) -> list[int]:
 def numbers_of(
     graph: Graph, leaves: Iterable[int], homes: dict[int, tuple[int, int]], lmc: int
 ) -> dict[int, int]:
-    """Returns the number by which each LID takes its turns: by the place of its switch among the leaf switches, and the
+    """Returns the number by which each LID takes its turns: by the number of its switch among the leaf switches, and the
     port there."""
     def turn(switch: int) -> tuple[float, int]:
         return min((to for _, to in graph[switch]), default=math.inf), switch
 
     in_turn = sorted(turn(leaf) for leaf in leaves)
-    places = {switch: bisect.bisect_left(in_turn, turn(switch)) for switch in graph}
+    leaf_numbers = {switch: bisect.bisect_left(in_turn, turn(switch)) for switch in graph}
     adapters = collections.Counter(home for home, port in set(homes.values()) if port)
     most = max(adapters.values(), default=0)
     return {
-        lid: ((places[home] * most + port) * 2**lmc + lid % 2**lmc) % 65536
+        lid: ((leaf_numbers[home] * most + port) * 2**lmc + lid % 2**lmc) % 65536
         for lid, (home, port) in homes.items()
     }
 

@@ -14,7 +14,7 @@ use Rattle.subnet_view.specs.SwitchEdges.{SwitchEdges}
 use Rattle.subnet_view.specs.Routing.{FollowsRule, IsRouting, Routing}
 use Rattle.lft_blocks.specs.declared.attachment.Attachment.{Attachment}
 use Rattle.lft_blocks.specs.Attachments.{AreWithin, meant}
-use Rattle.lft_blocks.specs.LidNumbers.{Placing, indexed_number, indexed_numbers, number_at, number_of, numbered}
+use Rattle.lft_blocks.specs.LidNumbers.{Numbering, indexed_number, indexed_numbers, number_at, number_of, numbered}
 use Rattle.lft_blocks.specs.TableRows.{attachment_by_index}
 
 -- the position of a switch by its GUID is its index
@@ -22,7 +22,7 @@ pub position_is : (guids : List ℕ) → IsStrictlyIncreasing guids → (i : ℕ
 position_is guids rising = position_at guids
     (λ i j h l e. let less : get_or guids j 0 < get_or guids i 0 = AllPairs-from_increasing guids rising j i 0 l h in absurd (omega (arith, less, e)))
 
-module _ (by : Placing) (guids : List ℕ) (rising : IsStrictlyIncreasing guids) (attachments : List (Option Attachment))
+module _ (by : Numbering) (guids : List ℕ) (rising : IsStrictlyIncreasing guids) (attachments : List (Option Attachment))
     (within : AreWithin (length guids) attachments) where
   by_either : (lid : ℕ) (attachment : Option Attachment) → MatchOption attachment (Unit {0}) (λ h. h.switch < length guids)
       → option_map_or (λ h. number_at by h.switch h.port lid) attachment 0

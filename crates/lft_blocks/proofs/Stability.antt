@@ -11,7 +11,7 @@ use Rattle.lid_assign.specs.Lids.{lids, owner_of, top_of}
 use Rattle.lid_assign.proofs.Staying.{same_but_claims, lids_settle}
 use Rattle.subnet_view.specs.Graph.{edge_at, graph_of, guids_of}
 use Rattle.spread_labels.specs.Levels.{greatest}
-use Rattle.spread_routes.specs.LeafPlaces.{leaf_places}
+use Rattle.spread_routes.specs.LeafNumbers.{leaf_numbers}
 use Rattle.spread_routes.specs.LeafSwitches.{adapters_at, leaf_switches_of, is_leaf, has_adapter_at, most_adapters}
 use Rattle.lft_blocks.specs.LidNumbers.{lid_numbers, number_of, numbered}
 use Rattle.lft_blocks.specs.Rules.{RuleValue}
@@ -49,7 +49,7 @@ module _ (x y : Facts) (same : (key : Key) → is_claim key ≡ false → cell_f
   numbers_same : (lmc : ℕ) → lids lmc (cells_of x) ≡ lids lmc (cells_of y)
       → lid_numbers lmc (cells_of x) (lids lmc (cells_of x)) ≡ lid_numbers lmc (cells_of y) (lids lmc (cells_of y))
   numbers_same lmc given =
-      λ i. number_of (record { lmc = lmc; places = leaf_places (graph_same i) (leaf_switches_same i); most = most_same i }) (guids_of (graph_same i))
+      λ i. number_of (record { lmc = lmc; leaf_numbers = leaf_numbers (graph_same i) (leaf_switches_same i); most = most_same i }) (guids_of (graph_same i))
       (λ lid. option_and_then (λ e. attachment_same e i) (owner_of (given i) lid))
 
   plan_same : (rule : RuleValue) (lmc : ℕ) → lids lmc (cells_of x) ≡ lids lmc (cells_of y) → plan_of rule lmc (cells_of x) ≡ plan_of rule lmc (cells_of y)

@@ -8,50 +8,50 @@ use Rattle.subnet_view.specs.Graph.{graph_of, guids_of}
 use Rattle.subnet_view.specs.Reading.{Cells}
 use Rattle.subnet_view.specs.Routing.{Routing}
 use Rattle.lid_assign.specs.Lids.{Given}
-use Rattle.spread_routes.specs.LeafPlaces.{leaf_places}
+use Rattle.spread_routes.specs.LeafNumbers.{leaf_numbers}
 use Rattle.spread_routes.specs.LeafSwitches.{leaf_switches_of, most_adapters}
 use Rattle.lft_blocks.specs.declared.attachment.Attachment.{Attachment}
 use Rattle.lft_blocks.specs.Entries.{attachment_of_lid}
 
--- what the numbers of LIDs follow from: the LMC, the place of each switch among the leaf switches, by index, and the
--- most adapter ports that are wired to one switch
-pub record Placing : Type 0 where
+-- what the numbers of LIDs follow from: the LMC, the number of each switch among the leaf switches, by index, and
+-- the most adapter ports that are wired to one switch
+pub record Numbering : Type 0 where
   pub lmc : ℕ
-  pub places : List ℕ
+  pub leaf_numbers : List ℕ
   pub most : ℕ
 
--- the number of a LID that is attached at a port of the switch at an index, counted round at 2^16: each place has as
--- many ports as the most adapters take, and each port as many numbers as it has LIDs
-abbrev pub number_at : Placing → ℕ → ℕ → ℕ → ℕ
+-- the number of a LID that is attached at a port of the switch at an index, counted round at 2^16: each leaf switch
+-- has as many ports as the most adapters take, and each port as many numbers as it has LIDs
+abbrev pub number_at : Numbering → ℕ → ℕ → ℕ → ℕ
 number_at by switch port lid =
-    ((slice_index by.places switch * by.most + port) * 2 ^ by.lmc + lid % 2 ^ by.lmc) % 2 ^ 16
+    ((slice_index by.leaf_numbers switch * by.most + port) * 2 ^ by.lmc + lid % 2 ^ by.lmc) % 2 ^ 16
 
 -- the number of a LID, 0 if it has no attachment, given the switches and the attachments
-abbrev pub number_of : Placing → List ℕ → (ℕ → Option (ℕ × ℕ)) → ℕ → ℕ
+abbrev pub number_of : Numbering → List ℕ → (ℕ → Option (ℕ × ℕ)) → ℕ → ℕ
 number_of by guids attachments lid =
     option_map_or (λ a. number_at by (position_of guids a.0) a.1 lid) (attachments lid) 0
 
 -- the number of a LID, given the attachments by index
-abbrev pub indexed_number : Placing → List (Option Attachment) → ℕ → ℕ
+abbrev pub indexed_number : Numbering → List (Option Attachment) → ℕ → ℕ
 indexed_number by attachments lid =
     option_map_or (λ h. number_at by h.switch h.port lid) (slice_index_or attachments lid None) 0
 
 -- the numbers of the LIDs that have an entry
-abbrev pub indexed_numbers : Placing → List (Option Attachment) → List ℕ
+abbrev pub indexed_numbers : Numbering → List (Option Attachment) → List ℕ
 indexed_numbers by attachments = map (indexed_number by attachments) (range_with_len 0 (length attachments))
 
 -- what the numbers of a view's LIDs follow from
-abbrev pub placing_of : ℕ → Cells → Placing
-placing_of lmc cells = record {
+abbrev pub numbering_of : ℕ → Cells → Numbering
+numbering_of lmc cells = record {
   lmc = lmc;
-  places = leaf_places (graph_of cells) (leaf_switches_of cells);
+  leaf_numbers = leaf_numbers (graph_of cells) (leaf_switches_of cells);
   most = most_adapters cells;
 }
 
 -- the number of each LID of a view, if end ports have these LIDs
 abbrev pub lid_numbers : ℕ → Cells → Given → ℕ → ℕ
 lid_numbers lmc cells given =
-    number_of (placing_of lmc cells) (guids_of (graph_of cells)) (attachment_of_lid cells given)
+    number_of (numbering_of lmc cells) (guids_of (graph_of cells)) (attachment_of_lid cells given)
 
 -- the rule by which each LID goes as its number does
 abbrev pub numbered : (ℕ → ℕ) → Routing → Routing

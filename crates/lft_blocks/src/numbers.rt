@@ -4,59 +4,63 @@ ghost use Rattle.fact_store.specs.View.{cells_of};
 ghost use Rattle.subnet_view.specs.Graph.{graph_of};
 ghost use Rattle.spread_routes.specs.LeafSwitches.{leaf_switches_of};
 ghost use Rattle.lft_blocks.specs.Attachments.{AreWithin};
-ghost use Rattle.lft_blocks.specs.LidNumbers.{indexed_number, indexed_numbers, number_at, placing_of};
+ghost use Rattle.lft_blocks.specs.LidNumbers.{indexed_number, indexed_numbers, number_at, numbering_of};
 
 use crate::attachment::Attachment;
 use attr_codec::Lmc;
 use smp_bytes::Guid;
-use spread_routes::{leaf_places, most_adapters};
+use spread_routes::{leaf_numbers, most_adapters};
 use std::alloc::{AllocError, Global};
 use std::marker::Model;
 use subnet_view::{SwitchGraph, Wires};
 
 /// What the numbers of LIDs follow from.
 #[derive(Drop)]
-pub(crate) struct Placing {
+pub(crate) struct Numbering {
     pub(crate) lmc: Lmc,
-    /// The place of each switch among the leaf switches, by rising GUID.
-    pub(crate) places: Vec<u16>,
+    /// The number of each switch among the leaf switches, by rising GUID.
+    pub(crate) leaf_numbers: Vec<u16>,
     /// The most adapter ports that are wired to one switch.
     pub(crate) most: u16,
 }
 
-impl Model for Placing {
-    ghost use Rattle.lft_blocks.specs.LidNumbers.{Placing};
+impl Model for Numbering {
+    ghost use Rattle.lft_blocks.specs.LidNumbers.{Numbering};
 
-    ghost Value = { Placing };
+    ghost Value = { Numbering };
 
-    ghost view = { λ a. record { lmc = a.lmc; places = a.places.items; most = a.most } };
+    ghost view = { λ a. record { lmc = a.lmc; leaf_numbers = a.leaf_numbers.items; most = a.most } };
 }
 
 /// Finds what the numbers of LIDs follow from, given the leaf switches. Takes two searches for each port of a switch, and
-/// what places take.
-pub(crate) fn place_lids(
+/// what the numbers of leaf switches take.
+pub(crate) fn find_numbering(
     alloc: Global,
     wires: &Wires,
     graph: &SwitchGraph,
     leaves: &[Guid],
     lmc: Lmc,
-) -> Result<Placing, AllocError>
+) -> Result<Numbering, AllocError>
     requires graph { graph.now ≡ graph_of (cells_of wires.now) }
     requires leaves { leaves.now ≡ leaf_switches_of (cells_of wires.now) }
-    ensures { IfOk result (λ placing. placing ≡ placing_of lmc (cells_of wires.now)) }
+    ensures { IfOk result (λ numbering. numbering ≡ numbering_of lmc (cells_of wires.now)) }
 {
     let most = most_adapters(wires, graph.switches());
-    let places = leaf_places(alloc, graph, leaves)?;
-    Ok(Placing { lmc, places, most })
+    let leaf_numbers = leaf_numbers(alloc, graph, leaves)?;
+    Ok(Numbering {
+        lmc,
+        leaf_numbers,
+        most,
+    })
 }
 
 /// Returns the number of each LID that has an entry, at the LID: 0 if it has no attachment.
 pub(crate) fn lid_numbers(
     alloc: Global,
-    by: &Placing,
+    by: &Numbering,
     attachments: &[Option<Attachment>],
 ) -> Result<Vec<u16>, AllocError>
-    requires { AreWithin (length by.now.places) attachments.now }
+    requires { AreWithin (length by.now.leaf_numbers) attachments.now }
     ensures { IfOk result (λ numbers. numbers.items ≡ indexed_numbers by.now attachments.now) }
 {
     let mut numbers = Vec::with_capacity(alloc, attachments.len())?;
@@ -67,8 +71,8 @@ pub(crate) fn lid_numbers(
 }
 
 /// Returns the number of a LID, 0 if it has no attachment.
-fn number_of(by: &Placing, attachments: &[Option<Attachment>], lid: usize) -> u16
-    requires { AreWithin (length by.now.places) attachments.now }
+fn number_of(by: &Numbering, attachments: &[Option<Attachment>], lid: usize) -> u16
+    requires { AreWithin (length by.now.leaf_numbers) attachments.now }
     ensures { result ≡ indexed_number by.now attachments.now lid }
 {
     match attachments.get(lid).copied().flatten() {
@@ -78,12 +82,12 @@ fn number_of(by: &Placing, attachments: &[Option<Attachment>], lid: usize) -> u1
 }
 
 /// Returns the number of a LID with this attachment, counted round at 2^16.
-fn number_at(by: &Placing, attachment: Attachment, lid: usize) -> u16
-    requires { attachment.switch < length by.now.places }
+fn number_at(by: &Numbering, attachment: Attachment, lid: usize) -> u16
+    requires { attachment.switch < length by.now.leaf_numbers }
     ensures { result ≡ number_at by.now attachment.switch attachment.port lid }
 {
     let width = usize::from(by.lmc.width());
-    let place = usize::from(by.places[attachment.switch]);
-    let port = place * usize::from(by.most) + usize::from(attachment.port.number());
+    let leaf = usize::from(by.leaf_numbers[attachment.switch]);
+    let port = leaf * usize::from(by.most) + usize::from(attachment.port.number());
     ((port * width + lid % width) % 65536) as u16
 }

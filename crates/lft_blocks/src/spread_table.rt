@@ -8,12 +8,12 @@ ghost use Rattle.spread_routes.specs.Spread.{spread_at, spread_by};
 ghost use Rattle.spread_routes.specs.SwitchOrders.{order_value_of};
 ghost use Rattle.spread_routes.specs.Tables.{AreTowards};
 ghost use Rattle.lft_blocks.specs.Attachments.{AreWithin};
-ghost use Rattle.lft_blocks.specs.LidNumbers.{number_of, numbered, placing_of};
+ghost use Rattle.lft_blocks.specs.LidNumbers.{number_of, numbered, numbering_of};
 ghost use Rattle.lft_blocks.specs.Plan.{tables_of};
 ghost use Rattle.lft_blocks.specs.TableRows.{AreLidsAt, AreRows, IsRow, attachment_by_index, table_of_row};
 
 use crate::attachment::Attachment;
-use crate::numbers::{lid_numbers, place_lids};
+use crate::numbers::{find_numbering, lid_numbers};
 use crate::table::Table;
 use crate::table_row::{TableRow, lids_by_switch};
 use attr_codec::Lmc;
@@ -39,15 +39,15 @@ pub(crate) fn spread_tables(
     requires all { length attachments.now ≡ 64 * count }
     ensures { IfOk result (λ tables. tables.items ≡ tables_of
         (attachment_by_index (guids_of graph.now) attachments.now)
-        (numbered (number_of (placing_of lmc (cells_of wires.now)) (guids_of graph.now)
+        (numbered (number_of (numbering_of lmc (cells_of wires.now)) (guids_of graph.now)
         (attachment_by_index (guids_of graph.now) attachments.now))
         (spread_by graph.now (leaf_switches_of (cells_of wires.now)) (order_value_of order.now))).next
         count (guids_of graph.now)) }
 {
     let guids = graph.switches();
     let leaves = leaf_switches(alloc, wires, guids)?;
-    let placing = place_lids(alloc, wires, graph, &leaves, lmc)?;
-    let numbers = lid_numbers(alloc, &placing, attachments)?;
+    let numbering = find_numbering(alloc, wires, graph, &leaves, lmc)?;
+    let numbers = lid_numbers(alloc, &numbering, attachments)?;
     let spread = Spread::of(alloc, graph, &leaves, order)?;
     let mut rows = rows(alloc, &spread, attachments, &numbers, guids.len())?;
     tables_of(alloc, guids, &mut rows, count)

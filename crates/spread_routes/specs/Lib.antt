@@ -2,6 +2,6 @@ pub mod Rule
 pub mod LeafSwitches
 pub mod SwitchOrders
 pub mod Spread
-pub mod LeafPlaces
+pub mod LeafNumbers
 pub mod Tables
 pub mod RoundRobins

@@ -4,17 +4,17 @@
 mod exits;
 mod index;
 pub mod laws;
+mod leaf_order;
 mod leaves;
 mod lid_digit;
-mod places;
 mod round_robin;
 mod spread;
 mod switch_keys;
 mod switch_order;
 
 pub use exits::Exits;
+pub use leaf_order::leaf_numbers;
 pub use leaves::{leaf_switches, most_adapters};
-pub use places::leaf_places;
 pub use spread::{Spread, Towards};
 pub use switch_keys::switches_in_order;
 pub use switch_order::SwitchOrder;

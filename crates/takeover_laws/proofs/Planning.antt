@@ -28,7 +28,7 @@ use Rattle.lft_blocks.specs.Plan.{tables_of, plan_of}
 use Rattle.takeover_laws.specs.Alike.{IsAlike, ClaimAlike, AlikeViewsPlanAlike, ClaimedPlansStay}
 use Rattle.takeover_laws.proofs.Alike.{map_same, filter_same, end_ports_same, switches_same, usable_same, across_same, room_same}
 use Rattle.spread_labels.specs.Levels.{greatest}
-use Rattle.spread_routes.specs.LeafPlaces.{leaf_places}
+use Rattle.spread_routes.specs.LeafNumbers.{leaf_numbers}
 use Rattle.lft_blocks.specs.LidNumbers.{lid_numbers, number_of, numbered}
 
 -- readings by which switches are usable, and by wires ----------------------------------------------
@@ -133,7 +133,7 @@ module _ (x y : Facts) (alike : IsAlike (cells_of x) (cells_of y)) where
   numbers_same : (lmc : ℕ) → lids lmc (cells_of x) ≡ lids lmc (cells_of y)
       → lid_numbers lmc (cells_of x) (lids lmc (cells_of x)) ≡ lid_numbers lmc (cells_of y) (lids lmc (cells_of y))
   numbers_same lmc given =
-      λ i. number_of (record { lmc = lmc; places = leaf_places (graph_same i) (leaf_switches_same i); most = most_same i }) (guids_of (graph_same i))
+      λ i. number_of (record { lmc = lmc; leaf_numbers = leaf_numbers (graph_same i) (leaf_switches_same i); most = most_same i }) (guids_of (graph_same i))
       (λ lid. option_and_then (λ e. home_same e i) (owner_of (given i) lid))
 
   plan_same : (rule : RuleValue) (lmc : ℕ) → lids lmc (cells_of x) ≡ lids lmc (cells_of y) → plan_of rule lmc (cells_of x) ≡ plan_of rule lmc (cells_of y)

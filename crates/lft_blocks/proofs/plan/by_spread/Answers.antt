@@ -11,7 +11,7 @@ use Rattle.spread_routes.specs.SwitchOrders.{order_value_of}
 use Rattle.lft_blocks.specs.declared.attachment.Attachment.{Attachment}
 use Rattle.lft_blocks.specs.Entries.{attachment_of_lid, block_count}
 use Rattle.lft_blocks.specs.Attachments.{AreIndexed}
-use Rattle.lft_blocks.specs.LidNumbers.{number_of, numbered, placing_of}
+use Rattle.lft_blocks.specs.LidNumbers.{number_of, numbered, numbering_of}
 use Rattle.lft_blocks.specs.Plan.{tables_of}
 use Rattle.lft_blocks.proofs.RowSteps.{same_attachments}
 use Rattle.lft_blocks.proofs.plan.by_spread.Goals as goal
@@ -35,5 +35,5 @@ returns-clause-tables c =
     c.in_ok-tables.ensures
     ∙ (λ i. tables_of (same_attachments (guids_of graph) attachments c.deref.result.now are i)
     (numbered
-    (number_of (placing_of c.args.lmc cells) (guids_of (c.in_ok-graph.ensures i)) (same_attachments (guids_of graph) attachments c.deref.result.now are i))
+    (number_of (numbering_of c.args.lmc cells) (guids_of (c.in_ok-graph.ensures i)) (same_attachments (guids_of graph) attachments c.deref.result.now are i))
     (spread_by (c.in_ok-graph.ensures i) leaves (order_value_of c.args.order.now))).next (counted i) (guids i))

@@ -9,13 +9,13 @@ use Rattle.spread_labels.proofs.Numbers.{numbers_long}
 use Rattle.subnet_view.specs.SwitchEdges.{SwitchEdges}
 use Rattle.subnet_view.specs.Graph.{guids_of}
 use Rattle.subnet_view.proofs.GraphSwitches.{graph_guids, switches_rise}
-use Rattle.spread_routes.specs.LeafPlaces.{leaf_place, leaf_places, least_neighbours}
+use Rattle.spread_routes.specs.LeafNumbers.{leaf_number, leaf_numbers, least_neighbours}
 use Rattle.spread_routes.specs.LeafSwitches.{leaf_switches_of}
 use Rattle.spread_routes.specs.Rule.{by_index}
 use Rattle.spread_routes.specs.Spread.{Grading, grading_of, indices_of, spread_at, spread_by}
 use Rattle.spread_routes.specs.SwitchOrders.{order_value_of}
 use Rattle.lft_blocks.specs.Attachments.{AreWithin}
-use Rattle.lft_blocks.specs.LidNumbers.{Placing, indexed_number, indexed_numbers, number_of, numbered, placing_of}
+use Rattle.lft_blocks.specs.LidNumbers.{Numbering, indexed_number, indexed_numbers, number_of, numbered, numbering_of}
 use Rattle.lft_blocks.specs.Plan.{SwitchTable}
 use Rattle.lft_blocks.specs.TableRows.{AreRows, attachment_by_index, table_of_row}
 use Rattle.lft_blocks.proofs.LidNumbers.{number_same}
@@ -25,26 +25,26 @@ use Rattle.lft_blocks.proofs.spread_table.spread_tables.Goals as goal
 pub leaf_switches-requires : goal.leaf_switches-requires
 leaf_switches-requires c = c.switches-guids.ensures ∙ ap guids_of c.requires.graph ∙ graph_guids (cells_of c.args.wires.now)
 
-pub place_lids-requires-clause-leaves : goal.place_lids-requires-clause-leaves
-place_lids-requires-clause-leaves c = c.deref.ensures.value ∙ c.in_ok-leaves.ensures
+pub find_numbering-requires-clause-leaves : goal.find_numbering-requires-clause-leaves
+find_numbering-requires-clause-leaves c = c.deref.ensures.value ∙ c.in_ok-leaves.ensures
 
--- each switch has a place
-places_long : (graph : List SwitchEdges) (leaves : List ℕ) → length (guids_of graph) ≡ length (leaf_places graph leaves)
-places_long graph leaves =
+-- each switch has one
+numbers_of_leaves_long : (graph : List SwitchEdges) (leaves : List ℕ) → length (guids_of graph) ≡ length (leaf_numbers graph leaves)
+numbers_of_leaves_long graph leaves =
     length-map graph (λ (s : SwitchEdges). s.guid)
-    ∙ sym (numbers_long (leaf_place (least_neighbours (by_index graph)) (indices_of graph leaves)) 0 (length graph))
+    ∙ sym (numbers_long (leaf_number (least_neighbours (by_index graph)) (indices_of graph leaves)) 0 (length graph))
 
 pub lid_numbers-requires : goal.lid_numbers-requires
 lid_numbers-requires c =
     let cells = cells_of c.args.wires.now in
-    let long = places_long c.args.graph.now (leaf_switches_of cells) ∙ (λ i. length (leaf_places (c.requires.graph i) (leaf_switches_of cells)))
-    ∙ ap (λ (p : Placing). length p.places) (sym c.in_ok-placing.ensures) in
+    let long = numbers_of_leaves_long c.args.graph.now (leaf_switches_of cells) ∙ (λ i. length (leaf_numbers (c.requires.graph i) (leaf_switches_of cells)))
+    ∙ ap (λ (p : Numbering). length p.leaf_numbers) (sym c.in_ok-numbering.ensures) in
     subst (λ (n : ℕ). AreWithin n c.args.attachments.now) long c.requires.within
 
 pub rows-requires-clause-numbers : goal.rows-requires-clause-numbers
 rows-requires-clause-numbers c =
     ap length (c.deref-3.ensures.value ∙ c.in_ok-numbers.ensures)
-    ∙ length-map-range_with_len (indexed_number c.in_ok-placing.placing c.args.attachments.now) 0 (length c.args.attachments.now)
+    ∙ length-map-range_with_len (indexed_number c.in_ok-numbering.numbering c.args.attachments.now) 0 (length c.args.attachments.now)
 
 pub returns : goal.returns
 unfolding spread_by
@@ -63,11 +63,11 @@ returns c =
     c.in_ok-spread.ensures ∙ ap (λ (xs : List ℕ). grading_of graph xs order) (c.deref-2.ensures.value ∙ c.in_ok-leaves.ensures) in
     let rising : IsStrictlyIncreasing guids =
     subst (λ (g : List SwitchEdges). IsStrictlyIncreasing (guids_of g)) (sym c.requires.graph) (switches_rise c.args.wires.now) in
-    let placing = placing_of c.args.lmc (cells_of c.args.wires.now) in
-    let same : (lid : ℕ) → get_or c.deref-3.result.now lid 0 ≡ number_of placing guids (attachment_by_index guids attachments) lid =
-    number_same placing guids rising attachments c.requires.within c.deref-3.result.now (c.deref-3.ensures.value ∙ c.in_ok-numbers.ensures
-    ∙ ap (λ p. indexed_numbers p attachments) c.in_ok-placing.ensures) in
-    let number : ℕ → ℕ = number_of placing guids (attachment_by_index guids attachments) in
+    let numbering = numbering_of c.args.lmc (cells_of c.args.wires.now) in
+    let same : (lid : ℕ) → get_or c.deref-3.result.now lid 0 ≡ number_of numbering guids (attachment_by_index guids attachments) lid =
+    number_same numbering guids rising attachments c.requires.within c.deref-3.result.now (c.deref-3.ensures.value ∙ c.in_ok-numbers.ensures
+    ∙ ap (λ p. indexed_numbers p attachments) c.in_ok-numbering.ensures) in
+    let number : ℕ → ℕ = number_of numbering guids (attachment_by_index guids attachments) in
     let next = (numbered number (spread_at by)).next in
     let are : AreRows next guids attachments (length guids) rows =
     subst (λ (x : Grading × (ℕ × (ℕ → ℕ))). AreRows (numbered x.1.1 (spread_at x.0)).next (guids_of x.0.graph) attachments x.1.0 rows)

@@ -1,7 +1,7 @@
 //! The order of leaf switches in which LIDs take their turns.
 ghost use Rattle.std.specs.Prelude.{◌≡◌, ◌<◌, All, IfOk, filter, length};
 ghost use Rattle.spread_routes.specs.Spread.{indices_of};
-ghost use Rattle.spread_routes.specs.LeafPlaces.{goes_first, leaf_place, leaf_places, least_head, least_neighbours};
+ghost use Rattle.spread_routes.specs.LeafNumbers.{goes_first, leaf_number, leaf_numbers, least_head, least_neighbours};
 
 use crate::index::indices;
 use port_graph::{Adjacency, Edge};
@@ -9,31 +9,31 @@ use smp_bytes::Guid;
 use std::alloc::{AllocError, Global};
 use subnet_view::SwitchGraph;
 
-/// Returns the place of each switch among the leaf switches, by rising GUID, counted round at 2^16. Leaf switches with a
+/// Returns the number of each switch among the leaf switches, by rising GUID, counted round at 2^16. Leaf switches with a
 /// common least neighbour come one after the other. Takes a search for each leaf switch, and as many steps for each
 /// switch as there are leaf switches.
-pub fn leaf_places(
+pub fn leaf_numbers(
     alloc: Global,
     graph: &SwitchGraph,
     leaves: &[Guid],
 ) -> Result<Vec<u16>, AllocError>
-    ensures { IfOk result (λ places. places.items ≡ leaf_places graph.now leaves.now) }
+    ensures { IfOk result (λ numbers. numbers.items ≡ leaf_numbers graph.now leaves.now) }
 {
     let edges = graph.adjacency();
     let neighbours = least_neighbours(alloc, edges)?;
     let leaves = indices(alloc, graph, leaves)?;
-    let mut places = Vec::with_capacity(alloc, graph.len())?;
+    let mut numbers = Vec::with_capacity(alloc, graph.len())?;
     for index in 0..graph.len() {
-        places.push(leaf_place(&neighbours, &leaves, index))?;
+        numbers.push(leaf_number(&neighbours, &leaves, index))?;
     }
-    Ok(places)
+    Ok(numbers)
 }
 
-/// Returns the place of the vertex `index`: how many leaf vertices come before it, counted round at 2^16.
-fn leaf_place(neighbours: &[usize], leaves: &[usize], index: usize) -> u16
+/// Returns the leaf number of the vertex `index`: how many leaf vertices come before it, counted round at 2^16.
+fn leaf_number(neighbours: &[usize], leaves: &[usize], index: usize) -> u16
     requires index { index < length neighbours.now }
     requires leaves { All (λ leaf. leaf < length neighbours.now) leaves.now }
-    ensures { result ≡ leaf_place neighbours.now leaves.now index }
+    ensures { result ≡ leaf_number neighbours.now leaves.now index }
 {
     (count_before(neighbours, leaves, index) % 65536) as u16
 }

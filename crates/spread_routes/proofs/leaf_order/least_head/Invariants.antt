@@ -1,6 +1,6 @@
 use Rattle.std.proofs.Common.{◌≡◌, drop}
-use Rattle.spread_routes.specs.LeafPlaces.{least_head}
-use Rattle.spread_routes.proofs.places.least_head.Given as goal
+use Rattle.spread_routes.specs.LeafNumbers.{least_head}
+use Rattle.spread_routes.proofs.leaf_order.least_head.Given as goal
 
 -- the edges that are left do the rest
 abbrev pub invariant-loop-edge : goal.invariant-loop-edge

@@ -26,11 +26,11 @@ goes_first neighbours a b =
     nat_lt (slice_index neighbours a) (slice_index neighbours b)
     || (slice_index neighbours a == slice_index neighbours b && nat_lt a b)
 
--- the place of vertex s: how many leaf vertices come before it, counted round at 2^16
-abbrev pub leaf_place : List ℕ → List ℕ → ℕ → ℕ
-leaf_place neighbours leaves s = length (filter (λ leaf. goes_first neighbours leaf s) leaves) % 2 ^ 16
+-- the leaf number of vertex s: how many leaf vertices come before it, counted round at 2^16
+abbrev pub leaf_number : List ℕ → List ℕ → ℕ → ℕ
+leaf_number neighbours leaves s = length (filter (λ leaf. goes_first neighbours leaf s) leaves) % 2 ^ 16
 
--- the place of each switch, by rising GUID
-abbrev pub leaf_places : List SwitchEdges → List ℕ → List ℕ
-leaf_places graph leaves =
-    map (leaf_place (least_neighbours (by_index graph)) (indices_of graph leaves)) (numbers_from 0 (length graph))
+-- the leaf number of each switch, by rising GUID
+abbrev pub leaf_numbers : List SwitchEdges → List ℕ → List ℕ
+leaf_numbers graph leaves =
+    map (leaf_number (least_neighbours (by_index graph)) (indices_of graph leaves)) (numbers_from 0 (length graph))
