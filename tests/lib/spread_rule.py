@@ -118,8 +118,8 @@ def weights_of(graph: Graph, levels: dict[int, int]) -> list[int]:
 def numbers_of(
     graph: Graph, leaves: Iterable[int], homes: dict[int, tuple[int, int]], lmc: int
 ) -> dict[int, int]:
-    """Returns the number by which each LID takes its turns: by the number of its switch among the leaf switches, and the
-    port there."""
+    """Returns the number by which each LID takes its turns: by the number of its switch among the leaf switches, and
+    the port there."""
     def turn(switch: int) -> tuple[float, int]:
         return min((to for _, to in graph[switch]), default=math.inf), switch
 
