@@ -1,8 +1,9 @@
 -- What labels bring.
-use Rattle.std.proofs.Common.{◌≡◌, ◌≢◌, ◌⊎◌, ◌∙◌, ◌<◌, ◌≤◌, ◌&&◌, ◌||◌, ◌==◌, ℕ, zero, suc, Bool, true, false, cond, not, List, [], ◌∷◌, length, Option, None, Some, refl, sym, ap, subst, arith, inl, inr}
-use Rattle.std.specs.Prelude.{Contains, nat_lt, slice_get, slice_index_or, slice_set}
+use Rattle.std.proofs.Common.{◌≡◌, ◌⊎◌, ◌∙◌, ◌<◌, ◌&&◌, ◌||◌, ℕ, zero, suc, Bool, true, false, cond, not, List, [], ◌∷◌, length, Option, None, Some}
+use Rattle.std.proofs.Common.{refl, sym, ap, subst, arith, inl, inr}
+use Rattle.std.specs.Prelude.{Contains, slice_get, slice_set}
 use Rattle.std.specs.List.{list_any}
-use Rattle.std.proofs.lemmas.Bool.{and_parts, cases_eq, ltb-true, eqb-true, le-ltb}
+use Rattle.std.proofs.lemmas.Bool.{and_parts, cases_eq, ltb-true, le-ltb}
 use Rattle.std.proofs.lemmas.List.{get_or-set_other, get_or-set_same}
 use Rattle.std.proofs.lemmas.Option.{same_Some}
 use Rattle.port_graph.proofs.WalkLemmas.{list_any_found}
@@ -10,8 +11,9 @@ use Rattle.port_graph.specs.declared.edge.Edge.{Edge}
 use Rattle.port_graph.specs.Heads.{edges_at}
 use Rattle.two_orders.specs.declared.labels.Sides.{Sides}
 use Rattle.two_orders.specs.Growth.{number_at}
-use Rattle.two_orders.specs.LabelLaws.{GoesOn, LabelledGoOn, LabelsTurnWell, turns_up}
-use Rattle.two_orders.specs.Labels.{all_labelled, both_down, both_up, first_goes_up, gets_label, goes_on, is_open, is_side, label_at, labelled, labels_from, leads, leads_on, may_follow, second_goes_up}
+use Rattle.two_orders.specs.LabelLaws.{LabelledGoOn, LabelsTurnWell, turns_up}
+use Rattle.two_orders.specs.Labels.{all_labelled, both_down, both_up, first_goes_up, gets_label, goes_on, is_open, is_side, label_at, labelled}
+use Rattle.two_orders.specs.Labels.{labels_from, leads, leads_on, may_follow, second_goes_up}
 use Rattle.two_orders.specs.Trees.{is_earlier}
 use Rattle.two_orders.specs.TwoOrders.{TwoOrders}
 
@@ -73,7 +75,8 @@ module _ (edges : List (List Edge)) (orders : TwoOrders) (sides : Sides) where
       elim (gets_label edges orders sides labels v) as (λ b. gets_label edges orders sides labels v ≡ b
       → label_at (cond b (slice_set labels v (Some sides)) labels) i ≡ Some label) [
         | true ↦ λ e.
-            let none = (open_none labels v (and_parts (is_open (slice_get labels v)) (list_any (λ x. leads_on orders labels sides v x.to) (edges_at edges v)) e).0).0 in
+            let parts = and_parts (is_open (slice_get labels v)) (list_any (λ x. leads_on orders labels sides v x.to) (edges_at edges v)) e in
+            let none = (open_none labels v parts.0).0 in
             let differs : i ≡ v → ⊥ = λ same. let at = ap (label_at labels) same in absurd (cc) in
             get_or-set_other labels v i (Some sides) None differs ∙ h
         | false ↦ λ e. h
@@ -126,7 +129,8 @@ module _ (edges : List (List Edge)) (orders : TwoOrders) (sides : Sides) where
           | inl was ↦ inl was
           | inr new ↦
               let x = list_any_found (λ (e : Edge). leads_on orders labels sides i e.to) (edges_at edges i) new.1 in
-              let led = more_leads labels last sides i x.0.to (λ j l k. all_stay next vertices j l (one_stays labels v j l k)) x.2 in
+              let stay : Stay labels last = λ j l k. all_stay next vertices j l (one_stays labels v j l k) in
+              let led = more_leads labels last sides i x.0.to stay x.2 in
               inr (x.0, x.1, subst (λ (s : Sides). leads_on orders last s i x.0.to ≡ true) (sym new.0) led)
         ])
         | inr found ↦ inr found
@@ -155,7 +159,8 @@ module _ (edges : List (List Edge)) (orders : TwoOrders) (firsts : List (Option 
   later : (sides : Sides) (labels : List (Option Sides)) (vertices : List ℕ) (i : ℕ) (label : Sides) → Leads labels i label
       → Leads (all_labelled edges orders sides labels vertices) i label
   later sides labels vertices i label x =
-      (x.0, x.1, more_leads edges orders sides labels (all_labelled edges orders sides labels vertices) label i x.0.to (all_stay edges orders sides labels vertices) x.2)
+      let last = all_labelled edges orders sides labels vertices in
+      (x.0, x.1, more_leads edges orders sides labels last label i x.0.to (all_stay edges orders sides labels vertices) x.2)
 
   found : (i : ℕ) (label : Sides) → label_at four i ≡ Some label → label_at firsts i ≡ None → Leads four i label
   found i label h none =

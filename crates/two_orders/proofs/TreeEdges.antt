@@ -41,7 +41,8 @@ module _ (edges : List (List Edge)) (earliests : List ℕ) where
       let e = x.0 in
       let own = there a e x.1 in
       let to : e.to ≡ b = x.2 in
-      let y = contains_map (λ (e : Edge). e.to) (edges_at edges b) a (symmetric a b (subst (λ (v : ℕ). Contains (heads edges a) v) to (contains_mapped (λ (e : Edge). e.to) (edges_at edges a) e own.0))) in
+      let its = subst (λ (v : ℕ). Contains (heads edges a) v) to (contains_mapped (λ (e : Edge). e.to) (edges_at edges a) e own.0) in
+      let y = contains_map (λ (e : Edge). e.to) (edges_at edges b) a (symmetric a b its) in
       let back = y.0 in
       let home : back.to ≡ a = y.2 in
       let below : b < length edges = edges_below edges b back y.1 in

@@ -1,4 +1,5 @@
--- Labels of vertices: by which edges a walk gets from each to a target, so that by two orders it goes up and then down.
+-- Labels of vertices: whether a walk from a vertex to a target begins up or down, by each of two orders. Walks that
+-- follow labels go up and then down by both orders.
 use Rattle.std.specs.Prelude.{ℕ, ◌&&◌, ◌||◌, not, Bool, true, false, List, [], ◌∷◌, Option, None, Some, slice_get, slice_index_or, slice_set, if◌then◌else◌}
 use Rattle.std.specs.List.{list_any}
 use Rattle.port_graph.specs.declared.edge.Edge.{Edge}

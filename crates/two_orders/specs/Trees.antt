@@ -1,4 +1,4 @@
--- The tree of an order: the edges between each vertex and the earliest one beside it.
+-- The tree of an order: the edges between each vertex and its earliest neighbor.
 use Rattle.std.specs.Prelude.{ℕ, ◌==◌, ◌||◌, Bool, List, filter, length, map, nat_lt}
 use Rattle.std.specs.List.{range_with_len}
 use Rattle.port_graph.specs.declared.edge.Edge.{Edge}
@@ -10,17 +10,19 @@ use Rattle.two_orders.specs.Growth.{number_at}
 abbrev pub is_earlier : List ℕ → ℕ → ℕ → Bool
 is_earlier positions a b = nat_lt (number_at positions a) (number_at positions b)
 
--- the earliest of vertex v and those to which its edges lead
+-- the earliest among vertex v and its neighbors, those to which its edges lead
 abbrev pub earliest_beside : List (List Edge) → List ℕ → ℕ → ℕ
 earliest_beside edges positions v = earliest (is_earlier positions) v (heads edges v)
 
+-- so for each vertex
 abbrev pub all_earliest : List (List Edge) → List ℕ → List ℕ
 all_earliest edges positions = map (earliest_beside edges positions) (range_with_len 0 (length edges))
 
--- an edge of v is in the tree if it leads to the earliest beside v, or if v is the earliest beside its other end
+-- an edge of v is in the tree if it leads to the earliest among v and its neighbors, or if v is that at its other end
 abbrev pub is_in_tree : List ℕ → ℕ → Edge → Bool
 is_in_tree earliests v e = (number_at earliests v == e.to) || (number_at earliests e.to == v)
 
+-- the edges of v that are in the tree
 abbrev pub tree_edges : List (List Edge) → List ℕ → ℕ → List Edge
 tree_edges edges earliests v = filter (is_in_tree earliests v) (edges_at edges v)
 

@@ -1,4 +1,5 @@
-//! Labels of vertices: by which edges a walk gets from each to a target, so that by two orders it goes up and then down.
+//! Labels of vertices: whether a walk from a vertex to a target begins up or down, by each of two orders. Walks that
+//! follow labels go up and then down by both orders.
 ghost use Rattle.std.specs.Prelude.{◌≡◌, slice_get};
 ghost use Rattle.std.specs.List.{list_any};
 ghost use Rattle.two_orders.specs.Labels.{all_labelled, gets_label, goes_on, is_open, is_side, label_at};
@@ -46,7 +47,7 @@ pub fn label_all(labels: &mut Vec<Option<Sides>>, edges: &Adjacency, orders: &Or
     label_each(labels, edges, orders, to_sides(true, true), orders.rising());
 }
 
-/// Returns the sides to which an edge leads up or down.
+/// Returns the label that says by which of the two orders an edge leads up.
 fn to_sides(first_up: bool, second_up: bool) -> Sides
     ensures { result ≡ record { first_up = first_up; second_up = second_up } }
 {

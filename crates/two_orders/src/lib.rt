@@ -1,4 +1,5 @@
-//! Two orders of vertices: the tree of an order, orders that grow over it, and labels that lead up and then down by both.
+//! Two orders of vertices: the tree of an order, orders that grow over it, and labels by which walks go up and then
+//! down by both orders.
 #![tactic(auto)]
 
 mod growth;

@@ -1,12 +1,14 @@
-//! The tree of an order of switches: each with the earliest beside it.
+//! The tree of an order of vertices: the edges between each vertex and its earliest neighbor.
 ghost use Rattle.std.specs.Prelude.{◌≡◌, IfOk, if◌then◌else◌};
 ghost use Rattle.two_orders.specs.Growth.{number_at};
-ghost use Rattle.two_orders.specs.Trees.{all_earliest, earliest_beside, is_earlier, is_in_tree, tree, tree_by, tree_edges};
+ghost use Rattle.two_orders.specs.Trees.{all_earliest, earliest_beside, is_earlier, is_in_tree};
+ghost use Rattle.two_orders.specs.Trees.{tree, tree_by, tree_edges};
 
 use port_graph::{Adjacency, Edge};
 use std::alloc::{AllocError, Global};
 
-/// Returns the edges between each vertex and the earliest one beside it by `positions`. Takes two steps for each edge.
+/// Returns the edges between each vertex and its earliest neighbor by `positions`. A vertex without an earlier neighbor
+/// has none of its own. Takes two steps for each edge.
 pub fn tree(alloc: Global, edges: &Adjacency, positions: &[usize]) -> Result<Adjacency, AllocError>
     ensures { IfOk result (λ found. found ≡ tree edges.now positions.now) }
 {
@@ -14,7 +16,8 @@ pub fn tree(alloc: Global, edges: &Adjacency, positions: &[usize]) -> Result<Adj
     tree_by(alloc, edges, &earliest)
 }
 
-/// Returns the edges of the tree of each vertex. `earliest` has the earliest vertex beside each.
+/// Returns the edges of each vertex that are in the tree. `earliest` has for each vertex the earliest among itself and
+/// its neighbors.
 fn tree_by(alloc: Global, edges: &Adjacency, earliest: &[usize]) -> Result<Adjacency, AllocError>
     ensures { IfOk result (λ found. found ≡ tree_by edges.now earliest.now) }
 {
@@ -26,7 +29,7 @@ fn tree_by(alloc: Global, edges: &Adjacency, earliest: &[usize]) -> Result<Adjac
     Ok(found)
 }
 
-/// Returns for each vertex the earliest of itself and those to which its edges lead.
+/// Returns for each vertex the earliest among itself and its neighbors.
 fn all_earliest(
     alloc: Global,
     edges: &Adjacency,
@@ -39,7 +42,7 @@ fn all_earliest(
         .collect(alloc)
 }
 
-/// Returns the earliest of a vertex and those to which its edges lead.
+/// Returns the earliest among `vertex` and its neighbors.
 fn earliest_beside(edges: &Adjacency, positions: &[usize], vertex: usize) -> usize
     ensures { result ≡ earliest_beside edges.now positions.now vertex }
 {

@@ -1,5 +1,5 @@
 -- One label after the other.
-use Rattle.std.proofs.Common.{◌≡◌, ◌∙◌, ap}
+use Rattle.std.proofs.Common.{◌∙◌, ap}
 use Rattle.two_orders.specs.Labels.{all_labelled, both_down, labels_from}
 use Rattle.two_orders.proofs.labels.label_all.Goals as goal
 
