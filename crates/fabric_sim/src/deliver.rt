@@ -6,7 +6,8 @@ ghost use Rattle.fabric_sim.specs.declared.delivered.Delivered.TheVariants.{Disc
 ghost use Rattle.fabric_sim.specs.Simulation.{port_of, is_cable_port, IsFlightAt};
 ghost use Rattle.fabric_sim.specs.Delivery.{here_at, is_for_manager, leaving, at_agent, arrived, directed_outcome};
 ghost use Rattle.fabric_sim.specs.Delivery.{lid_routed_outcome, outcome_of, packet_in, flight_in, IsEnvelopeAt};
-ghost use Rattle.fabric_sim.specs.Delivery.{outcome_by, CanFare, after_outcome, after_deliver, is_trap, repressed_at, without};
+ghost use Rattle.fabric_sim.specs.Delivery.{outcome_by, CanFare, after_outcome, after_deliver, is_trap};
+ghost use Rattle.fabric_sim.specs.Delivery.{repressed_at, without};
 
 use crate::action::Action;
 use crate::delivered::{Delivered, Reason};
@@ -22,8 +23,9 @@ use smp_bytes::{AttributeId, Lid, Smp, SmpClass};
 
 impl Fabric {
     /// Performs one step of the packet in flight with this serial number: it moves over a wire, is answered, is handed
-    /// to a subnet manager, or is discarded. One that represses a trap ends it. Takes no memory. Takes one search step for the first packet in flight, and
-    /// for any other as many as the number of packets has binary digits; the others close its gap.
+    /// to a subnet manager, or is discarded. One that represses a trap ends it. Takes no memory. Takes one search step
+    /// for the first packet in flight, and for any other as many as the number of packets has binary digits; the others
+    /// close its gap.
     ///
     /// # Errors
     ///

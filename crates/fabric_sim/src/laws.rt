@@ -29,8 +29,8 @@ pub fn there_and_back()
     ensures { ThereAndBack }
 {}
 
-/// A TrapRepress that has come by LIDs to its switch is discarded with no answer, and ends the trap of its TransactionID
-/// there, and no other trap.
+/// A TrapRepress that has come by LIDs to its switch is discarded with no answer, and ends the trap of its
+/// TransactionID there, and no other trap.
 pub fn represses_end_traps()
     ensures { RepressesEndTraps }
 {}

@@ -140,14 +140,15 @@ module _ (count : ℕ) (planning : Planning) where
     where
       by_call : (s : SeatedValue) → slice_get w.managers seat ≡ Some s
           → AreKnown count planning
-          (after_manager_call (shows (heard_text w seat packet)) w seat s (after_packet s.manager packet.bytes (Some packet.slid)).fault (after_packet s.manager packet.bytes
-          (Some packet.slid)).manager).now.managers
+          (after_manager_call (shows (heard_text w seat packet)) w seat s (after_packet s.manager packet.bytes (Some packet.slid)).fault
+          (after_packet s.manager packet.bytes (Some packet.slid)).manager).now.managers
           (with_more accounts seat (record { told = sightings_of_call s.manager (calls.Packet packet.bytes (Some packet.slid)); floor = 1 }))
       by_call s there =
           let after = after_packet s.manager packet.bytes (Some packet.slid) in
           let told : Account = record { told = sightings_of_call s.manager (calls.Packet packet.bytes (Some packet.slid)); floor = 1 } in
           let takes = takes_call s.manager (calls.Packet packet.bytes (Some packet.slid)) in
-          called_is (shows (heard_text w seat packet)) w seat s after.fault after.manager (λ x. AreKnown count planning x.managers (with_more accounts seat told))
+          called_is (shows (heard_text w seat packet)) w seat s after.fault after.manager
+          (λ x. AreKnown count planning x.managers (with_more accounts seat told))
           (λ why e. repeated count planning w accounts known seat s told there
           (ap (λ (m : Manager). m.store) (sym (packet_leaves s.manager packet.bytes (Some packet.slid) (fault_of packet.bytes) why e)) ∙ takes))
           (grown count planning w accounts known seat s after.manager told there (planning_stays s.manager (calls.Packet packet.bytes (Some packet.slid)))

@@ -12,7 +12,7 @@ use std::alloc::Global;
 
 impl World<'_> {
     /// Cuts the cable in a port, and tells the agents at both ends.
-    #[tactic(auto, using(schedule_lines::proofs::Printing::prints_then), unfolding(crate::specs::Commands::after_cut_line))]
+    #[tactic(auto, unfolding(crate::specs::Commands::after_cut_line))]
     pub(crate) fn cut<W: Sink>(&mut self, port: NodePort, sink: &mut W) -> Result<(), RunFault>
         ensures does { Does W.written W.has_failed self.old self.new result sink.old sink.new
             (after_cut_line (value_of self.old) port) }
@@ -28,7 +28,7 @@ impl World<'_> {
     }
 
     /// Plugs a cable into two ports, and tells the agents at both ends.
-    #[tactic(auto, using(schedule_lines::proofs::Printing::prints_then), unfolding(crate::specs::Commands::after_plug_line))]
+    #[tactic(auto, unfolding(crate::specs::Commands::after_plug_line))]
     pub(crate) fn plug<W: Sink>(
         &mut self,
         one: NodePort,

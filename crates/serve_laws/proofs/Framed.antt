@@ -58,7 +58,8 @@ use Rattle.serve_lines.specs.declared.line.ServeLine.TheVariants as is
 use Rattle.schedule_file.specs.declared.command.Shown.TheVariants as shown
 use Rattle.serve_lines.specs.declared.line.ServeLine.{ServeLine}
 use Rattle.schedule_file.specs.declared.command.Shown.{Shown}
-use Rattle.serve_run.specs.Served.{after_giving_up, after_line, asked, fault_text, heard_text, seen_line, send_line, to_text, told_state, told_text, where_text, served}
+use Rattle.serve_run.specs.Served.{after_giving_up, after_line, asked, fault_text, heard_text, seen_line}
+use Rattle.serve_run.specs.Served.{send_line, to_text, told_state, told_text, where_text, served}
 use Rattle.serve_laws.specs.Framed.{AnswersEndOnce, has_dot, is_line_end}
 
 -- texts ---------------------------------------------------------------------------------------------------

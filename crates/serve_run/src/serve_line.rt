@@ -4,7 +4,8 @@ ghost use Rattle.sm_manager.specs.Packets.{after_packet, after_timeout, trap_tol
 ghost use Rattle.sm_manager.specs.Manager.{outstanding};
 ghost use Rattle.schedule_lines.specs.Prints.{PrintsUnless};
 ghost use Rattle.serve_run.specs.Lives.{Lives};
-ghost use Rattle.serve_run.specs.Served.{after_called, after_giving_up, after_heard, after_line, asked, end_line, served};
+ghost use Rattle.serve_run.specs.Served.{after_called, after_giving_up, after_heard, after_line, asked, end_line};
+ghost use Rattle.serve_run.specs.Served.{served};
 
 use crate::managers::show_managers;
 use crate::outgoing::send_all;
