@@ -14,7 +14,7 @@ returns-in-Some-clause-still c =
     let moved = moved_same c.args.told (value_of c.args.rule.now) c.args.store.now held c.in-Ok-of.to.held (choice_of c.in-Ok-step_choice.choice)
     c.in-Ok-step_choice.ensures c.in-Some.goal c.in-Some.is
     ∙ ap (first_moved held) (c.in-Ok-of.ensures.held ∙ c.in-Ok.ensures) in
-    subst (λ (m : Option ℕ). OnOk c.next_towards.result (m ≡ None)) moved c.next_towards.ensures.still
+    subst (λ (m : Option ℕ). OnOk c.next_towards_goal.result (m ≡ None)) moved c.next_towards_goal.ensures.still
 
 pub returns-in-Some-clause-refused : goal.returns-in-Some-clause-refused
 returns-in-Some-clause-refused c =
@@ -22,4 +22,4 @@ returns-in-Some-clause-refused c =
     let moved = moved_same c.args.told (value_of c.args.rule.now) c.args.store.now held c.in-Ok-of.to.held (choice_of c.in-Ok-step_choice.choice)
     c.in-Ok-step_choice.ensures c.in-Some.goal c.in-Some.is
     ∙ ap (first_moved held) (c.in-Ok-of.ensures.held ∙ c.in-Ok.ensures) in
-    subst (λ (m : Option ℕ). IfErr c.next_towards.result (StopsBy c.args.input m)) moved c.next_towards.ensures.refused
+    subst (λ (m : Option ℕ). IfErr c.next_towards_goal.result (StopsBy c.args.input m)) moved c.next_towards_goal.ensures.refused
