@@ -75,8 +75,8 @@ pub struct Blocks {
 }
 
 impl<'a> Network<'a> {
-    /// Builds the network of the view's usable switches and end ports, with the tables `held`. Takes two searches for
-    /// each port of a switch and each end port, and a walk over the switches for each wire.
+    /// Builds the network of the view's usable switches and end ports, with the tables `held`. Takes three searches for
+    /// each port of a switch and each end port, and a walk over the held switches for each switch.
     pub fn of(alloc: Global, store: &'a Store, held: &'a Held) -> Result<Self, Refused>
         ensures facts { IfOk result (λ network. network.facts ≡ store.now) }
         ensures held { IfOk result (λ network. network.held ≡ held.now) }

@@ -1,5 +1,5 @@
 -- A step towards the goal is a step by the order that the held tables tell.
-use Rattle.std.proofs.Common.{◌≡◌, ◌∙◌, ◌<◌, ◌≤◌, ℕ, zero, suc, Bool, true, false, cond, List, [], ◌∷◌, length, refl, sym, ap, arith, subst, Some, inl, inr}
+use Rattle.std.proofs.Common.{◌≡◌, ◌∙◌, ◌<◌, ◌≤◌, ℕ, zero, suc, Bool, true, false, cond, List, [], ◌∷◌, length, refl, sym, ap, arith, subst, Some}
 use Rattle.std.specs.Prelude.{map, slice_index_or}
 use Rattle.std.proofs.lemmas.List.{length-replicate}
 use Rattle.std.proofs.lemmas.List.FromFn.{get_or-map-range_with_len}
@@ -27,15 +27,16 @@ use Rattle.ordered_steps.proofs.OrderedTables.{ordered_tables_are_next}
 use Rattle.ordered_steps.proofs.ToldRight.{rightness_is_told}
 use Rattle.ordered_steps.proofs.Lost.{rule_is_tried}
 use Rattle.ordered_steps.proofs.Round.{all_are_step, all_follow_the_rule}
-use Rattle.told_order.specs.ToldOrder.{IsTold, all_left, position_in}
+use Rattle.told_order.specs.ToldOrder.{IsTold, all_left}
 use Rattle.told_order.proofs.Orders.{told_orders_are_right}
 use Rattle.two_orders.specs.Growth.{grown_by, key_of, positions_in}
 use Rattle.two_orders.specs.Trees.{tree}
 use Rattle.two_orders.specs.TwoOrders.{TwoOrders, two_orders}
-use Rattle.between_orders.specs.Between.{Goal, IsRightGoal, goal_between}
+use Rattle.between_orders.specs.Between.{Goal, IsGoalBetween, goal_between}
 use Rattle.between_orders.specs.Goal.{tables_between}
 use Rattle.between_orders.specs.BetweenLaws.{GoalsAreSafe, GoalsFollowTheRule, next_towards}
 use Rattle.between_orders.specs.Orders.{edges_in, orders_by, told_positions}
+use Rattle.between_orders.proofs.GoalTurns.{goal_turns_well}
 use Rattle.between_orders.proofs.Told.{told_at}
 
 -- a grown order has no more than the vertices
@@ -84,7 +85,7 @@ module _ (facts : Facts) where
       let most = grown_most (by_index graph) (before_by keys) (length (by_index graph)) [] (numbers_from 0 (length (by_index graph))) in
       omega (arith, within, same, many, most, count_is)
 
-  grown_is_order : (positions : List ℕ) → IsOrder cells (position_at (positions_in (grown_by edges positions) (length edges)))
+  pub grown_is_order : (positions : List ℕ) → IsOrder cells (position_at (positions_in (grown_by edges positions) (length edges)))
   grown_is_order positions i less =
       let list = grown_by edges positions in
       let at = get_or-map-range_with_len (position_of list) 0 (length edges) i i 0 (omega (arith, less, count_is)) (omega arith) in
@@ -119,7 +120,7 @@ module _ (facts : Facts) where
 owners_by_lids : (a b : HeldPlan) → a.lids ≡ b.lids → (lid : ℕ) → owners_of a lid ≡ owners_of b lid
 owners_by_lids a b e lid = λ i. owners_of (record { lids = e i; switches = a.switches; blocks = a.blocks }) lid
 
-module _ (facts : Facts) (held plan : HeldPlan) (by : List ℕ) (goal : Goal) (is : IsRightGoal (cells_of facts) held plan by goal) where
+module _ (facts : Facts) (held plan : HeldPlan) (by : List ℕ) (goal : Goal) (is : IsGoalBetween (cells_of facts) held plan by goal) where
   -- the held tables are right by the order of the goal
   pub held_is : IsOrderOf (cells_of facts) held goal.positions
   held_is =
@@ -133,7 +134,9 @@ module _ (facts : Facts) (held plan : HeldPlan) (by : List ℕ) (goal : Goal) (i
 
   -- so is the goal
   pub goal_right : (lid : ℕ) → 1 ≤ lid → AreRight (cells_of facts) (position_at goal.positions) goal.tables lid
-  goal_right = (rightness_is_told (cells_of facts) (position_at goal.positions) goal.tables).0 is.right
+  goal_right lid some =
+      subst (λ (g : Goal). AreRight (cells_of facts) (position_at g.positions) g.tables lid) (sym is.is)
+      (goal_turns_well facts is.orders held plan lid).0
 
   -- it has the LIDs of the plan
   between_lids : (orders : TwoOrders) → (goal_between (cells_of facts) orders held plan).tables.lids ≡ plan.lids

@@ -1,9 +1,7 @@
 -- The goal of a step from tables that tell an order by themselves: tables between that order and the next one.
-use Rattle.std.specs.Prelude.{◌≡◌, ◌⊎◌, ℕ, true, false, List, Option, None, Some}
+use Rattle.std.specs.Prelude.{◌≡◌, ℕ, List, Option, None, Some}
 use Rattle.subnet_view.specs.Reading.{Cells}
 use Rattle.plan_file.specs.Held.{HeldPlan}
-use Rattle.next_tables.specs.ByOrder.{position_at}
-use Rattle.ordered_steps.specs.Rightness.{are_right}
 use Rattle.between_orders.specs.declared.step_goal.StepGoal.{StepGoal}
 use Rattle.between_orders.specs.Goal.{tables_between}
 use Rattle.between_orders.specs.Orders.{AreOrders, edges_in}
@@ -24,19 +22,13 @@ goal_between cells orders held plan = record {
 abbrev pub goal_of : StepGoal → Goal
 goal_of goal = record { positions = goal.positions.items; tables = goal.tables }
 
--- the goal between the orders of `held` and the plan, which is right by the first of them
-pub record IsRightGoal (cells : Cells) (held plan : HeldPlan) (by : List ℕ) (goal : Goal) : Type 0 where
+-- the goal between the orders of `held` and the plan
+pub record IsGoalBetween (cells : Cells) (held plan : HeldPlan) (by : List ℕ) (goal : Goal) : Type 0 where
   pub orders : TwoOrders
   pub are : AreOrders cells held (edges_in cells) by (Some orders)
   pub is : goal ≡ goal_between cells orders held plan
-  pub right : are_right cells (position_at goal.positions) goal.tables ≡ true
 
--- no order is told, or the goal is not right by it
-pub record IsWrongGoal (cells : Cells) (held plan : HeldPlan) (by : List ℕ) (orders : TwoOrders) : Type 0 where
-  pub are : AreOrders cells held (edges_in cells) by (Some orders)
-  pub wrong : are_right cells (position_at orders.first) (goal_between cells orders held plan).tables ≡ false
-
+-- the goal of a step; None if the held tables tell no order
 abbrev pub IsGoal : Cells → HeldPlan → HeldPlan → List ℕ → Option Goal → Type 0
-IsGoal cells held plan by None =
-    AreOrders cells held (edges_in cells) by None ⊎ ((orders : TwoOrders) × IsWrongGoal cells held plan by orders)
-IsGoal cells held plan by (Some goal) = IsRightGoal cells held plan by goal
+IsGoal cells held plan by None = AreOrders cells held (edges_in cells) by None
+IsGoal cells held plan by (Some goal) = IsGoalBetween cells held plan by goal

@@ -1,12 +1,66 @@
--- What a step towards tables between two orders brings.
-use Rattle.std.specs.Prelude.{◌≤◌, ℕ, List, Some}
-use Rattle.fact_store.specs.View.{Facts, cells_of}
+-- What tables between two orders are, and what a step towards them brings.
+use Rattle.std.specs.Prelude.{◌≡◌, ◌≤◌, ◌<◌, ℕ, Contains, List, Option, Some, length, map, slice_get}
+use Rattle.fact_store.specs.View.{AreInRange, Facts, cells_of}
+use Rattle.port_graph.specs.Heads.{heads}
+use Rattle.port_graph.specs.Walks.{Walk}
+use Rattle.subnet_view.specs.Reading.{Cells, switches}
 use Rattle.plan_file.specs.Held.{HeldPlan}
-use Rattle.next_tables.specs.ByOrder.{AreRight, position_at}
 use Rattle.plan_file.specs.declared.held.HeldLid.{HeldLid}
+use Rattle.held_tables.specs.Tables.{owners_of, top_of}
+use Rattle.audit.specs.declared.end.End.TheVariants.{Taken}
+use Rattle.audit.specs.declared.next_hop.NextHop.TheVariants.{Ends}
+use Rattle.audit.specs.NextHops.{switch_step}
+use Rattle.next_tables.specs.ByOrder.{AreRight, IsOrder, position_at, switch_at}
+use Rattle.next_tables.specs.Next.{step_at}
 use Rattle.next_tables.specs.NextTables.{IsKept, by_order, next_tables}
-use Rattle.ordered_steps.specs.StepLaws.{IsLineStep, IsStep}
+use Rattle.ordered_steps.specs.StepLaws.{DeliverFrom, IsLineStep, IsStep}
+use Rattle.two_orders.specs.declared.labels.Sides.{Sides}
+use Rattle.two_orders.specs.LabelLaws.{grown_twice}
+use Rattle.two_orders.specs.Labels.{label_at}
+use Rattle.two_orders.specs.TwoOrders.{TwoOrders}
 use Rattle.between_orders.specs.Between.{Goal, IsGoal}
+use Rattle.between_orders.specs.Goal.{labels_towards, tables_between}
+use Rattle.between_orders.specs.Orders.{edges_in}
+
+-- the tables between two orders are right by both for every LID, whatever the orders, the held tables and the plan are
+abbrev pub GoalTurnsWell : Type 0
+GoalTurnsWell =
+    (facts : Facts) (orders : TwoOrders) (held plan : HeldPlan) (lid : ℕ)
+    → AreRight (cells_of facts) (position_at orders.first)
+    (tables_between (cells_of facts) (edges_in (cells_of facts)) orders held plan) lid
+    × AreRight (cells_of facts) (position_at orders.second)
+    (tables_between (cells_of facts) (edges_in (cells_of facts)) orders held plan) lid
+
+-- the label of each switch on the way to the end port of a line
+abbrev pub labels_of_line : Cells → TwoOrders → HeldPlan → HeldLid → List (Option Sides)
+labels_of_line cells orders plan line =
+    labels_towards line.port (edges_in cells) orders (map (switch_step cells plan line.lid) (switches cells))
+
+-- the end port is the first that has the LID in the plan, whose switches have no lesser top
+pub record IsGoalLine (cells : Cells) (plan : HeldPlan) (line : HeldLid) : Type 0 where
+  pub some : 1 ≤ line.lid
+  pub first : slice_get (owners_of plan line.lid) 0 ≡ Some line.port
+  pub within : (g : ℕ) → Contains (switches cells) g → line.lid ≤ top_of plan g
+
+-- from each switch with a label the tables between two orders deliver, if the first of these is one
+abbrev pub GoalDelivers : Type 0
+GoalDelivers =
+    (facts : Facts) → AreInRange facts → (orders : TwoOrders) → IsOrder (cells_of facts) (position_at orders.first)
+    → (held plan : HeldPlan) (line : HeldLid) → IsGoalLine (cells_of facts) plan line
+    → (i : ℕ) (label : Sides) → label_at (labels_of_line (cells_of facts) orders plan line) i ≡ Some label
+    → DeliverFrom (cells_of facts) (tables_between (cells_of facts) (edges_in (cells_of facts)) orders held plan) line i
+
+-- if the first order grows, and the second over its tree, the tables between them deliver from each switch from which
+-- wires lead to one from which the plan leads to the end port
+abbrev pub GoalReachesAll : Type 0
+GoalReachesAll =
+    (facts : Facts) → AreInRange facts → (told by : List ℕ) (held plan : HeldPlan) (line : HeldLid)
+    → IsGoalLine (cells_of facts) plan line → (i t n : ℕ) → t < length (switches (cells_of facts))
+    → Walk (heads (edges_in (cells_of facts))) i t n
+    → step_at (cells_of facts) plan line.lid (switch_at (cells_of facts) t) ≡ Ends (Taken line.port)
+    → DeliverFrom (cells_of facts)
+    (tables_between (cells_of facts) (edges_in (cells_of facts)) (grown_twice (edges_in (cells_of facts)) told by) held
+    plan) line i
 
 -- the tables to write next towards a goal, by the order of the goal
 abbrev pub next_towards : Facts → HeldPlan → Goal → HeldPlan

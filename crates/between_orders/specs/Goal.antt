@@ -1,20 +1,17 @@
 -- Tables between two orders, which lead packets up and then down by both.
-use Rattle.std.specs.Prelude.{◌≡◌, ℕ, ◌*◌, Bool, true, false, List, [], ◌∷◌, Option, None, Some, length, map, max, replicate, if◌then◌else◌}
+use Rattle.std.specs.Prelude.{ℕ, ◌*◌, Bool, false, List, [], ◌∷◌, Option, None, Some, length, map, replicate, if◌then◌else◌}
 use Rattle.std.specs.List.{enumerate_from, find, range_with_len, zip}
 use Rattle.port_graph.specs.declared.edge.Edge.{Edge}
 use Rattle.port_graph.specs.Heads.{edges_at}
 use Rattle.subnet_view.specs.declared.end_port.EndPort.{EndPort}
 use Rattle.subnet_view.specs.Reading.{Cells, switches}
-use Rattle.lft_blocks.specs.Entries.{block_count}
 use Rattle.plan_file.specs.Held.{HeldPlan}
 use Rattle.held_tables.specs.Tables.{owners_of}
 use Rattle.audit.specs.declared.next_hop.NextHop.{NextHop}
 use Rattle.audit.specs.declared.next_hop.NextHop.TheVariants.{To, Ends}
 use Rattle.audit.specs.declared.switch_step.SwitchStep.{SwitchStep}
-use Rattle.audit.specs.Edges.{greatest_top}
 use Rattle.audit.specs.NextHops.{is_at, switch_step}
-use Rattle.next_tables.specs.Assembled.{all_blocks}
-use Rattle.next_tables.specs.NextTables.{next_switch}
+use Rattle.next_tables.specs.Assembled.{most_blocks, tables_with}
 use Rattle.next_tables.specs.SwitchSteps.{Both}
 use Rattle.two_orders.specs.declared.labels.Sides.{Sides}
 use Rattle.two_orders.specs.Labels.{both_down, label_at, labels_from, leads_on}
@@ -38,8 +35,8 @@ abbrev pub port_of : Option Edge → ℕ
 port_of None = 255
 port_of (Some e) = e.port
 
--- the entry of a switch with this label: the held one if it fits, else the plan's if that does, else the least port by
--- which a channel leads on
+-- the entry of a switch with this label: the held one if it fits; if not, the plan's if that fits; and if neither fits,
+-- the least port whose channel leads on
 abbrev pub entry_to : List (List Edge) → TwoOrders → List (Option Sides) → Sides → ℕ → Both → ℕ
 entry_to edges orders labels sides i x =
     if fits orders labels sides i x.0.hop then x.0.entry else
@@ -72,19 +69,6 @@ column_for cells edges orders held plan lid (port ∷ ports) =
 
 abbrev pub column_between : Cells → List (List Edge) → TwoOrders → HeldPlan → HeldPlan → ℕ → List ℕ
 column_between cells edges orders held plan lid = column_for cells edges orders held plan lid (owners_of plan lid)
-
--- the plan's LIDs, and each usable switch with the greater of its tops and these entries, for each LID those of all
--- switches
-abbrev pub tables_with : Cells → HeldPlan → HeldPlan → List (List ℕ) → HeldPlan
-tables_with cells held plan columns = record {
-  lids = plan.lids;
-  switches = map (next_switch held plan) (switches cells);
-  blocks = all_blocks columns 0 (map (next_switch held plan) (switches cells));
-}
-
--- the number of blocks up to the greatest top
-abbrev pub most_blocks : Cells → HeldPlan → HeldPlan → ℕ
-most_blocks cells held plan = block_count (Some (max (greatest_top cells held) (greatest_top cells plan)))
 
 -- the tables between the two orders
 unfoldable pub tables_between : Cells → List (List Edge) → TwoOrders → HeldPlan → HeldPlan → HeldPlan

@@ -1,24 +1,26 @@
 //! Tables between two orders.
-ghost use Rattle.std.specs.Prelude.{◌≡◌, ◌≤◌, ◌*◌, ◌/◌, IfOk, length, map, replicate, slice_get};
+ghost use Rattle.std.specs.Prelude.{◌≡◌, ◌≤◌, ◌*◌, ◌/◌, IfOk, OnOk, map};
 ghost use Rattle.std.specs.List.{enumerate_from, find, range_with_len, zip};
 ghost use Rattle.fact_store.specs.View.{cells_of};
 ghost use Rattle.port_graph.specs.Heads.{edges_at};
 ghost use Rattle.held_tables.specs.Blocks.{AreBlocks};
-ghost use Rattle.between_orders.specs.Goal.{arrives, column_between, entries_towards, entry_between, entry_to, entry_with, first_label};
-ghost use Rattle.between_orders.specs.Goal.{fits, labels_towards, port_of, tables_between};
-ghost use Rattle.two_orders.specs.Labels.{leads_on};
+ghost use Rattle.between_orders.specs.Goal.{arrives, column_between, entries_towards, entry_between, entry_to};
+ghost use Rattle.between_orders.specs.Goal.{first_label, fits, port_of, tables_between};
+ghost use Rattle.two_orders.specs.Labels.{labels_from, leads_on};
 
-use crate::assembly::{most_blocks, tables_with};
+use crate::labelled::Labelled;
 use audit::{Blocks, Network, NextHop, SwitchStep, is_at};
+use next_tables::{first_owner, most_blocks, no_entries, tables_with};
 use plan_file::Held;
 use port_graph::{Adjacency, Edge};
 use smp_bytes::Lid;
 use std::alloc::{AllocError, Global};
 use subnet_view::EndPort;
-use two_orders::{Orders, Sides, label_all, label_at, leads_on};
+use two_orders::{Orders, Sides, label_at, leads_on};
 
-/// Returns tables between two orders, with the entries of the held tables and of the plan's if they fit. `edges` has the
-/// wires of each switch. Takes four steps for each wire and each LID.
+/// Returns tables between two orders, which have an entry of the held tables or of the plan's if it fits. `edges` has
+/// the wires of each switch. For each LID takes some steps for each switch, and four for each wire if the LID before it
+/// has other targets.
 pub(crate) fn tables_between(
     alloc: Global,
     edges: &Adjacency,
@@ -50,6 +52,7 @@ fn columns(
         (range_with_len 0 (64 * count))) }
 {
     let mut columns = Vec::with_capacity(alloc, 64 * count)?;
+    let mut labelled = Labelled::none(alloc, edges, orders);
     let mut held_blocks = held.blocks(alloc, 0)?;
     let mut plan_blocks = plan.blocks(alloc, 0)?;
     for number in 0..64 * count {
@@ -60,6 +63,7 @@ fn columns(
             alloc,
             edges,
             orders,
+            &mut labelled,
             held,
             plan,
             &held_blocks,
@@ -71,11 +75,13 @@ fn columns(
     Ok(columns)
 }
 
-/// Returns the entries of all usable switches for `lid`.
+/// Returns the entries of all usable switches for `lid`. `labelled` has the labels of the LID before, and then those of
+/// `lid`.
 fn column(
     alloc: Global,
     edges: &Adjacency,
     orders: &Orders,
+    labelled: &mut Labelled,
     held: &Network,
     plan: &Network,
     held_blocks: &Blocks,
@@ -87,8 +93,11 @@ fn column(
     requires held_number { held_blocks.now.number ≡ lid / 64 }
     requires plan { AreBlocks plan.now.held plan_blocks.now.number plan_blocks.now.rows.items }
     requires plan_number { plan_blocks.now.number ≡ lid / 64 }
-    ensures { IfOk result (λ column. column.items
+    requires labels { labelled.old.labels.items ≡ labels_from edges.now orders.now labelled.old.firsts.items }
+    ensures column { IfOk result (λ column. column.items
         ≡ column_between (cells_of held.now.facts) edges.now orders.now held.now.held plan.now.held lid) }
+    ensures labels { OnOk result (labelled.new.labels.items
+        ≡ labels_from edges.now orders.now labelled.new.firsts.items) }
 {
     let owners = plan.owners(alloc, lid)?;
     let Some(port) = first_owner(&owners) else {
@@ -96,52 +105,37 @@ fn column(
     };
     let held_steps = held.switch_steps(alloc, held_blocks, lid)?;
     let plan_steps = plan.switch_steps(alloc, plan_blocks, lid)?;
-    entries_towards(alloc, &port, edges, orders, &held_steps, &plan_steps)
-}
-
-/// Returns the first of `owners`.
-fn first_owner(owners: &[EndPort]) -> Option<EndPort>
-    ensures { result ≡ slice_get owners.now 0 }
-{
-    owners.first().copied()
-}
-
-/// Returns `count` times 255, no entry.
-fn no_entries(alloc: Global, count: usize) -> Result<Vec<u8>, AllocError>
-    ensures { IfOk result (λ entries. entries.items ≡ replicate count 255) }
-{
-    vec![in alloc; 255; count]
+    entries_towards(
+        alloc,
+        &port,
+        edges,
+        orders,
+        labelled,
+        &held_steps,
+        &plan_steps,
+    )
 }
 
 /// Returns the entries of all switches towards an end port, from what each does by the held tables and by the plan.
+/// `labelled` has the labels of the LID before, and then those towards this end port.
 fn entries_towards(
     alloc: Global,
     port: &EndPort,
     edges: &Adjacency,
     orders: &Orders,
+    labelled: &mut Labelled,
     held: &[SwitchStep],
     plan: &[SwitchStep],
 ) -> Result<Vec<u8>, AllocError>
-    ensures { IfOk result (λ entries. entries.items
+    requires labels { labelled.old.labels.items ≡ labels_from edges.now orders.now labelled.old.firsts.items }
+    ensures entries { IfOk result (λ entries. entries.items
         ≡ entries_towards port.now edges.now orders.now held.now plan.now) }
+    ensures labels { OnOk result (labelled.new.labels.items
+        ≡ labels_from edges.now orders.now labelled.new.firsts.items) }
 {
-    let labels = labels_towards(alloc, port, edges, orders, plan)?;
-    entries_by(alloc, port, edges, orders, &labels, held, plan)
-}
-
-/// Returns the label of each switch towards an end port, from what each does by the plan.
-fn labels_towards(
-    alloc: Global,
-    port: &EndPort,
-    edges: &Adjacency,
-    orders: &Orders,
-    plan: &[SwitchStep],
-) -> Result<Vec<Option<Sides>>, AllocError>
-    ensures { IfOk result (λ labels. labels.items ≡ labels_towards port.now edges.now orders.now plan.now) }
-{
-    let mut labels = first_labels(alloc, port, plan)?;
-    label_all(&mut labels, edges, orders);
-    Ok(labels)
+    let firsts = first_labels(alloc, port, plan)?;
+    labelled.relabel(alloc, edges, orders, firsts)?;
+    entries_by(alloc, port, edges, orders, &labelled.labels, held, plan)
 }
 
 /// Returns the labels at first: of the switches from which the plan leads to the end port.
@@ -222,8 +216,8 @@ fn entry(
     }
 }
 
-/// Returns the entry of the switch at `index` with the label `sides`: the held one if it fits, else the plan's if that
-/// does, else the least port by which a channel leads on.
+/// Returns the entry of the switch at `index` with the label `sides`: the held one if it fits; if not, the plan's if
+/// that fits; and if neither fits, the least port whose channel leads on.
 fn entry_to(
     edges: &Adjacency,
     orders: &Orders,

@@ -1,9 +1,9 @@
-//! Tables between the order of switches that held tables tell and the next one on the way to a plan's order: a goal that
-//! leads packets up and then down by both.
+//! Tables between the order that held tables tell and the next one on the way to a plan's order. A step towards them
+//! makes no credit loop.
 #![tactic(auto)]
 
-mod assembly;
 mod goal;
+mod labelled;
 pub mod laws;
 mod orders;
 mod step_goal;

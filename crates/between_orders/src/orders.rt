@@ -13,10 +13,10 @@ use std::alloc::{AllocError, Global};
 use told_order::told_order;
 use two_orders::{Orders, grown_by, positions_in, tree};
 
-/// Returns the orders of a step from the tables of `held`: the one that they tell, of several that may be last the last
-/// in the plan's order taken first, and the next one. Returns `None` if they tell no order. `edges` has the wires of each
-/// switch, and `plan` the position of each in the plan's order. Takes what `told_order` and `are_right` take, and a step
-/// for each two switches.
+/// Returns the orders of a step from the tables of `held`: the one that they tell, and the next one on the way to the
+/// plan's. Of several switches that may be last, the last in the plan's order is taken first. Returns `None` if the
+/// tables tell no order. `edges` has the wires of each switch, and `plan` the position of each in the plan's order.
+/// Takes what `told_order` and `are_right` take, and a step for each two switches.
 pub(crate) fn orders(
     alloc: Global,
     edges: &Adjacency,
@@ -39,9 +39,9 @@ pub(crate) fn orders(
     }
 }
 
-/// Returns the orders of a step from tables that tell `told`, the position of each switch: if the tables are right by the
-/// order that grows by these, that one, and the order that grows by the plan's positions over its tree; else the told one,
-/// and the one that grows by it.
+/// Returns the orders of a step from the tables of `held`. `told` has the position of each switch in the order that the
+/// tables tell. If they are right by the order that grows by `told`, that is the first order; the second then grows by
+/// the plan's positions over the tree of the first. Else the first is the told order, and the second grows by it.
 fn orders_from(
     alloc: Global,
     edges: &Adjacency,

@@ -3,15 +3,12 @@ ghost use Rattle.std.specs.Prelude.{◌≡◌, IfOk, length};
 ghost use Rattle.std.specs.Option.{option_map};
 ghost use Rattle.fact_store.specs.View.{cells_of};
 ghost use Rattle.subnet_view.specs.Reading.{switches};
-ghost use Rattle.next_tables.specs.ByOrder.{position_at};
-ghost use Rattle.ordered_steps.specs.Rightness.{are_right};
 ghost use Rattle.between_orders.specs.Between.{IsGoal, goal_of};
 
 use crate::goal::tables_between;
 use crate::orders::orders;
 use audit::Network;
 use fact_store::{Refused, Store};
-use ordered_steps::are_right;
 use plan_file::Held;
 use std::alloc::{AllocError, Global};
 use subnet_view::{SwitchGraph, Wires};
@@ -27,9 +24,8 @@ pub struct StepGoal {
 
 /// Returns the goal of a step from the tables of `held` towards those of `plan`: tables that lead packets up and then
 /// down by the order that the held tables tell, and by the next one on the way to the plan's order. Returns `None` if
-/// the held tables tell no order or the goal is not right by it. `positions` has the position of each usable switch in
-/// the plan's order, by rising GUID. Takes what `told_order` and `are_right` take, four steps for each wire and LID, and
-/// one for each two switches.
+/// the held tables tell no order. `positions` has the position of each usable switch in the plan's order, by rising
+/// GUID. Takes what `told_order` and `are_right` take, four steps for each wire and LID, and one for each two switches.
 pub fn between(
     alloc: Global,
     store: &Store,
@@ -49,27 +45,9 @@ pub fn between(
     let Some(orders) = orders(alloc, edges, held, positions)? else {
         return Ok(None);
     };
-    let goal = tables_between(alloc, edges, &orders, held, plan)?;
-    if is_right(alloc, store, &goal, orders.first())? {
-        Ok(Some(StepGoal {
-            positions: orders.into_first(),
-            tables: goal,
-        }))
-    } else {
-        Ok(None)
-    }
-}
-
-/// Returns whether tables are right by an order.
-fn is_right(
-    alloc: Global,
-    store: &Store,
-    tables: &Held,
-    positions: &[usize],
-) -> Result<bool, Refused>
-    ensures { IfOk result (λ right.
-        right ≡ are_right (cells_of store.now) (position_at positions.now) tables.now) }
-{
-    let network = Network::of(alloc, store, tables)?;
-    Ok(are_right(alloc, &network, positions)?)
+    let tables = tables_between(alloc, edges, &orders, held, plan)?;
+    Ok(Some(StepGoal {
+        positions: orders.into_first(),
+        tables,
+    }))
 }

@@ -5,4 +5,5 @@ pub mod HeldTables
 pub mod Mapped
 pub mod Once
 pub mod Owned
+pub mod SwitchIndices
 pub mod Wired

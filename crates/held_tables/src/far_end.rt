@@ -1,6 +1,7 @@
-ghost use Rattle.std.specs.Prelude.{◌≡◌, ◌==◌};
+ghost use Rattle.std.specs.Prelude.{◌≡◌};
+ghost use Rattle.std.specs.List.Sorted.{IsStrictlyIncreasing};
 ghost use Rattle.fact_store.specs.View.{cells_of};
-ghost use Rattle.subnet_view.specs.Reading.{switches};
+ghost use Rattle.subnet_view.specs.Reading.{port_count_of, switches};
 ghost use Rattle.held_tables.specs.Switches.{far_of, index_in, switch_over};
 
 use smp_bytes::{Guid, PortNum};
@@ -17,8 +18,22 @@ pub enum Far {
     Port(EndPort),
 }
 
-/// Returns where the wire in a port leads, among the usable switches of the view. Takes two searches, and a walk over
-/// the switches.
+/// Returns where the wire in a port of a node with `ports` ports leads, among the usable switches of the view. Takes
+/// what `far_of` takes, or one step for a port that the node lacks.
+pub(crate) fn far_within(wires: &Wires, guids: &[Guid], node: Guid, ports: u8, port: PortNum) -> Far
+    requires guids { guids.now ≡ switches (cells_of wires.now) }
+    requires ports { ports ≡ port_count_of (cells_of wires.now) node }
+    ensures { result ≡ far_of (cells_of wires.now) node port }
+{
+    if ports < port.number() {
+        Far::Nothing
+    } else {
+        far_of(wires, guids, node, port)
+    }
+}
+
+/// Returns where the wire in a port leads, among the usable switches of the view. Takes two searches among the wires,
+/// and one among the switches if there is a wire.
 pub(crate) fn far_of(wires: &Wires, guids: &[Guid], node: Guid, port: PortNum) -> Far
     requires { guids.now ≡ switches (cells_of wires.now) }
     ensures { result ≡ far_of (cells_of wires.now) node port }
@@ -32,11 +47,12 @@ pub(crate) fn far_of(wires: &Wires, guids: &[Guid], node: Guid, port: PortNum) -
     }
 }
 
-/// Returns the index of `guid`. Takes a walk.
+/// Returns the index of `guid` among rising GUIDs. Takes a search.
 pub(crate) fn index(guids: &[Guid], guid: Guid) -> Option<usize>
+    requires { IsStrictlyIncreasing guids.now }
     ensures { result ≡ index_in guids.now guid }
 {
-    guids.iter().position(|g| *g == guid)
+    guids.binary_search(&guid).ok()
 }
 
 /// Returns the index of the usable switch to which a wire leads.

@@ -4,11 +4,11 @@ ghost use Rattle.subnet_view.specs.Reading.{switches};
 ghost use Rattle.held_tables.specs.Switches.{row_of, switch_over};
 ghost use Rattle.held_tables.specs.Rows.{padded, wired_more};
 
-use crate::far_end::{Far, far_of};
+use crate::far_end::{Far, far_within};
 use smp_bytes::{Guid, PortNum};
 use std::alloc::{AllocError, Global};
 use std::marker::Model;
-use subnet_view::Wires;
+use subnet_view::{Wires, port_count};
 
 /// Where the wires in a switch's ports lead.
 #[derive(Drop)]
@@ -88,9 +88,10 @@ fn all_fars(
     requires { guids.now ≡ switches (cells_of wires.now) }
     ensures { IfOk result (λ fars. fars.items ≡ row_of (cells_of wires.now) node) }
 {
+    let ports = port_count(wires.store(), node);
     let mut fars = Vec::with_capacity(alloc, 255)?;
     for port in 0..255u8 {
-        fars.push(far_of(wires, guids, node, PortNum::new(port)))?;
+        fars.push(far_within(wires, guids, node, ports, PortNum::new(port)))?;
     }
     Ok(fars)
 }

@@ -122,8 +122,9 @@ fn step<W: Sink, E: Sink>(
     Ok(found.is_none())
 }
 
-/// Returns the tables to write next from those of the network `from`, towards a plan of the same facts by `rule`; `told`
-/// says whether the step may go by the order that they tell. `input` is the number of the held tables' text, for faults.
+/// Returns the tables to write next from those of the network `from`, towards a plan of the same facts by `rule`.
+/// `told` says whether the step may go by the order that the tables of `from` tell. `input` is the number of the held
+/// tables' text, for faults.
 fn next_by(
     alloc: Global,
     input: usize,
@@ -148,14 +149,14 @@ fn next_by(
         return Err(Fault::Memory);
     };
     match &choice.goal {
-        Some(goal) => next_towards(alloc, input, store, &choice.by, from, goal),
-        None => next_towards(alloc, input, store, &choice.by, from, &planned),
+        Some(goal) => next_towards_goal(alloc, input, store, &choice.by, from, goal),
+        None => next_towards(alloc, input, &choice.by, from, &to),
     }
 }
 
-/// Returns the tables to write next by the rule `by`, from those of the network `from` towards those of `goal`. `input`
-/// is the number of the held tables' text, for faults.
-fn next_towards(
+/// Returns the tables to write next by the rule `by`, from those of the network `from` towards the tables `goal`.
+/// `input` is the number of the held tables' text, for faults.
+fn next_towards_goal(
     alloc: Global,
     input: usize,
     store: &Store,
@@ -172,7 +173,25 @@ fn next_towards(
     let Ok(to) = Network::of(alloc, store, goal) else {
         return Err(Fault::Memory);
     };
-    match next_tables(alloc, by, from, &to) {
+    next_towards(alloc, input, by, from, &to)
+}
+
+/// Returns the tables to write next by the rule `by`, from those of the network `from` towards those of the network
+/// `to`. `input` is the number of the held tables' text, for faults.
+fn next_towards(
+    alloc: Global,
+    input: usize,
+    by: &StepRule,
+    from: &Network,
+    to: &Network,
+) -> Result<Held, Fault>
+    requires { to.now.facts ≡ from.now.facts }
+    ensures tables { IfOk result (λ next.
+        next ≡ next_tables (cells_of from.now.facts) (chosen_of by.now) from.now.held to.now.held) }
+    ensures still { OnOk result (first_moved from.now.held to.now.held ≡ None) }
+    ensures refused { IfErr result (StopsNext input from.now.held to.now.held) }
+{
+    match next_tables(alloc, by, from, to) {
         Ok(next) => Ok(next),
         Err(fault) => Err(fault_of_step(input, &fault)),
     }

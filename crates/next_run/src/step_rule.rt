@@ -26,10 +26,10 @@ pub(crate) struct StepChoice {
     pub goal: Option<Held>,
 }
 
-/// Returns how a step from the network's tables chooses entries, towards the tables of `plan`, the plan of the same facts
-/// by `rule`: by the order of the plan's switches if the tables are right by that order. Else, if `told`, by the order
-/// that the tables tell, towards tables between that order and the plan's, if there are such tables. Else by settled
-/// entries.
+/// Returns how a step from the tables of `from` towards those of `plan` chooses entries. `plan` is the plan of the same
+/// facts by `rule`. The step goes by the order of the plan's switches if the tables are right by that order. If they
+/// are not, and `told`, it goes by the order that the tables tell, towards tables between that order and the plan's, if
+/// there are such tables. Else it goes by settled entries.
 pub(crate) fn step_choice(
     alloc: Global,
     told: bool,
@@ -76,8 +76,8 @@ fn goal_between(
     requires from { from.now.facts ≡ store.now }
     requires plan { plan.now.facts ≡ store.now }
     requires positions { length positions.now ≡ length (switches (cells_of store.now)) }
-    ensures { IfOk result (λ found. IsGoalFrom told false (cells_of store.now) from.now.held plan.now.held positions.now
-        (option_map goal_of found)) }
+    ensures { IfOk result (λ found. IsGoalFrom told false (cells_of store.now) from.now.held plan.now.held
+        positions.now (option_map goal_of found)) }
 {
     if !told {
         return Ok(None);

@@ -22,7 +22,7 @@ use Rattle.next_tables.specs.SwitchSteps.{next_of}
 use Rattle.next_tables.specs.NextTables.{StepRuleValue, by_order, column_of, if_owned, index_at, keeper, next_at, next_for, ordered_for, settled_first}
 use Rattle.next_tables.proofs.Listed.{listed}
 use Rattle.next_tables.proofs.Ordered.{ordered_is}
-use Rattle.next_tables.proofs.Settled.{settled_entries}
+use Rattle.next_tables.proofs.Settled.{ordered_settled_entries, settled_entries}
 
 -- so many that are one
 same_each : (x : ℕ) (gs : List ℕ) → map (λ (g : ℕ). x) gs ≡ replicate (length gs) x
@@ -113,6 +113,15 @@ module _ (facts : Facts) (positions : List ℕ) (held plan : HeldPlan) (lid : �
       → entries ≡ column_of (cells_of facts) (by_order positions) held plan lid
   ordered_kept entries planned later port hs ps p first hs_are ps_are e =
       e ∙ (λ i. ordered_of positions port (hs_are i) (ps_are i)) ∙ ordered_is facts positions held plan (record { lid = lid; port = port })
+      ∙ sym (ap (column_by_order (cells_of facts) held plan lid positions) first) ∙ ordered_by_owners (cells_of facts) held plan lid positions planned p
+
+  -- the same where the tables held have the plan's entries, and packets arrive by these from each switch
+  pub ordered_settled : (entries held_entries : List ℕ) (planned later : List EndPort) (port : EndPort) → planned ≡ owners_of plan lid
+      → planned ≡ port ∷ later → held_entries ≡ map (entry_for held lid) (switches (cells_of facts))
+      → entries ≡ map (entry_for plan lid) (switches (cells_of facts)) → held_entries ≡ entries → ComeToOwner (cells_of facts) plan lid
+      → entries ≡ column_of (cells_of facts) (by_order positions) held plan lid
+  ordered_settled entries held_entries planned later port p first held_are e same come =
+      e ∙ ordered_settled_entries facts positions held plan lid port (sym held_are ∙ same ∙ e) later (sym p ∙ first) come
       ∙ sym (ap (column_by_order (cells_of facts) held plan lid positions) first) ∙ ordered_by_owners (cells_of facts) held plan lid positions planned p
 
 -- the columns so far

@@ -1,7 +1,7 @@
 -- The next entries by an order, by lists of what the switches do.
-use Rattle.std.proofs.Common.{◌≡◌, ℕ, zero, suc, ◌+◌, ◌<◌, ◌≤◌, Bool, true, false, cond, List, [], ◌∷◌, length, get_or, Some, refl, sym, ap, ◌∙◌, subst, arith, inl, inr, ◌&&◌, ◌||◌}
-use Rattle.std.specs.Prelude.{not, map, replicate, slice_get, slice_index_or, unwrap_or, min, ◌==◌, None, Option}
-use Rattle.std.specs.List.{enumerate_from, list_all, list_any, position, range_with_len, zip}
+use Rattle.std.proofs.Common.{◌≡◌, ℕ, zero, suc, ◌+◌, ◌<◌, Bool, true, false, cond, List, [], ◌∷◌, length, get_or, Some, refl, sym, ap, ◌∙◌, arith, inl, inr, ◌&&◌, ◌||◌}
+use Rattle.std.specs.Prelude.{not, map, replicate, slice_index_or, unwrap_or, min, ◌==◌, None}
+use Rattle.std.specs.List.{enumerate_from, list_all, list_any, range_with_len, zip}
 use Rattle.std.specs.List.Sorted.{IsStrictlyIncreasing}
 use Rattle.std.proofs.Math.Bool.{or-false, or_assoc}
 use Rattle.std.proofs.lemmas.Bool.{cases_order, eqb-true}
@@ -17,21 +17,21 @@ use Rattle.lft_blocks.proofs.AttachmentTables.{switches_rise}
 use Rattle.plan_file.specs.declared.held.HeldLid.{HeldLid}
 use Rattle.plan_file.specs.Held.{HeldPlan}
 use Rattle.held_tables.specs.Switches.{index_in}
-use Rattle.held_tables.specs.Tables.{entry_for, owners_of}
+use Rattle.held_tables.specs.Tables.{entry_for}
 use Rattle.audit.specs.declared.next_hop.NextHop.{NextHop}
 use Rattle.audit.specs.declared.next_hop.NextHop.TheVariants.{To, Ends}
 use Rattle.audit.specs.declared.switch_step.SwitchStep.{SwitchStep}
-use Rattle.audit.specs.NextHops.{is_at, next_hops_of, switch_step}
+use Rattle.audit.specs.NextHops.{next_hops_of, switch_step}
 use Rattle.audit.proofs.FabricParts.{index_there}
 use Rattle.next_tables.specs.Next.{comes_to, delivers, step_at}
 use Rattle.audit.specs.WalkEnds.{HaveEnded}
 use Rattle.next_tables.specs.SwitchSteps.{Both, arrives_by, hops_of}
-use Rattle.next_tables.specs.ByOrder.{comes_down, goes_up, is_down, is_same, is_up, leads_in, may_change, next_by_order, none_comes_down, none_goes_up, position_at, switch_at, tried, tried_at, tried_entry, turns_well}
+use Rattle.next_tables.specs.ByOrder.{comes_down, goes_up, is_down, is_same, is_up, leads_in, may_change, next_by_order, none_comes_down, none_goes_up, position_at, switch_at, tried, tried_at, turns_well}
 use Rattle.next_tables.specs.OrderedEntries as listed
 use Rattle.next_tables.specs.OrderedEntries.{delivered_of, entered_of, enters, enters_from, entries_by, entry_by, flag, goes_up_by, going_up_of, is_differing, is_entered, may_change_by, ordered_of, tried_by, tried_of, turns_well_by}
-use Rattle.next_tables.specs.NextTables.{by_order, column_of, index_at, ordered_for}
+use Rattle.next_tables.specs.NextTables.{index_at}
 use Rattle.next_tables.proofs.Entries.{at_mapped, member}
-use Rattle.next_tables.proofs.Hops.{placed, to_within}
+use Rattle.next_tables.proofs.Hops.{to_within}
 use Rattle.next_tables.proofs.Listed.{arrives_is}
 
 -- truths

@@ -1,10 +1,14 @@
 -- The blocks of switches, from the entries of all switches for each LID.
-use Rattle.std.specs.Prelude.{ℕ, suc, ◌+◌, ◌*◌, List, [], ◌∷◌, ◌++◌, Some, map, slice_index_or}
+use Rattle.std.specs.Prelude.{ℕ, suc, ◌+◌, ◌*◌, List, [], ◌∷◌, ◌++◌, Some, map, max, slice_index_or}
 use Rattle.std.specs.List.{range_with_len}
+use Rattle.subnet_view.specs.Reading.{Cells, switches}
 use Rattle.lft_blocks.specs.Entries.{block_count}
 use Rattle.plan_file.specs.declared.held.HeldBlock.{HeldBlock}
 use Rattle.plan_file.specs.declared.held.HeldSwitch.{HeldSwitch}
+use Rattle.plan_file.specs.Held.{HeldPlan}
 use Rattle.plan_file.specs.Printed.{blocks_from}
+use Rattle.audit.specs.Edges.{greatest_top}
+use Rattle.next_tables.specs.NextTables.{next_switch}
 
 -- the entry of the switch at `index` for `lid`, 255 if there is none
 abbrev pub entry_in : List (List ℕ) → ℕ → ℕ → ℕ
@@ -23,3 +27,16 @@ abbrev pub all_blocks : List (List ℕ) → ℕ → List HeldSwitch → List Hel
 all_blocks columns index [] = []
 all_blocks columns index (s ∷ switches) =
     some_blocks columns index (block_count (Some s.top)) ++ all_blocks columns (suc index) switches
+
+-- the plan's LIDs, and each usable switch with the greater of its tops and these entries, for each LID those of all
+-- switches
+abbrev pub tables_with : Cells → HeldPlan → HeldPlan → List (List ℕ) → HeldPlan
+tables_with cells held plan columns = record {
+  lids = plan.lids;
+  switches = map (next_switch held plan) (switches cells);
+  blocks = all_blocks columns 0 (map (next_switch held plan) (switches cells));
+}
+
+-- the number of blocks up to the greatest top
+abbrev pub most_blocks : Cells → HeldPlan → HeldPlan → ℕ
+most_blocks cells held plan = block_count (Some (max (greatest_top cells held) (greatest_top cells plan)))

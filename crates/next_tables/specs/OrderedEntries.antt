@@ -1,5 +1,5 @@
 -- The next entries of the switches by an order, from what each switch does by the held tables and by the goal's.
-use Rattle.std.specs.Prelude.{◌≡◌, ℕ, ◌==◌, ◌&&◌, ◌||◌, not, Bool, true, false, List, length, map, slice_index_or, if◌then◌else◌, Some}
+use Rattle.std.specs.Prelude.{ℕ, ◌==◌, ◌&&◌, ◌||◌, not, Bool, true, false, List, length, map, slice_index_or, if◌then◌else◌, Some}
 use Rattle.std.specs.List.{enumerate_from, list_any, range_with_len, zip}
 use Rattle.subnet_view.specs.declared.end_port.EndPort.{EndPort}
 use Rattle.audit.specs.declared.next_hop.NextHop.{NextHop}

@@ -1,23 +1,20 @@
 //! Tables put together from the entries of all switches for each LID.
-ghost use Rattle.std.specs.Prelude.{◌≡◌, ◌≤◌, ◌<◌, ◌++◌, ◌+◌, ◌*◌, IfOk, OnOk, Some, map, max, slice_index_or};
+ghost use Rattle.std.specs.Prelude.{◌≡◌, ◌≤◌, ◌<◌, ◌++◌, IfOk, OnOk, map, max, slice_index_or};
 ghost use Rattle.fact_store.specs.View.{cells_of};
 ghost use Rattle.subnet_view.specs.Reading.{switches};
-ghost use Rattle.lft_blocks.specs.Entries.{block_count};
-ghost use Rattle.audit.specs.Edges.{greatest_top};
-ghost use Rattle.next_tables.specs.Assembled.{all_blocks, block_in, entry_in, some_blocks};
+ghost use Rattle.next_tables.specs.Assembled.{all_blocks, block_in, entry_in, most_blocks, some_blocks, tables_with};
 ghost use Rattle.next_tables.specs.NextTables.{next_switch};
-ghost use Rattle.between_orders.specs.Goal.{most_blocks, tables_with};
 
 use audit::Network;
 use lft_blocks::block_count;
-use next_tables::greater;
 use plan_file::{Held, HeldBlock, HeldSwitch};
+use smp_bytes::Lid;
 use std::alloc::{AllocError, Global};
 
-/// Returns tables with the plan's LIDs, and for each usable switch the greater of its tops and these entries up to it.
-/// `columns` has, for each LID, the entries of all usable switches, by rising GUID; an entry that it lacks is 255. Takes
-/// a step for each entry.
-pub(crate) fn tables_with(
+/// Returns tables with the plan's LIDs. For each usable switch they have the greater of its tops, and its entries in
+/// `columns` up to that top. `columns` has, for each LID, the entries of all usable switches, by rising GUID; an entry
+/// that it lacks is 255. Takes a step for each entry.
+pub fn tables_with(
     alloc: Global,
     held: &Network,
     plan: &Network,
@@ -34,12 +31,19 @@ pub(crate) fn tables_with(
 }
 
 /// Returns the number of blocks that hold all LIDs up to the greatest top in both tables.
-pub(crate) fn most_blocks(held: &Network, plan: &Network) -> usize
+pub fn most_blocks(held: &Network, plan: &Network) -> usize
     requires facts { plan.now.facts ≡ held.now.facts }
     ensures few { result ≤ 1024 }
     ensures count { result ≡ most_blocks (cells_of held.now.facts) held.now.held plan.now.held }
 {
     block_count(Some(greater(held.greatest_top(), plan.greatest_top())))
+}
+
+/// Returns the greater of two LIDs.
+pub fn greater(lid: Lid, other: Lid) -> Lid
+    ensures { result ≡ max lid other }
+{
+    Lid::new(lid.number().max(other.number()))
 }
 
 /// Returns the usable switches, by rising GUID, each with the greater of its tops.

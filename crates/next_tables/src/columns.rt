@@ -26,7 +26,8 @@ pub(crate) fn columns(
     requires facts { plan.now.facts ≡ held.now.facts }
     requires few { count ≤ 1024 }
     ensures { IfOk result (λ columns. map (λ column. column.items) columns.items
-        ≡ map (column_of (cells_of held.now.facts) (value_of rule.now) held.now.held plan.now.held) (range_with_len 0 (64 * count))) }
+        ≡ map (column_of (cells_of held.now.facts) (value_of rule.now) held.now.held plan.now.held)
+        (range_with_len 0 (64 * count))) }
 {
     let mut columns = Vec::with_capacity(alloc, 64 * count)?;
     let mut held_blocks = held.blocks(alloc, 0)?;
@@ -82,9 +83,16 @@ fn column(
             deliveries,
             lid,
         ),
-        StepRule::ByOrder(positions) => {
-            ordered_column(alloc, positions, held, plan, held_blocks, plan_blocks, lid)
-        }
+        StepRule::ByOrder(positions) => ordered_column(
+            alloc,
+            positions,
+            held,
+            plan,
+            held_blocks,
+            plan_blocks,
+            deliveries,
+            lid,
+        ),
     }
 }
 
@@ -96,6 +104,7 @@ fn ordered_column(
     plan: &Network,
     held_blocks: &Blocks,
     plan_blocks: &Blocks,
+    deliveries: &Deliveries,
     lid: Lid,
 ) -> Result<Vec<u8>, AllocError>
     requires facts { plan.now.facts ≡ held.now.facts }
@@ -103,6 +112,7 @@ fn ordered_column(
     requires held_number { held_blocks.now.number ≡ lid / 64 }
     requires plan { AreBlocks plan.now.held plan_blocks.now.number plan_blocks.now.rows.items }
     requires plan_number { plan_blocks.now.number ≡ lid / 64 }
+    requires deliveries { AreDeliveries (cells_of plan.now.facts) plan.now.held deliveries.now }
     ensures { IfOk result (λ column. column.items
         ≡ column_of (cells_of held.now.facts) (by_order positions.now) held.now.held plan.now.held lid) }
 {
@@ -110,6 +120,13 @@ fn ordered_column(
     let Some(port) = first_owner(&planned) else {
         return no_entries(alloc, held.switch_count());
     };
+    if deliveries.has(lid) {
+        let before = held.entries(alloc, held_blocks, lid)?;
+        let entries = plan.entries(alloc, plan_blocks, lid)?;
+        if are_same(&before, &entries) {
+            return Ok(entries);
+        }
+    }
     let held_steps = held.switch_steps(alloc, held_blocks, lid)?;
     let plan_steps = plan.switch_steps(alloc, plan_blocks, lid)?;
     ordered_entries(alloc, &port, positions, &held_steps, &plan_steps)
@@ -153,7 +170,7 @@ fn settled_column(
 }
 
 /// Returns the first of `owners`.
-fn first_owner(owners: &[EndPort]) -> Option<EndPort>
+pub fn first_owner(owners: &[EndPort]) -> Option<EndPort>
     ensures { result ≡ slice_get owners.now 0 }
 {
     owners.first().copied()
@@ -167,7 +184,7 @@ fn is_nobodys(owners: &[EndPort]) -> bool
 }
 
 /// Returns `count` times 255, no entry.
-fn no_entries(alloc: Global, count: usize) -> Result<Vec<u8>, AllocError>
+pub fn no_entries(alloc: Global, count: usize) -> Result<Vec<u8>, AllocError>
     ensures { IfOk result (λ entries. entries.items ≡ replicate count 255) }
 {
     vec![in alloc; 255; count]

@@ -2,6 +2,7 @@
 //! way, no packet that arrived is lost.
 #![tactic(auto)]
 
+mod assembly;
 mod columns;
 mod fault;
 pub mod laws;
@@ -11,7 +12,9 @@ mod step;
 mod step_rule;
 mod up_down;
 
+pub use assembly::{greater, most_blocks, tables_with};
+pub use columns::{first_owner, no_entries};
 pub use fault::StepFault;
-pub use step::{greater, next_tables};
+pub use step::next_tables;
 pub use step_rule::StepRule;
 pub use up_down::{is_down, is_up};

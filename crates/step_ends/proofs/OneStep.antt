@@ -1,5 +1,5 @@
 -- A step has one result.
-use Rattle.std.proofs.Common.{◌≡◌, ◌∙◌, ◌<◌, ◌+◌, ℕ, Bool, true, false, List, [], ◌∷◌, Option, None, Some, refl, sym, ap, subst, arith, length, inl, inr, ◌⊎◌}
+use Rattle.std.proofs.Common.{◌≡◌, ◌∙◌, ◌<◌, ◌+◌, ℕ, Bool, true, false, List, [], ◌∷◌, Option, None, Some, refl, sym, ap, subst, arith, length, inl, inr}
 use Rattle.std.specs.Prelude.{slice_get, slice_set}
 use Rattle.std.proofs.lemmas.Bool.{cases_order}
 use Rattle.std.proofs.lemmas.Option.{same_Some}
@@ -14,7 +14,7 @@ use Rattle.ordered_steps.specs.Rightness.{are_right}
 use Rattle.told_order.specs.ToldOrder.{AreTaken, IsLast, IsTold, MayBeLast, NoneFrom, all_left, is_left}
 use Rattle.two_orders.specs.Growth.{grown_by}
 use Rattle.two_orders.specs.TwoOrders.{TwoOrders}
-use Rattle.between_orders.specs.Between.{Goal, IsGoal, IsRightGoal, IsWrongGoal, goal_between}
+use Rattle.between_orders.specs.Between.{Goal, IsGoal, IsGoalBetween, goal_between}
 use Rattle.between_orders.specs.Orders.{AreOrders, edges_in, orders_from, told_positions}
 use Rattle.next_run.specs.RunNext.{IsGoalFrom, IsNextStep, next_towards}
 use Rattle.step_ends.specs.StepEnds.{StepsHaveOneResult}
@@ -72,19 +72,13 @@ module _ (cells : Cells) (held : HeldPlan) (edges : List (List Edge)) (by : List
       not_stuck cells held (grown_by edges by) a.0 b.0 (all_left cells) a.1.0 b.1 b.4.0 a.1.1 a.1.2 b.2 b.3 b.4.1
 
 module _ (cells : Cells) (held plan : HeldPlan) (by : List ℕ) where
-  right_or_none : (g : Goal) → IsRightGoal cells held plan by g
-      → (AreOrders cells held (edges_in cells) by None ⊎ ((orders : TwoOrders) × IsWrongGoal cells held plan by orders)) → ⊥
-  right_or_none g a (inl none) = some_or_none cells held (edges_in cells) by a.orders a.are none
-  right_or_none g a (inr wrong) =
-      let same = one_orders cells held (edges_in cells) by a.orders wrong.0 a.are wrong.1.are in
-      let is = a.is ∙ ap (λ (o : TwoOrders). goal_between cells o held plan) same in
-      clash (are_right cells (position_at g.positions) g.tables) a.right
-      (ap (λ (x : Goal). are_right cells (position_at x.positions) x.tables) is ∙ wrong.1.wrong)
+  some_or_no_goal : (g : Goal) → IsGoalBetween cells held plan by g → AreOrders cells held (edges_in cells) by None → ⊥
+  some_or_no_goal g a none = some_or_none cells held (edges_in cells) by a.orders a.are none
 
   one_goal : (g h : Option Goal) → IsGoal cells held plan by g → IsGoal cells held plan by h → g ≡ h
   one_goal None None a b = refl
-  one_goal None (Some h) a b = absurd (right_or_none h b a)
-  one_goal (Some g) None a b = absurd (right_or_none g a b)
+  one_goal None (Some h) a b = absurd (some_or_no_goal h b a)
+  one_goal (Some g) None a b = absurd (some_or_no_goal g a b)
   one_goal (Some g) (Some h) a b =
       let same = one_orders cells held (edges_in cells) by a.orders b.orders a.are b.are in
       ap Some (a.is ∙ ap (λ (o : TwoOrders). goal_between cells o held plan) same ∙ sym b.is)

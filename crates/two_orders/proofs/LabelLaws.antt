@@ -50,7 +50,7 @@ labels_turn_well orders labels i j k one other =
     )
 
 -- labels that were given stay
-abbrev Stay : List (Option Sides) → List (Option Sides) → Type 0
+abbrev pub Stay : List (Option Sides) → List (Option Sides) → Type 0
 Stay old new = (i : ℕ) (label : Sides) → label_at old i ≡ Some label → label_at new i ≡ Some label
 
 open_none : (labels : List (Option Sides)) (v : ℕ) → is_open (slice_get labels v) ≡ true → (label_at labels v ≡ None) × (v < length labels)
@@ -70,7 +70,7 @@ module _ (edges : List (List Edge)) (orders : TwoOrders) (sides : Sides) where
       ] refl parts.1
 
   -- one vertex
-  one_stays : (labels : List (Option Sides)) (v : ℕ) → Stay labels (labelled edges orders sides labels v)
+  pub one_stays : (labels : List (Option Sides)) (v : ℕ) → Stay labels (labelled edges orders sides labels v)
   one_stays labels v i label h =
       elim (gets_label edges orders sides labels v) as (λ b. gets_label edges orders sides labels v ≡ b
       → label_at (cond b (slice_set labels v (Some sides)) labels) i ≡ Some label) [
@@ -82,7 +82,7 @@ module _ (edges : List (List Edge)) (orders : TwoOrders) (sides : Sides) where
         | false ↦ λ e. h
       ] refl
 
-  one_new : (labels : List (Option Sides)) (v i : ℕ) (label : Sides) → label_at (labelled edges orders sides labels v) i ≡ Some label
+  pub one_new : (labels : List (Option Sides)) (v i : ℕ) (label : Sides) → label_at (labelled edges orders sides labels v) i ≡ Some label
       → (label_at labels i ≡ Some label) ⊎ ((label ≡ sides) × (list_any (λ e. leads_on orders labels sides i e.to) (edges_at edges i) ≡ true))
   one_new labels v i label h =
       elim (gets_label edges orders sides labels v) as (λ b. gets_label edges orders sides labels v ≡ b
@@ -112,12 +112,13 @@ module _ (edges : List (List Edge)) (orders : TwoOrders) (sides : Sides) where
           ]
 
   -- all of a list
-  all_stay : (labels : List (Option Sides)) (vertices : List ℕ) → Stay labels (all_labelled edges orders sides labels vertices)
+  pub all_stay : (labels : List (Option Sides)) (vertices : List ℕ) → Stay labels (all_labelled edges orders sides labels vertices)
   all_stay labels [] i label h = h
   all_stay labels (v ∷ vertices) i label h =
       all_stay (labelled edges orders sides labels v) vertices i label (one_stays labels v i label h)
 
-  all_new : (labels : List (Option Sides)) (vertices : List ℕ) (i : ℕ) (label : Sides) → label_at (all_labelled edges orders sides labels vertices) i ≡ Some label
+  all_new : (labels : List (Option Sides)) (vertices : List ℕ) (i : ℕ) (label : Sides)
+      → label_at (all_labelled edges orders sides labels vertices) i ≡ Some label
       → (label_at labels i ≡ Some label)
       ⊎ ((e : Edge) × Contains (edges_at edges i) e × (leads_on orders (all_labelled edges orders sides labels vertices) label i e.to ≡ true))
   all_new labels [] i label h = inl h
@@ -137,21 +138,28 @@ module _ (edges : List (List Edge)) (orders : TwoOrders) (sides : Sides) where
       ]
 
 module _ (edges : List (List Edge)) (orders : TwoOrders) (firsts : List (Option Sides)) where
-  abbrev one : List (Option Sides)
+  abbrev pub one : List (Option Sides)
   one = all_labelled edges orders both_down firsts orders.falling
 
-  abbrev two : List (Option Sides)
+  abbrev pub two : List (Option Sides)
   two = all_labelled edges orders first_goes_up one orders.falling
 
-  abbrev three : List (Option Sides)
+  abbrev pub three : List (Option Sides)
   three = all_labelled edges orders second_goes_up two orders.rising
 
-  abbrev four : List (Option Sides)
+  abbrev pub four : List (Option Sides)
   four = all_labelled edges orders both_up three orders.rising
 
-  four_is : labels_from edges orders firsts ≡ four
+  pub four_is : labels_from edges orders firsts ≡ four
   unfolding labels_from
   four_is = refl
+
+  -- labels at first stay
+  pub first_labels_stay : Stay firsts four
+  first_labels_stay i label h =
+      all_stay edges orders both_up three orders.rising i label
+      (all_stay edges orders second_goes_up two orders.rising i label
+      (all_stay edges orders first_goes_up one orders.falling i label (all_stay edges orders both_down firsts orders.falling i label h)))
 
   abbrev Leads : List (Option Sides) → ℕ → Sides → Type 0
   Leads labels i label = (e : Edge) × Contains (edges_at edges i) e × (leads_on orders labels label i e.to ≡ true)

@@ -1,2 +1,5 @@
 pub mod LabelLaws
+pub mod Reached
+pub mod Rounds
 pub mod TreeEdges
+pub mod TreeLabels

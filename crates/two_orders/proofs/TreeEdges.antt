@@ -21,13 +21,13 @@ module _ (edges : List (List Edge)) (earliests : List ℕ) where
   abbrev grown : List (List Edge)
   grown = tree_by edges earliests
 
-  as_many : length grown ≡ length edges
+  pub as_many : length grown ≡ length edges
   as_many = length-map-range_with_len (tree_edges edges earliests) 0 (length edges)
 
-  row : (a : ℕ) → a < length edges → edges_at grown a ≡ tree_edges edges earliests a
+  pub row : (a : ℕ) → a < length edges → edges_at grown a ≡ tree_edges edges earliests a
   row a h = get_or-map-range_with_len (tree_edges edges earliests) 0 (length edges) a a _ h (omega arith)
 
-  there : (a : ℕ) (e : Edge) → Contains (edges_at grown a) e → Contains (edges_at edges a) e × (is_in_tree earliests a e ≡ true)
+  pub there : (a : ℕ) (e : Edge) → Contains (edges_at grown a) e → Contains (edges_at edges a) e × (is_in_tree earliests a e ≡ true)
   there a e h =
       let below : a < length edges = omega (arith, edges_below grown a e h, as_many) in
       contains-from_filter (is_in_tree earliests a) (edges_at edges a) e (subst (λ (es : List Edge). Contains es e) (row a below) h)
@@ -56,7 +56,7 @@ module _ (edges : List (List Edge)) (earliests : List ℕ) where
       (contains_filter (is_in_tree earliests b) (edges_at edges b) back y.1 test)))
 
 module _ (edges : List (List Edge)) (positions : List ℕ) where
-  tree_is : tree edges positions ≡ tree_by edges (all_earliest edges positions)
+  pub tree_is : tree edges positions ≡ tree_by edges (all_earliest edges positions)
   unfolding tree
   tree_is = refl
 

@@ -1,11 +1,14 @@
 -- What labels bring.
-use Rattle.std.specs.Prelude.{◌≡◌, ◌&&◌, ℕ, Bool, true, false, List, Contains, Option, None, Some}
+use Rattle.std.specs.Prelude.{◌≡◌, ◌&&◌, ℕ, Bool, true, false, List, Contains, Option, None, Some, length}
 use Rattle.port_graph.specs.declared.edge.Edge.{Edge}
-use Rattle.port_graph.specs.Heads.{edges_at}
+use Rattle.port_graph.specs.Heads.{LeadToVertices, edges_at, heads}
+use Rattle.port_graph.specs.Walks.{Walk}
+use Rattle.spread_labels.specs.LabelLaws.{IsSymmetric}
 use Rattle.two_orders.specs.declared.labels.Sides.{Sides}
-use Rattle.two_orders.specs.Labels.{label_at, labels_from, leads_on}
-use Rattle.two_orders.specs.Trees.{is_earlier}
-use Rattle.two_orders.specs.TwoOrders.{TwoOrders}
+use Rattle.two_orders.specs.Growth.{grown_by, positions_in}
+use Rattle.two_orders.specs.Labels.{both_down, label_at, labels_from, leads_on}
+use Rattle.two_orders.specs.Trees.{is_earlier, tree}
+use Rattle.two_orders.specs.TwoOrders.{TwoOrders, two_orders}
 
 -- vertex i has a label, and an edge to j leads on from it
 pub record GoesOn (orders : TwoOrders) (labels : List (Option Sides)) (i j : ℕ) : Type 0 where
@@ -29,3 +32,22 @@ LabelledGoOn =
     (edges : List (List Edge)) (orders : TwoOrders) (firsts : List (Option Sides)) (i : ℕ) (label : Sides)
     → label_at (labels_from edges orders firsts) i ≡ Some label → label_at firsts i ≡ None
     → (e : Edge) × Contains (edges_at edges i) e × GoesOn orders (labels_from edges orders firsts) i e.to
+
+-- the order that grows by `told`, and the one that grows by `plan` over its tree
+abbrev pub grown_twice : List (List Edge) → List ℕ → List ℕ → TwoOrders
+grown_twice edges told plan =
+    two_orders (positions_in (grown_by edges told) (length edges))
+    (grown_by (tree edges (positions_in (grown_by edges told) (length edges))) plan) (length edges)
+
+-- at first only targets have a label: down by both orders
+pub record AreTargets (edges : List (List Edge)) (firsts : List (Option Sides)) : Type 0 where
+  pub as_many : length firsts ≡ length edges
+  pub down : (i : ℕ) (label : Sides) → label_at firsts i ≡ Some label → label ≡ both_down
+
+-- by such orders each vertex from which a walk leads to a target gets a label
+abbrev pub AllGetLabels : Type 0
+AllGetLabels =
+    (edges : List (List Edge)) → LeadToVertices edges → IsSymmetric edges → (told plan : List ℕ)
+    → (firsts : List (Option Sides)) → AreTargets edges firsts → (v t n : ℕ) → Walk (heads edges) v t n
+    → label_at firsts t ≡ Some both_down
+    → (label : Sides) × (label_at (labels_from edges (grown_twice edges told plan) firsts) v ≡ Some label)

@@ -132,7 +132,8 @@ pub fn leads_on(
 ) -> bool
     ensures { result ≡ leads_on orders.now labels.now sides from to }
 {
-    leads(orders, sides, from, to) && goes_on(sides, label_at(labels, to))
+    // The label first: in the early rounds most vertices have none.
+    goes_on(sides, label_at(labels, to)) && leads(orders, sides, from, to)
 }
 
 /// Returns whether an edge leads from one vertex to another and to `sides`.

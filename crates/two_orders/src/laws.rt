@@ -1,5 +1,5 @@
 //! The laws of labels by two orders.
-ghost use Rattle.two_orders.specs.LabelLaws.{LabelledGoOn, LabelsTurnWell};
+ghost use Rattle.two_orders.specs.LabelLaws.{AllGetLabels, LabelledGoOn, LabelsTurnWell};
 
 /// A walk that goes on by labels, whatever they are, goes down and then up by neither order.
 pub fn labels_turn_well()
@@ -9,4 +9,10 @@ pub fn labels_turn_well()
 /// From each vertex that `label_all` gives a label an edge leads on by it.
 pub fn labelled_go_on()
     ensures law { LabelledGoOn }
+{}
+
+/// Each vertex from which a walk leads to a target gets a label, if the first order grows by some positions, and the
+/// second by others over the tree of the first.
+pub fn all_get_labels()
+    ensures law { AllGetLabels }
 {}

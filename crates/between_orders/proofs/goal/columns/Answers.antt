@@ -11,7 +11,8 @@ loop-number-preserved c =
     record {
       held_blocks = c.in_ok-held_blocks-2.ensures.0;
       plan_blocks = c.in_ok-plan_blocks-2.ensures.0;
+      labels_are = c.in_ok-column.ensures.labels;
       columns_are = column_more f (λ (v : Vec ℕ Global). v.items) c.loop-number.columns.items c.push.new.self.items
           c.in_ok-column.column c.loop-number.number c.loop-number.invariant.columns_are c.in_ok-push.ensures.items
-          (c.in_ok-column.ensures ∙ ap f c.new-lid.ensures);
+          (c.in_ok-column.ensures.column ∙ ap f c.new-lid.ensures);
     }

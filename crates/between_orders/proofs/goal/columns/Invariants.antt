@@ -7,4 +7,4 @@ use Rattle.between_orders.proofs.goal.columns.Given as goal
 abbrev pub invariant-loop-number : goal.invariant-loop-number
 invariant-loop-number l =
     SoFar (cells_of l.held.facts) l.edges l.orders l.held.held l.plan.held l.number l.held_blocks.number l.plan_blocks.number
-    l.held_blocks.rows.items l.plan_blocks.rows.items (map (λ c. c.items) l.columns.items)
+    l.held_blocks.rows.items l.plan_blocks.rows.items (map (λ c. c.items) l.columns.items) l.labelled.firsts.items l.labelled.labels.items

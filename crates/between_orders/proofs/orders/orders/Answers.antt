@@ -1,5 +1,5 @@
 -- From the told order.
-use Rattle.std.proofs.Common.{◌≡◌, ◌∙◌, ℕ, List, Option, Vec, Global, Some, ap, length, subst, sym}
+use Rattle.std.proofs.Common.{◌≡◌, ◌∙◌, ℕ, List, Option, Vec, Global, Some, ap, length, subst}
 use Rattle.std.specs.Option.{option_map}
 use Rattle.std.proofs.lemmas.List.FromFn.{length-map-range_with_len}
 use Rattle.fact_store.specs.View.{cells_of}
@@ -22,6 +22,7 @@ returns-in-Some c =
     let preferred : c.deref.result.now ≡ grown_by edges plan = c.deref.ensures.value ∙ c.in_ok-preferred.ensures in
     let told : IsTold cells held (grown_by edges plan) (Some c.in-Some.taken.items) =
     subst (λ (ps : List ℕ). IsTold cells held ps (Some c.in-Some.taken.items)) preferred
-    (subst (λ (o : Option (Vec ℕ Global)). IsTold cells held c.deref.result.now (option_map (λ (v : Vec ℕ Global). v.items) o)) c.in-Some.is c.in_ok-taken.ensures) in
+    (subst (λ (o : Option (Vec ℕ Global)). IsTold cells held c.deref.result.now (option_map (λ (v : Vec ℕ Global). v.items) o)) c.in-Some.is
+    c.in_ok-taken.ensures) in
     let positions = c.in_ok-told-in-Some.ensures ∙ (λ i. told_positions (c.deref-in-Some.ensures.value i) (c.len.ensures i)) in
     (c.in-Some.taken.items, told, c.in_ok-orders-in-Some.ensures ∙ ap (orders_from cells held edges plan) positions)

@@ -1,5 +1,5 @@
 -- By whether the tables are right by the order that grows by the told one.
-use Rattle.std.proofs.Common.{◌≡◌, ◌∙◌, ℕ, Bool, List, true, false, cond, ap, length, subst, sym}
+use Rattle.std.proofs.Common.{◌≡◌, ◌∙◌, ℕ, List, true, false, cond, ap, length, subst, sym}
 use Rattle.std.specs.Prelude.{IfOk}
 use Rattle.fact_store.specs.View.{cells_of}
 use Rattle.port_graph.specs.declared.edge.Edge.{Edge}
@@ -11,7 +11,7 @@ use Rattle.two_orders.specs.Growth.{grown_by, positions_in}
 use Rattle.two_orders.specs.Trees.{tree}
 use Rattle.two_orders.specs.TwoOrders.{TwoOrders, two_orders}
 use Rattle.two_orders.proofs.TreeEdges.{tree_leads, tree_long, tree_symmetric}
-use Rattle.between_orders.specs.Orders.{orders_by, orders_from}
+use Rattle.between_orders.specs.Orders.{orders_from}
 use Rattle.between_orders.proofs.orders.orders_from.Goals as goal
 
 pub grown_by-requires-then-branch-clause-positions : goal.grown_by-requires-then-branch-clause-positions
@@ -41,7 +41,8 @@ returns-in_ok-rising c =
     sym (ap (λ (xs : List ℕ). are_right cells (position_at xs) held) (c.deref-3.ensures.value ∙ first))
     ∙ sym c.in_ok-are_right.ensures ∙ c.if-branch.true in
     let rising : c.in_ok-rising.rising.items ≡ grown_by (tree edges (positions_in (grown_by edges told) n)) plan =
-    c.in_ok-rising.ensures ∙ ap (λ (es : List (List Edge)). grown_by es plan) (c.in_ok-tree.ensures ∙ ap (tree edges) (c.deref-then-branch.ensures.value ∙ first)) in
+    c.in_ok-rising.ensures
+    ∙ ap (λ (es : List (List Edge)). grown_by es plan) (c.in_ok-tree.ensures ∙ ap (tree edges) (c.deref-then-branch.ensures.value ∙ first)) in
     let made : two_orders c.in_ok-first.first.items c.in_ok-rising.rising.items c.len-then-branch.result ≡ orders_from cells held edges plan told =
     (λ i. two_orders (first i) (rising i) (c.len-then-branch.ensures i))
     ∙ ap (λ b. cond b (two_orders (positions_in (grown_by edges told) n) (grown_by (tree edges (positions_in (grown_by edges told) n)) plan) n)

@@ -1,5 +1,5 @@
 -- By the wires of the switches.
-use Rattle.std.proofs.Common.{◌≡◌, ◌∙◌, ℕ, List, Option, None, Some, true, false, ap, inl, inr, refl, subst, sym, length}
+use Rattle.std.proofs.Common.{◌≡◌, ◌∙◌, List, Option, None, Some, ap, refl, subst, sym}
 use Rattle.fact_store.specs.View.{Facts, cells_of}
 use Rattle.port_graph.specs.declared.edge.Edge.{Edge}
 use Rattle.spread_labels.specs.LabelLaws.{IsSymmetric}
@@ -8,8 +8,6 @@ use Rattle.spread_routes.specs.Rule.{by_index}
 use Rattle.spread_routes.proofs.Indices.{there_and_back}
 use Rattle.spread_routes.proofs.Positions.{edges_are}
 use Rattle.two_orders.specs.TwoOrders.{TwoOrders}
-use Rattle.next_tables.specs.ByOrder.{position_at}
-use Rattle.ordered_steps.specs.Rightness.{are_right}
 use Rattle.between_orders.specs.Goal.{tables_between}
 use Rattle.between_orders.specs.Orders.{AreOrders, edges_in}
 use Rattle.between_orders.proofs.step_goal.between.Goals as goal
@@ -35,12 +33,11 @@ returns-in_default c =
     let are : AreOrders cells held (edges_in cells) c.args.positions.now c.in_ok-orders.field-0 =
     subst (λ (x : Facts × List (List Edge)). AreOrders (cells_of x.0) held x.1 c.args.positions.now c.in_ok-orders.field-0)
     (λ i. (c.requires.held i, edges i)) c.in_ok-orders.ensures in
-    inl (subst (λ (o : Option TwoOrders). AreOrders cells held (edges_in cells) c.args.positions.now o)
-    (none_of c.in_ok-orders.field-0 c.in_default.not-Some) are)
+    subst (λ (o : Option TwoOrders). AreOrders cells held (edges_in cells) c.args.positions.now o)
+    (none_of c.in_ok-orders.field-0 c.in_default.not-Some) are
 
-pub returns-then-branch : goal.returns-then-branch
-returns-then-branch c =
-    let facts = c.args.store.now in
+pub returns : goal.returns
+returns c =
     let cells = cells_of c.args.store.now in
     let held = c.args.held.now.held in
     let plan = c.args.plan.now.held in
@@ -54,39 +51,11 @@ returns-then-branch c =
     subst (λ (o : Option TwoOrders). AreOrders cells held (edges_in cells) by o) c.in-Some.is
     (subst (λ (x : Facts × List (List Edge)). AreOrders (cells_of x.0) held x.1 by c.in_ok-orders.field-0)
     (λ i. (c.requires.held i, edges i)) c.in_ok-orders.ensures) in
-    let tables : c.in_ok-goal.goal ≡ tables_between cells (edges_in cells) orders held plan =
-    c.in_ok-goal.ensures ∙ (λ i. tables_between (cells_of (c.requires.held i)) (edges i) orders held plan) in
-    let first : c.first.result.now ≡ orders.first = c.first.ensures in
+    let tables : c.in_ok-tables.tables ≡ tables_between cells (edges_in cells) orders held plan =
+    c.in_ok-tables.ensures ∙ (λ i. tables_between (cells_of (c.requires.held i)) (edges i) orders held plan) in
     let list : c.into_first.result.items ≡ orders.first = c.into_first.ensures in
-    let right : are_right cells (position_at c.into_first.result.items) c.in_ok-goal.goal ≡ true =
-    ap (λ (xs : List ℕ). are_right cells (position_at xs) c.in_ok-goal.goal) (list ∙ sym first)
-    ∙ sym c.in_ok-is_right.ensures ∙ c.if-branch.true in
     record {
       orders = orders;
       are = are;
       is = λ i. record { positions = list i; tables = tables i };
-      right = right;
     }
-
-pub returns : goal.returns
-returns c =
-    let facts = c.args.store.now in
-    let cells = cells_of c.args.store.now in
-    let held = c.args.held.now.held in
-    let plan = c.args.plan.now.held in
-    let by = c.args.positions.now in
-    let own = c.adjacency-edges.result.now in
-    let orders = c.in-Some.orders in
-    let edges : own ≡ edges_in cells =
-    edges_are c.in_ok-graph.graph c.adjacency-edges.ensures.is_graph own c.adjacency-edges.ensures.edges
-    ∙ ap by_index (c.in_ok-graph.ensures ∙ ap (λ (f : Facts). graph_of (cells_of f)) c.in_ok-wires.ensures) in
-    let are : AreOrders cells held (edges_in cells) by (Some orders) =
-    subst (λ (o : Option TwoOrders). AreOrders cells held (edges_in cells) by o) c.in-Some.is
-    (subst (λ (x : Facts × List (List Edge)). AreOrders (cells_of x.0) held x.1 by c.in_ok-orders.field-0)
-    (λ i. (c.requires.held i, edges i)) c.in_ok-orders.ensures) in
-    let tables : c.in_ok-goal.goal ≡ tables_between cells (edges_in cells) orders held plan =
-    c.in_ok-goal.ensures ∙ (λ i. tables_between (cells_of (c.requires.held i)) (edges i) orders held plan) in
-    let first : c.first.result.now ≡ orders.first = c.first.ensures in
-    let wrong : are_right cells (position_at orders.first) (tables_between cells (edges_in cells) orders held plan) ≡ false =
-    sym (λ i. are_right cells (position_at (first i)) (tables i)) ∙ sym c.in_ok-is_right.ensures ∙ c.if-branch.false in
-    inr (orders, record { are = are; wrong = wrong })

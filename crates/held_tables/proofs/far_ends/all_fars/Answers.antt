@@ -11,7 +11,7 @@ loop-port-preserved c =
     let f = far_of (cells_of c.args.wires.now) c.args.node in
     let port = c.loop-port.port in
     rw c.in_ok-push.ensures.items
-    (rw c.loop-port.invariant (rw c.far_of.ensures (rw c.new.ensures (sym (map-range_with_len_more f 0 port port (omega arith))))))
+    (rw c.loop-port.invariant (rw c.far_within.ensures (rw c.new.ensures (sym (map-range_with_len_more f 0 port port (omega arith))))))
 
 pub returns : goal.returns
 returns c =

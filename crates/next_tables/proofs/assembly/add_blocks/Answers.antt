@@ -1,7 +1,7 @@
 -- A block more.
 use Rattle.std.proofs.Common.{ℕ, Vec, Global, map}
 use Rattle.next_tables.proofs.Assembled.{some_more_at}
-use Rattle.next_tables.proofs.step.add_blocks.Goals as goal
+use Rattle.next_tables.proofs.assembly.add_blocks.Goals as goal
 
 pub loop-number-preserved : goal.loop-number-preserved
 loop-number-preserved c =

@@ -1,7 +1,7 @@
 -- A switch more.
 use Rattle.std.proofs.Common.{ℕ, Vec, Global, map}
 use Rattle.next_tables.proofs.Assembled.{all_more_at}
-use Rattle.next_tables.proofs.step.all_blocks.Goals as goal
+use Rattle.next_tables.proofs.assembly.all_blocks.Goals as goal
 
 pub loop-index-preserved : goal.loop-index-preserved
 loop-index-preserved c =

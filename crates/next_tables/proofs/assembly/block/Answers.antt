@@ -2,7 +2,7 @@
 use Rattle.std.proofs.Common.{ℕ, ◌+◌, ◌*◌, Vec, Global, map, arith}
 use Rattle.std.proofs.lemmas.List.FromFn.{fill_by_all}
 use Rattle.next_tables.specs.Assembled.{entry_in}
-use Rattle.next_tables.proofs.step.block.Goals as goal
+use Rattle.next_tables.proofs.assembly.block.Goals as goal
 
 pub returns : goal.returns
 returns c =

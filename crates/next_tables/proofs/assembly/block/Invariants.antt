@@ -1,7 +1,7 @@
 -- The entries so far.
 use Rattle.std.proofs.Common.{◌≡◌, ◌+◌, ◌*◌, ◌<◌, ℕ, get_or, length, map}
 use Rattle.next_tables.specs.Assembled.{entry_in}
-use Rattle.next_tables.proofs.step.block.Given as goal
+use Rattle.next_tables.proofs.assembly.block.Given as goal
 
 abbrev pub invariant-loop-i : goal.invariant-loop-i
 invariant-loop-i l =

@@ -1,14 +1,16 @@
 -- By who holds the LID in the plan.
-use Rattle.std.proofs.Common.{◌≡◌, ◌∙◌, List, ap, sym}
+use Rattle.std.proofs.Common.{◌≡◌, ◌∙◌, List, ap, subst, sym}
 use Rattle.std.specs.Prelude.{drop, map, replicate, slice_get}
 use Rattle.fact_store.specs.View.{Facts, cells_of}
 use Rattle.subnet_view.specs.Reading.{switches}
 use Rattle.subnet_view.specs.declared.end_port.EndPort.{EndPort}
 use Rattle.audit.proofs.Brought.{if_ok}
+use Rattle.audit.specs.Deliveries.{ComeToOwner}
 use Rattle.audit.specs.NextHops.{switch_step}
+use Rattle.held_tables.specs.Tables.{entry_for}
 use Rattle.next_tables.specs.NextTables.{by_order, column_of}
 use Rattle.next_tables.specs.OrderedEntries.{ordered_of}
-use Rattle.next_tables.proofs.ByLid.{first_of, none_first, ordered_kept, ordered_nobodys}
+use Rattle.next_tables.proofs.ByLid.{first_of, none_first, ordered_kept, ordered_nobodys, ordered_settled}
 use Rattle.next_tables.proofs.columns.ordered_column.Goals as goal
 
 pub returns-in_default : goal.returns-in_default
@@ -23,6 +25,21 @@ returns-in_default c =
     (λ entries e.
     ordered_nobodys cells held plan c.args.lid c.args.positions.now entries.items planned c.in_ok-planned.ensures none c.switch_count.result
     c.switch_count.ensures e)
+
+pub returns-then-are_same : goal.returns-then-are_same
+returns-then-are_same c =
+    let facts = c.args.held.now.facts in
+    let held = c.args.held.now.held in
+    let plan = c.args.plan.now.held in
+    let lid = c.args.lid in
+    let port = c.in-Some.port in
+    let planned = c.in_ok-planned.planned.items in
+    let first = first_of planned port (ap (λ (es : List EndPort). slice_get es 0) (sym c.deref.ensures.value) ∙ sym c.first_owner.ensures ∙ c.in-Some.is) in
+    let come = subst (λ (f : Facts). ComeToOwner (cells_of f) plan lid) c.requires.facts (c.requires.deliveries lid (sym c.has.ensures ∙ c.if-has.true)) in
+    let same = sym c.deref-then-has.ensures.value ∙ c.are_same.ensures.0 c.if-are_same.true ∙ c.deref-then-has-2.ensures.value in
+    ordered_settled facts c.args.positions.now held plan lid c.in_ok-entries.entries.items c.in_ok-before.before.items planned (drop 1 planned) port
+    c.in_ok-planned.ensures first c.in_ok-before.ensures
+    (c.in_ok-entries.ensures ∙ ap (λ (f : Facts). map (entry_for plan lid) (switches (cells_of f))) c.requires.facts) same come
 
 pub returns : goal.returns
 returns c =

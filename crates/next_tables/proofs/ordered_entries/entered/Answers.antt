@@ -1,6 +1,6 @@
 -- A switch more.
 use Rattle.std.proofs.Common.{◌≡◌, ◌<◌, ◌∙◌, ◌+◌, ◌++◌, ◌||◌, ℕ, Bool, List, ap, arith, length, subst, sym}
-use Rattle.std.specs.Prelude.{drop, min, slice_index_or, take}
+use Rattle.std.specs.Prelude.{drop, min, take}
 use Rattle.std.proofs.Math.Seq.{take-append_seam}
 use Rattle.std.proofs.lemmas.List.{get_or_default}
 use Rattle.next_tables.specs.OrderedEntries.{enters, flag}

@@ -1,0 +1,67 @@
+//! The labels of switches, kept from LID to LID.
+ghost use Rattle.std.specs.Prelude.{◌≡◌, ◌↔◌, IsTrue, OnOk};
+ghost use Rattle.two_orders.specs.Labels.{labels_from};
+
+use port_graph::Adjacency;
+use std::alloc::{AllocError, Global};
+use two_orders::{Orders, Sides, label_all};
+
+/// The labels of switches, and the labels at first that they came of.
+#[derive(Drop)]
+pub(crate) struct Labelled {
+    /// The labels at first, of the targets.
+    pub firsts: Vec<Option<Sides>>,
+    /// The labels of all switches.
+    pub labels: Vec<Option<Sides>>,
+}
+
+impl Labelled {
+    /// Returns the labels that come of none.
+    pub fn none(alloc: Global, edges: &Adjacency, orders: &Orders) -> Self
+        ensures { result.labels.items ≡ labels_from edges.now orders.now result.firsts.items }
+    {
+        let firsts = Vec::new(alloc);
+        let mut labels = Vec::new(alloc);
+        label_all(&mut labels, edges, orders);
+        Labelled { firsts, labels }
+    }
+
+    /// Makes these the labels that come of `firsts`. Takes a step for each switch if they came of the same, and else
+    /// what `label_all` takes.
+    pub fn relabel(
+        &mut self,
+        alloc: Global,
+        edges: &Adjacency,
+        orders: &Orders,
+        firsts: Vec<Option<Sides>>,
+    ) -> Result<(), AllocError>
+        requires { self.old.labels.items ≡ labels_from edges.now orders.now self.old.firsts.items }
+        ensures firsts { OnOk result (self.new.firsts.items ≡ firsts.items) }
+        ensures labels { OnOk result (self.new.labels.items
+            ≡ labels_from edges.now orders.now self.new.firsts.items) }
+    {
+        if are_same(&self.firsts, &firsts) {
+            return Ok(());
+        }
+        let mut labels = Vec::from_slice(alloc, &firsts)?;
+        label_all(&mut labels, edges, orders);
+        self.firsts = firsts;
+        self.labels = labels;
+        Ok(())
+    }
+}
+
+/// Returns whether two lists of labels are equal. Takes a step for each label, up to the first at which they differ.
+fn are_same(labels: &[Option<Sides>], others: &[Option<Sides>]) -> bool
+    ensures { IsTrue result ↔ (labels.now ≡ others.now) }
+{
+    if labels.len() != others.len() {
+        return false;
+    }
+    for (index, label) in labels.iter().enumerate() {
+        if *label != others[index] {
+            return false;
+        }
+    }
+    true
+}
