@@ -42,24 +42,24 @@ def spread(plan):
         "10/1-20/1 10/2-30/1 10/3-40/1 10/4-50/1 20/2-30/2 30/3-40/2 40/3-50/2",
         plan(
             "1 10/0 2 20/0 3 30/0 4 40/0 5 50/0",
-            "10 0 1 2 3 4", "20 1 0 2 2 1", "30 1 2 0 3 1", "40 1 1 2 0 3", "50 1 1 2 2 0",
+            "10 0 1 2 3 4", "20 1 0 2 2 1", "30 1 2 0 3 3", "40 1 1 2 0 3", "50 1 1 1 2 0",
         ),
     )
     # Two switches above three leaf switches: from below, LIDs in a row alternate between the two.
     yield "a tree of two levels", *TREE, plan(
         TREE_LIDS,
-        "10 0 1 1 2 3 1 1 2 2 3 3", "20 1 0 1 2 3 1 1 2 2 3 3", "30 1 2 0 2 1 3 4 2 1 2 1",
-        "40 1 2 2 0 2 1 2 3 4 1 2", "50 1 2 2 1 0 1 2 1 2 3 4",
+        "10 0 1 1 2 3 1 1 2 2 3 3", "20 1 0 1 2 3 1 1 2 2 3 3", "30 1 2 0 2 2 3 4 1 2 1 2",
+        "40 1 2 1 0 1 2 1 3 4 2 1", "50 1 2 1 1 0 2 1 2 1 3 4",
     )
     one = "1 10/0 2 20/0 3 30/0 4 100/1"
     yield (
         "two wires between each two of a chain", THREE, (0x100,),
         "10/1-20/1 10/2-20/2 20/3-30/1 20/4-30/2 30/3-100/1",
-        plan(one, "10 0 1 2 1", "20 2 0 3 4", "30 1 2 0 3"),
+        plan(one, "10 0 1 1 2", "20 2 0 4 3", "30 2 2 0 3"),
     )
     yield (
         "two components", THREE, (0x100,), "10/1-20/1 10/2-20/2 20/3-20/4 30/1-100/1",
-        plan(one, "10 0 1 - -", "20 1 0 - -", "30 - - 0 1"),
+        plan(one, "10 0 1 - -", "20 2 0 - -", "30 - - 0 1"),
     )
     yield (
         "a ring of five",
@@ -77,12 +77,12 @@ def plans(plan):
     """Yields titles, subnets, texts of their roots, and their plans."""
     # From both upper switches the order grows as from the middle, where it begins without roots too.
     middle = (
-        "10 0 1 1 2 3 1 1 2 2 3 3", "20 1 0 1 2 3 1 1 2 2 3 3", "30 1 2 0 2 1 3 4 2 1 2 1",
-        "40 1 2 2 0 2 1 2 3 4 1 2", "50 1 2 2 1 0 1 2 1 2 3 4",
+        "10 0 1 1 2 3 1 1 2 2 3 3", "20 1 0 1 2 3 1 1 2 2 3 3", "30 1 2 0 2 2 3 4 1 2 1 2",
+        "40 1 2 1 0 1 2 1 3 4 2 1", "50 1 2 1 1 0 2 1 2 1 3 4",
     )
     yield "a tree from both switches above", TREE, ("10\n20", "20\n10\n"), plan(TREE_LIDS, *middle)
     one = (
-        "10 0 1 1 2 3 1 1 2 2 3 3", "20 3 0 1 2 3 1 1 2 2 3 3", "30 1 2 0 2 2 3 4 2 2 2 2",
+        "10 0 2 1 2 3 1 1 2 2 3 3", "20 2 0 1 2 3 1 1 2 2 3 3", "30 1 2 0 2 2 3 4 2 2 2 2",
         "40 1 2 2 0 2 2 2 3 4 2 2", "50 1 2 2 2 0 2 2 2 2 3 4",
     )
     texts = (
@@ -91,8 +91,8 @@ def plans(plan):
     )
     yield "a tree from one switch above", TREE, texts, plan(TREE_LIDS, *one)
     below = (
-        "10 0 2 1 2 3 1 1 2 2 3 3", "20 2 0 1 2 3 1 1 2 2 3 3", "30 1 2 0 2 1 3 4 2 1 2 1",
-        "40 1 2 2 0 1 1 2 3 4 1 1", "50 1 2 2 1 0 1 2 1 1 3 4",
+        "10 0 2 1 2 3 1 1 2 2 3 3", "20 3 0 1 2 3 1 1 2 2 3 3", "30 1 2 0 2 2 3 4 1 2 1 2",
+        "40 1 2 1 0 1 2 1 3 4 1 1", "50 1 2 1 1 0 2 1 1 1 3 4",
     )
     yield "a tree from two switches below", TREE, ("50\n40", "0x40\n50"), plan(TREE_LIDS, *below)
     rings = (
@@ -106,8 +106,8 @@ def plans_as_named(plan):
     """Yields titles, subnets, texts of an order, and their plans."""
     # From below, and then by one upper switch: the other one is reached from it through that single leaf switch.
     below = (
-        "10 0 3 1 2 3 1 1 2 2 3 3", "20 3 0 1 2 3 1 1 2 2 3 3", "30 1 2 0 2 1 3 4 2 1 2 1",
-        "40 1 2 2 0 2 1 2 3 4 1 2", "50 1 2 2 1 0 1 2 1 2 3 4",
+        "10 0 3 1 2 3 1 1 2 2 3 3", "20 3 0 1 2 3 1 1 2 2 3 3", "30 1 2 0 2 2 3 4 1 2 1 2",
+        "40 1 2 1 0 1 2 1 3 4 2 1", "50 1 2 1 1 0 2 1 2 1 3 4",
     )
     texts = (
         "50\n10", "0x50 # a leaf\r\n\r\n0x10\r\n20\r\n30\r\n40", "50", "11\n50\nffffffffffffffff\n100\n1",
@@ -115,14 +115,14 @@ def plans_as_named(plan):
     yield "a tree in an order from a switch below", TREE, texts, plan(TREE_LIDS, *below)
     # The other upper switch comes last: nothing goes through it.
     last = (
-        "10 0 1 1 2 3 1 1 2 2 3 3", "20 3 0 1 2 3 1 1 2 2 3 3", "30 1 2 0 1 1 3 4 1 1 1 1",
+        "10 0 2 1 2 3 1 1 2 2 3 3", "20 2 0 1 2 3 1 1 2 2 3 3", "30 1 2 0 1 1 3 4 1 1 1 1",
         "40 1 2 1 0 1 1 1 3 4 1 1", "50 1 2 1 1 0 1 1 1 1 3 4",
     )
     yield "a tree in an order that ends above", TREE, ("50\n10\n40\n30\n20", "50\n10\n40\n30"), plan(TREE_LIDS, *last)
     # By GUID, if nothing named is a switch: from 10, and from the leaf switch of the least GUID behind it.
     least = (
-        "10 0 1 1 2 3 1 1 2 2 3 3", "20 1 0 1 2 3 1 1 2 2 3 3", "30 1 2 0 2 1 3 4 2 1 2 1",
-        "40 1 2 2 0 2 1 2 3 4 1 2", "50 1 2 2 1 0 1 2 1 2 3 4",
+        "10 0 1 1 2 3 1 1 2 2 3 3", "20 1 0 1 2 3 1 1 2 2 3 3", "30 1 2 0 2 2 3 4 1 2 1 2",
+        "40 1 2 1 0 1 2 1 3 4 2 1", "50 1 2 1 1 0 2 1 2 1 3 4",
     )
     yield "a tree by GUID", TREE, ("", "# none\r\n", "11\n100\nffffffffffffffff", "10\n20\n30\n40\n50"), plan(
         TREE_LIDS, *least
@@ -225,7 +225,7 @@ def runs(plan):
                 yield title, of, text, "", ends
     # Each adapter's switch is where its two LIDs lead, and no switch on the route has two candidates.
     one = (
-        "10 0 1 1 2 3 1 1 2 2 3 3", "20 3 0 1 2 3 1 1 2 2 3 3", "30 1 2 0 2 2 3 4 2 2 2 2",
+        "10 0 2 1 2 3 1 1 2 2 3 3", "20 3 0 1 2 3 1 1 2 2 3 3", "30 1 2 0 2 2 3 4 2 2 2 2",
         "40 1 2 2 0 2 2 2 3 4 2 2", "50 1 2 2 2 0 2 2 2 2 3 4",
     )
     lids = "1 10/0 2 20/0 3 30/0 4 40/0 5 50/0 6 100/1 8 110/1 10 120/1 12 200/1 14 210/1 16 300/1"
