@@ -50,6 +50,10 @@ class Seat:
     def status(self):
         return json.loads(self.status_file.read_text())
 
+    def state(self):
+        """Returns its state, or None before it told any."""
+        return self.status()["state"] if self.status_file.exists() else None
+
     def children(self):
         number = self.process.pid
         return [int(it) for it in pathlib.Path(f"/proc/{number}/task/{number}/children").read_text().split()]
@@ -568,15 +572,15 @@ def equal_priorities(bench):
     timing = ["-p", 5, "-s", 2, "-m", 200, "-r", 1]
     lesser, greater = sorted(("H1", "H2"), key=lambda host: port_guid(bench, host))
     with seated(bench, greater, *timing) as late, seated(bench, lesser, *timing) as early:
-        took = until(lambda: (early.status()["state"], late.status()["state"]) == ("master", "standby"), 40)
+        took = until(lambda: (early.state(), late.state()) == ("master", "standby"), 40)
         bench.check(took is not None and early.settles(), f"equal priorities: the lesser GUID wins: {took or -1:.1f} s")
         before = held(bench, "equal", lesser)
         early.end(signal.SIGKILL)
-        took = until(lambda: late.status()["state"] == "master", 40)
+        took = until(lambda: late.state() == "master", 40)
         bench.check(took is not None and late.settles(), f"it is killed: the greater takes over: {took or -1:.1f} s")
         bench.check(held(bench, "taken", greater) == before, "tables are as they were")
         with seated(bench, lesser, *timing) as again:
-            took = until(lambda: (again.status()["state"], late.status()["state"]) == ("master", "standby"), 40)
+            took = until(lambda: (again.state(), late.state()) == ("master", "standby"), 40)
             bench.check(took is not None and again.settles(), f"the lesser GUID comes back: {took or -1:.1f} s")
             bench.check(late.count("HANDOVER to") == 1, "it was handed over to once")
             bench.check(held(bench, "again", lesser) == before, "tables are as they were")
@@ -595,7 +599,7 @@ def announced_again(bench):
                 bench.check(greater.count("is to hand over") <= 1, "it was announced anew at most once")
                 bench.check(lesser.count("HANDOVER to") == number, "by a handover")
                 greater.end(signal.SIGKILL)
-                took = until(lambda: lesser.status()["state"] == "master", 40)
+                took = until(lambda: lesser.state() == "master", 40)
                 bench.check(took is not None and lesser.settles(), f"it is killed: taken back: {took or -1:.1f} s")
 
 
@@ -606,18 +610,18 @@ def with_keys(bench):
         one = stack.enter_context(seated(bench, "H1", "-p", 5, "--sm-key", "2a", *timing))
         bench.check(one.settles(), "a seat of SM_Key 2a is master")
         other = stack.enter_context(seated(bench, "H2", "-p", 3, "--sm-key", "2a", *timing))
-        took = until(lambda: other.status()["state"] == "standby", 20)
+        took = until(lambda: other.state() == "standby", 20)
         bench.check(took is not None, f"another of this key stands by: {took or -1:.1f} s")
         before = held(bench, "keyed")
         hosts = [node for node in bench.fabric.nodes if not bench.fabric.is_switch(node)]
         stranger = stack.enter_context(seated(bench, hosts[-1], "-p", 1, "--sm-key", "2b", *timing))
         bench.check(stranger.settles(), "one of another key is master too")
         time.sleep(4)
-        states = [seat.status()["state"] for seat in (one, other, stranger)]
+        states = [seat.state() for seat in (one, other, stranger)]
         bench.check(states == ["master", "standby", "master"], f"neither hands over to the other: {states}")
         bench.check(held(bench, "strange") == before, "tables are as they were, since both plan alike")
         one.end(signal.SIGKILL)
-        took = until(lambda: other.status()["state"] == "master", 40)
+        took = until(lambda: other.state() == "master", 40)
         bench.check(took is not None, f"the master is killed: the one of its key takes over: {took or -1:.1f} s")
 
 
