@@ -1,4 +1,4 @@
--- What switches tell of changes at their ports: which traps wait, and which are sent.
+-- The traps by which switches tell the master that the state of a link has changed: which wait, and which are sent.
 use Rattle.std.specs.Prelude.{ℕ, Bool, ◌&&◌, ◌==◌, nat_lt, length, if◌then◌else◌, Option, Some, None, is_some, Ok}
 use Rattle.std.specs.Option.{option_map_or}
 use Rattle.fabric_model.specs.declared.cable.NodePort.{NodePort}

@@ -17,7 +17,7 @@ no_traps = record { waiting = []; last = 0 }
 abbrev pub trap_at : Traps → ℕ → Option ℕ
 trap_at t id = slice_index_or t.waiting id None
 
--- switches among so many nodes send traps from here on; if they do so already, nothing changes
+-- switches among n nodes send traps from here on; nothing changes if they do already
 abbrev pub begun : Traps → ℕ → Traps
 begun t nodes = if length t.waiting == 0 then record t { waiting = replicate nodes None } else t
 

@@ -1,4 +1,4 @@
-//! What switches tell of changes at their ports.
+//! The traps by which switches tell the master that the state of a link has changed.
 ghost use Rattle.std.specs.Prelude.{◌≡◌, ◌<◌, length, true, IfSome};
 ghost use Rattle.fabric_sim.specs.Simulation.{is_cable_port};
 ghost use Rattle.fabric_sim.specs.Called.{ComesTo};
@@ -96,7 +96,7 @@ impl Fabric {
         self.traps.has_room(node) && self.is_switch_at(node)
     }
 
-    /// Returns the port by which a node's trap leaves. A cable is in it.
+    /// Returns the port by which a node's trap leaves: one with a cable.
     fn trap_out(&self, node: NodeId) -> Option<NodePort>
         ensures out { result ≡ trap_out self.now node }
         ensures port { IfSome result (λ out. is_cable_port self.now out ≡ true) }

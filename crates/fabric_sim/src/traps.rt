@@ -6,10 +6,10 @@ use fabric_model::NodeId;
 use std::alloc::{AllocError, Global};
 use std::marker::Model;
 
-/// For each node the TransactionID of the trap that waits there until it is repressed.
+/// The traps that wait at nodes until they are repressed. At most one waits at a node.
 #[derive(Drop)]
 pub(crate) struct Traps {
-    /// Empty while switches send no traps.
+    /// The TransactionIDs by node. The list is empty while switches send no traps.
     waiting: Vec<Option<u64>>,
     /// The TransactionID of the last trap that began.
     last: u64,
@@ -34,7 +34,7 @@ impl Traps {
         }
     }
 
-    /// Lets switches among so many nodes send traps, if they do not yet.
+    /// Makes room for a trap at each of `nodes` nodes, so that switches send traps. Changes nothing if they do already.
     pub(crate) fn begin(&mut self, alloc: Global, nodes: usize) -> Result<(), AllocError>
         ensures ok { OnOk result (self.new ≡ begun self.old nodes) }
         ensures err { OnErr result (self.new ≡ self.old) }

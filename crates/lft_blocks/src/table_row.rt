@@ -45,7 +45,7 @@ impl TableRow {
     }
 
     /// Writes the entries for these LIDs, which are attached to a target of the exits: the attachments' ports if
-    /// `is_own`, and otherwise the ports by which packets leave for the target, by their numbers of `numbers`.
+    /// `is_own`, and otherwise the ports by which packets leave for the target. Each LID chooses by its number in `numbers`.
     pub(crate) fn write(
         &mut self,
         attachments: &[Option<Attachment>],

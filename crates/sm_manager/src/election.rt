@@ -42,10 +42,10 @@ pub(crate) fn end_sweep(standing: &mut Standing, seen: &[SeenManager])
 }
 
 impl Manager {
-    /// Sends a poll to the manager at `lid`. If that is `None`, polls one of those that the last sweep saw, over the
-    /// path by which that one was asked for SMInfo: the first master that this manager hears; if there is none, the
-    /// greatest of those that outrank it, of equals the first. The answer, or its timeout, counts once it comes. Walks
-    /// what the sweep saw.
+    /// Sends a poll to the manager at `lid`. If `lid` is `None`, polls a manager that the last sweep saw: the first
+    /// master that this one hears or, if there is none, the greatest of those that outrank it, of equals the first.
+    /// The poll then goes over the path by which the sweep asked for its SMInfo. The answer, or its timeout, counts
+    /// when it comes. Walks what the sweep saw.
     ///
     /// # Errors
     ///
@@ -92,7 +92,7 @@ impl Manager {
         }
     }
 
-    /// Returns the path by which the last sweep first reached the port where a manager was seen.
+    /// Returns the path by which the last sweep first reached a port where it saw a manager.
     fn path_seen(&self, seen: &SeenManager) -> Option<&Path<63>>
         ensures { option_copied result ≡ path_seen self.now.sweep seen.now }
     {

@@ -8,9 +8,10 @@ use crate::outgoing::Outgoing;
 use smp_bytes::wire::u16_at;
 use smp_bytes::{Lid, Method, Smp, SmpClass};
 
-/// The method of a trap, and the one by which it is repressed (management methods).
+/// The method of a trap (management methods, Trap).
 const TRAP: Method = Method(0x05);
 
+/// The method of the answer that ends a trap (management methods, TrapRepress).
 const TRAP_REPRESS: Method = Method(0x07);
 
 /// The offset of IssuerLID in a packet that carries a Notice (subnet management, Notice).

@@ -47,7 +47,7 @@ pub fn label_all(labels: &mut Vec<Option<Sides>>, edges: &Adjacency, orders: &Or
     label_each(labels, edges, orders, to_sides(true, true), orders.rising());
 }
 
-/// Returns the label that says by which of the two orders an edge leads up.
+/// Returns the label of an edge that leads up by these orders, and down by the others.
 fn to_sides(first_up: bool, second_up: bool) -> Sides
     ensures { result ≡ record { first_up = first_up; second_up = second_up } }
 {
