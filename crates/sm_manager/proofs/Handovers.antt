@@ -1,5 +1,5 @@
 -- A handover leaves a master behind.
-use Rattle.std.proofs.Common.{◌≡◌, ◌⊎◌, inl, inr, ℕ, Bool, true, false, cond, refl, sym, ap, ◌∙◌}
+use Rattle.std.proofs.Common.{◌≡◌, ◌⊎◌, inl, inr, Bool, true, false, refl, ap, ◌∙◌}
 use Rattle.std.proofs.lemmas.Bool.{eqb-true}
 use Rattle.std.specs.Prelude.{◌&&◌, ◌==◌, Some}
 use Rattle.smp_bytes.specs.Header.{done}
@@ -11,7 +11,6 @@ use Rattle.sm_state.specs.Conducts.{is_live}
 use Rattle.sm_state.specs.Controls.{control_of_modifier}
 use Rattle.sm_state.specs.Steps.{status_of}
 use Rattle.sm_state.proofs.Moves.{handovers_are_taken}
-use Rattle.sm_manager.specs.declared.pending.Pending.{Pending}
 use Rattle.sm_manager.specs.HandoverLaws.{HandoversLeaveAMaster, move_of}
 use Rattle.sm_manager.specs.Packets.{after_control_end, is_handover}
 

@@ -10,5 +10,6 @@ pub mod Sending
 pub mod StepsSent
 pub mod SuccessorLids
 pub mod Begun
+pub mod CountedSteps
 pub mod Answered
 pub mod Messages

@@ -1,19 +1,18 @@
 -- An answer to a poll is taken for that.
-use Rattle.std.proofs.Common.{◌≡◌, inl, inr, ℕ, zero, suc, ◌+◌, ◌<◌, ◌≤◌, ◌^◌, Bool, true, false, ◌&&◌, not, List, [], ◌∷◌, length, replicate}
+use Rattle.std.proofs.Common.{◌≡◌, inl, inr, ℕ, suc, ◌+◌, ◌<◌, ◌≤◌, ◌^◌, Bool, true, false, ◌&&◌, not, List, [], ◌∷◌, length, replicate}
 use Rattle.std.proofs.Common.{refl, sym, ap, ◌∙◌, arith}
 use Rattle.std.proofs.lemmas.Bool.{and_from, eq-eqb, lt-leb}
 use Rattle.std.proofs.lemmas.List.{length-replicate}
-use Rattle.std.specs.Prelude.{IfSome, Option, Some, None, ◌==◌, nat_le, slice_index}
+use Rattle.std.specs.Prelude.{Option, Some, None, ◌==◌, nat_le, slice_index}
 use Rattle.smp_bytes.specs.Answers.{goes_by, has_ports, is_of, answers as is_answer}
 use Rattle.smp_bytes.specs.Field.{Field, number_in}
 use Rattle.smp_bytes.specs.Header.{get, get_resp, sm_info}
-use Rattle.smp_bytes.specs.Packet.{attribute_id, attribute_modifier, hop_count, initial_path, is_directed, method, transaction_id, max_hops}
+use Rattle.smp_bytes.specs.Packet.{attribute_id, attribute_modifier, hop_count, initial_path, is_directed, method, transaction_id}
 use Rattle.smp_bytes.specs.ReadBack.{FitsRequest, HoldsAnswer, HoldsPath, HoldsRequest}
 use Rattle.smp_bytes.specs.Requests.{answer_packet, directed, lid_routed}
 use Rattle.smp_bytes.proofs.Answered.{answer_reads_back}
 use Rattle.smp_bytes.proofs.FieldLaws.{number_in-alike}
 use Rattle.smp_bytes.proofs.Made.{directed_reads_back, lid_routed_reads_back}
-use Rattle.sm_manager.specs.Election.{poll_packet, poll_pending}
 use Rattle.sm_manager.specs.PollLaws.{AnswersReachPolls, IsTakenForPoll}
 
 -- a packet with the ports of a path one by one has them

@@ -2,7 +2,7 @@
 use Rattle.std.proofs.Common.{◌≡◌, ℕ, List, refl}
 use Rattle.std.proofs.lemmas.Bool.{cond_both}
 use Rattle.std.specs.Prelude.{◌^◌, nat_le, Option, Some, None, Result, Ok, Err}
-use Rattle.smp_bytes.specs.Packet.{fault_of, status}
+use Rattle.smp_bytes.specs.Packet.{status}
 use Rattle.smp_bytes.specs.declared.smp_fault.SmpFault.{SmpFault}
 use Rattle.sweep.specs.declared.answer.Answer.{Answer}
 use Rattle.sweep.specs.declared.fault.SweepFault.{SweepFault}
@@ -15,7 +15,7 @@ use Rattle.sm_manager.specs.declared.pending.Purpose.{Purpose}
 use Rattle.sm_manager.specs.declared.pending.Purpose.TheVariants as purpose
 use Rattle.sm_manager.specs.Manager.{Manager}
 use Rattle.sm_manager.specs.ManagerRequests.{with_number}
-use Rattle.sm_manager.specs.Packets.{Called, after_packet, after_request, after_timeout, answered_by, done, is_for_sweep, is_info_request, packet_taken}
+use Rattle.sm_manager.specs.Packets.{Called, after_request, after_timeout, answered_by, done, is_for_sweep, is_info_request, packet_taken}
 use Rattle.sm_manager.specs.Packets.{pending_for, refused, request_answered, request_gave_up, sweep_answered, sweep_gave_up, sweep_timed_out, unless_spent}
 use Rattle.sm_manager.specs.Served.{served}
 use Rattle.sm_manager.specs.Traps.{represses, repressing}
