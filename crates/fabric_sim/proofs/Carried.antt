@@ -17,7 +17,6 @@ use Rattle.node_agents.specs.Agent.{Agent, IsAgent, is_switch, node_of, state_at
 use Rattle.node_agents.specs.PortInfo.{port_meant}
 use Rattle.node_agents.specs.Answers.{after_answer}
 use Rattle.node_agents.specs.AnswerLaws as agents
-use Rattle.node_agents.specs.AnswerLaws.{IsPacket}
 use Rattle.node_agents.proofs.Says.{answers_say}
 use Rattle.node_agents.proofs.Sets.{meant_fits}
 use Rattle.fabric_sim.specs.declared.flight.Flight.{Flight}

@@ -1,32 +1,31 @@
 -- What represses a trap ends it.
-use Rattle.std.proofs.Common.{◌≡◌, ◌≢◌, ℕ, zero, suc, ◌+◌, ◌/◌, ◌%◌, ◌^◌, Bool, true, false, cond, not, ◌==◌, ◌&&◌, ◌||◌}
+use Rattle.std.proofs.Common.{◌≡◌, ◌≢◌, ℕ, zero, suc, ◌/◌, ◌%◌, ◌^◌, Bool, true, false, cond, not, ◌==◌, ◌&&◌, ◌||◌}
 use Rattle.std.proofs.Common.{List, [], ◌∷◌, get_or, refl, sym, ap, ◌∙◌, subst, arith}
-use Rattle.std.specs.Prelude.{Option, Some, None, All, is_none, is_some, option_map, slice_get, slice_index_or, slice_set, Ok}
+use Rattle.std.specs.Prelude.{Option, Some, None, All, is_none, is_some, option_map, slice_get, slice_index_or, slice_set}
 use Rattle.std.specs.Option.{option_map_or}
 use Rattle.std.proofs.lemmas.Bool.{eq-eqb, eqb-true}
 use Rattle.std.proofs.lemmas.Option.{slice_get-map}
 use Rattle.fabric_model.specs.declared.cable.NodePort.{NodePort}
-use Rattle.fabric_model.specs.declared.course.Course.TheVariants.{Delivers}
 use Rattle.fabric_model.specs.Fabric.{is_switch_at}
 use Rattle.smp_bytes.specs.Field.{number_in}
 use Rattle.smp_bytes.specs.NodeType as types
 use Rattle.smp_bytes.specs.Header.{sm_info}
-use Rattle.smp_bytes.specs.Packet.{attribute_id, fault_of, is_directed, is_response, method, transaction_id}
+use Rattle.smp_bytes.specs.Packet.{attribute_id, fault_of, is_directed, is_response, method}
 use Rattle.smp_bytes.proofs.BitLaws.{byte-number_in}
 use Rattle.dr_forward.proofs.Rows.{passed, taken}
-use Rattle.node_agents.specs.Agent.{Agent, IsAgent, IsPort, has_seat, is_switch, node_of, port_in}
+use Rattle.node_agents.specs.Agent.{Agent, has_seat, is_switch, node_of, port_in}
 use Rattle.node_agents.specs.declared.port.Port.{Port}
 use Rattle.attr_codec.specs.declared.port_state.PortState.TheVariants.{Down}
 use Rattle.fabric_sim.specs.declared.delivered.Delivered.{Delivered}
 use Rattle.fabric_sim.specs.declared.flight.Flight.{Flight}
-use Rattle.fabric_sim.specs.Outcome.{Outcome, Represses}
+use Rattle.fabric_sim.specs.Outcome.{Represses}
 use Rattle.fabric_sim.specs.Called.{Called}
 use Rattle.fabric_sim.specs.Delivery.{after_deliver, after_outcome, by_course, delivered_flight, is_for_manager, is_trap, outcome_of}
 use Rattle.fabric_sim.specs.Notices.{trap_repress}
 use Rattle.fabric_sim.specs.Simulation.{Simulation, IsSimulation, across, agent_at, fabric_of, is_at_seat, is_seat_at, flight_with, port_of}
 use Rattle.fabric_sim.specs.Traps.{Traps, is_waiting, trap_at, without_trap}
 use Rattle.fabric_sim.specs.TrapLaws.{EndsTrap, IsRepress, RepressesEndTraps}
-use Rattle.fabric_sim.proofs.TripShapes.{AreAgents, agent_there}
+use Rattle.fabric_sim.proofs.TripShapes.{agent_there}
 use Rattle.fabric_sim.proofs.TripEnds.{agents_of}
 
 -- traps -----------------------------------------------------------------------------------------

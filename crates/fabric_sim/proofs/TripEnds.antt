@@ -9,7 +9,7 @@ use Rattle.fabric_model.specs.declared.cable.NodePort.{NodePort}
 use Rattle.smp_bytes.specs.Header.{sm_info}
 use Rattle.smp_bytes.specs.Field.{Field, number_in, bytes_in}
 use Rattle.smp_bytes.specs.Packet as field
-use Rattle.smp_bytes.specs.Packet.{is_directed, is_response, is_returning, is_lid_routed, fault_of, status}
+use Rattle.smp_bytes.specs.Packet.{is_directed, is_response, is_lid_routed, status}
 use Rattle.smp_bytes.specs.Requests.{directed}
 use Rattle.smp_bytes.specs.ReadBack.{FitsRequest, HoldsRequest, HoldsPath, HoldsAnswer}
 use Rattle.fabric_model.specs.DirectedWalk.{directed_end}

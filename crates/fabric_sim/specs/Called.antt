@@ -1,5 +1,5 @@
 -- What a call of a simulated fabric leaves and returns.
-use Rattle.std.specs.Prelude.{◌≡◌, Result, Ok, Err, IsOk}
+use Rattle.std.specs.Prelude.{◌≡◌, Result, Err, IsOk}
 use Rattle.fabric_sim.specs.declared.fault.FabricFault.{FabricFault}
 use Rattle.fabric_sim.specs.declared.fault.FabricFault.TheVariants.{Memory}
 use Rattle.fabric_sim.specs.Simulation.{Simulation}

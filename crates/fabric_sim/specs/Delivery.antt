@@ -1,6 +1,6 @@
 -- One delivery: what becomes of a packet where it waits.
 -- InfiniBand Architecture Specification, Volume 1: subnet management, directed routes; switches, unicast forwarding.
-use Rattle.std.specs.Prelude.{◌≡◌, ℕ, ◌+◌, ◌^◌, Bool, ◌&&◌, ◌||◌, not, List, [], ◌∷◌, ◌++◌, slice_get, slice_set, ◌==◌, if◌then◌else◌, Option, Some, None, is_some, is_none, option_map, Result, Ok, Err, IsOk}
+use Rattle.std.specs.Prelude.{◌≡◌, ℕ, ◌+◌, ◌^◌, Bool, ◌&&◌, ◌||◌, not, List, [], ◌∷◌, ◌++◌, slice_get, slice_set, ◌==◌, if◌then◌else◌, Option, Some, None, is_some, is_none, option_map, Ok}
 use Rattle.std.specs.Option.{option_map_or}
 use Rattle.fabric_model.specs.declared.cable.NodePort.{NodePort}
 use Rattle.fabric_model.specs.declared.course.Course.{Course}
@@ -33,8 +33,7 @@ use Rattle.fabric_sim.specs.Called.{Called, refused}
 use Rattle.fabric_sim.specs.Outcome.{Outcome, Moves, Asks, HandsUp, Represses, Drops}
 use Rattle.fabric_sim.specs.Traps.{without_trap}
 use Rattle.fabric_sim.specs.Notices.{trap, trap_repress}
-use Rattle.fabric_sim.specs.declared.fault.FabricFault.{FabricFault}
-use Rattle.fabric_sim.specs.declared.fault.FabricFault.TheVariants.{Memory, NoSuchPacket, SerialsSpent}
+use Rattle.fabric_sim.specs.declared.fault.FabricFault.TheVariants.{NoSuchPacket, SerialsSpent}
 use Rattle.fabric_sim.specs.Simulation.{Simulation, agent_at, port_count, is_seat_at, across, fabric_of, port_of, is_at_seat, is_by_wire, answer_whereabouts, flight_with, without_flight, with_moved, CanWait}
 
 -- where the packet goes ---------------------------------------------------------------------

@@ -1,5 +1,5 @@
 -- Well-formed words ask for a task, and name its inputs.
-use Rattle.std.proofs.Common.{◌≡◌, List, Option, None, Some, IsSome, is_some, true, refl, subst, ap, ◌∙◌}
+use Rattle.std.proofs.Common.{◌≡◌, Option, None, Some, IsSome, is_some, true, refl, subst}
 use Rattle.std.proofs.lemmas.Option.{same_Some}
 use Rattle.std.specs.Prelude.{option_and_then, option_map}
 use Rattle.clap.specs.declared.parser.matches.ArgMatches.{ArgMatches}

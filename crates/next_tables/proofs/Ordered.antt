@@ -28,7 +28,7 @@ use Rattle.audit.specs.WalkEnds.{HaveEnded}
 use Rattle.next_tables.specs.SwitchSteps.{Both, arrives_by, hops_of}
 use Rattle.next_tables.specs.ByOrder.{comes_down, goes_up, is_down, is_same, is_up, leads_in, may_change, next_by_order, none_comes_down, none_goes_up, position_at, switch_at, tried, tried_at, turns_well}
 use Rattle.next_tables.specs.OrderedEntries as listed
-use Rattle.next_tables.specs.OrderedEntries.{delivered_of, entered_of, enters, enters_from, entries_by, entry_by, flag, goes_up_by, going_up_of, is_differing, is_entered, may_change_by, ordered_of, tried_by, tried_of, turns_well_by}
+use Rattle.next_tables.specs.OrderedEntries.{delivered_of, entered_of, enters, enters_from, entries_by, entry_by, flag, goes_up_by, going_up_of, is_entered, may_change_by, ordered_of, tried_by, tried_of, turns_well_by}
 use Rattle.next_tables.specs.NextTables.{index_at}
 use Rattle.next_tables.proofs.Entries.{at_mapped, member}
 use Rattle.next_tables.proofs.Hops.{to_within}

@@ -1,6 +1,6 @@
 -- What telling the order of tables from files does: it reads all files and writes the order, or says which file it
 -- refuses.
-use Rattle.std.specs.Prelude.{◌≡◌, ◌↔◌, ◌⊎◌, ℕ, Bool, List, [], Option, None, Some, IsTrue, is_some, length, map, reverse}
+use Rattle.std.specs.Prelude.{◌≡◌, ◌⊎◌, ℕ, Bool, List, [], Option, None, Some, is_some, length, map, reverse}
 use Rattle.std.specs.List.{range_with_len}
 use Rattle.byte_io.specs.Source.{SourceState}
 use Rattle.fact_store.specs.View.{Facts, cells_of}

@@ -4,7 +4,6 @@ use Rattle.std.specs.Prelude.{count_by, filter, map}
 use Rattle.std.proofs.lemmas.List.Sums.{length-filter}
 use Rattle.subnet_view.specs.SwitchEdges.{SwitchEdges}
 use Rattle.subnet_view.specs.Graph.{guids_of}
-use Rattle.updown_routes.specs.Ranks.{is_before}
 use Rattle.plan_order.specs.PlanOrder.{comes_before, rank_position, ranked}
 
 twice : {X Y Z : Type 0} (f : Y → Z) (g : X → Y) (xs : List X) → map f (map g xs) ≡ map (λ x. f (g x)) xs

@@ -1,11 +1,10 @@
 -- The tables of a plan are right by the order by which it was made.
-use Rattle.std.proofs.Common.{◌≡◌, ℕ, ◌+◌, ◌*◌, ◌<◌, ◌≤◌, true, false, cond, List, [], ◌∷◌, length, Option, None, Some, refl, sym, ap, ◌∙◌, arith}
-use Rattle.std.specs.Prelude.{◌/◌, ◌%◌, ◌==◌, ◌&&◌, not, nat_lt, map, slice_index_or}
+use Rattle.std.proofs.Common.{◌≡◌, ℕ, ◌+◌, ◌*◌, ◌<◌, ◌≤◌, true, List, [], ◌∷◌, length, Option, None, Some, refl, sym, ap, ◌∙◌, arith}
+use Rattle.std.specs.Prelude.{◌/◌, ◌%◌, ◌&&◌, not, nat_lt, map, slice_index_or}
 use Rattle.std.specs.Option.{option_map_or}
 use Rattle.std.specs.List.{range_with_len}
 use Rattle.std.proofs.lemmas.List.FromFn.{get_or-map-range_with_len}
 use Rattle.fact_store.specs.View.{AreInRange, Facts, cells_of}
-use Rattle.subnet_view.specs.declared.end_port.EndPort.{EndPort}
 use Rattle.subnet_view.specs.Reading.{Cells, switches}
 use Rattle.subnet_view.specs.Wires.{across}
 use Rattle.subnet_view.specs.Graph.{graph_of}
@@ -21,25 +20,16 @@ use Rattle.spread_routes.specs.LeafSwitches.{leaf_switches_of}
 use Rattle.spread_routes.specs.Rule.{position, by_positions}
 use Rattle.spread_routes.specs.Spread.{keys_by, spread_by}
 use Rattle.spread_labels.specs.Ways.{channel_number}
-use Rattle.held_tables.specs.declared.far_end.Far.{Far}
-use Rattle.held_tables.specs.declared.far_end.Far.TheVariants.{Nothing}
-use Rattle.held_tables.specs.Switches.{row_of}
-use Rattle.held_tables.specs.Tables.{entry_for, owners_of, top_of as top_held}
+use Rattle.held_tables.specs.Tables.{entry_for, top_of as top_held}
 use Rattle.held_tables.proofs.HeldPlans.{made}
-use Rattle.audit.specs.declared.end.Cause.{Cause}
-use Rattle.audit.specs.declared.end.End.TheVariants.{Taken}
-use Rattle.audit.specs.declared.next_hop.NextHop.TheVariants.{To, Ends}
-use Rattle.audit.specs.NextHops.{by_entry, cause_of, over}
-use Rattle.audit.specs.Edges.{edge_by, edge_to, edges_of}
 use Rattle.audit.proofs.PlanSteps.{leaves}
 use Rattle.audit.proofs.Tops.{none_above}
 use Rattle.audit_channels.specs.Waiting.{WaitsFor}
 use Rattle.audit_laws.proofs.PlansRise.{rise_in_turn}
-use Rattle.next_tables.proofs.Entries.{at_mapped}
 use Rattle.next_tables.proofs.Steps.{at_index}
 use Rattle.next_tables.specs.ByOrder.{AreRight, Leads, is_bad, switch_at}
 use Rattle.plan_order_laws.specs.PlanLaws.{PlanTurnsRise}
-use Rattle.next_tables.proofs.Hops.{column_at, edge_at, leads_at, leads_within, over_switch}
+use Rattle.next_tables.proofs.Hops.{column_at, edge_at, leads_within}
 use Rattle.ordered_steps.proofs.Turns.{not_true}
 
 -- numbers of the rule, as where it is proved that they rise

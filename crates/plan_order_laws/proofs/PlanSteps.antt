@@ -1,17 +1,16 @@
 -- Steps towards the plan of a view.
-use Rattle.std.proofs.Common.{◌≡◌, ℕ, suc, ◌<◌, ◌≤◌, List, length, sym, ap, ◌∙◌, subst, arith}
+use Rattle.std.proofs.Common.{◌≡◌, ℕ, suc, ◌<◌, List, length, sym, ap, ◌∙◌, subst, arith}
 use Rattle.std.specs.Prelude.{◌&&◌, not, nat_lt, map, Contains, slice_index_or}
-use Rattle.fact_store.specs.View.{Facts, cells_of, AreInRange}
+use Rattle.fact_store.specs.View.{Facts, cells_of}
 use Rattle.subnet_view.specs.Graph.{graph_of, guids_of}
 use Rattle.subnet_view.specs.Reading.{Cells, switches}
 use Rattle.subnet_view.proofs.Graphs.{graph_law}
 use Rattle.subnet_view.proofs.GraphSwitches.{graph_guids}
-use Rattle.lid_assign.specs.Lids.{IsNoRoom}
 use Rattle.spread_labels.specs.Orders.{position_of}
 use Rattle.spread_routes.specs.LeafSwitches.{leaf_switches_of}
 use Rattle.spread_routes.specs.SwitchOrders.{OrderValue}
 use Rattle.lft_blocks.specs.Plan.{plan_of}
-use Rattle.lft_blocks.specs.Rules.{RuleValue, order_of, spread_in, up_and_down}
+use Rattle.lft_blocks.specs.Rules.{order_of, spread_in, up_and_down}
 use Rattle.plan_order.specs.PlanOrder.{rank_position}
 use Rattle.plan_file.specs.Held.{HeldPlan}
 use Rattle.plan_file.specs.Printed.{held_plan}

@@ -4,17 +4,17 @@ use Rattle.std.proofs.lemmas.Bool.{cases_lt, cases_eq, eqb-true, eq-eqb}
 use Rattle.std.proofs.lemmas.Bool.Decides.{nat_tests}
 use Rattle.std.proofs.lemmas.List.{get_or-set_same, get_or-set_other}
 use Rattle.std.proofs.lemmas.Option.{none-some, same_Some}
-use Rattle.std.specs.Prelude.{Option, None, Some, is_some, option_map, Contains, nat_lt, slice_index, slice_index_or, slice_set}
+use Rattle.std.specs.Prelude.{Option, None, Some, is_some, option_map, Contains, nat_lt, slice_index, slice_set}
 use Rattle.std.specs.List.{filter_map, find}
 use Rattle.port_graph.specs.declared.edge.Edge.{Edge}
 use Rattle.port_graph.specs.Walks.{shortest}
 use Rattle.port_graph.specs.Heads.{edges_at}
-use Rattle.port_graph.specs.Slopes.{ups_at, downs_at, down_distance, least_of, cost, same_number, port_down, port_up, next_port}
+use Rattle.port_graph.specs.Slopes.{downs_at, down_distance, least_of, cost, same_number, port_down, port_up, next_port}
 use Rattle.port_graph.specs.Indexed.{indexed, AreSlopes}
 use Rattle.port_graph.specs.Lanes.{at, number_in, port_in, nearest_by, IsStepDown, IsStepUp, AreRouted}
 use Rattle.port_graph.proofs.Costs.{cost_recurs, none_less, port_at_target, port_where_down, port_where_up}
 use Rattle.port_graph.proofs.DistanceLaws.{shortest_found}
-use Rattle.port_graph.proofs.Indexing.{ups_indexed, downs_indexed, all_indexed, ups_lead, downs_lead, height, falls, bounded}
+use Rattle.port_graph.proofs.Indexing.{ups_indexed, downs_indexed, all_indexed, downs_lead, height, falls, bounded}
 use Rattle.port_graph.proofs.LaneSteps.{known, unknown_from, known_is, least_is, port_is}
 use Rattle.port_graph.proofs.Lists.{contains_map, contains_mapped, filter_map_same, contains_filter_map, contains-from_filter_map, has_least, least_is_one}
 use Rattle.port_graph.proofs.NextPorts.{find_same}

@@ -4,15 +4,13 @@ use Rattle.std.proofs.lemmas.Bool.{cases_lt, cases_eq, eqb-true, eq-eqb}
 use Rattle.std.proofs.lemmas.Bool.Decides.{nat_tests}
 use Rattle.std.proofs.lemmas.List.{get_or-set_same, get_or-set_other}
 use Rattle.std.proofs.lemmas.Option.{none-some, same_Some}
-use Rattle.std.specs.Prelude.{Option, None, Some, is_some, option_map, Contains, nat_lt, slice_index, slice_set}
-use Rattle.std.specs.List.{filter_map, find, cons_option}
-use Rattle.smp_bytes.proofs.Members.{contains_here, contains_later}
+use Rattle.std.specs.Prelude.{Option, None, Some, option_map, nat_lt, slice_index, slice_set}
+use Rattle.std.specs.List.{filter_map, find}
 use Rattle.port_graph.specs.declared.edge.Edge.{Edge}
 use Rattle.port_graph.specs.Slopes.{least_of, same_number}
 use Rattle.port_graph.specs.Indexed.{lesser_of}
 use Rattle.port_graph.specs.Lanes.{number_in, port_in, IsOneMore, nearer, nearest_from, nearest_by}
 use Rattle.port_graph.proofs.CostSteps.{least_more, least_all}
-use Rattle.port_graph.proofs.Costs.{none_less}
 use Rattle.port_graph.proofs.Lists.{find_none}
 
 -- a number below 255 is known, and no other is

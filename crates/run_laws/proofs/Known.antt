@@ -1,11 +1,9 @@
 -- After every run each manager knows the view of what it took in.
 use Rattle.std.proofs.Common.{◌≡◌, ℕ, zero, suc, ◌+◌, Bool, true, false, cond, ◌==◌, List, [], ◌∷◌, length, refl, sym, ap, ◌∙◌, subst}
-use Rattle.std.proofs.lemmas.Bool.{cond_both}
 use Rattle.std.specs.Prelude.{Option, Some, None, Result, Ok, Err, slice_get}
 use Rattle.std.specs.Option.{option_map_or}
-use Rattle.smp_bytes.specs.Packet.{fault_of, status}
+use Rattle.smp_bytes.specs.Packet.{fault_of}
 use Rattle.fabric_model.specs.declared.cable.NodePort.{NodePort}
-use Rattle.smp_bytes.specs.declared.smp_fault.SmpFault.{SmpFault}
 use Rattle.topo_file.specs.Topology.{Layout}
 use Rattle.topo_file.specs.declared.node.Node.{Node}
 use Rattle.schedule_file.specs.Schedule.{Script}
@@ -27,26 +25,18 @@ use Rattle.fabric_sim.specs.declared.packet.Packet.{Packet}
 use Rattle.fact_store.specs.Merge.{merge}
 use Rattle.fact_store.specs.View.{view_at}
 use Rattle.fact_store.proofs.Views.{raised_is_merge}
-use Rattle.sweep.specs.declared.answer.Answer.{Answer}
-use Rattle.sweep.specs.declared.fault.SweepFault.{SweepFault}
-use Rattle.sweep.specs.Replies.{judged}
 use Rattle.sweep.specs.Sweep.{Sweep}
 use Rattle.lft_blocks.specs.Planning.{Planning}
 use Rattle.sm_manager.specs.declared.fault.ManagerFault.{ManagerFault}
-use Rattle.sm_manager.specs.declared.fault.ManagerFault.TheVariants.{SequenceSpent}
-use Rattle.sm_manager.specs.declared.pending.Pending.{Pending}
-use Rattle.sm_manager.specs.declared.pending.Purpose.{Purpose}
 use Rattle.sm_manager.specs.declared.pending.Purpose.TheVariants as purpose
 use Rattle.sm_manager.specs.Calls as calls
 use Rattle.sm_manager.specs.Calls.{sightings_of_call}
 use Rattle.sm_manager.specs.Election.{after_handover, handover_fault, successor_lid, poll_fault, after_poll}
 use Rattle.sm_manager.specs.Manager.{Manager, begin_fault, after_raise_floor, after_merge, outstanding, after_begin_sweep}
 use Rattle.sm_manager.specs.Packets as manager
-use Rattle.sm_manager.specs.Packets.{Called, after_packet, answered_by, done, is_for_sweep, is_info_request, packet_taken, pending_for, refused}
-use Rattle.sm_manager.specs.Packets.{request_answered, after_request, sweep_answered, unless_spent}
+use Rattle.sm_manager.specs.Packets.{after_packet, done}
 use Rattle.sm_manager.specs.Plans.{writing_fault}
-use Rattle.sm_manager.specs.Served.{served}
-use Rattle.sm_manager.specs.Writing.{is_spent, after_write_steps}
+use Rattle.sm_manager.specs.Writing.{after_write_steps}
 use Rattle.sm_manager.proofs.Refusals.{packet_leaves}
 use Rattle.sm_manager.proofs.Lives.{Keeps, handing_keeps, planning_stays, takes_call, timeout_keeps}
 use Rattle.schedule_world.specs.Commands.{after_arrival, after_ask_line, after_change, after_command, after_commands, after_cut_line, after_drain_line}

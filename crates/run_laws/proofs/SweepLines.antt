@@ -13,7 +13,7 @@ use Rattle.manager_laws.specs.Complete.{IsWhole}
 use Rattle.schedule_lines.specs.Lines.{counts_text, progress_line, silent_line, stage_text}
 use Rattle.schedule_world.specs.Commands.{shown_at, shown_of}
 use Rattle.schedule_world.specs.World.{SeatedValue, WorldValue}
-use Rattle.run_laws.specs.Lines.{SayAllAnswered, SweepLinesTell}
+use Rattle.run_laws.specs.Lines.{SweepLinesTell}
 
 -- the lines of a manager in its seat
 progress_shown : (w : WorldValue) (seat : ℕ) (s : SeatedValue) → slice_get w.managers seat ≡ Some s

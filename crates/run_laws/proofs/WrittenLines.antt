@@ -1,5 +1,5 @@
 -- What the line `written` tells.
-use Rattle.std.proofs.Common.{◌≡◌, ℕ, Bool, true, false, List, ◌++◌, length, refl, sym, ap, ◌∙◌, arith, length-append}
+use Rattle.std.proofs.Common.{◌≡◌, ℕ, Bool, true, false, List, length, refl, sym, ap, ◌∙◌, arith, length-append}
 use Rattle.std.specs.Prelude.{Some, codes, slice_get}
 use Rattle.std.specs.Option.{option_map_or}
 use Rattle.schedule_file.specs.declared.command.Shown.TheVariants.{Written}

@@ -25,7 +25,7 @@ use Rattle.schedule_file.specs.declared.line.ScheduleLine.TheVariants as line
 use Rattle.schedule_file.specs.declared.named.PortName.{PortName}
 use Rattle.schedule_file.specs.Command.{fate_word, named_words, port_word, shown_word, which_word}
 use Rattle.schedule_file.specs.Command.{NamedCommand, ask, bare_of, bracketed_number, command_in, floor, line_in, line_of, merge}
-use Rattle.schedule_file.specs.Command.{new_manager, of_one, of_two, packet, pair, ping, plug, poll, port_name, show, to_manager}
+use Rattle.schedule_file.specs.Command.{new_manager, of_one, of_two, packet, ping, plug, poll, port_name, show, to_manager}
 use Rattle.schedule_file.specs.Command.{sm_key_in, sm_key_words, which_of}
 use Rattle.schedule_file.specs.ManagerWords.{asked_by, generation_of, number_up_to, shown_by}
 use Rattle.schedule_file.specs.ManagerName.{is_manager_name, manager_name_in}

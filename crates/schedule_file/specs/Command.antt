@@ -4,7 +4,6 @@ use Rattle.std.specs.Option.{option_map_or}
 use Rattle.std.specs.Str.{bytes_eq}
 use Rattle.text_words.specs.Text.{words}
 use Rattle.text_words.specs.NodeName.{name_in}
-use Rattle.text_words.specs.Number.{number_of}
 use Rattle.text_words.specs.Printed.{named_text}
 use Rattle.text_words.specs.Quoted.{enclosed, alone}
 use Rattle.schedule_file.specs.declared.command.Ask.{Ask}

@@ -1,5 +1,5 @@
 -- Managers in their seats, and calls that are refused.
-use Rattle.std.proofs.Common.{◌≡◌, ◌∙◌, ℕ, ◌<◌, arith, cond, ◌⊎◌, inl, inr, Bool, true, false, List, [], ◌∷◌, map, length, get_or, Option, None, Some, Result, Ok, Err, refl, sym, ap, subst, ◌↔◌}
+use Rattle.std.proofs.Common.{◌≡◌, ◌∙◌, ℕ, ◌<◌, arith, cond, Bool, true, false, List, [], ◌∷◌, map, length, get_or, Option, None, Some, Result, Ok, Err, refl, sym, ap, subst}
 use Rattle.std.specs.Prelude.{if◌then◌else◌, nat_lt, option_map, position, slice_get, OnOk}
 use Rattle.std.specs.List.{position_or_len}
 use Rattle.std.specs.Option.{option_map_or}
@@ -9,7 +9,6 @@ use Rattle.std.proofs.lemmas.Bool.{false_from_ne_true, lt-ltb, ltb-true}
 use Rattle.std.proofs.lemmas.List.{length-set, map-set}
 use Rattle.std.proofs.lemmas.List.Sums.{position_or_len_is}
 use Rattle.std.proofs.lemmas.Option.{get_or_from_slice_get, slice_get-map, slice_get_read, slice_get_within}
-use Rattle.smp_bytes.specs.Judges.{JudgesButFor}
 use Rattle.fabric_model.specs.Cables.{is_same_port}
 use Rattle.fabric_model.specs.declared.cable.NodePort.{NodePort}
 use Rattle.fabric_sim.specs.Simulation.{Simulation, is_seat_at}
@@ -21,7 +20,7 @@ use Rattle.schedule_world.specs.Commands.{after_giving_up, seat_at, after_timeou
 use Rattle.schedule_lines.specs.Prints.{PrintsUnless}
 use Rattle.schedule_lines.specs.Outcome.{Outcome}
 use Rattle.schedule_world.specs.World.{Does, SeatedValue, WorldValue, after_ask, after_inject_all, after_manager_call, after_send, after_send_by}
-use Rattle.schedule_lines.specs.Outcome.{and_then, quiet, shows}
+use Rattle.schedule_lines.specs.Outcome.{and_then, quiet}
 use Rattle.schedule_world.specs.World.{at_seat, seated_value, value_of, with_manager}
 use Rattle.schedule_lines.specs.Asked.{emptied, manager_line}
 use Rattle.schedule_lines.specs.declared.run_fault.RunFault.{RunFault}
@@ -29,7 +28,7 @@ use Rattle.schedule_lines.specs.declared.run_fault.RunFault.TheVariants.{Memory}
 use Rattle.schedule_world.specs.declared.world.Seated.{Seated}
 use Rattle.schedule_world.specs.declared.world.World.{World}
 use Rattle.schedule_lines.proofs.Refused.{Refuses, IsMemory, refusal_leaves, refusal_prints, refuses}
-use Rattle.schedule_lines.proofs.Printing.{ends_unprinted, failed_with, prints_nothing, prints_same}
+use Rattle.schedule_lines.proofs.Printing.{prints_nothing, prints_same}
 
 -- the manager of a seat
 pub sits : (items : List Seated) (seat : ℕ) (s : Seated) → seat < length items → s ≡ get_or items seat s

@@ -1,21 +1,16 @@
 -- What comes first of several turns, and what is left then.
-use Rattle.std.proofs.Common.{◌≡◌, ◌∙◌, [], ◌∷◌, ◌++◌, map, ℕ, zero, suc, ◌+◌, ◌-◌, ◌/◌, ◌<◌, ◌≤◌, List, None, Some, length, get_or, drop, take, add-one, refl, sym, ap, arith}
+use Rattle.std.proofs.Common.{◌≡◌, ◌∙◌, [], ◌∷◌, ℕ, zero, suc, ◌+◌, ◌-◌, ◌<◌, ◌≤◌, List, None, Some, length, get_or, drop, add-one, refl, sym, ap, arith}
 use Rattle.std.specs.Prelude.{slice_get}
-use Rattle.std.specs.List.{flat_map}
 use Rattle.std.specs.Option.{option_map_or}
-use Rattle.std.proofs.lemmas.Option.{get_or_from_slice_get, slice_get-get_or, slice_get_read, slice_get_within}
-use Rattle.std.proofs.lemmas.List.{length-append}
-use Rattle.std.proofs.lemmas.List.FromFn.{get_or-range_with_len, length-range_with_len}
+use Rattle.std.proofs.lemmas.Option.{get_or_from_slice_get, slice_get_within}
 use Rattle.topo_file.specs.declared.node.Node.{Node}
 use Rattle.schedule_file.specs.Schedule.{SeatCommand}
 use Rattle.std.proofs.Math.Seq.{drop-cons}
 use Rattle.std.proofs.Math.ListN.{drop_of_length-le}
 use Rattle.fabric_sim.specs.declared.flight.Flight.{Flight}
 use Rattle.schedule_world.specs.Commands.{after_command, after_commands, after_drain_line, after_give_up, after_giving_up, after_resend, after_resends, after_step}
-use Rattle.schedule_lines.specs.Tables.{blocks_to}
-use Rattle.schedule_lines.specs.Outcome.{Outcome, and_then, quiet, shows}
+use Rattle.schedule_lines.specs.Outcome.{and_then, quiet}
 use Rattle.schedule_world.specs.World.{WorldValue}
-use Rattle.schedule_lines.proofs.Held.{one_more}
 
 -- requests that are given up ------------------------------------------------------------------------------
 

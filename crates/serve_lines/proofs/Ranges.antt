@@ -1,11 +1,11 @@
 -- What lines say is in its range.
 use Rattle.std.proofs.Common.{◌≡◌, ℕ, zero, suc, ◌≤◌, ◌/◌, ◌%◌, Bool, true, false, cond, leb, List, [], ◌∷◌, length, refl, arith}
 use Rattle.std.proofs.lemmas.Bool.{cond_both, leb-true}
-use Rattle.std.specs.Prelude.{◌==◌, ◌&&◌, IfSome, Option, Some, None, Result, Ok, Err, option_map, option_and_then, codes, nat_lt}
+use Rattle.std.specs.Prelude.{◌==◌, ◌&&◌, IfSome, Option, Some, None, Result, Ok, Err, codes, nat_lt}
 use Rattle.std.specs.Option.{option_map_or}
 use Rattle.std.specs.Str.{bytes_eq}
 use Rattle.std.specs.Result.{result_ok}
-use Rattle.hex.specs.Hex.{decode_pairs, decode_sized}
+use Rattle.hex.specs.Hex.{decode_pairs}
 use Rattle.hex.specs.declared.error.FromHexError.{FromHexError}
 use Rattle.hex.specs.declared.error.FromHexError.TheVariants.{OddLength, InvalidStringLength}
 use Rattle.hex.proofs.HexLemmas.{decode_pairs-ok}

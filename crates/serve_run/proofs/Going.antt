@@ -8,7 +8,7 @@ use Rattle.byte_io.specs.declared.sink.WriteFault.{WriteFault}
 use Rattle.schedule_lines.specs.Prints.{Prints, PrintsSome}
 use Rattle.schedule_lines.specs.declared.run_fault.RunFault.{RunFault}
 use Rattle.schedule_lines.specs.declared.run_fault.RunFault.TheVariants.{Memory, Write}
-use Rattle.schedule_lines.proofs.Printing.{prints_both, prints_same, prints_then}
+use Rattle.schedule_lines.proofs.Printing.{prints_both, prints_then}
 use Rattle.sm_manager.specs.Manager.{Manager}
 use Rattle.serve_run.specs.Kept.{ServerValue, after_bytes}
 use Rattle.serve_run.specs.Served.{served_by}

@@ -2,7 +2,7 @@
 use Rattle.std.proofs.Common.{◌≡◌, ◌∙◌, ℕ, ◌+◌, ◌<◌, ◌≤◌, Bool, true, false, cond, List, [], ◌∷◌, ◌++◌, length, length-append, append_assoc, refl, sym, ap, arith, leb-false}
 use Rattle.std.specs.Prelude.{◌==◌, map, nat_le}
 use Rattle.std.proofs.lemmas.Bool.{cond_both, leb-true}
-use Rattle.schedule_lines.specs.Outcome.{Outcome, and_then, quiet}
+use Rattle.schedule_lines.specs.Outcome.{and_then, quiet}
 use Rattle.serve_lines.specs.ServeLine.{line_of, lines_ended, lines_told, most_bytes}
 use Rattle.serve_lines.specs.declared.line.ServeLine.TheVariants.{Wrong}
 use Rattle.sm_manager.specs.Manager.{Manager}

@@ -1,6 +1,6 @@
 -- Serving a manager by what is read: how that ends.
-use Rattle.std.specs.Prelude.{◌≡◌, ◌⊎◌, ◌≤◌, ◌<◌, ◌+◌, ◌^◌, ◌-◌, ℕ, Bool, true, false, List, [], length, Option, Result, Ok, Err, IsTrue}
-use Rattle.std.specs.Io.KnownBytes.{Consumes, IsAtEnd, Keeps}
+use Rattle.std.specs.Prelude.{◌≡◌, ◌⊎◌, ◌≤◌, ◌+◌, ◌^◌, ◌-◌, ℕ, Bool, true, false, List, [], length, Option, Result, Ok, Err, IsTrue}
+use Rattle.std.specs.Io.KnownBytes.{Consumes, IsAtEnd}
 use Rattle.byte_io.specs.Source.{SourceState}
 use Rattle.schedule_lines.specs.Prints.{Prints, PrintsUnless}
 use Rattle.schedule_lines.specs.declared.run_fault.RunFault.{RunFault}
@@ -10,7 +10,6 @@ use Rattle.serve_run.specs.declared.server.Server.{Server}
 use Rattle.serve_run.specs.declared.serve_fault.ServeFault.{ServeFault}
 use Rattle.serve_run.specs.declared.serve_fault.ServeFault.TheVariants.{Read, Write, Memory}
 use Rattle.serve_run.specs.Kept.{ServerValue, after_bytes}
-use Rattle.serve_run.specs.Lives.{Lives}
 use Rattle.serve_run.specs.Served.{served_by}
 
 abbrev pub value_of : Server → ServerValue

@@ -1,5 +1,5 @@
 -- An order that was printed and is given back is the same.
-use Rattle.std.proofs.Common.{◌≡◌, ◌≢◌, ◌<◌, ◌≤◌, ◌+◌, ◌^◌, ◌==◌, ℕ, zero, suc, List, [], ◌∷◌, ◌++◌, Bool, true, false, leb, Some, Ok, Result, inl, inr, refl, sym, ap, ◌∙◌, subst, arith, length, map, append_assoc, append-nil}
+use Rattle.std.proofs.Common.{◌≡◌, ◌≢◌, ◌<◌, ◌+◌, ◌^◌, ◌==◌, ℕ, suc, List, [], ◌∷◌, ◌++◌, Bool, true, false, leb, Some, Ok, inl, inr, refl, sym, ap, ◌∙◌, subst, arith, length, map, append_assoc, append-nil}
 use Rattle.std.proofs.lemmas.Bool.{eqb-true, ne_eqb}
 use Rattle.std.proofs.lemmas.List.Concat.{flat_map-cons}
 use Rattle.std.proofs.lemmas.List.Elements.{Contains-append_cases}
@@ -37,7 +37,6 @@ use Rattle.lft_blocks.proofs.RulesRoute.{orders_hold}
 use Rattle.plan_file.proofs.PlanRanges.{switch_small}
 use Rattle.roots_file.specs.Line.{root_of, root_on}
 use Rattle.roots_file.specs.Reading.{is_among, roots_of, with_lines}
-use Rattle.roots_file.specs.RootsTextFault.{RootsLineFault}
 use Rattle.sm_cli.specs.OrderText.{order_line, order_text}
 use Rattle.sm_cli.specs.RunLaws.{PrintedOrdersStand}
 

@@ -1,53 +1,25 @@
 -- How many of the requests that wait, and of the steps that are still to be sent, count.
-use Rattle.std.proofs.Common.{◌≡◌, ◌<◌, ◌≤◌, ◌+◌, ℕ, suc, Bool, true, false, cond, List, [], ◌∷◌, ◌++◌, length, refl, sym, ap, ◌∙◌, subst, arith}
-use Rattle.std.proofs.lemmas.Bool.{cond_both, eq-eqb, eqb-true, and_parts, and_from}
+use Rattle.std.proofs.Common.{◌≡◌, ◌≤◌, ◌+◌, ℕ, suc, Bool, true, false, cond, List, [], ◌∷◌, ◌++◌, length, refl, sym, ap, ◌∙◌, subst, arith}
+use Rattle.std.proofs.lemmas.Bool.{cond_both, eq-eqb, eqb-true}
 use Rattle.std.proofs.lemmas.List.{length-append}
 use Rattle.std.proofs.lemmas.List.Elements.{filter-append}
 use Rattle.std.proofs.lemmas.Option.{slice_get-get_or}
-use Rattle.std.specs.Prelude.{◌^◌, ◌==◌, ◌&&◌, ◌||◌, Contains, Option, Some, None, drop, filter, is_none, nat_le, not, remove, slice_get}
+use Rattle.std.specs.Prelude.{◌==◌, ◌||◌, Contains, Some, drop, filter, remove, slice_get}
 use Rattle.std.specs.List.{AllByRecursion, list_any}
-use Rattle.smp_bytes.specs.Header.{done}
-use Rattle.smp_bytes.specs.Field.{number_in}
-use Rattle.smp_bytes.specs.Packet.{attribute_modifier, fault_of, status}
-use Rattle.smp_bytes.specs.declared.smp_fault.SmpFault.{SmpFault}
-use Rattle.subnet_view.proofs.Apart.{found_there}
-use Rattle.sweep.specs.declared.answer.Answer.{Answer}
-use Rattle.sweep.specs.declared.fault.SweepFault.{SweepFault}
-use Rattle.sweep.specs.Replies.{judged}
-use Rattle.sweep.specs.Sweep.{Sweep, is_done, timeout_fault}
-use Rattle.std.specs.Prelude.{Result, Ok, Err}
 use Rattle.request_table.specs.Numbers.{AreRising}
-use Rattle.request_table.proofs.Numbers.{rising_least, rising_more, rising_ordered, rising_pushed, without_at}
+use Rattle.request_table.proofs.Numbers.{rising_least, rising_ordered, without_at}
 use Rattle.plan_steps.specs.declared.step.Step.{Step}
 use Rattle.plan_steps.specs.Phases.{Phase}
 use Rattle.sm_state.specs.declared.event.Event.TheVariants as event
-use Rattle.sm_state.specs.declared.event.Message.{Message}
-use Rattle.sm_state.specs.declared.transition.Transition.{Transition}
-use Rattle.sm_state.specs.Controls.{control_of_message, modifier_of_control}
-use Rattle.sm_state.specs.declared.state.SmState.TheVariants.{Master}
-use Rattle.sm_state.specs.Steps.{status_of, stepped}
-use Rattle.sm_manager.specs.declared.fault.ManagerFault.{ManagerFault}
-use Rattle.sm_manager.specs.declared.fault.ManagerFault.TheVariants.{NotMaster, SequenceSpent, SweepRunning, WritingRunning}
-use Rattle.sm_manager.specs.declared.outgoing.Outgoing.{Outgoing}
 use Rattle.sm_manager.specs.declared.pending.Pending.{Pending}
 use Rattle.sm_manager.specs.declared.pending.Purpose.{Purpose}
 use Rattle.sm_manager.specs.declared.pending.Purpose.TheVariants as purpose
-use Rattle.sm_manager.specs.Answered.{BeginNone, BeginsNone, WrittenIsEachStepDone, counting_in, does_by_packet, does_request, does_step, one_if, steps_done}
-use Rattle.sm_manager.specs.Calls.{Call, BeginSweep, WriteSteps, Take, Packet, Timeout, Raise, Merge, Poll, Handover, after_call, after_calls}
-use Rattle.sm_manager.specs.Election.{asked, control_out, after_handover, handed_to, handover_fault, handover_move, successor_lid, info_pending, poll_fault, poll_out, poll_path, poll_pending, after_poll, after_message}
-use Rattle.sm_manager.specs.Manager.{Manager, Writing, begin_fault, new_manager, after_begin_sweep, taken_of}
-use Rattle.sm_manager.specs.Packets.{Called, answered_by, answers, after_timeout, is_for_sweep, is_info_request, packet_taken, pending_for, refused, request_answered}
-use Rattle.sm_manager.specs.Packets.{done as done_call, request_gave_up, after_request, sweep_answered, sweep_gave_up, sweep_timed_out, unless_spent}
-use Rattle.sm_manager.specs.Plans.{writing_fault}
-use Rattle.sm_manager.specs.ManagerRequests.{counts, how_many, is_step, no_step_waits, none_counts, with_number, without_number}
-use Rattle.sm_manager.specs.Served.{acknowledged_at, answering, controlled, request_counted, is_control, moved_on, replying, request_counted, served}
-use Rattle.sm_manager.specs.Traps.{represses, repressing}
-use Rattle.sm_state.specs.Standing.{is_in, moved_to}
-use Rattle.sm_manager.specs.Writing.{is_done_by, is_spent, is_written, is_written_by, next_pending, next_phase, noted, numbered, without_empty_phases}
-use Rattle.sm_manager.specs.Writing.{phase_sent, phases_by, after_step, went_on_with, write_fault, write_fault_with, after_write_steps}
-use Rattle.sm_manager.proofs.Begun.{may_begin}
+use Rattle.sm_manager.specs.Answered.{counting_in, one_if}
+use Rattle.sm_manager.specs.Calls.{Poll}
+use Rattle.sm_manager.specs.ManagerRequests.{counts, how_many, is_step, without_number}
+use Rattle.sm_manager.specs.Writing.{next_phase, numbered, without_empty_phases}
 use Rattle.sm_manager.proofs.Numbers as numbers
-use Rattle.sm_manager.proofs.Numbers.{many_pushed, many_without}
+use Rattle.sm_manager.proofs.Numbers.{many_without}
 
 -- requests that wait ----------------------------------------------------------------------------------
 

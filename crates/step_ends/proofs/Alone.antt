@@ -1,8 +1,7 @@
 -- Who holds a LID in a plan: one end port of the facts, or none.
-use Rattle.std.proofs.Common.{◌≡◌, ℕ, true, false, List, [], ◌∷◌, Option, None, Some, refl, sym, ap, ◌∙◌, subst, inl, inr, ◌⊎◌}
-use Rattle.std.specs.Prelude.{Contains, IsTrue}
+use Rattle.std.proofs.Common.{◌≡◌, ℕ, true, List, [], ◌∷◌, Option, None, Some, refl, sym, ap, ◌∙◌, subst, inl, inr, ◌⊎◌}
+use Rattle.std.specs.Prelude.{Contains}
 use Rattle.std.specs.Option.{option_map_or}
-use Rattle.std.specs.List.{list_all}
 use Rattle.fact_store.specs.View.{Facts, cells_of}
 use Rattle.smp_bytes.proofs.Members.{list_all_true}
 use Rattle.subnet_view.specs.declared.end_port.EndPort.{EndPort}

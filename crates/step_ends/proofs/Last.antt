@@ -1,9 +1,8 @@
 -- Tables in which steps end: the plan's entry where the plan delivers, and else none.
-use Rattle.std.proofs.Common.{◌≡◌, ◌≤◌, ◌<◌, ◌+◌, ◌*◌, ℕ, zero, suc, true, false, List, [], ◌∷◌, length, Option, None, Some, refl, sym, ap, ◌∙◌, subst, arith, inl, inr, ◌⊎◌}
+use Rattle.std.proofs.Common.{◌≡◌, ◌≤◌, ℕ, zero, suc, true, false, [], ◌∷◌, Some, refl, sym, ap, ◌∙◌, arith, inl, inr, ◌⊎◌}
 use Rattle.std.specs.Prelude.{slice_get}
 use Rattle.subnet_view.specs.declared.end_port.EndPort.{EndPort}
 use Rattle.subnet_view.specs.Reading.{Cells, switches}
-use Rattle.plan_file.specs.declared.held.HeldLid.{HeldLid}
 use Rattle.plan_file.specs.Held.{HeldPlan}
 use Rattle.held_tables.specs.Tables.{entry_for, owners_of}
 use Rattle.audit.specs.declared.end.End.TheVariants.{Taken}
@@ -12,7 +11,7 @@ use Rattle.audit.specs.NextHops.{next_hops_of}
 use Rattle.audit.specs.WalkEnds.{after}
 use Rattle.audit.proofs.PlanSteps.{contains_at}
 use Rattle.next_tables.specs.Next.{comes_to}
-use Rattle.next_tables.specs.NextTables.{if_owned, keeper, next_at, next_for, settled_first}
+use Rattle.next_tables.specs.NextTables.{keeper, next_at, next_for, settled_first}
 use Rattle.next_tables.specs.StepLaws.{stepped}
 use Rattle.next_tables.proofs.Entries.{comes_false, comes_true}
 use Rattle.next_tables.proofs.Plain.{plain, plain_after, plain_taken}

@@ -1,5 +1,5 @@
 -- From right tables no credit loop comes about in a step.
-use Rattle.std.proofs.Common.{◌≡◌, ◌≤◌, ◌<◌, ℕ, Bool, List, [], ◌∷◌, Some, true, false, cond, refl, sym, ap, ◌∙◌, subst, arith}
+use Rattle.std.proofs.Common.{◌≡◌, ◌<◌, ℕ, Bool, List, [], ◌∷◌, Some, true, false, cond, refl, sym, ap, subst, arith}
 use Rattle.std.specs.Prelude.{slice_index_or}
 use Rattle.fact_store.specs.View.{Facts, cells_of}
 use Rattle.subnet_view.specs.Reading.{Cells}
@@ -8,7 +8,7 @@ use Rattle.plan_order.specs.PlanOrder.{positions_by}
 use Rattle.next_tables.specs.Mixtures.{RiseInStep}
 use Rattle.next_tables.specs.ByOrder.{numbers_by, position_at}
 use Rattle.next_tables.specs.NextTables.{by_order, next_tables, settled_first}
-use Rattle.step_loops.specs.StepOrder.{WaitInCycle, WaitOn, WaitsFor}
+use Rattle.step_loops.specs.StepOrder.{WaitOn, WaitsFor}
 use Rattle.ordered_steps.specs.Rightness.{are_right}
 use Rattle.ordered_steps.proofs.OrderedTables.{ordered_tables_are_next}
 use Rattle.ordered_steps.proofs.ToldRight.{rightness_is_told}

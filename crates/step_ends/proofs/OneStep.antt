@@ -1,22 +1,21 @@
 -- A step has one result.
-use Rattle.std.proofs.Common.{◌≡◌, ◌∙◌, ◌<◌, ◌+◌, ℕ, Bool, true, false, List, [], ◌∷◌, Option, None, Some, refl, sym, ap, subst, arith, length, inl, inr}
+use Rattle.std.proofs.Common.{◌≡◌, ◌∙◌, ℕ, Bool, true, false, List, [], ◌∷◌, Option, None, Some, refl, sym, ap, subst, arith, length, inl, inr}
 use Rattle.std.specs.Prelude.{slice_get, slice_set}
 use Rattle.std.proofs.lemmas.Bool.{cases_order}
 use Rattle.std.proofs.lemmas.Option.{same_Some}
-use Rattle.fact_store.specs.View.{Facts, cells_of}
+use Rattle.fact_store.specs.View.{cells_of}
 use Rattle.port_graph.specs.declared.edge.Edge.{Edge}
 use Rattle.subnet_view.specs.Reading.{Cells}
-use Rattle.lft_blocks.specs.Rules.{RuleValue}
 use Rattle.plan_file.specs.Held.{HeldPlan}
 use Rattle.plan_order.specs.PlanOrder.{positions_by}
 use Rattle.next_tables.specs.ByOrder.{position_at}
 use Rattle.ordered_steps.specs.Rightness.{are_right}
-use Rattle.told_order.specs.ToldOrder.{AreTaken, IsLast, IsTold, MayBeLast, NoneFrom, all_left, is_left}
+use Rattle.told_order.specs.ToldOrder.{AreTaken, IsLast, MayBeLast, NoneFrom, all_left, is_left}
 use Rattle.two_orders.specs.Growth.{grown_by}
 use Rattle.two_orders.specs.TwoOrders.{TwoOrders}
 use Rattle.between_orders.specs.Between.{Goal, IsGoal, IsGoalBetween, goal_between}
 use Rattle.between_orders.specs.Orders.{AreOrders, edges_in, orders_from, told_positions}
-use Rattle.next_run.specs.RunNext.{IsGoalFrom, IsNextStep, next_towards}
+use Rattle.next_run.specs.RunNext.{IsGoalFrom, next_towards}
 use Rattle.step_ends.specs.StepEnds.{StepsHaveOneResult}
 
 clash : (b : Bool) → b ≡ true → b ≡ false → ⊥

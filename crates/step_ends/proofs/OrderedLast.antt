@@ -1,9 +1,8 @@
 -- From tables that are right by the order of the plan's switches steps by that order end too.
-use Rattle.std.proofs.Common.{◌≡◌, ◌≤◌, ◌<◌, ◌+◌, ◌*◌, ℕ, zero, suc, true, false, List, [], ◌∷◌, length, Option, None, Some, refl, sym, ap, ◌∙◌, subst, arith, inl, inr}
-use Rattle.std.specs.Prelude.{Contains, slice_get}
+use Rattle.std.proofs.Common.{◌≡◌, ◌≤◌, ◌+◌, ◌*◌, ℕ, zero, suc, List, [], ◌∷◌, length, Some, refl, sym, ap, ◌∙◌, arith, inl, inr}
+use Rattle.std.specs.Prelude.{slice_get}
 use Rattle.fact_store.specs.View.{Facts, cells_of, AreInRange}
 use Rattle.subnet_view.specs.declared.end_port.EndPort.{EndPort}
-use Rattle.subnet_view.specs.EndPorts.{end_ports}
 use Rattle.subnet_view.specs.Reading.{Cells, switches}
 use Rattle.lid_assign.specs.Lids.{IsNoRoom}
 use Rattle.lft_blocks.specs.Plan.{plan_of}
@@ -17,12 +16,10 @@ use Rattle.audit.proofs.PlanSteps.{contains_at}
 use Rattle.next_tables.specs.ByOrder.{AreRight, IsNextByOrder, position_at}
 use Rattle.next_tables.specs.NextTables.{IsKept, by_order, index_at, next_at, next_tables, ordered_for}
 use Rattle.next_tables.proofs.Whole.{entry_next, owners_next}
-use Rattle.ordered_steps.specs.StepLaws.{DeliverFrom}
 use Rattle.ordered_steps.proofs.OrderedTables.{ordered_tables_are_next}
 use Rattle.ordered_steps.proofs.Round.{all_follow_the_rule, next_deliver_or_drop_by_order}
 use Rattle.plan_order_laws.specs.PlanLaws.{plan_position}
 use Rattle.plan_order_laws.proofs.PlanSteps.{steps_end_in_plans, steps_towards_plans}
-use Rattle.step_ends.specs.StepEnds.{DeliversWhatTablesCan}
 use Rattle.step_ends.proofs.Alone.{line_there, owner_there}
 use Rattle.step_ends.proofs.Last.{AreLast, Way}
 use Rattle.step_ends.proofs.Reached.{plans_deliver_what_tables_can}

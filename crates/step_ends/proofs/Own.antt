@@ -46,7 +46,7 @@ use Rattle.audit.proofs.PlanSteps.{contains_at}
 use Rattle.next_tables.specs.NextTables.{StepRuleValue, next_at, next_switch, next_table, next_tables, next_top}
 use Rattle.next_run.specs.RunNext.{step_rule}
 use Rattle.next_tables.proofs.Whole.{entry_next, top_next}
-use Rattle.step_ends.specs.StepEnds.{AreEnough, LastTextIsThePlans}
+use Rattle.step_ends.specs.StepEnds.{LastTextIsThePlans}
 use Rattle.step_ends.proofs.Alone.{each_alone}
 use Rattle.step_ends.proofs.Last.{AreLast, EachAlone, way_or_none}
 use Rattle.step_ends.proofs.Reached.{owner_listed}

@@ -1,8 +1,6 @@
 -- The names of the nodes alone tell the first fault of a text's lines.
 use Rattle.std.proofs.Common.{◌≡◌, ℕ, ◌+◌, ◌≤◌, Bool, true, false, List, [], ◌∷◌, ◌++◌, Option, None, Some, Result, Ok, Err, length, refl, sym, ap, subst, ◌∙◌, zero, suc, arith}
 use Rattle.std.specs.Prelude.{map, is_some, option_map, nat_lt, ◌||◌, if◌then◌else◌}
-use Rattle.std.specs.List.{list_any}
-use Rattle.std.specs.Option.{option_map_or}
 use Rattle.std.specs.Str.{bytes_eq}
 use Rattle.text_words.specs.Text.{lines}
 use Rattle.topo_file.specs.declared.draft.LinkAt.{LinkAt}
@@ -13,7 +11,7 @@ use Rattle.topo_file.specs.declared.line.TopologyLine.TheVariants as line
 use Rattle.topo_file.specs.declared.line.LinkLine.{LinkLine}
 use Rattle.topo_file.specs.declared.node.Node.{Node}
 use Rattle.topo_file.specs.TopologyLine.{line_of}
-use Rattle.topo_file.specs.Topology.{Layout, id_of}
+use Rattle.topo_file.specs.Topology.{id_of}
 use Rattle.topo_file.specs.Reading.{◌>>=◌, Lines, node_of, nodes_of_lines, topology_in, topology_of, node_with, is_beyond, with_line, with_lines, with_link_line, with_node}
 use Rattle.topo_file.specs.TopoFault.{IsRefused}
 use Rattle.topo_file.specs.declared.line.NodeLine.{NodeLine}

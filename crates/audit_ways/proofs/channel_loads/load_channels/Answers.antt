@@ -1,5 +1,5 @@
 -- A channel more.
-use Rattle.std.proofs.Common.{◌≡◌, ◌<◌, ◌+◌, ◌∙◌, ℕ, sym, ap, arith, length, get_or, set}
+use Rattle.std.proofs.Common.{◌<◌, ◌+◌, ◌∙◌, ℕ, sym, ap, arith, length, get_or, set}
 use Rattle.audit_channels.specs.Columns.{number_of}
 use Rattle.audit_channels.proofs.Columns.{within}
 use Rattle.audit_ways.proofs.Walked.{one_taken}

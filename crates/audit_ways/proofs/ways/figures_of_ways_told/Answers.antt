@@ -1,5 +1,5 @@
 -- By what was counted.
-use Rattle.std.proofs.Common.{◌≡◌, List, ℕ, get_or, map, subst}
+use Rattle.std.proofs.Common.{List, ℕ, get_or, map, subst}
 use Rattle.fact_store.specs.View.{cells_of}
 use Rattle.audit_ways.specs.Figures.{IsTotal}
 use Rattle.audit_ways.specs.Ways.{channels_of}

@@ -1,5 +1,5 @@
 -- A channel more.
-use Rattle.std.proofs.Common.{◌≡◌, ◌+◌, ◌∙◌, refl, sym, ap, subst}
+use Rattle.std.proofs.Common.{◌+◌, ◌∙◌, refl, sym, ap, subst}
 use Rattle.fact_store.specs.View.{cells_of}
 use Rattle.audit_ways.specs.declared.figures.Total.{Total}
 use Rattle.audit_ways.specs.Ways.{is_to_switch}

@@ -1,5 +1,5 @@
 -- Well-formed words ask for a task, and name its inputs; it is performed with those.
-use Rattle.std.proofs.Common.{◌≡◌, ◌∙◌, ℕ, IsSome, List, Option, Some, ap, inl, inr, subst, sym}
+use Rattle.std.proofs.Common.{◌≡◌, ◌∙◌, ℕ, IsSome, List, Some, ap, inl, inr, subst, sym}
 use Rattle.std.specs.Borrow.{Bor}
 use Rattle.std.specs.Prelude.{map, option_map}
 use Rattle.cli_task.specs.Asked.{names_asked}

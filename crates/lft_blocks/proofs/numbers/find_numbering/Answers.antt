@@ -1,9 +1,8 @@
-use Rattle.std.proofs.Common.{◌≡◌, ap, ◌∙◌}
+use Rattle.std.proofs.Common.{ap, ◌∙◌}
 use Rattle.fact_store.specs.View.{cells_of}
 use Rattle.subnet_view.specs.Graph.{guids_of}
 use Rattle.subnet_view.proofs.GraphSwitches.{graph_guids}
 use Rattle.spread_routes.specs.LeafNumbers.{leaf_numbers}
-use Rattle.lft_blocks.specs.LidNumbers.{Numbering}
 use Rattle.lft_blocks.proofs.numbers.find_numbering.Goals as goal
 
 pub most_adapters-most-requires : goal.most_adapters-most-requires

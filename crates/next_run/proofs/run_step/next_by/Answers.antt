@@ -2,7 +2,6 @@
 use Rattle.std.proofs.Common.{◌≡◌, ◌∙◌, ℕ, Option, None, ap, subst}
 use Rattle.std.specs.Prelude.{IfErr, OnOk}
 use Rattle.lft_blocks.specs.Rules.{value_of}
-use Rattle.plan_file.specs.Held.{HeldPlan}
 use Rattle.next_tables.specs.NextTables.{first_moved}
 use Rattle.next_run.specs.RunNext.{StopsBy, choice_of}
 use Rattle.next_run.proofs.GoalLids.{moved_same}

@@ -1,5 +1,5 @@
 -- Lane by lane.
-use Rattle.std.proofs.Common.{◌≡◌, ◌∙◌, arith}
+use Rattle.std.proofs.Common.{◌∙◌, arith}
 use Rattle.std.proofs.lemmas.List.{length-set}
 use Rattle.port_graph.proofs.LaneSteps.{one_more_lane}
 use Rattle.port_graph.proofs.lanes.one_more.Goals as goal

@@ -1,4 +1,4 @@
-use Rattle.std.proofs.Common.{◌≡◌, ◌<◌, ◌≤◌, ℕ, length}
+use Rattle.std.proofs.Common.{◌≡◌, ◌<◌, ◌≤◌, ℕ}
 use Rattle.std.specs.Prelude.{slice_index}
 use Rattle.port_graph.specs.Lanes.{nearer}
 use Rattle.port_graph.proofs.lanes.take_nearer.Given as goal

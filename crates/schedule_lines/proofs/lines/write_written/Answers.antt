@@ -1,5 +1,5 @@
 use Rattle.std.proofs.Common.{ap}
-use Rattle.schedule_lines.specs.Lines.{end_word, head_text, name_of}
+use Rattle.schedule_lines.specs.Lines.{end_word}
 use Rattle.schedule_lines.proofs.Written.{fails_then, writes_same, writes_then}
 use Rattle.schedule_lines.proofs.lines.write_written.Goals as goal
 

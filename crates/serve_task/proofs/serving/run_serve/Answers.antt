@@ -1,6 +1,5 @@
-use Rattle.std.proofs.Common.{◌≡◌, ◌∙◌, ◌+◌, ℕ, Bool, List, ◌++◌, length, inl, inr, refl, ap, sym, subst}
+use Rattle.std.proofs.Common.{◌≡◌, ◌∙◌, ◌+◌, ℕ, ◌++◌, inl, inr, refl, ap, subst}
 use Rattle.std.specs.Io.KnownBytes.{Appends}
-use Rattle.lft_blocks.specs.Planning.{Planning}
 use Rattle.lft_blocks.specs.Rules.{value_of}
 use Rattle.schedule_lines.specs.Prints.{PrintsSome}
 use Rattle.sm_cli.specs.Asked.{texts_for}

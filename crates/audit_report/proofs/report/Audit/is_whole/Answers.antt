@@ -1,5 +1,5 @@
 -- LIDs, tables and nodes.
-use Rattle.std.proofs.Common.{◌≡◌, ◌∙◌, Bool, true, false, sym}
+use Rattle.std.proofs.Common.{◌∙◌, true, false, sym}
 use Rattle.fact_store.specs.View.{cells_of}
 use Rattle.audit_report.specs.Passing.{EachHasTables, EachHoldsLid}
 use Rattle.audit_report.proofs.report.Audit.is_whole.Goals as goal

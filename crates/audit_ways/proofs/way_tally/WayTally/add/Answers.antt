@@ -1,5 +1,5 @@
 -- A switch more, and the ways over one wire.
-use Rattle.std.proofs.Common.{◌≡◌, ◌+◌, ◌∙◌, sym, subst}
+use Rattle.std.proofs.Common.{◌+◌, sym, subst}
 use Rattle.audit_ways.specs.declared.way_tally.WayTally.{WayTally}
 use Rattle.audit_ways.proofs.Added.{AddedSoFar, none_more, one_added, with_direct, without_direct}
 use Rattle.audit_ways.proofs.way_tally.WayTally.add.Goals as goal

@@ -1,8 +1,7 @@
 -- What a key's cell says is what the cells say of the key.
-use Rattle.std.proofs.Common.{◌≡◌, ap, sym, ◌∙◌}
-use Rattle.std.specs.Prelude.{Option, None, Some}
-use Rattle.reply_facts.specs.Known.{known_in, value_in}
-use Rattle.fact_store.specs.View.{cells_of}
+use Rattle.std.proofs.Common.{ap, sym, ◌∙◌}
+use Rattle.std.specs.Prelude.{Some}
+use Rattle.reply_facts.specs.Known.{value_in}
 use Rattle.fact_store.proofs.Entries.{known_by_cells}
 use Rattle.fact_store.proofs.store.Store.known.Goals as goal
 

@@ -1,4 +1,3 @@
-use Rattle.std.proofs.Common.{rules}
 use Rattle.topo_file.proofs.Indexes.{listed_is_node}
 use Rattle.topo_file.proofs.topology.Topology.node.Goals as goal
 
