@@ -128,8 +128,8 @@ impl<'a> Ends<'a> {
     }
 }
 
-#[tactic(auto, using(crate::proofs::Arrivals::found_there, crate::proofs::Arrivals::none_there))]
 /// Returns where the packet of the source at `index` ends; `None` also if there is no such source.
+#[tactic(auto, using(crate::proofs::Arrivals::found_there, crate::proofs::Arrivals::none_there))]
 fn end_at(owners: &[EndPort], walks: &[NextHop], sources: &[Sender], index: usize) -> Option<End>
     ensures { result ≡ slice_index_or (map (end_from owners.now walks.now) sources.now) index None }
 {

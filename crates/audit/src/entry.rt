@@ -5,7 +5,7 @@ ghost use Rattle.held_tables.specs.Tables.{block_at, entry_at, entry_for, is_blo
 use crate::next_hops::counted;
 use held_tables::{index_of, top_at};
 use plan_file::{Held, HeldBlock};
-use smp_bytes::{Guid, Lid};
+use smp_bytes::{Guid, Lid, NO_ENTRY};
 
 /// Returns the switch's effective entry for `lid`: 255 for LID 0 and above the top.
 pub(crate) fn entry_for(held: &Held, switch: Guid, lid: Lid) -> u8
@@ -20,11 +20,11 @@ fn entry_at(held: &Held, index: Option<usize>, lid: Lid) -> u8
     ensures { result ≡ entry_at held.now index lid }
 {
     let Some(index) = index else {
-        return 255;
+        return NO_ENTRY;
     };
     match block_at(held, index, lid.block()) {
         Some(block) => block.entries[lid.in_block()],
-        None => 255,
+        None => NO_ENTRY,
     }
 }
 

@@ -10,7 +10,7 @@ use crate::next_hop::NextHop;
 use crate::switch_step::SwitchStep;
 use held_tables::{AuditedSwitch, Far, Sender};
 use port_graph::Edge;
-use smp_bytes::{Guid, Lid, PortNum};
+use smp_bytes::{Guid, Lid, NO_ENTRY, PortNum};
 use std::alloc::{AllocError, Global};
 use subnet_view::EndPort;
 
@@ -110,7 +110,7 @@ fn cause_by(ports: u8, top: Lid, lid: Lid, entry: u8) -> Cause
 {
     if top < lid {
         Cause::AboveTop
-    } else if entry == 255 {
+    } else if entry == NO_ENTRY {
         Cause::NoEntry
     } else if ports < entry {
         Cause::NoPort
@@ -146,11 +146,11 @@ fn entry_among(rows: &[[u8; 64]], index: Option<usize>, lid: Lid) -> u8
     ensures { result ≡ entry_among rows.now index lid }
 {
     let Some(index) = index else {
-        return 255;
+        return NO_ENTRY;
     };
     match rows.get(index) {
         Some(row) => row[lid.in_block()],
-        None => 255,
+        None => NO_ENTRY,
     }
 }
 
@@ -159,7 +159,7 @@ pub(crate) fn counted(lid: Lid, top: Lid, entry: u8) -> u8
     ensures { result ≡ counted lid top entry }
 {
     if lid == Lid::NONE || top < lid {
-        255
+        NO_ENTRY
     } else {
         entry
     }

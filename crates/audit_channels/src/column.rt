@@ -18,9 +18,9 @@ pub fn add_column(waits: &mut Waits, column: &[Option<Edge>]) -> Result<(), Allo
     add_across(waits, column, column)
 }
 
-#[tactic(auto, using(crate::proofs::Columns::none_so_far))]
 /// Adds that channels which packets take in turn follow each other, if they leave a vertex by its edge in `before` and
 /// the next vertex by its edge in `now`.
+#[tactic(auto, using(crate::proofs::Columns::none_so_far))]
 pub fn add_across(
     waits: &mut Waits,
     before: &[Option<Edge>],

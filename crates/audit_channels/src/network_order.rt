@@ -6,7 +6,6 @@ use crate::{ChannelOrder, channel_waits, order_channels};
 use audit::Network;
 use std::alloc::{AllocError, Global};
 
-#[tactic(auto, using(crate::proofs::Orders::order_is, crate::proofs::Orders::shortest_is))]
 /// Returns numbers of channels that rise along the way of every packet, whether or not an end port holds its LID. If
 /// there are no such numbers, returns a shortest credit loop.
 ///
@@ -16,6 +15,7 @@ use std::alloc::{AllocError, Global};
 /// Costs what `Network::blocks` takes for each 64 LIDs up to the greatest top of a usable switch. Each LID costs a step
 /// for each switch, and a step for each channel that follows the switch's own, unless all packets leave as for the LID
 /// before.
+#[tactic(auto, using(crate::proofs::Orders::order_is, crate::proofs::Orders::shortest_is))]
 pub fn channel_order(alloc: Global, network: &Network) -> Result<ChannelOrder, AllocError>
     ensures order { IfOk result (λ found. IsOrderOf (cells_of network.now.facts) network.now.held found) }
     ensures shortest { IfOk result (λ found. IsShortestOf (cells_of network.now.facts) network.now.held found) }

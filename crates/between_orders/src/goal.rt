@@ -13,7 +13,7 @@ use audit::{Blocks, Network, NextHop, SwitchStep, is_at};
 use next_tables::{first_owner, most_blocks, no_entries, tables_with};
 use plan_file::Held;
 use port_graph::{Adjacency, Edge};
-use smp_bytes::Lid;
+use smp_bytes::{Lid, NO_ENTRY};
 use std::alloc::{AllocError, Global};
 use subnet_view::EndPort;
 use two_orders::{Orders, Sides, label_at, leads_on};
@@ -212,7 +212,7 @@ fn entry(
     }
     match label_at(labels, index) {
         Some(sides) => entry_to(edges, orders, labels, sides, index, held, plan),
-        None => 255,
+        None => NO_ENTRY,
     }
 }
 
@@ -269,5 +269,5 @@ fn first_port(
             return edge.port.number();
         }
     }
-    255
+    NO_ENTRY
 }

@@ -7,10 +7,7 @@ ghost use Rattle.fabric_sim.specs.Simulation.{fabric_of, is_port};
 use crate::fabric::Fabric;
 use fabric_model::{Course, NodeId, NodePort};
 use node_agents::Agent;
-use smp_bytes::Lid;
-
-/// The forwarding table entry that drops a packet.
-const NO_PORT: u8 = 255;
+use smp_bytes::{Lid, NO_ENTRY};
 
 impl Fabric {
     /// Returns what the node at the port `at` does with a packet for `lid`.
@@ -62,7 +59,7 @@ fn switch_course(agent: &Agent, node: NodeId, lid: Lid) -> Course
         return Course::Drops;
     }
     let port = agent.entry(lid);
-    if port.number() == NO_PORT || agent.ports() < port.number() {
+    if port.number() == NO_ENTRY || agent.ports() < port.number() {
         Course::Drops
     } else if port.number() == 0 {
         Course::Delivers(NodePort { node, port })

@@ -5,6 +5,7 @@ ghost use Rattle.held_tables.specs.Tables.{number_of};
 
 use crate::chains::{Chains, chains_of};
 use plan_file::{Held, HeldBlock};
+use smp_bytes::NO_ENTRY;
 use std::alloc::{AllocError, Global};
 
 /// Returns the blocks with this number, by the indices of the held switches; entries that are not held are 255. Takes a
@@ -64,15 +65,15 @@ fn numbers(alloc: Global, held: &Held) -> Result<Vec<u16>, AllocError>
         .collect(alloc)
 }
 
+/// Returns a row of 64 entries that are none for each held switch.
 #[tactic(auto, using(crate::proofs::Gathered::no_rows, crate::proofs::Gathered::blank_more))]
-/// Returns a row of 64 times 255 for each held switch.
 fn no_blocks(alloc: Global, held: &Held) -> Result<Vec<[u8; 64]>, AllocError>
     ensures { IfOk result (λ rows. AreBlank (length held.now.switches) rows.items) }
 {
     let count = held.switches().len();
     let mut rows = Vec::with_capacity(alloc, count)?;
     for _row in 0..count {
-        rows.push([255; 64])?;
+        rows.push([NO_ENTRY; 64])?;
     }
     Ok(rows)
 }

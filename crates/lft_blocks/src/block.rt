@@ -4,11 +4,8 @@ ghost use Rattle.lft_blocks.specs.Entries.{block_count};
 ghost use Rattle.lft_blocks.specs.Attachments.{AreWithin, entry_in, block_in};
 
 use crate::attachment::Attachment;
-use smp_bytes::Lid;
+use smp_bytes::{Lid, NO_ENTRY};
 use std::alloc::{AllocError, Global};
-
-/// The entry if no way leads to a LID. No switch has this port.
-pub(crate) const NO_WAY: u8 = 255;
 
 /// Returns the number of blocks that hold all LIDs up to `top`.
 pub fn block_count(top: Option<Lid>) -> usize
@@ -47,7 +44,7 @@ fn block(attachments: &[Option<Attachment>], row: &[u8], own: usize, b: usize) -
     requires few { b < 1024 }
     ensures { result ≡ block_in attachments.now row.now own b }
 {
-    let mut block = [NO_WAY; 64];
+    let mut block = [NO_ENTRY; 64];
     for i in 0..64 {
         block[i] = entry(attachments, row, own, 64 * b + i);
     }
@@ -62,6 +59,6 @@ fn entry(attachments: &[Option<Attachment>], row: &[u8], own: usize, lid: usize)
     match attachments.get(lid).copied().flatten() {
         Some(attachment) if attachment.switch == own => attachment.port.number(),
         Some(attachment) => row[attachment.switch],
-        None => NO_WAY,
+        None => NO_ENTRY,
     }
 }

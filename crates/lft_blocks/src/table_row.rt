@@ -6,8 +6,7 @@ ghost use Rattle.lft_blocks.specs.Attachments.{AreWithin};
 ghost use Rattle.lft_blocks.specs.TableRows.{AreLidsAt, block_of_row, blocks_of_row, entry_by, attachment_port};
 
 use crate::attachment::Attachment;
-use crate::block::NO_WAY;
-use smp_bytes::Lid;
+use smp_bytes::{Lid, NO_ENTRY};
 use spread_routes::Exits;
 use std::alloc::{AllocError, Global};
 use std::marker::Model;
@@ -31,7 +30,7 @@ impl TableRow {
     pub(crate) fn new(alloc: Global, len: usize) -> Result<Self, AllocError>
         ensures { IfOk result (λ row. row ≡ replicate len 255) }
     {
-        let entries = vec![in alloc; NO_WAY; len]?;
+        let entries = vec![in alloc; NO_ENTRY; len]?;
         Ok(TableRow { entries })
     }
 
@@ -65,7 +64,7 @@ impl TableRow {
         if is_own {
             write_own(&mut self.entries, attachments, lids);
         } else {
-            exits.write(target, lids, numbers, NO_WAY, &mut self.entries);
+            exits.write(target, lids, numbers, NO_ENTRY, &mut self.entries);
         }
     }
 
@@ -101,7 +100,7 @@ fn block(entries: &[u8], b: usize) -> [u8; 64]
     requires within { 64 * b + 64 ≤ length entries.now }
     ensures { result ≡ block_of_row entries.now b }
 {
-    let mut block = [NO_WAY; 64];
+    let mut block = [NO_ENTRY; 64];
     for i in 0..64 {
         block[i] = entries[64 * b + i];
     }
@@ -115,7 +114,7 @@ fn own_entry(attachments: &[Option<Attachment>], lid: Lid) -> u8
 {
     match attachments[usize::from(lid.number())] {
         Some(attachment) => attachment.port.number(),
-        None => NO_WAY,
+        None => NO_ENTRY,
     }
 }
 

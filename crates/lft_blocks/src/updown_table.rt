@@ -4,9 +4,9 @@ ghost use Rattle.updown_routes.specs.Ports.{next_port_at};
 ghost use Rattle.lft_blocks.specs.Attachments.{AreWithin, row_of, table_in};
 
 use crate::attachment::Attachment;
-use crate::block::{NO_WAY, blocks};
+use crate::block::blocks;
 use crate::table::Table;
-use smp_bytes::Guid;
+use smp_bytes::{Guid, NO_ENTRY};
 use std::alloc::{AllocError, Global};
 use updown_routes::Routes;
 
@@ -71,6 +71,6 @@ fn port_towards(routes: &Routes, own: usize, to: usize) -> u8
 {
     match routes.next_port_at(own, to) {
         Some(port) => port.number(),
-        None => NO_WAY,
+        None => NO_ENTRY,
     }
 }

@@ -8,7 +8,7 @@ ghost use Rattle.next_tables.specs.NextTables.{next_switch};
 use audit::Network;
 use lft_blocks::block_count;
 use plan_file::{Held, HeldBlock, HeldSwitch};
-use smp_bytes::Lid;
+use smp_bytes::{Lid, NO_ENTRY};
 use std::alloc::{AllocError, Global};
 
 /// Returns tables with the plan's LIDs. For each usable switch they have the greater of its tops, and its entries in
@@ -109,7 +109,7 @@ fn block(columns: &[Vec<u8>], index: usize, number: usize) -> [u8; 64]
     requires { number < 1024 }
     ensures { result ≡ block_in (map (λ column. column.items) columns.now) index number }
 {
-    let mut block = [255; 64];
+    let mut block = [NO_ENTRY; 64];
     for i in 0..64 {
         block[i] = entry(columns, index, 64 * number + i);
     }
@@ -122,7 +122,7 @@ fn entry(columns: &[Vec<u8>], index: usize, lid: usize) -> u8
 {
     match columns.get(lid) {
         Some(column) => entry_at(column, index),
-        None => 255,
+        None => NO_ENTRY,
     }
 }
 
@@ -130,5 +130,5 @@ fn entry(columns: &[Vec<u8>], index: usize, lid: usize) -> u8
 fn entry_at(column: &[u8], index: usize) -> u8
     ensures { result ≡ slice_index_or column.now index 255 }
 {
-    column.get(index).copied().unwrap_or(255)
+    column.get(index).copied().unwrap_or(NO_ENTRY)
 }

@@ -11,7 +11,7 @@ use crate::next_entries::next_entries;
 use crate::ordered_entries::ordered_entries;
 use crate::step_rule::StepRule;
 use audit::{Blocks, Deliveries, Network, is_same_end};
-use smp_bytes::Lid;
+use smp_bytes::{Lid, NO_ENTRY};
 use std::alloc::{AllocError, Global};
 use subnet_view::EndPort;
 
@@ -183,11 +183,11 @@ fn is_nobodys(owners: &[EndPort]) -> bool
     owners.is_empty()
 }
 
-/// Returns `count` times 255, no entry.
+/// Returns `count` entries that are none.
 pub fn no_entries(alloc: Global, count: usize) -> Result<Vec<u8>, AllocError>
     ensures { IfOk result (λ entries. entries.items ≡ replicate count 255) }
 {
-    vec![in alloc; 255; count]
+    vec![in alloc; NO_ENTRY; count]
 }
 
 /// Returns whether the entries are equal.

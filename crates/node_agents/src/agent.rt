@@ -9,12 +9,9 @@ use crate::lft_block::BLOCK;
 use crate::port::Port;
 use crate::request::handle;
 use attr_codec::{Lmc, PortState};
-use smp_bytes::{Guid, Lid, NodeType, PortNum, Smp, Status};
+use smp_bytes::{Guid, Lid, NO_ENTRY, NodeType, PortNum, Smp, Status};
 use std::alloc::{AllocError, Global};
 use std::marker::Model;
-
-/// The table entry that stands for no port.
-const NO_PORT: u8 = 255;
 
 /// The subnet management agent of a node. Contracts see the node, its ports, its forwarding table and the table's top.
 #[derive(Drop)]
@@ -54,7 +51,7 @@ impl Agent {
             ports[0] = Port::in_state(PortState::Active);
         }
         let entries = usize::from(node.cap).div_ceil(BLOCK) * BLOCK;
-        let table = vec![in alloc; NO_PORT; entries]?;
+        let table = vec![in alloc; NO_ENTRY; entries]?;
         Ok(Agent {
             node,
             ports,
@@ -114,7 +111,7 @@ impl Agent {
     {
         match self.table.get(usize::from(lid.number())) {
             Some(port) => PortNum::new(*port),
-            None => PortNum::new(NO_PORT),
+            None => PortNum::new(NO_ENTRY),
         }
     }
 

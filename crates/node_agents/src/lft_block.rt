@@ -4,13 +4,11 @@ ghost use Rattle.std.specs.Option.{unwrap_or};
 ghost use Rattle.node_agents.specs.LftBlock.{has_block, get_block, set_block};
 
 use crate::agent::Agent;
+use smp_bytes::LAST_BLOCK;
 use smp_bytes::wire::put_bytes;
 
 /// The number of entries in a block.
 pub(crate) const BLOCK: usize = 64;
-
-/// The last block of unicast LIDs.
-const LAST_BLOCK: u32 = 767;
 
 /// Returns the block that a Get asks for, or `None` if the table does not have it.
 pub(crate) fn get(agent: &Agent, block: u32) -> Option<[u8; BLOCK]>
@@ -41,5 +39,5 @@ pub(crate) fn set(agent: &mut Agent, block: u32, payload: &[u8; BLOCK]) -> bool
 fn has_block(agent: &Agent, block: u32) -> bool
     ensures { result ≡ has_block agent.now block }
 {
-    block <= LAST_BLOCK && block as usize * BLOCK < usize::from(agent.node.cap)
+    block <= u32::from(LAST_BLOCK) && block as usize * BLOCK < usize::from(agent.node.cap)
 }

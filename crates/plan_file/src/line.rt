@@ -4,14 +4,11 @@ ghost use Rattle.plan_file.specs.TextLine.{line_of, both, lid_line, lmc_line, sw
 
 use crate::words::{bare_guid, entries, lmc_of, node_port, small};
 use attr_codec::Lmc;
-use smp_bytes::{Guid, Lid, PortNum};
+use smp_bytes::{Guid, LAST_BLOCK, Lid, PortNum};
 use text_words::{count, is_word, split_word};
 
 /// The greatest LID of an end port.
 const MAX_LID: u16 = Lid::UNICAST_END - 1;
-
-/// The number of the last block that has a LID of an end port.
-const MAX_BLOCK: u16 = 767;
 
 /// What a line says.
 #[derive(Clone, Copy)]
@@ -50,8 +47,8 @@ pub(crate) struct BlockLine {
     pub(crate) entries: [u8; 64],
 }
 
-#[tactic(auto, unfolding(crate::specs::TextLine::line_of))]
 /// Returns what a line says, or `None` if the grammar does not have it.
+#[tactic(auto, unfolding(crate::specs::TextLine::line_of))]
 pub(crate) fn read_line(line: &[u8]) -> Option<TextLine>
     ensures { result ≡ line_of line.now }
 {
@@ -133,7 +130,7 @@ fn block_line(line: &[u8]) -> Option<BlockLine>
     ensures { result ≡ block_line (words line.now) }
 {
     let (number, word) = two_words(line)?;
-    let number = small(number, MAX_BLOCK)?;
+    let number = small(number, LAST_BLOCK)?;
     let entries = entries(word)?;
     Some(BlockLine { number, entries })
 }

@@ -40,8 +40,8 @@ pub fn parse(alloc: Global, text: &[u8]) -> Result<Held, PlanTextFault>
     }
 }
 
-#[tactic(auto, using(crate::proofs::Folds::reading))]
 /// Reads the lines of a text.
+#[tactic(auto, using(crate::proofs::Folds::reading))]
 fn read_lines(alloc: Global, text: &[u8]) -> Result<Held, PlanTextFault>
     ensures { IsReadAs text.now result }
 {
@@ -59,8 +59,8 @@ fn read_lines(alloc: Global, text: &[u8]) -> Result<Held, PlanTextFault>
     Ok(held)
 }
 
-#[tactic(auto, using(crate::proofs::Folds::judging))]
 /// Returns the first fault of a text. Takes no memory.
+#[tactic(auto, using(crate::proofs::Folds::judging))]
 fn first_fault(text: &[u8]) -> Option<PlanLineFault>
     ensures { result ≡ first_fault text.now }
 {

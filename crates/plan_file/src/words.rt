@@ -19,8 +19,8 @@ pub(crate) fn small(word: &[u8], most: u16) -> Option<Option<u16>>
     })
 }
 
-#[tactic(auto, using(crate::proofs::BareGuids::bare_guid_is, crate::proofs::BareGuids::long_is_none))]
 /// Parses a GUID of 1 to 16 hex digits.
+#[tactic(auto, using(crate::proofs::BareGuids::bare_guid_is, crate::proofs::BareGuids::long_is_none))]
 pub(crate) fn bare_guid(word: &[u8]) -> Option<Guid>
     ensures { result ≡ bare_guid_of word.now }
 {
@@ -62,8 +62,8 @@ pub(crate) fn lmc_of(number: Option<u16>) -> Option<Lmc>
     }
 }
 
-#[tactic(auto, using(text_words::proofs::Splits::until_at, text_words::proofs::Splits::until_none))]
 /// Returns what comes before the first slash, and what comes after it.
+#[tactic(auto, using(text_words::proofs::Splits::until_at, text_words::proofs::Splits::until_none))]
 fn before_slash(word: &[u8]) -> Option<(&[u8], &[u8])>
     ensures { option_map (λ x. (x.0.now, x.1.now)) result ≡ until 47 word.now }
 {

@@ -5,8 +5,8 @@ use crate::fault::RootsTextError;
 use smp_bytes::Guid;
 use text_words::{number, split_word};
 
-#[tactic(auto, unfolding(crate::specs::Line::root_on))]
 /// Returns the root that a line names, or `None` if the line is empty.
+#[tactic(auto, unfolding(crate::specs::Line::root_on))]
 pub(crate) fn root_on(line: &[u8]) -> Result<Option<Guid>, RootsTextError>
     ensures { result ≡ root_on line.now }
 {
@@ -22,8 +22,8 @@ pub(crate) fn root_on(line: &[u8]) -> Result<Option<Guid>, RootsTextError>
     }
 }
 
-#[tactic(auto, using(crate::proofs::Guids::whole, crate::proofs::Guids::long, crate::proofs::Guids::zero_is_none, crate::proofs::Guids::no_digits))]
 /// Parses a root: 1 to 16 hex digits, with or without `0x`.
+#[tactic(auto, using(crate::proofs::Guids::whole, crate::proofs::Guids::long, crate::proofs::Guids::zero_is_none, crate::proofs::Guids::no_digits))]
 fn root(word: &[u8]) -> Result<Guid, RootsTextError>
     ensures { result ≡ root_of word.now }
 {

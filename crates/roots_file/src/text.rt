@@ -45,8 +45,8 @@ pub fn parse(alloc: Global, text: &[u8]) -> Result<Vec<Guid>, RootsTextFault>
     }
 }
 
-#[tactic(auto, using(crate::proofs::Folds::reading))]
 /// Returns the roots that the lines of a text name.
+#[tactic(auto, using(crate::proofs::Folds::reading))]
 fn read_lines(alloc: Global, text: &[u8]) -> Result<Roots, RootsTextFault>
     ensures { Reads result (roots_of text.now) }
 {
@@ -75,8 +75,8 @@ fn with_line(roots: Roots, number: usize, line: &[u8]) -> Result<Roots, RootsTex
     }
 }
 
-#[tactic(auto, using(crate::proofs::Folds::judging))]
 /// Returns the first fault of a text. Takes no memory.
+#[tactic(auto, using(crate::proofs::Folds::judging))]
 fn first_fault(text: &[u8]) -> Option<RootsLineFault>
     ensures { result ≡ result_err (roots_of text.now) }
 {
@@ -110,8 +110,8 @@ fn wrong_below(text: &[u8], above: usize, line: &[u8]) -> Option<RootsTextError>
     }
 }
 
-#[tactic(auto, using(crate::proofs::Folds::naming))]
 /// Returns whether one of the first `count` lines of a text names a root.
+#[tactic(auto, using(crate::proofs::Folds::naming))]
 fn is_named(text: &[u8], count: usize, root: Guid) -> bool
     ensures { result ≡ list_any (names root) (take count (lines text.now)) }
 {

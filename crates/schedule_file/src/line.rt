@@ -27,8 +27,8 @@ pub(crate) struct NewManager {
     pub(crate) sm_key: Option<u64>,
 }
 
-#[tactic(auto, unfolding(crate::specs::Command::line_of))]
 /// Parses a line. Returns `None` if the grammar has no such line.
+#[tactic(auto, unfolding(crate::specs::Command::line_of))]
 pub(crate) fn read_line(line: &[u8]) -> Option<ScheduleLine>
     ensures { result ≡ line_of line.now }
 {

@@ -151,7 +151,6 @@ pub(crate) fn new_seat(
     })
 }
 
-#[tactic(auto, using(crate::proofs::Scripts::told_is_script), unfolding(crate::specs::Schedule::schedule_of))]
 /// Parses the text of a schedule for a fabric. Each line, which ends with LF or CR LF, is empty or a command. `#`
 /// outside quotes begins a comment:
 ///
@@ -183,6 +182,7 @@ pub(crate) fn new_seat(
 ///
 /// Returns the first fault. Lack of memory is returned only if no line has a fault, or if more than 64 managers stand
 /// above it: once memory is refused, the lines are checked without any, and only 64 managers can be stored then.
+#[tactic(auto, using(crate::proofs::Scripts::told_is_script), unfolding(crate::specs::Schedule::schedule_of))]
 pub fn parse(alloc: Global, text: &str, topology: &Topology) -> Result<Schedule, ScheduleFault>
     ensures reads { Reads result (schedule_of topology.now.nodes text.now) }
     ensures script { IfOk result (IsScript topology.now.nodes) }

@@ -105,8 +105,8 @@ fn read_texts<S: Source>(
     Ok(Texts { topology, schedule })
 }
 
-#[tactic(auto, using(crate::proofs::Judging::behind, crate::proofs::Judging::refused_behind))]
 /// Parses both texts, the topology first. `first` is the number of the topology's input.
+#[tactic(auto, using(crate::proofs::Judging::behind, crate::proofs::Judging::refused_behind))]
 fn judge(alloc: Global, first: usize, texts: &Texts) -> Result<Setting, Fault>
     requires { first < usize.MAX }
     ensures sound { OnOk result

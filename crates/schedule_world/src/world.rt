@@ -17,15 +17,12 @@ use schedule_file::Seat;
 use schedule_lines::{RunFault, refuse_fabric};
 use sm_manager::{Manager, Outgoing};
 use sm_state::Conduct;
-use smp_bytes::{Guid, Lid};
+use smp_bytes::{Guid, Lid, PERMISSIVE_LID};
 use std::alloc::{AllocError, Global};
 use topo_file::Topology;
 
 /// The serial number of the first packet that is sent.
 const FIRST_SERIAL: u64 = 1;
-
-/// The LID of both ends of a directed packet.
-const PERMISSIVE: u16 = 0xFFFF;
 
 /// A manager, and its seat.
 #[derive(Drop)]
@@ -134,7 +131,7 @@ fn send_one<W: Sink>(
 fn packet(outgoing: &Outgoing) -> Packet
     ensures { result ≡ packet_out outgoing.now }
 {
-    let permissive = Lid::new(PERMISSIVE);
+    let permissive = Lid::new(PERMISSIVE_LID);
     Packet {
         bytes: *outgoing.packet.bytes(),
         slid: permissive,

@@ -13,10 +13,7 @@ use crate::outgoing::send_queued;
 use crate::traps::Trap;
 use fact_store::ReportFault;
 use smp_bytes::{AttributeId, Lid, Method, Smp, SmpClass};
-use sweep::{Sweep, SweepFault};
-
-/// The most requests that a reply brings up: one for a switch's table and one for each of its 255 ports.
-const REQUESTS_PER_REPLY: usize = 256;
+use sweep::{REQUESTS_PER_REPLY, Sweep, SweepFault};
 
 impl Manager {
     /// Handles a packet that came to the manager's port. `from` is the LID of its sender, which a packet by LIDs has.

@@ -45,7 +45,8 @@ const LID_ROUTED: u8 = 0x01;
 
 const DIRECTED_ROUTE: u8 = 0x81;
 
-const PERMISSIVE_LID: u16 = 0xFFFF;
+/// The permissive LID, which stands for the port that a packet comes to, whatever its LID is (addressing).
+pub const PERMISSIVE_LID: u16 = 0xFFFF;
 
 const MAX_HOPS: u8 = 63;
 

@@ -10,11 +10,11 @@ use next_tables::greater;
 use smp_bytes::Lid;
 use std::alloc::{AllocError, Global};
 
-#[tactic(auto, using(crate::proofs::InStep::order_is, crate::proofs::InStep::shortest_is))]
 /// Returns numbers of channels that rise along the way of every packet, by whatever mixtures of the held and the next
 /// tables. If there are no such numbers, returns a shortest credit loop of some mixtures. Channels are numbered as in
 /// `audit_channels::channel_order`. Costs what that takes for both tables, with four steps in place of one if they
 /// differ.
+#[tactic(auto, using(crate::proofs::InStep::order_is, crate::proofs::InStep::shortest_is))]
 pub fn step_order(alloc: Global, held: &Network, next: &Network) -> Result<ChannelOrder, AllocError>
     requires facts { next.now.facts ≡ held.now.facts }
     ensures order { IfOk result (λ found.

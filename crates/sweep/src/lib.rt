@@ -21,4 +21,5 @@ pub use fault::SweepFault;
 pub use images::SeenImage;
 pub use request::{Question, Request};
 pub use sweep::Sweep;
+pub use sweep_requests::REQUESTS_PER_REPLY;
 pub use vertex::{SeenState, Vertex};

@@ -20,8 +20,9 @@ use smp_bytes::{Generation, Guid, Path, PortNum, Smp};
 use std::alloc::{AllocError, Global};
 use std::marker::Model;
 
-/// The most requests that a reply brings up: a switch has 254 ports, its management port and a table.
-pub(crate) const REQUESTS_PER_REPLY: usize = 256;
+/// The most requests that a reply brings up: one for the table of a switch, one for its port 0, and one for each of its
+/// other ports, of which it has at most 254.
+pub const REQUESTS_PER_REPLY: usize = 256;
 
 /// The requests of a sweep. Contracts see those that wait for a reply, those to be sent, the number of the next
 /// request, and for how many more there is memory.

@@ -50,8 +50,8 @@ pub fn enclosed(word: &[u8], first: u8, close: u8) -> Option<(&[u8], &[u8])>
     until(rest, close)
 }
 
-#[tactic(auto, using(crate::proofs::Splits::until_at, crate::proofs::Splits::until_none))]
 /// Returns the bytes before the first `close` and the bytes behind it, or `None` if there is no `close`.
+#[tactic(auto, using(crate::proofs::Splits::until_at, crate::proofs::Splits::until_none))]
 fn until(bytes: &[u8], close: u8) -> Option<(&[u8], &[u8])>
     ensures { option_map (λ x. (x.0.now, x.1.now)) result ≡ until close bytes.now }
 {

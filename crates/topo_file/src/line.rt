@@ -36,8 +36,8 @@ pub(crate) struct LinkLine {
     pub(crate) peer_port: Option<u8>,
 }
 
-#[tactic(auto, unfolding(crate::specs::TopologyLine::line_of))]
 /// Parses a line. Returns `None` if the grammar has no such line.
+#[tactic(auto, unfolding(crate::specs::TopologyLine::line_of))]
 pub(crate) fn read_line(line: &[u8]) -> Option<TopologyLine>
     ensures { result ≡ line_of line.now }
 {
