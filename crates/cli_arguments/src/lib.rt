@@ -3,5 +3,6 @@
 
 pub mod argument_names;
 mod arguments;
+mod options;
 
 pub use arguments::matches_of;

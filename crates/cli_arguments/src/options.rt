@@ -1,0 +1,185 @@
+//! The arguments and options of subcommands.
+ghost use Rattle.std.specs.Prelude.{◌≡◌, codes, false};
+ghost use Rattle.clap.specs.Walk.{rule_of};
+ghost use Rattle.cli_arguments.specs.CommandLine.{port_rule, priority_rule};
+ghost use Rattle.cli_arguments.specs.CommandLine.{all_rule, files_rule, floor_rule, lmc_rule, max_load_rule};
+ghost use Rattle.cli_arguments.specs.CommandLine.{option_rule, routing_rule, told_order_rule};
+ghost use Rattle.cli_arguments.specs.CommandLine.{text_rule};
+
+use crate::argument_names::{
+    ALL, FILE, FLOOR, GUID, LMC, MAX_LOAD, ORDER, PORT, PRIORITY, ROOTS, ROUTING, SM_KEY,
+    TOLD_ORDER,
+};
+use clap::{Arg, ArgAction, value_parser};
+use std::alloc::Global;
+
+/// Builds a required argument that takes one word.
+pub(crate) fn text<'a>(alloc: Global, name: &'a str, help: &'a str) -> Arg<'a>
+    ensures rule { rule_of result ≡ text_rule name.now }
+    ensures own { result.global ≡ false }
+{
+    Arg::new(alloc, name)
+        .help(help)
+        .required(true)
+        .action(ArgAction::Set)
+}
+
+/// Builds the argument for the number of a port.
+pub(crate) fn port<'a>(alloc: Global) -> Arg<'a>
+    ensures rule { rule_of result ≡ port_rule }
+    ensures own { result.global ≡ false }
+{
+    Arg::new(alloc, PORT)
+        .help("The number of the port, 1 to 254")
+        .required(true)
+        .value_parser(value_parser!(u8).range(1..=254))
+        .action(ArgAction::Set)
+}
+
+/// Builds the argument for the priority of a manager.
+pub(crate) fn priority<'a>(alloc: Global) -> Arg<'a>
+    ensures rule { rule_of result ≡ priority_rule }
+    ensures own { result.global ≡ false }
+{
+    Arg::new(alloc, PRIORITY)
+        .help("The priority of the manager, 0 to 15")
+        .required(true)
+        .value_parser(value_parser!(u8).range(0..=15))
+        .action(ArgAction::Set)
+}
+
+/// Builds the option for the SM_Key of a manager.
+pub(crate) fn sm_key<'a>(alloc: Global) -> Arg<'a>
+    ensures rule { rule_of result ≡ option_rule (codes "sm-key") }
+    ensures own { result.global ≡ false }
+{
+    Arg::new(alloc, SM_KEY)
+        .long(SM_KEY)
+        .value_name("HEX")
+        .help("The SM_Key of the manager, 1 to 16 hex digits; OpenSM's, 1, if none is given")
+        .action(ArgAction::Set)
+}
+
+/// Builds the option for the floor.
+pub(crate) fn floor<'a>(alloc: Global) -> Arg<'a>
+    ensures rule { rule_of result ≡ floor_rule }
+    ensures own { result.global ≡ false }
+{
+    Arg::new(alloc, FLOOR)
+        .long(FLOOR)
+        .value_name("G")
+        .help("Forgets what is older than generation G, 1 to 4294967295")
+        .value_parser(value_parser!(u32).range(1..))
+        .action(ArgAction::Set)
+}
+
+/// Returns the flag for all lines of each kind.
+pub(crate) fn all<'a>(alloc: Global) -> Arg<'a>
+    ensures rule { rule_of result ≡ all_rule }
+    ensures own { result.global ≡ false }
+{
+    Arg::new(alloc, ALL)
+        .long(ALL)
+        .help("Prints all lines of each kind, and not the first 20 alone")
+        .action(ArgAction::SetTrue)
+}
+
+/// Returns the flag by which a step may go by the order that held tables tell.
+pub(crate) fn told_order<'a>(alloc: Global) -> Arg<'a>
+    ensures rule { rule_of result ≡ told_order_rule }
+    ensures own { result.global ≡ false }
+{
+    Arg::new(alloc, TOLD_ORDER)
+        .long(TOLD_ORDER)
+        .help(
+            "From tables that are not right by the order of the plan's switches, goes by the order that they \
+             tell by themselves, towards tables between both orders",
+        )
+        .action(ArgAction::SetTrue)
+}
+
+/// Returns the option for the greatest load that passes.
+pub(crate) fn max_load<'a>(alloc: Global) -> Arg<'a>
+    ensures rule { rule_of result ≡ max_load_rule }
+    ensures own { result.global ≡ false }
+{
+    Arg::new(alloc, MAX_LOAD)
+        .long(MAX_LOAD)
+        .value_name("N")
+        .help(
+            "Lets no tables pass by which a channel carries more than N pairs of adapter ports, N from 0 to \
+             4294967295",
+        )
+        .value_parser(value_parser!(u32).range(0..))
+        .action(ArgAction::Set)
+}
+
+/// Builds the option for the LMC.
+pub(crate) fn lmc<'a>(alloc: Global) -> Arg<'a>
+    ensures rule { rule_of result ≡ lmc_rule }
+    ensures own { result.global ≡ false }
+{
+    Arg::new(alloc, LMC)
+        .long(LMC)
+        .value_name("N")
+        .help("Plans 2^N LIDs for each adapter port, N from 0, the default, to 7")
+        .value_parser(value_parser!(u8).range(0..=7))
+        .action(ArgAction::Set)
+}
+
+/// Builds the option for the rule of routing, which takes a word of `routings`.
+pub(crate) fn routing<'a>(alloc: Global, routings: &'a [&'a str]) -> Arg<'a>
+    ensures rule { rule_of result ≡ routing_rule routings.entry }
+    ensures own { result.global ≡ false }
+{
+    Arg::new(alloc, ROUTING)
+        .long(ROUTING)
+        .value_name("RULE")
+        .help(
+            "updown leads packets by one root of each component, and is what is taken where none is named; \
+             spread leads them over all wires, so that none is much busier than others; balance does so in \
+             the best of several orders of switches, which pays where the fabric is no tree",
+        )
+        .value_parser(routings)
+        .action(ArgAction::Set)
+}
+
+/// Builds the option for the file of roots.
+pub(crate) fn roots<'a>(alloc: Global) -> Arg<'a>
+    ensures rule { rule_of result ≡ option_rule (codes "roots") }
+    ensures own { result.global ≡ false }
+{
+    Arg::new(alloc, ROOTS)
+        .long(ROOTS)
+        .value_name("FILE")
+        .help(
+            "spread begins at the switches that FILE names, a GUID a line, in place of those in the middle",
+        )
+        .action(ArgAction::Set)
+}
+
+/// Builds the option for the file of an order of switches.
+pub(crate) fn order_file<'a>(alloc: Global) -> Arg<'a>
+    ensures rule { rule_of result ≡ option_rule (codes "order") }
+    ensures own { result.global ≡ false }
+{
+    Arg::new(alloc, ORDER)
+        .long(ORDER)
+        .value_name("FILE")
+        .help(
+            "spread orders switches as FILE names them, a GUID a line, and those that it lacks behind them",
+        )
+        .action(ArgAction::Set)
+}
+
+/// Builds the argument for the files, at least one. They may stand on both sides of an option.
+pub(crate) fn files<'a>(alloc: Global) -> Arg<'a>
+    ensures rule { rule_of result ≡ files_rule }
+    ensures own { result.global ≡ false }
+{
+    Arg::new(alloc, FILE)
+        .help("Report files and store files")
+        .required(true)
+        .num_args(1..)
+        .action(ArgAction::Append)
+}
