@@ -755,13 +755,14 @@ class Soak:
     """Two seats on a torus, whose cables are cut and plugged in at random, and which are killed at random."""
 
     MOST_CUT = 3  # a torus without three cables is still in one piece
-    MOST_KILLED = 4  # between two recordings: ibsim has room for ten clients, and keeps a killed one for some time
+    MOST_KILLED = 4  # between two recordings: ibsim has room for ten clients
     TIMING = ("-s", 3, "-m", 200, "-r", 1)
 
     def __init__(self, bench, stack, chance):
         self.bench, self.stack, self.chance = bench, stack, chance
         adapters = [node for node in bench.fabric.nodes if not bench.fabric.is_switch(node)]
         self.hosts, self.seats, self.done = {adapters[0]: 5, adapters[-1]: 3}, {}, []
+        self.dropped = 0
         used = {end for end in bench.fabric.peers if end[0] in self.hosts}
         ends = {min(end, far) for end, far in bench.fabric.peers.items() if not {end, far} & used}
         self.whole, self.cut = sorted(ends), []
@@ -784,6 +785,17 @@ class Soak:
         self.done.append(f"kill {host}")
         time.sleep(self.chance.choice((0, 1, 4)))
         self.start(host)
+
+    def drop_killed(self):
+        """Has ibsim disconnect clients that were killed. By itself it may keep one for good."""
+        log = self.bench.path / "ibsim.log"
+        seen = log.stat().st_size
+        self.bench.tell("Attached")
+        listed = log.read_bytes()[seen:].decode(errors="replace")
+        for client, process in re.findall(r"Client (\d+): pid (\d+) connected", listed):
+            if not pathlib.Path(f"/proc/{process}").exists():
+                self.bench.tell(f"X {client}")
+                self.dropped += 1
 
     def kill_child(self, host):
         children = self.seats[host].children()
@@ -819,7 +831,7 @@ class Soak:
     def end(self):
         """Plugs all cables in, and checks that the seats settle and what is held then. Returns whether they do."""
         self.mend()
-        time.sleep(0.5)
+        self.drop_killed()
         since = time.time()
         took = until(lambda: self.is_settled(since))
         what = f"{len(self.done)} events: {', '.join(self.done)}"
@@ -849,6 +861,7 @@ def soak(bench, seconds, seed):
                 return
             bench.check(held(bench, f"soak{rounds}") == first, f"round {rounds}: tables are as at first")
         some_ways(bench, f"soak{rounds}")
+        bench.figures.append(f"soak: {rounds} rounds; ibsim had kept {soaked.dropped} clients that were killed")
 
 
 # What is brought up side by side with OpenSM, how often, and whether without being asked for by ONLY.
