@@ -7,6 +7,7 @@ import collections
 import spread_rule
 
 TRIED = 8
+PACKETS = 65536
 
 
 def by_depth(graph, keys, root, backwards=False):
@@ -41,23 +42,20 @@ def by_depth(graph, keys, root, backwards=False):
 
 
 def trial_load(graph, keys, leaves):
-    """Returns how many ways between leaf switches take the busiest channel, in the order that grows by `keys`."""
+    """Returns what the busiest channel carries in the order that grows by `keys`, if each leaf switch sends `PACKETS`
+    packets to each one, and each switch shares what it has evenly over its candidates."""
     positions = spread_rule.positions_of(graph, keys)
-    numbers = {switch: number for number, switch in enumerate(sorted(graph))}
     loads = collections.Counter()
     for target in leaves:
         cost, down = spread_rule.rounds(graph, positions, target)
-        taken = {}
-        for switch in cost:
+        packets = collections.Counter(dict.fromkeys(leaves, PACKETS))
+        # A candidate has a cost one less, so all has come to a switch when those of greater cost have shared.
+        for switch in sorted(cost, key=cost.get, reverse=True):
             exits = spread_rule.candidates(graph, positions, cost, down, switch)
-            if exits:
-                taken[switch] = exits[(numbers[target] + numbers[switch]) % len(exits)]
-        for source in leaves:
-            switch = source
-            while switch in taken:
-                port, to = taken[switch]
-                loads[switch, port] += 1
-                switch = to
+            for port, to in exits:
+                share = packets[switch] // len(exits)
+                loads[switch, port] += share
+                packets[to] += share
     return max(loads.values(), default=0)
 
 

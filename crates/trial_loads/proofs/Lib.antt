@@ -2,6 +2,6 @@ pub mod Packets
 pub mod Picked
 pub mod Numbered
 pub mod PastLast
-pub mod Taken
+pub mod Towards
 pub mod Least
 pub mod Sources

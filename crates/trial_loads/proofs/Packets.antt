@@ -1,77 +1,71 @@
--- Loads as they are counted: packet by packet.
-use Rattle.std.proofs.Common.{◌≡◌, ◌<◌, ◌≤◌, ◌+◌, ◌-◌, ◌^◌, ◌++◌, ◌==◌, ℕ, List, [], ◌∷◌, inl, inr, refl, sym, ap, ◌∙◌, subst, arith, true, false, Bool, cond, length, get_or, replicate, take}
-use Rattle.std.proofs.lemmas.Bool.{cases_eq, eq-eqb, ne_eqb}
-use Rattle.std.proofs.lemmas.List.{get_or-replicate, get_or-set_same, get_or-set_other, length-replicate, length-set, take_more, flat_map_more}
-use Rattle.std.proofs.lemmas.List.Sums.{sum_by-cons}
-use Rattle.std.specs.Prelude.{count_by, min}
-use Rattle.std.specs.List.{flat_map}
-use Rattle.spread_labels.proofs.Numbers.{made_all}
-use Rattle.trial_loads.specs.TrialLoads.{load_in, loads_of, with_packet, with_packets}
+-- Packets, share by share.
+use Rattle.std.proofs.Common.{◌≡◌, ◌<◌, ◌+◌, ◌-◌, ◌^◌, ◌++◌, ℕ, suc, List, [], ◌∷◌, refl, sym, ap, ◌∙◌, add-one, arith, true, false, Bool, cond, length, get_or, map, take}
+use Rattle.std.proofs.lemmas.List.{length-set, take_more}
+use Rattle.std.specs.Prelude.{filter, min, not}
+use Rattle.port_graph.specs.declared.edge.Edge.{Edge}
+use Rattle.spread_labels.specs.Labels.{candidates}
+use Rattle.spread_labels.specs.Orders.{numbers_from}
+use Rattle.trial_loads.specs.TrialLoads.{Packets, carried_between, carried_to, channel_by, first_had, goes_up, in_turn, share, shared, with_more, with_shares}
 
--- packets on some channels and then on others
-pub packets_both : (loads xs ys : List ℕ) → with_packets loads (xs ++ ys) ≡ with_packets (with_packets loads xs) ys
-packets_both loads [] ys = refl
-packets_both loads (x ∷ xs) ys = packets_both (with_packet loads x) xs ys
+pub more_both : (more : ℕ) (xs ys numbers : List ℕ) → with_more more numbers (xs ++ ys) ≡ with_more more (with_more more numbers xs) ys
+more_both more [] ys numbers = refl
+more_both more (x ∷ xs) ys numbers = more_both more xs ys _
 
-pub packets_long : (xs loads : List ℕ) → length (with_packets loads xs) ≡ length loads
-packets_long [] loads = refl
-packets_long (x ∷ xs) loads =
-    packets_long xs (with_packet loads x) ∙ length-set loads x (min (get_or loads x 0 + 1) (2 ^ 64 - 1))
+pub more_long : (more : ℕ) (xs numbers : List ℕ) → length (with_more more numbers xs) ≡ length numbers
+more_long more [] numbers = refl
+more_long more (x ∷ xs) numbers =
+    more_long more xs _ ∙ length-set numbers x (min (get_or numbers x 0 + more) (2 ^ 64 - 1))
 
-one_more : (l k : ℕ) → min (min (l + 1) (2 ^ 64 - 1) + k) (2 ^ 64 - 1) ≡ min (l + (1 + k)) (2 ^ 64 - 1)
-one_more l k = omega arith
+pub none_shared : (s : ℕ) (es : List Edge) (packets : Packets) → length es ≡ 0 → packets ≡ with_shares s es packets
+none_shared s [] packets none = refl
+none_shared s (e ∷ es) packets none = absurd (omega arith)
 
-no_more : (l : ℕ) → l ≤ 2 ^ 64 - 1 → l ≡ min (l + 0) (2 ^ 64 - 1)
-no_more l h = omega arith
+pub shared_both : (towards : ℕ → List Edge) (xs ys : List ℕ) (packets : Packets)
+    → shared towards (xs ++ ys) packets ≡ shared towards ys (shared towards xs packets)
+shared_both towards [] ys packets = refl
+shared_both towards (x ∷ xs) ys packets = shared_both towards xs ys _
 
-at_most : (n : ℕ) → min n (2 ^ 64 - 1) ≤ 2 ^ 64 - 1
-at_most n = omega arith
+pub carried_long : (towards : ℕ → List Edge) (xs : List ℕ) (packets : Packets)
+    → length (shared towards xs packets).carried ≡ length packets.carried
+carried_long towards [] packets = refl
+carried_long towards (x ∷ xs) packets =
+    carried_long towards xs (with_shares x (towards x) packets)
+    ∙ more_long (share (get_or packets.had x 0) (towards x)) (map (channel_by x) (towards x)) packets.carried
 
-counted_by : (b c : Bool) → b ≡ c → (n : ℕ) → cond b 1 0 + n ≡ cond c 1 0 + n
-counted_by b c same n = ap (λ t. cond t 1 0 + n) same
+-- of those that do not go up, one vertex and then those that are left
+or_shared : (towards : ℕ → List Edge) (s : ℕ) (ss : List ℕ) (packets : Packets) (up : Bool)
+    → shared towards (cond (not up) (s ∷ ss) ss) packets ≡ shared towards ss (cond up packets (with_shares s (towards s) packets))
+or_shared towards s ss packets true = refl
+or_shared towards s ss packets false = refl
 
-none_more : (n : ℕ) → 0 + n ≡ n
-none_more n = omega arith
+pub from_next : (towards : ℕ → List Edge) (s n : ℕ) (packets : Packets) → s < n
+    → shared towards (filter (λ s. not (goes_up towards s)) (numbers_from s (n - s))) packets
+    ≡ shared towards (filter (λ s. not (goes_up towards s)) (numbers_from (s + 1) (n - (s + 1))))
+    (cond (goes_up towards s) packets (with_shares s (towards s) packets))
+from_next towards s n packets h =
+    let left : n - s ≡ suc (n - (s + 1)) = omega (arith, h) in
+    let from : ℕ → List ℕ = λ k. filter (λ s. not (goes_up towards s)) (numbers_from k (n - (s + 1))) in
+    ap (λ m. shared towards (filter (λ s. not (goes_up towards s)) (numbers_from s m)) packets) left
+    ∙ or_shared towards s (from (suc s)) packets (goes_up towards s)
+    ∙ ap (λ k. shared towards (from k) (cond (goes_up towards s) packets (with_shares s (towards s) packets))) (sym (add-one s))
 
--- what a channel carries then
-packets_at : (xs loads : List ℕ) (c : ℕ) → c < length loads → get_or loads c 0 ≤ 2 ^ 64 - 1
-    → get_or (with_packets loads xs) c 0 ≡ min (get_or loads c 0 + count_by (λ x. x == c) xs) (2 ^ 64 - 1)
-packets_at [] loads c below few = no_more (get_or loads c 0) few
-packets_at (x ∷ xs) loads c below few =
-    let next = with_packet loads x in
-    let more : ℕ = min (get_or loads x 0 + 1) (2 ^ 64 - 1) in
-    let long : length next ≡ length loads = length-set loads x more in
-    let counted : count_by (λ y. y == c) (x ∷ xs) ≡ cond (x == c) 1 0 + count_by (λ y. y == c) xs = sum_by-cons (λ y. cond (y == c) 1 0) x xs in
-    (elim (cases_eq c x) [
-      | inl same ↦
-          let here : get_or next c 0 ≡ min (get_or loads c 0 + 1) (2 ^ 64 - 1) =
-          ap (λ k. get_or next k 0) same ∙ get_or-set_same loads x more 0 (subst (λ (k : ℕ). k < length loads) same below)
-          ∙ ap (λ k. min (get_or loads k 0 + 1) (2 ^ 64 - 1)) (sym same) in
-          packets_at xs next c (omega arith) (subst (λ (k : ℕ). k ≤ 2 ^ 64 - 1) (sym here) (at_most (get_or loads c 0 + 1)))
-          ∙ ap (λ k. min (k + count_by (λ y. y == c) xs) (2 ^ 64 - 1)) here
-          ∙ one_more (get_or loads c 0) (count_by (λ y. y == c) xs)
-          ∙ ap (λ k. min (get_or loads c 0 + k) (2 ^ 64 - 1)) (sym (counted ∙ counted_by (x == c) true (eq-eqb x c (sym same)) (count_by (λ y. y == c) xs)))
-      | inr other ↦
-          let here : get_or next c 0 ≡ get_or loads c 0 = get_or-set_other loads x c more 0 other in
-          let none : cond (x == c) 1 0 + count_by (λ y. y == c) xs ≡ count_by (λ y. y == c) xs =
-          counted_by (x == c) false (ne_eqb x c (λ e. other (sym e))) (count_by (λ y. y == c) xs) ∙ none_more (count_by (λ y. y == c) xs) in
-          packets_at xs next c (omega arith) (subst (λ (k : ℕ). k ≤ 2 ^ 64 - 1) (sym here) few)
-          ∙ ap (λ k. min (k + count_by (λ y. y == c) xs) (2 ^ 64 - 1)) here
-          ∙ ap (λ k. min (get_or loads c 0 + k) (2 ^ 64 - 1)) (sym (counted ∙ none))
-    ])
+-- target by target
+pub between_both : (graph : List (List Edge)) (sources xs ys carried : List ℕ)
+    → carried_between graph sources carried (xs ++ ys) ≡ carried_between graph sources (carried_between graph sources carried xs) ys
+between_both graph sources [] ys carried = refl
+between_both graph sources (x ∷ xs) ys carried = between_both graph sources xs ys _
 
--- on channels that carried none: how often each is taken
-pub loads_are : (n : ℕ) (ways : List ℕ) → with_packets (replicate n 0) ways ≡ loads_of n ways
-loads_are n ways =
-    made_all (load_in ways) n (with_packets (replicate n 0) ways) 0 (packets_long ways (replicate n 0) ∙ length-replicate {A = ℕ} n 0)
-    (λ c h. let none : get_or (replicate n 0) c 0 ≡ 0 = get_or-replicate n c 0 0 h in
-    packets_at ways (replicate n 0) c (omega (arith, h, length-replicate {A = ℕ} n 0)) (omega (arith, none))
-    ∙ ap (λ k. min (k + count_by (λ x. x == c) ways) (2 ^ 64 - 1)) none
-    ∙ ap (λ k. min k (2 ^ 64 - 1)) (none_more (count_by (λ x. x == c) ways)))
+pub between_long : (graph : List (List Edge)) (sources ts carried : List ℕ)
+    → length (carried_between graph sources carried ts) ≡ length carried
+between_long graph sources [] carried = refl
+between_long graph sources (t ∷ ts) carried =
+    between_long graph sources ts (carried_to (candidates graph t) (length graph) sources carried)
+    ∙ carried_long (candidates graph t) (in_turn (candidates graph t) (length graph))
+    (record { had = first_had sources (length graph); carried = carried })
 
--- packets of one source or target more
-pub packets_more : (loads : List ℕ) (f : ℕ → List ℕ) (xs : List ℕ) (i d : ℕ) → i < length xs
-    → with_packets (with_packets loads (flat_map f (take i xs))) (f (get_or xs i d)) ≡ with_packets loads (flat_map f (take (i + 1) xs))
-packets_more loads f xs i d h =
-    sym (packets_both loads (flat_map f (take i xs)) (f (get_or xs i d)))
-    ∙ ap (with_packets loads) (flat_map_more f [] (take i xs) (get_or xs i d) ∙ ap (flat_map f) (sym (take_more xs i d h)))
+pub between_more : (graph : List (List Edge)) (sources carried ts : List ℕ) (i d : ℕ) → i < length ts
+    → carried_to (candidates graph (get_or ts i d)) (length graph) sources (carried_between graph sources carried (take i ts))
+    ≡ carried_between graph sources carried (take (i + 1) ts)
+between_more graph sources carried ts i d h =
+    sym (between_both graph sources (take i ts) (get_or ts i d ∷ []) carried)
+    ∙ ap (carried_between graph sources carried) (sym (take_more ts i d h))

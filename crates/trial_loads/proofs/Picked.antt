@@ -1,10 +1,10 @@
--- The edges whose set has a target, and the one of them with a number.
-use Rattle.std.proofs.Common.{◌≡◌, ◌<◌, ◌+◌, ℕ, suc, List, [], ◌∷◌, refl, sym, ap, ◌∙◌, arith, true, false, cond, length, get_or, drop}
+-- The edges whose set has a target.
+use Rattle.std.proofs.Common.{◌≡◌, ◌<◌, ◌+◌, ℕ, suc, Bool, List, [], ◌∷◌, refl, sym, ◌∙◌, arith, true, false, cond, length, get_or, drop}
 use Rattle.std.proofs.lemmas.List.{drop_more}
 use Rattle.std.proofs.lemmas.List.Sums.{sum_by-cons}
-use Rattle.std.specs.Prelude.{◌%◌, count_by, None, slice_get}
+use Rattle.std.specs.Prelude.{◌&&◌, ◌||◌, count_by, nat_lt}
 use Rattle.port_graph.specs.declared.edge.Edge.{Edge}
-use Rattle.spread_labels.specs.Candidates.{chosen}
+use Rattle.spread_labels.specs.Labels.{leads_up}
 use Rattle.spread_labels.specs.MarkSets.{picked}
 use Rattle.spread_labels.specs.TargetSets.{has}
 use Rattle.spread_labels.specs.declared.target_set.TargetSet.{TargetSet}
@@ -31,10 +31,16 @@ picked_from k sets es j set e all h is_set is_edge =
     (λ i. picked k (drop_more sets j set (omega (arith, all, h)) i) (drop_more es j e h i))
     ∙ (λ i. picked k (is_set i ∷ drop (j + 1) sets) (is_edge i ∷ drop (j + 1) es))
 
-pub none_chosen : (es : List Edge) (n : ℕ) → length es ≡ 0 → chosen es n ≡ None
-none_chosen [] n none = refl
-none_chosen (e ∷ es) n none = absurd (omega arith)
+-- whether one of the edges leads up, with one more
+pub up_with : (s : ℕ) (e : Edge) (es : List Edge) (b : Bool) → leads_up s (cond b (e ∷ es) es) ≡ ((b && nat_lt e.to s) || leads_up s es)
+up_with s e es true = refl
+up_with s e es false = refl
 
-pub one_chosen : (es : List Edge) (n count : ℕ) → length es ≡ count → 0 < count → slice_get es (n % count) ≡ chosen es n
-one_chosen [] n count is some = absurd (omega arith)
-one_chosen (e ∷ es) n count is some = ap (λ c. slice_get (e ∷ es) (n % c)) (sym is)
+pub joined_up : (a b r : Bool) → ((a || b) || r) ≡ (a || ((b && true) || r))
+joined_up true b r = refl
+joined_up false true r = refl
+joined_up false false r = refl
+
+pub passed_up : (a b r : Bool) → (a || r) ≡ (a || ((b && false) || r))
+passed_up a true r = refl
+passed_up a false r = refl

@@ -1,67 +1,97 @@
--- The trial load of an order: each of some vertices sends one packet to each of them; the load is how many take the
--- channel that most take.
-use Rattle.std.specs.Prelude.{ℕ, zero, suc, ◌+◌, ◌-◌, ◌*◌, ◌^◌, ◌==◌, min}
-use Rattle.std.specs.Prelude.{List, [], ◌∷◌, map, length, count_by, Option, None, slice_index, slice_index_or, slice_set}
-use Rattle.std.specs.List.{flat_map}
-use Rattle.std.specs.Option.{option_map_or}
+-- The trial load of an order: packets go from each of some vertices to each of them, and each vertex on their way shares
+-- what it has evenly over its candidates. The load is how many the channel carries that carries most.
+use Rattle.std.specs.Prelude.{◌≡◌, ◌<◌, ℕ, zero, suc, Bool, not, ◌+◌, ◌-◌, ◌*◌, ◌/◌, ◌^◌, min}
+use Rattle.std.specs.Prelude.{List, [], ◌∷◌, ◌++◌, map, filter, length, replicate, slice_index, slice_set}
 use Rattle.port_graph.specs.declared.edge.Edge.{Edge}
+use Rattle.port_graph.specs.Heads.{edges_at}
+use Rattle.spread_labels.specs.declared.target_set.TargetSet.{TargetSet}
 use Rattle.spread_labels.specs.declared.vertex_key.VertexKey.{VertexKey}
-use Rattle.spread_labels.specs.Candidates.{chosen}
 use Rattle.spread_labels.specs.Keys.{before_by}
-use Rattle.spread_labels.specs.Labels.{candidates}
+use Rattle.spread_labels.specs.Labels.{candidates, leads_up}
 use Rattle.spread_labels.specs.Levels.{greatest}
-use Rattle.spread_labels.specs.Orders.{at_position, by_position, numbers_from, order, position_of}
+use Rattle.spread_labels.specs.MarkSets.{picked, set_at, sets_at}
+use Rattle.spread_labels.specs.Orders.{by_position, numbers_from, order, position_of}
+use Rattle.spread_labels.specs.TargetSets.{EachTarget, has}
 
 -- the number of the channel by which edge e leaves vertex s
 abbrev pub channel_by : ℕ → Edge → ℕ
 channel_by s e = 256 * s + e.port
 
--- the channels of the way from vertex s, by the edge that is taken at each vertex, for at most n edges
-abbrev pub way : (ℕ → Option Edge) → ℕ → ℕ → List ℕ
-way taken zero s = []
-way taken (suc n) s = option_map_or (λ e. channel_by s e ∷ way taken n e.to) (taken s) []
+-- the numbers, with `more` added at each of these indices; a number stops at 2^64 - 1
+abbrev pub with_more : ℕ → List ℕ → List ℕ → List ℕ
+with_more more numbers [] = numbers
+with_more more numbers (i ∷ is) =
+    with_more more (slice_set numbers i (min (slice_index numbers i + more) (2 ^ 64 - 1))) is
 
--- the edge that is taken at position s towards position t, by the sum of the two vertices' numbers
-abbrev pub trial_edge : List (List Edge) → List ℕ → ℕ → ℕ → Option Edge
-trial_edge graph vertices t s = chosen (candidates graph t s) (at_position vertices t + at_position vertices s)
+-- packets to one target: how many each vertex has had, and how many each channel carries, for all targets so far
+pub record Packets : Type 0 where
+  pub had : List ℕ
+  pub carried : List ℕ
 
--- the channels of the ways from all sources to position t
-abbrev pub ways_to : List (List Edge) → List ℕ → List ℕ → ℕ → List ℕ
-ways_to graph vertices sources t = flat_map (way (trial_edge graph vertices t) (length graph)) sources
+-- what each of these candidates gets of n packets; the rest of the division is dropped
+abbrev pub share : ℕ → List Edge → ℕ
+share n es = n / length es
 
--- the channels of the ways from all sources to all targets
-abbrev pub ways_between : List (List Edge) → List ℕ → List ℕ → List ℕ → List ℕ
-ways_between graph vertices sources targets = flat_map (ways_to graph vertices sources) targets
+-- the packets when vertex s has shared what it has over its candidates es
+abbrev pub with_shares : ℕ → List Edge → Packets → Packets
+with_shares s es packets = record {
+  had = with_more (share (slice_index packets.had s) es) packets.had (map (λ e. e.to) es);
+  carried = with_more (share (slice_index packets.had s) es) packets.carried (map (channel_by s) es);
+}
 
--- how many of the ways take channel c, at most 2^64 - 1
-abbrev pub load_in : List ℕ → ℕ → ℕ
-load_in ways c = min (count_by (λ x. x == c) ways) (2 ^ 64 - 1)
+-- the packets when each vertex of the list has shared in turn; `towards` has the candidates of each
+abbrev pub shared : (ℕ → List Edge) → List ℕ → Packets → Packets
+shared towards [] packets = packets
+shared towards (s ∷ ss) packets = shared towards ss (with_shares s (towards s) packets)
 
--- the loads of the first n channels
-abbrev pub loads_of : ℕ → List ℕ → List ℕ
-loads_of n ways = map (load_in ways) (numbers_from 0 n)
+-- the vertices less than n, from the last to the first
+abbrev pub last_first : ℕ → List ℕ
+last_first zero = []
+last_first (suc n) = n ∷ last_first n
 
--- the load of the channel that most ways between `sources` take, by positions in the order `vertices`
-abbrev pub load_by : List (List Edge) → List ℕ → List ℕ → ℕ
-load_by graph vertices sources =
-    greatest 0 (loads_of (256 * length graph) (ways_between graph vertices sources sources))
+-- whether a vertex has a candidate that leads up
+abbrev pub goes_up : (ℕ → List Edge) → ℕ → Bool
+goes_up towards s = leads_up s (towards s)
+
+-- the order in which n vertices share, each after all has come to it: those that go up, from the last to the first, and
+-- then the others, from the first to the last
+abbrev pub in_turn : (ℕ → List Edge) → ℕ → List ℕ
+in_turn towards n =
+    filter (goes_up towards) (last_first n) ++ filter (λ s. not (goes_up towards s)) (numbers_from 0 n)
+
+-- what n vertices start with: each source has 65,536 packets
+abbrev pub first_had : List ℕ → ℕ → List ℕ
+first_had sources n = with_more 65536 (replicate n 0) sources
+
+-- what the channels of n vertices carry, with the packets from all sources to one target more
+abbrev pub carried_to : (ℕ → List Edge) → ℕ → List ℕ → List ℕ → List ℕ
+carried_to towards n sources carried =
+    (shared towards (in_turn towards n) (record { had = first_had sources n; carried = carried })).carried
+
+-- the same, with the packets to each target of the list
+abbrev pub carried_between : List (List Edge) → List ℕ → List ℕ → List ℕ → List ℕ
+carried_between graph sources carried [] = carried
+carried_between graph sources carried (t ∷ ts) =
+    carried_between graph sources (carried_to (candidates graph t) (length graph) sources carried) ts
+
+-- the most that a channel carries of the packets from all sources to all of them
+abbrev pub load_by : List (List Edge) → List ℕ → ℕ
+load_by graph sources = greatest 0 (carried_between graph sources (replicate (256 * length graph) 0) sources)
 
 -- the trial load of the order that grows by these keys
 unfoldable pub trial_load : List (List Edge) → List ℕ → List VertexKey → ℕ
 trial_load edges bearing keys =
     let vertices = order edges (before_by keys) in
-    load_by (by_position edges vertices) vertices (map (position_of vertices) bearing)
+    load_by (by_position edges vertices) (map (position_of vertices) bearing)
 
--- the edge that is taken at vertex s, by a list
-abbrev pub edge_in : List (Option Edge) → ℕ → Option Edge
-edge_in taken s = slice_index_or taken s None
+-- how candidates are found: ----------------------------------------------------------------------------
 
--- how loads are counted: ------------------------------------------------------------------------------
+-- the candidates of vertex s towards target k of the sets
+abbrev pub candidates_in : List (List Edge) → List (List TargetSet) → ℕ → ℕ → List Edge
+candidates_in graph rows k s = picked k (sets_at rows s) (edges_at graph s)
 
--- the loads, with one more packet on channel c
-abbrev pub with_packet : List ℕ → ℕ → List ℕ
-with_packet loads c = slice_set loads c (min (slice_index loads c + 1) (2 ^ 64 - 1))
-
-abbrev pub with_packets : List ℕ → List ℕ → List ℕ
-with_packets loads [] = loads
-with_packets loads (c ∷ cs) = with_packets (with_packet loads c) cs
+-- for each vertex, the targets towards which it goes up
+pub record AreUpward (graph : List (List Edge)) (rows : List (List TargetSet)) (ups : List TargetSet) : Type 0 where
+  pub all : length ups ≡ length graph
+  pub each : EachTarget (λ k. (s : ℕ) → s < length graph
+      → has (set_at ups s) k ≡ goes_up (candidates_in graph rows k) s)

@@ -1,10 +1,11 @@
-//! How evenly orders of vertices spread ways over the channels of a graph, and the one that does best.
+//! How evenly orders of vertices spread packets over the channels of a graph, and the one that does best.
 #![tactic(auto)]
 
 mod least_loaded;
 mod loads;
+mod shares;
 mod trials;
-mod ways;
+mod upward;
 
 pub use least_loaded::least_loaded_keys;
 pub use trials::trial_load;

@@ -1,21 +1,20 @@
 //! Trial loads.
-ghost use Rattle.std.specs.Prelude.{◌≡◌, ◌<◌, ◌^◌, ◌*◌, All, IfOk, length, map, slice_index};
+ghost use Rattle.std.specs.Prelude.{◌≡◌, ◌<◌, ◌*◌, All, IfOk, length, map, replicate, slice_index};
 ghost use Rattle.port_graph.specs.Heads.{LeadToVertices};
 ghost use Rattle.spread_labels.specs.LabelLaws.{IsSymmetric};
 ghost use Rattle.spread_labels.specs.Orders.{position_of};
-ghost use Rattle.trial_loads.specs.TrialLoads.{load_by, loads_of, trial_load, ways_between};
+ghost use Rattle.trial_loads.specs.TrialLoads.{carried_between, load_by, trial_load};
 
 use crate::loads::{greatest_of, no_loads};
-use crate::ways::add_ways_between;
+use crate::shares::add_packets_between;
 use port_graph::Adjacency;
 use spread_labels::{TARGETS, VertexKey, by_positions, grown_order, positions};
 use std::alloc::{AllocError, Global};
 
-/// Returns how many ways take the channel that most take, if each vertex of `bearing` sends a packet to each of them by
-/// the order that grows by `keys`. A vertex takes the candidate with the number that is the sum of the target's number
-/// and its own, counted round. Takes what growing the order takes; for each 64 vertices of `bearing` a step or two for
-/// each edge in each of as many rounds as the greatest cost; and for each vertex of `bearing` two steps for each edge,
-/// and one for each edge of the ways.
+/// Returns the most that a channel carries by the order that grows by `keys`, if each vertex of `bearing` sends 65,536
+/// packets to each of them, and each vertex on their way shares what it has evenly over its candidates. Takes what
+/// growing the order takes; for each 64 vertices of `bearing` a step or two for each edge in each of as many rounds as
+/// the greatest cost; and for each vertex of `bearing` two steps for each edge.
 pub fn trial_load(
     alloc: Global,
     edges: &Adjacency,
@@ -32,7 +31,7 @@ pub fn trial_load(
     let positions = positions(alloc, &vertices, edges.len())?;
     let graph = by_positions(alloc, edges, &vertices, &positions)?;
     let sources = at_positions(alloc, &positions, bearing)?;
-    load_between(alloc, &graph, &vertices, &sources)
+    load_between(alloc, &graph, &sources)
 }
 
 /// Returns the positions of the vertices `bearing`.
@@ -51,49 +50,32 @@ fn at_positions(
     Ok(found)
 }
 
-/// Returns the load of the channel that most ways between `sources` take, by positions in the order `vertices`.
-fn load_between(
-    alloc: Global,
-    graph: &Adjacency,
-    vertices: &[usize],
-    sources: &[usize],
-) -> Result<usize, AllocError>
+/// Returns the most that a channel carries of the packets from all sources to all of them.
+fn load_between(alloc: Global, graph: &Adjacency, sources: &[usize]) -> Result<usize, AllocError>
     requires lead { LeadToVertices graph.now }
-    requires vertices { All (λ vertex. vertex < 2 ^ 63) vertices.now }
-    requires all { length vertices.now ≡ length graph.now }
     requires sources { All (λ source. source < length graph.now) sources.now }
-    ensures { IfOk result (λ load. load ≡ load_by graph.now vertices.now sources.now) }
+    ensures { IfOk result (λ load. load ≡ load_by graph.now sources.now) }
 {
-    let loads = loads_between(alloc, graph, vertices, sources)?;
+    let loads = loads_between(alloc, graph, sources)?;
     Ok(greatest_of(&loads))
 }
 
-/// Returns how many ways take each channel. Finds the ways to 64 targets at a time.
+/// Returns what each channel carries. Counts the packets to 64 targets at a time.
 fn loads_between(
     alloc: Global,
     graph: &Adjacency,
-    vertices: &[usize],
     sources: &[usize],
 ) -> Result<Vec<usize>, AllocError>
     requires lead { LeadToVertices graph.now }
-    requires vertices { All (λ vertex. vertex < 2 ^ 63) vertices.now }
-    requires all { length vertices.now ≡ length graph.now }
     requires sources { All (λ source. source < length graph.now) sources.now }
     ensures { IfOk result (λ loads. loads.items
-        ≡ loads_of (256 * length graph.now) (ways_between graph.now vertices.now sources.now sources.now)) }
+        ≡ carried_between graph.now sources.now (replicate (256 * length graph.now) 0) sources.now) }
 {
     let mut loads = no_loads(alloc, graph.len())?;
     let mut first = 0;
     while first < sources.len() {
         let end = first + TARGETS.min(sources.len() - first);
-        add_ways_between(
-            alloc,
-            graph,
-            vertices,
-            sources,
-            &sources[first..end],
-            &mut loads,
-        )?;
+        add_packets_between(alloc, graph, sources, &sources[first..end], &mut loads)?;
         first = end;
     }
     Ok(loads)

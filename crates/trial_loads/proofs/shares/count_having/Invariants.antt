@@ -1,7 +1,7 @@
 use Rattle.std.proofs.Common.{◌≡◌, ◌≤◌, take}
 use Rattle.std.specs.Prelude.{count_by}
 use Rattle.spread_labels.specs.TargetSets.{has}
-use Rattle.trial_loads.proofs.ways.count_having.Given as goal
+use Rattle.trial_loads.proofs.shares.count_having.Given as goal
 
 -- the sets so far
 abbrev pub invariant-loop-set : goal.invariant-loop-set

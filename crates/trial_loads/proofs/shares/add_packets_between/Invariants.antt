@@ -1,0 +1,9 @@
+use Rattle.std.proofs.Common.{◌≡◌, length, take}
+use Rattle.trial_loads.specs.TrialLoads.{carried_between}
+use Rattle.trial_loads.proofs.shares.add_packets_between.Given as goal
+
+-- the packets to the targets so far
+abbrev pub invariant-loop-k : goal.invariant-loop-k
+invariant-loop-k l =
+    (l.had.len ≡ length l.graph)
+    × (l.loads ≡ carried_between l.graph l.sources l.fn.loads (take l.k l.targets))

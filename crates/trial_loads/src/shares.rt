@@ -1,0 +1,179 @@
+//! How packets are shared over candidates.
+ghost use Rattle.std.specs.Prelude.{◌≡◌, ◌<◌, ◌≤◌, ◌*◌, All, IfOk, OnOk, count_by, filter, length, not};
+ghost use Rattle.port_graph.specs.Heads.{LeadToVertices};
+ghost use Rattle.spread_labels.specs.MarkSets.{AreRowsOf, picked};
+ghost use Rattle.spread_labels.specs.Orders.{numbers_from};
+ghost use Rattle.spread_labels.specs.TargetSets.{has};
+ghost use Rattle.trial_loads.specs.TrialLoads.{AreUpward, candidates_in, carried_between, carried_to};
+ghost use Rattle.trial_loads.specs.TrialLoads.{first_had, goes_up, last_first, shared, with_shares};
+
+use crate::loads::PORTS;
+use crate::upward::upward;
+use port_graph::{Adjacency, Edge};
+use spread_labels::{CandidateSets, TargetSet};
+use std::alloc::{AllocError, Global};
+
+/// The number of packets that each source has for each target.
+const PACKETS: usize = 65_536;
+
+/// Adds to `loads` what each channel carries of the packets from each source to each target. There are at most 64
+/// targets.
+pub(crate) fn add_packets_between(
+    alloc: Global,
+    graph: &Adjacency,
+    sources: &[usize],
+    targets: &[usize],
+    loads: &mut [usize],
+) -> Result<(), AllocError>
+    requires lead { LeadToVertices graph.now }
+    requires few { length targets.now ≤ 64 }
+    requires sources { All (λ source. source < length graph.now) sources.now }
+    requires targets { All (λ target. target < length graph.now) targets.now }
+    requires loads { length loads.old ≡ 256 * length graph.now }
+    ensures { OnOk result (loads.new ≡ carried_between graph.now sources.now loads.old targets.now) }
+{
+    let sets = CandidateSets::towards(alloc, graph, targets)?;
+    let ups = upward(alloc, graph, &sets)?;
+    let mut had = vec![in alloc; 0; graph.len()]?;
+    for k in 0..targets.len() {
+        add_packets_to(graph, &sets, &ups, k, sources, &mut had, loads);
+    }
+    Ok(())
+}
+
+/// Adds to `loads` what each channel carries of the packets from each source to target `k`. Overwrites `had`.
+fn add_packets_to(
+    graph: &Adjacency,
+    sets: &CandidateSets,
+    ups: &[TargetSet],
+    k: usize,
+    sources: &[usize],
+    had: &mut [usize],
+    loads: &mut [usize],
+)
+    requires lead { LeadToVertices graph.now }
+    requires target { k < 64 }
+    requires rows { AreRowsOf graph.now sets.now }
+    requires ups { AreUpward graph.now sets.now ups.now }
+    requires sources { All (λ source. source < length graph.now) sources.now }
+    requires had { length had.old ≡ length graph.now }
+    requires loads { length loads.old ≡ 256 * length graph.now }
+    ensures { loads.new
+        ≡ carried_to (candidates_in graph.now sets.now k) (length graph.now) sources.now loads.old }
+{
+    start(sources, had);
+    share_up(graph, sets, ups, k, had, loads);
+    share_down(graph, sets, ups, k, had, loads);
+}
+
+/// Sets what positions start with: each source has `PACKETS`, others have none.
+fn start(sources: &[usize], had: &mut [usize])
+    requires { All (λ source. source < length had.old) sources.now }
+    ensures { had.new ≡ first_had sources.now (length had.old) }
+{
+    had.fill(0);
+    for source in sources {
+        had[*source] = had[*source].saturating_add(PACKETS);
+    }
+}
+
+/// Shares what the positions have that go up towards target `k`, from the last position to the first.
+fn share_up(
+    graph: &Adjacency,
+    sets: &CandidateSets,
+    ups: &[TargetSet],
+    k: usize,
+    had: &mut [usize],
+    loads: &mut [usize],
+)
+    requires lead { LeadToVertices graph.now }
+    requires target { k < 64 }
+    requires rows { AreRowsOf graph.now sets.now }
+    requires ups { AreUpward graph.now sets.now ups.now }
+    requires had { length had.old ≡ length graph.now }
+    requires loads { length loads.old ≡ 256 * length graph.now }
+    ensures { record { had = had.new; carried = loads.new }
+        ≡ shared (candidates_in graph.now sets.now k)
+        (filter (goes_up (candidates_in graph.now sets.now k)) (last_first (length graph.now)))
+        (record { had = had.old; carried = loads.old }) }
+{
+    for position in (0..graph.len()).rev() {
+        if ups[position].has(k) {
+            let (edges, sets) = (graph.at(position), sets.at(position));
+            share(edges, sets, k, position, had, loads);
+        }
+    }
+}
+
+/// Shares what the other positions have, from the first to the last.
+fn share_down(
+    graph: &Adjacency,
+    sets: &CandidateSets,
+    ups: &[TargetSet],
+    k: usize,
+    had: &mut [usize],
+    loads: &mut [usize],
+)
+    requires lead { LeadToVertices graph.now }
+    requires target { k < 64 }
+    requires rows { AreRowsOf graph.now sets.now }
+    requires ups { AreUpward graph.now sets.now ups.now }
+    requires had { length had.old ≡ length graph.now }
+    requires loads { length loads.old ≡ 256 * length graph.now }
+    ensures { record { had = had.new; carried = loads.new }
+        ≡ shared (candidates_in graph.now sets.now k)
+        (filter (λ s. not (goes_up (candidates_in graph.now sets.now k) s)) (numbers_from 0 (length graph.now)))
+        (record { had = had.old; carried = loads.old }) }
+{
+    for position in 0..graph.len() {
+        if !ups[position].has(k) {
+            let (edges, sets) = (graph.at(position), sets.at(position));
+            share(edges, sets, k, position, had, loads);
+        }
+    }
+}
+
+/// Shares what `position` has over its candidates towards target `k`: of its `edges`, those whose set has it.
+fn share(
+    edges: &[Edge],
+    sets: &[TargetSet],
+    k: usize,
+    position: usize,
+    had: &mut [usize],
+    loads: &mut [usize],
+)
+    requires target { k < 64 }
+    requires all { length sets.now ≡ length edges.now }
+    requires vertices { All (λ edge. edge.to < length had.old) edges.now }
+    requires position { position < length had.old }
+    requires loads { length loads.old ≡ 256 * length had.old }
+    ensures { record { had = had.new; carried = loads.new }
+        ≡ with_shares position (picked k sets.now edges.now) (record { had = had.old; carried = loads.old }) }
+{
+    let count = count_having(sets, k);
+    if count == 0 {
+        return;
+    }
+    let share = had[position] / count;
+    for (j, edge) in edges.iter().enumerate() {
+        if sets[j].has(k) {
+            let channel = PORTS * position + usize::from(edge.port.number());
+            loads[channel] = loads[channel].saturating_add(share);
+            had[edge.to] = had[edge.to].saturating_add(share);
+        }
+    }
+}
+
+/// Counts the sets that have the target.
+fn count_having(sets: &[TargetSet], target: usize) -> usize
+    requires { target < 64 }
+    ensures { result ≡ count_by (λ set. has set target) sets.now }
+{
+    let mut count = 0;
+    for set in sets {
+        if set.has(target) {
+            count += 1;
+        }
+    }
+    count
+}
