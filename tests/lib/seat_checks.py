@@ -757,6 +757,7 @@ class Soak:
     MOST_CUT = 3  # a torus without three cables is still in one piece
     MOST_KILLED = 4  # between two recordings: ibsim has room for ten clients
     TIMING = ("-s", 3, "-m", 200, "-r", 1)
+    NO_FABRIC = 4  # the exit status of a seat that cannot go on
 
     def __init__(self, bench, stack, chance):
         self.bench, self.stack, self.chance = bench, stack, chance
@@ -797,6 +798,13 @@ class Soak:
                 self.bench.tell(f"X {client}")
                 self.dropped += 1
 
+    def restart_ended(self):
+        """Starts each seat again that ended since its processes ended soon, each time, as its unit does."""
+        for host, seat in self.seats.items():
+            if seat.process.poll() == self.NO_FABRIC and "ends soon, each time" in seat.said():
+                self.done.append(f"start {host} again")
+                self.start(host)
+
     def kill_child(self, host):
         children = self.seats[host].children()
         self.done.append(f"kill the child of {host}")
@@ -805,6 +813,7 @@ class Soak:
 
     def event(self):
         """Does one thing at random."""
+        self.restart_ended()
         kind, host = self.chance.random(), self.chance.choice(sorted(self.hosts))
         killed = sum(self.done.count(f"kill {it}") for it in self.hosts)
         if kind < 0.2 and killed < self.MOST_KILLED:
@@ -831,6 +840,7 @@ class Soak:
     def end(self):
         """Plugs all cables in, and checks that the seats settle and what is held then. Returns whether they do."""
         self.mend()
+        self.restart_ended()
         self.drop_killed()
         since = time.time()
         took = until(lambda: self.is_settled(since))
