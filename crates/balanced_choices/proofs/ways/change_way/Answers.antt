@@ -1,0 +1,36 @@
+use Rattle.std.proofs.Common.{◌≡◌, ◌+◌, ◌-◌, ◌*◌, ℕ, [], ◌∷◌, refl, sym, ap, ◌∙◌, arith, length, get_or}
+use Rattle.std.specs.Prelude.{slice_set}
+use Rattle.balanced_choices.specs.Loads.{changed, channel_by, edge_taken, way, with_changes}
+use Rattle.balanced_choices.proofs.Ways.{none_left, way_ends, way_goes}
+use Rattle.balanced_choices.proofs.ways.change_way.Goals as goal
+
+pub returns-in-None : goal.returns-in-None
+returns-in-None c =
+    let n = length c.args.ways.now in
+    sym (ap (with_changes c.args.change c.loop.loads)
+    (way_ends (edge_taken c.args.ways.now c.args.choices.now) (n - c.loop.counter) c.loop.position (omega (arith, c.loop-test.true, c.len-end.ensures))
+    (sym c.edge_taken.ensures.edge ∙ c.in-None.is)))
+    ∙ c.loop.invariant
+
+pub loop-preserved : goal.loop-preserved
+loop-preserved c =
+    let taken = edge_taken c.args.ways.now c.args.choices.now in
+    let n = length c.args.ways.now in
+    let p = c.loop.position in
+    let e = c.in-Some.edge in
+    let change = c.args.change in
+    let rest = way taken (n - (c.loop.counter + 1)) e.to in
+    let goes = way_goes taken n c.loop.counter p e (omega (arith, c.loop-test.true, c.len-end.ensures)) (sym c.edge_taken.ensures.edge ∙ c.in-Some.is) in
+    let port : c.from.result ≡ e.port = c.from.ensures ∙ c.number.ensures in
+    let one : slice_set c.loop.loads (256 * p + c.from.result) c.changed.result
+    ≡ slice_set c.loop.loads (channel_by p e) (changed change (get_or c.loop.loads (channel_by p e) 0)) =
+    ap (slice_set c.loop.loads (256 * p + c.from.result)) c.changed.ensures
+    ∙ ap (λ k. slice_set c.loop.loads (256 * p + k) (changed change (get_or c.loop.loads (256 * p + k) 0))) port in
+    ap (λ loads. with_changes change loads rest) one ∙ ap (with_changes change c.loop.loads) (sym goes) ∙ c.loop.invariant
+
+pub returns : goal.returns
+returns c =
+    let n = length c.args.ways.now in
+    sym (ap (with_changes c.args.change c.loop.loads)
+    (none_left (edge_taken c.args.ways.now c.args.choices.now) n c.loop.counter c.loop.position (omega (arith, c.loop-test.false, c.len-end.ensures))))
+    ∙ c.loop.invariant

@@ -1,0 +1,36 @@
+use Rattle.std.proofs.Common.{◌≡◌, ◌+◌, ◌-◌, ◌*◌, ℕ, List, [], ◌∷◌, max, refl, sym, ap, ◌∙◌, arith, length, get_or, map}
+use Rattle.spread_labels.specs.Levels.{greatest}
+use Rattle.balanced_choices.specs.Loads.{channel_by, edge_taken, way}
+use Rattle.balanced_choices.proofs.Ways.{none_left, way_ends, way_goes}
+use Rattle.balanced_choices.proofs.ways.peak_from.Goals as goal
+
+pub returns-in-None : goal.returns-in-None
+returns-in-None c =
+    let n = length c.args.ways.now in
+    let loads = c.args.loads.now in
+    sym (ap (λ cs. greatest c.loop.peak (map (λ k. get_or loads k 0) cs))
+    (way_ends (edge_taken c.args.ways.now c.args.choices.now) (n - c.loop.counter) c.loop.position (omega (arith, c.loop-test.true, c.len-end.ensures))
+    (sym c.edge_taken.ensures.edge ∙ c.in-None.is)))
+    ∙ c.loop.invariant
+
+pub loop-preserved : goal.loop-preserved
+loop-preserved c =
+    let taken = edge_taken c.args.ways.now c.args.choices.now in
+    let n = length c.args.ways.now in
+    let p = c.loop.position in
+    let e = c.in-Some.edge in
+    let loads = c.args.loads.now in
+    let rest : List ℕ = map (λ k. get_or loads k 0) (way taken (n - (c.loop.counter + 1)) e.to) in
+    let goes = way_goes taken n c.loop.counter p e (omega (arith, c.loop-test.true, c.len-end.ensures)) (sym c.edge_taken.ensures.edge ∙ c.in-Some.is) in
+    let port : c.from.result ≡ e.port = c.from.ensures ∙ c.number.ensures in
+    let one : c.max-peak.result ≡ max c.loop.peak (get_or loads (channel_by p e) 0) =
+    c.max-peak.ensures ∙ ap (λ k. max c.loop.peak (get_or loads (256 * p + k) 0)) port in
+    ap (λ m. greatest m rest) one ∙ sym (ap (λ cs. greatest c.loop.peak (map (λ k. get_or loads k 0) cs)) goes) ∙ c.loop.invariant
+
+pub returns : goal.returns
+returns c =
+    let n = length c.args.ways.now in
+    let loads = c.args.loads.now in
+    sym (ap (λ cs. greatest c.loop.peak (map (λ k. get_or loads k 0) cs))
+    (none_left (edge_taken c.args.ways.now c.args.choices.now) n c.loop.counter c.loop.position (omega (arith, c.loop-test.false, c.len-end.ensures))))
+    ∙ c.loop.invariant

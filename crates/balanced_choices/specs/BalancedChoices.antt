@@ -1,0 +1,126 @@
+-- Choices among candidates that balance the loads of channels. Positions send packets to ends, which are attached at
+-- some positions. For each end, each position chooses one of its candidates.
+use Rattle.std.specs.Prelude.{ℕ, zero, suc, ◌+◌, ◌*◌, ◌%◌, Bool, not, List, [], ◌∷◌, ◌++◌, filter, length, map, replicate, reverse, slice_index, slice_index_or, slice_set}
+use Rattle.port_graph.specs.declared.edge.Edge.{Edge}
+use Rattle.port_graph.specs.Heads.{edges_at}
+use Rattle.spread_labels.specs.Labels.{candidates, leads_up}
+use Rattle.spread_labels.specs.Orders.{numbers_from}
+use Rattle.balanced_choices.specs.declared.ways.Change.{Change}
+use Rattle.balanced_choices.specs.declared.ways.Change.TheVariants.{Add, Remove}
+use Rattle.balanced_choices.specs.declared.rounds.Destination.{Destination}
+use Rattle.balanced_choices.specs.Loads.{candidates_at, lightest, way_from, with_changes}
+
+-- the loads of channels, and for one end the number of the candidate that each position takes
+pub record Chosen : Type 0 where
+  pub choices : List ℕ
+  pub loads : List ℕ
+
+-- position p takes the candidate with number k, and its packets are added to its way
+abbrev pub with_choice : List (List Edge) → List ℕ → Chosen → ℕ → ℕ → Chosen
+with_choice ways sent old p k =
+    let choices = slice_set old.choices p k in
+    record {
+      choices = choices;
+      loads = with_changes (Add (slice_index sent p)) old.loads (way_from ways choices p);
+    }
+
+-- positions choose one after the other
+abbrev pub choose_each : (Chosen → ℕ → ℕ) → List (List Edge) → List ℕ → Chosen → List ℕ → Chosen
+choose_each choice ways sent old [] = old
+choose_each choice ways sent old (p ∷ ps) =
+    choose_each choice ways sent (with_choice ways sent old p (choice old p)) ps
+
+-- whether a candidate of position p leads up
+abbrev pub is_below : List (List Edge) → ℕ → Bool
+is_below ways p = leads_up p (edges_at ways p)
+
+-- all positions, each behind those that its candidates lead to: first those without a candidate that leads up, from the
+-- last on, then the others, from the first on
+abbrev pub near_first : List (List Edge) → List ℕ
+near_first ways =
+    filter (λ p. not (is_below ways p)) (reverse (numbers_from 0 (length ways)))
+    ++ filter (is_below ways) (numbers_from 0 (length ways))
+
+-- the number n, counted round among so many
+abbrev pub in_turn : ℕ → ℕ → ℕ
+in_turn zero n = 0
+in_turn (suc count) n = n % suc count
+
+-- the first choices for an end: the candidates in turn, from the sum of the numbers of the end and the position on
+abbrev pub first_choices : List (List Edge) → List ℕ → List ℕ → ℕ → Chosen → Chosen
+first_choices ways sent order end old =
+    choose_each (λ now p. in_turn (length (candidates_at ways p)) (end + p)) ways sent old order
+
+-- the loads without the packets that some positions send
+abbrev pub without_packets : List (List Edge) → List ℕ → List ℕ → List ℕ → List ℕ → List ℕ
+without_packets ways sent choices loads [] = loads
+without_packets ways sent choices loads (p ∷ ps) =
+    without_packets ways sent choices (with_changes (Remove (slice_index sent p)) loads (way_from ways choices p)) ps
+
+-- new choices for an end: its packets leave the loads, then each position takes the candidate of the least peak
+abbrev pub new_choices : List (List Edge) → List ℕ → List ℕ → Chosen → Chosen
+new_choices ways sent order old =
+    choose_each (λ now p. lightest ways now.choices now.loads p) ways sent
+    (record {
+      choices = old.choices;
+      loads = without_packets ways sent old.choices old.loads (numbers_from 0 (length ways));
+    })
+    order
+
+-- the choices for an end in a round: the first choices, then new ones
+abbrev pub choices_in : ℕ → List (List Edge) → List ℕ → List ℕ → ℕ → Chosen → Chosen
+choices_in zero ways sent order end old = first_choices ways sent order end old
+choices_in (suc round) ways sent order end old = new_choices ways sent order old
+
+-- the loads of channels, and the choices for each end
+pub record Balance : Type 0 where
+  pub choices : List (List ℕ)
+  pub loads : List ℕ
+
+-- the choices for an end are made
+abbrev pub with_end : ℕ → List (List Edge) → List ℕ → List ℕ → Balance → ℕ → Balance
+with_end round ways sent order old end =
+    let before : Chosen = record { choices = slice_index_or old.choices end []; loads = old.loads } in
+    let own = choices_in round ways sent order end before in
+    record { choices = slice_set old.choices end own.choices; loads = own.loads }
+
+-- those for some ends at one position, one after the other
+abbrev pub with_ends : ℕ → List (List Edge) → List ℕ → List ℕ → Balance → List ℕ → Balance
+with_ends round ways sent order old [] = old
+with_ends round ways sent order old (end ∷ ends) =
+    with_ends round ways sent order (with_end round ways sent order old end) ends
+
+-- the candidates of each position towards position t
+abbrev pub towards : List (List Edge) → ℕ → List (List Edge)
+towards graph t = map (candidates graph t) (numbers_from 0 (length graph))
+
+-- those for the ends at some destinations, of which the first has number `end`
+abbrev pub with_all : ℕ → List (List Edge) → List ℕ → Balance → ℕ → List Destination → Balance
+with_all round graph sent old end [] = old
+with_all round graph sent old end (d ∷ ds) =
+    let ways = towards graph d.position in
+    with_all round graph sent (with_ends round ways sent (near_first ways) old (numbers_from end d.ends))
+    (end + d.ends) ds
+
+-- the number of all ends
+abbrev pub ends_of : ℕ → List Destination → ℕ
+ends_of n [] = n
+ends_of n (d ∷ ds) = ends_of (n + d.ends) ds
+
+-- no choices and no loads
+abbrev pub at_first : List (List Edge) → List Destination → Balance
+at_first graph destinations =
+    record {
+      choices = replicate (ends_of 0 destinations) (replicate (length graph) 0);
+      loads = replicate (256 * length graph) 0;
+    }
+
+-- after this many rounds
+abbrev pub after_rounds : ℕ → List (List Edge) → List ℕ → List Destination → Balance
+after_rounds zero graph sent destinations = at_first graph destinations
+after_rounds (suc round) graph sent destinations =
+    with_all round graph sent (after_rounds round graph sent destinations) 0 destinations
+
+-- the balanced choices: the first, and twice new ones
+unfoldable pub balanced_choices : List (List Edge) → List ℕ → List Destination → List (List ℕ)
+balanced_choices graph sent destinations = (after_rounds 3 graph sent destinations).choices

@@ -1,0 +1,180 @@
+//! The choices for one end.
+ghost use Rattle.std.specs.Prelude.{◌≡◌, ◌<◌, ◌≤◌, ◌+◌, ◌*◌, ◌++◌, ◌^◌, All, IfOk, OnOk, filter, length, not, reverse, slice_index};
+ghost use Rattle.port_graph.specs.Heads.{edges_at};
+ghost use Rattle.spread_labels.specs.Labels.{leads_up};
+ghost use Rattle.spread_labels.specs.Orders.{numbers_from};
+ghost use Rattle.balanced_choices.specs.Loads.{lightest};
+ghost use Rattle.balanced_choices.specs.BalancedChoices.{Chosen, choices_in, choose_each, first_choices, in_turn};
+ghost use Rattle.balanced_choices.specs.BalancedChoices.{is_below, near_first, with_choice, without_packets};
+
+use crate::ways::{Change, PORTS, change_way, lightest};
+use port_graph::{Adjacency, Edge};
+use std::alloc::{AllocError, Global};
+
+/// Returns all positions, each behind those that its candidates lead to.
+pub(crate) fn near_first(alloc: Global, ways: &Adjacency) -> Result<Vec<usize>, AllocError>
+    ensures order { IfOk result (λ order. order.items ≡ near_first ways.now) }
+    ensures positions { IfOk result (λ order. All (λ p. p < length ways.now) order.items) }
+{
+    let mut order = Vec::with_capacity(alloc, ways.len())?;
+    push_above(ways, &mut order)?;
+    push_below(ways, &mut order)?;
+    Ok(order)
+}
+
+/// Appends the positions without a candidate that leads up, from the last on.
+fn push_above(ways: &Adjacency, order: &mut Vec<usize>) -> Result<(), AllocError>
+    ensures { OnOk result (order.new.items
+        ≡ order.old.items ++ filter (λ p. not (is_below ways.now p)) (reverse (numbers_from 0 (length ways.now)))) }
+{
+    for left in 0..ways.len() {
+        let position = ways.len() - 1 - left;
+        if !is_below(ways, position) {
+            order.push(position)?;
+        }
+    }
+    Ok(())
+}
+
+/// Appends the positions with a candidate that leads up, from the first on.
+fn push_below(ways: &Adjacency, order: &mut Vec<usize>) -> Result<(), AllocError>
+    ensures { OnOk result (order.new.items
+        ≡ order.old.items ++ filter (is_below ways.now) (numbers_from 0 (length ways.now))) }
+{
+    for position in 0..ways.len() {
+        if is_below(ways, position) {
+            order.push(position)?;
+        }
+    }
+    Ok(())
+}
+
+/// Returns whether a candidate of a position leads up.
+fn is_below(ways: &Adjacency, position: usize) -> bool
+    ensures { result ≡ is_below ways.now position }
+{
+    for edge in ways.at(position) {
+        if edge.to < position {
+            return true;
+        }
+    }
+    false
+}
+
+/// Makes the choices for an end: in round 0 the first ones, later new ones, with which its packets take other ways.
+pub(crate) fn choose(
+    round: usize,
+    ways: &Adjacency,
+    order: &[usize],
+    sent: &[usize],
+    end: usize,
+    choices: &mut [u8],
+    loads: &mut [usize],
+)
+    requires positions { All (λ p. p < length ways.now) order.now }
+    requires sent { length sent.now ≡ length ways.now }
+    requires end { end + length ways.now < 2 ^ 64 }
+    requires choices { length choices.old ≡ length ways.now }
+    requires loads { length loads.old ≡ 256 * length ways.now }
+    ensures { let before : Chosen = record { choices = choices.old; loads = loads.old } in
+        choices_in round ways.now sent.now order.now end before
+        ≡ record { choices = choices.new; loads = loads.new } }
+{
+    if round == 0 {
+        choose_in_turn(ways, order, sent, end, choices, loads);
+    } else {
+        remove_packets(ways, sent, choices, loads);
+        choose_lightest(ways, order, sent, choices, loads);
+    }
+}
+
+/// Makes the first choices for an end: the candidates in turn.
+fn choose_in_turn(
+    ways: &Adjacency,
+    order: &[usize],
+    sent: &[usize],
+    end: usize,
+    choices: &mut [u8],
+    loads: &mut [usize],
+)
+    requires positions { All (λ p. p < length ways.now) order.now }
+    requires sent { length sent.now ≡ length ways.now }
+    requires end { end + length ways.now < 2 ^ 64 }
+    requires choices { length choices.old ≡ length ways.now }
+    requires loads { length loads.old ≡ 256 * length ways.now }
+    ensures { let before : Chosen = record { choices = choices.old; loads = loads.old } in
+        first_choices ways.now sent.now order.now end before
+        ≡ record { choices = choices.new; loads = loads.new } }
+{
+    for position in order {
+        let choice = in_turn(ways.at(*position).len().min(PORTS), end + *position);
+        take(ways, sent, *position, choice, choices, loads);
+    }
+}
+
+/// Returns a number, counted round among `count`, of which there are at most 256.
+fn in_turn(count: usize, number: usize) -> u8
+    requires { count ≤ 256 }
+    ensures { result ≡ in_turn count number }
+{
+    if count == 0 {
+        0
+    } else {
+        (number % count) as u8
+    }
+}
+
+/// Makes new choices for an end: each position takes the candidate whose way has the least peak.
+fn choose_lightest(
+    ways: &Adjacency,
+    order: &[usize],
+    sent: &[usize],
+    choices: &mut [u8],
+    loads: &mut [usize],
+)
+    requires positions { All (λ p. p < length ways.now) order.now }
+    requires sent { length sent.now ≡ length ways.now }
+    requires choices { length choices.old ≡ length ways.now }
+    requires loads { length loads.old ≡ 256 * length ways.now }
+    ensures { let before : Chosen = record { choices = choices.old; loads = loads.old } in
+        choose_each (λ now p. lightest ways.now now.choices now.loads p) ways.now sent.now before order.now
+        ≡ record { choices = choices.new; loads = loads.new } }
+{
+    for position in order {
+        let choice = lightest(ways, choices, loads, *position);
+        take(ways, sent, *position, choice, choices, loads);
+    }
+}
+
+/// Lets a position take a candidate. Adds its packets to its way.
+fn take(
+    ways: &Adjacency,
+    sent: &[usize],
+    position: usize,
+    choice: u8,
+    choices: &mut [u8],
+    loads: &mut [usize],
+)
+    requires position { position < length ways.now }
+    requires sent { length sent.now ≡ length ways.now }
+    requires choices { length choices.old ≡ length ways.now }
+    requires loads { length loads.old ≡ 256 * length ways.now }
+    ensures { let before : Chosen = record { choices = choices.old; loads = loads.old } in
+        with_choice ways.now sent.now before position choice
+        ≡ record { choices = choices.new; loads = loads.new } }
+{
+    choices[position] = choice;
+    change_way(ways, choices, loads, position, Change::Add(sent[position]));
+}
+
+/// Removes the packets of all positions from their ways.
+fn remove_packets(ways: &Adjacency, sent: &[usize], choices: &[u8], loads: &mut [usize])
+    requires sent { length sent.now ≡ length ways.now }
+    requires loads { length loads.old ≡ 256 * length ways.now }
+    ensures { loads.new
+        ≡ without_packets ways.now sent.now choices.now loads.old (numbers_from 0 (length ways.now)) }
+{
+    for position in 0..ways.len() {
+        change_way(ways, choices, loads, position, Change::Remove(sent[position]));
+    }
+}

@@ -1,0 +1,251 @@
+//! The choices for all ends, in rounds.
+ghost use Rattle.std.specs.Prelude.{◌≡◌, ◌<◌, ◌≤◌, ◌+◌, ◌-◌, ◌*◌, ◌++◌, All, IfOk, OnOk, length, map, replicate};
+ghost use Rattle.port_graph.specs.Heads.{LeadToVertices, edges_at};
+ghost use Rattle.spread_labels.specs.MarkSets.{AreRowsOf, picked, sets_at};
+ghost use Rattle.spread_labels.specs.Orders.{numbers_from};
+ghost use Rattle.balanced_choices.specs.BalancedChoices.{Balance, balanced_choices, ends_of, with_all, with_ends};
+
+use crate::choosing::{choose, near_first};
+use crate::ways::PORTS;
+use port_graph::{Adjacency, Edge};
+use spread_labels::{CandidateSets, TARGETS, TargetSet};
+use std::alloc::{AllocError, Global};
+
+/// The number of rounds: one for the first choices, and two for new ones.
+const ROUNDS: usize = 3;
+
+/// A position at which ends are attached, to which packets are sent.
+#[derive(Clone, Copy, Debug, PartialEq, Eq)]
+pub struct Destination {
+    /// The position.
+    pub position: usize,
+    /// The number of its ends.
+    pub ends: usize,
+}
+
+/// Finds for each end of each destination, in their order, the number of the candidate that each position takes, if
+/// position p sends `sent[p]` packets to it. For each round and each 64 destinations, takes a step or two for each edge
+/// in each of as many rounds of labels as the greatest cost; for each end, a step for each edge of each candidate's way.
+/// Keeps a byte for each end and position.
+pub fn balanced_choices(
+    alloc: Global,
+    graph: &Adjacency,
+    sent: &[usize],
+    destinations: &[Destination],
+) -> Result<Vec<Vec<u8>>, AllocError>
+    requires lead { LeadToVertices graph.now }
+    requires sent { length sent.now ≡ length graph.now }
+    requires destinations { All (λ d. d.position < length graph.now) destinations.now }
+    ensures { IfOk result (λ choices. map (λ own. own.items) choices.items
+        ≡ balanced_choices graph.now sent.now destinations.now) }
+{
+    let mut choices = no_choices(alloc, graph.len(), destinations)?;
+    let mut loads = no_loads(alloc, graph.len())?;
+    for round in 0..ROUNDS {
+        choose_all(
+            alloc,
+            round,
+            graph,
+            sent,
+            destinations,
+            &mut choices,
+            &mut loads,
+        )?;
+    }
+    Ok(choices)
+}
+
+/// Returns a choice of 0 for each end of each destination and each position.
+fn no_choices(
+    alloc: Global,
+    positions: usize,
+    destinations: &[Destination],
+) -> Result<Vec<Vec<u8>>, AllocError>
+    ensures { IfOk result (λ choices. map (λ own. own.items) choices.items
+        ≡ replicate (ends_of 0 destinations.now) (replicate positions 0)) }
+{
+    let mut choices = Vec::new(alloc);
+    for destination in destinations {
+        push_choices(alloc, positions, destination.ends, &mut choices)?;
+    }
+    Ok(choices)
+}
+
+/// Appends a choice of 0 for each of some ends and each position.
+fn push_choices(
+    alloc: Global,
+    positions: usize,
+    ends: usize,
+    choices: &mut Vec<Vec<u8>>,
+) -> Result<(), AllocError>
+    ensures { OnOk result (map (λ own. own.items) choices.new.items
+        ≡ map (λ own. own.items) choices.old.items ++ replicate ends (replicate positions 0)) }
+{
+    for _ in 0..ends {
+        choices.push(vec![in alloc; 0; positions]?)?;
+    }
+    Ok(())
+}
+
+/// Returns a load of 0 for each channel of `positions` positions.
+fn no_loads(alloc: Global, positions: usize) -> Result<Vec<usize>, AllocError>
+    ensures { IfOk result (λ loads. loads.items ≡ replicate (256 * positions) 0) }
+{
+    let none = [0; PORTS];
+    let mut loads = Vec::new(alloc);
+    for _ in 0..positions {
+        loads.extend_from_slice(&none)?;
+    }
+    Ok(loads)
+}
+
+/// Makes the choices of a round for all ends of some destinations. Finds the candidates towards 64 of these at a time.
+fn choose_all(
+    alloc: Global,
+    round: usize,
+    graph: &Adjacency,
+    sent: &[usize],
+    destinations: &[Destination],
+    choices: &mut [Vec<u8>],
+    loads: &mut [usize],
+) -> Result<(), AllocError>
+    requires lead { LeadToVertices graph.now }
+    requires sent { length sent.now ≡ length graph.now }
+    requires destinations { All (λ d. d.position < length graph.now) destinations.now }
+    requires ends { length choices.old ≡ ends_of 0 destinations.now }
+    requires choices { All (λ own. length own.items ≡ length graph.now) choices.old }
+    requires loads { length loads.old ≡ 256 * length graph.now }
+    ensures { OnOk result (let before : Balance = record { choices = map (λ own. own.items) choices.old; loads = loads.old } in
+        with_all round graph.now sent.now before 0 destinations.now
+        ≡ record { choices = map (λ own. own.items) choices.new; loads = loads.new }) }
+{
+    let mut first = 0;
+    let mut end = 0;
+    while first < destinations.len() {
+        let last = first + TARGETS.min(destinations.len() - first);
+        end = choose_some(
+            alloc,
+            round,
+            graph,
+            sent,
+            &destinations[first..last],
+            end,
+            choices,
+            loads,
+        )?;
+        first = last;
+    }
+    Ok(())
+}
+
+/// Makes the choices for the ends of at most 64 destinations, of which the first has number `first`. Returns the number
+/// of the next end.
+fn choose_some(
+    alloc: Global,
+    round: usize,
+    graph: &Adjacency,
+    sent: &[usize],
+    destinations: &[Destination],
+    first: usize,
+    choices: &mut [Vec<u8>],
+    loads: &mut [usize],
+) -> Result<usize, AllocError>
+    requires lead { LeadToVertices graph.now }
+    requires sent { length sent.now ≡ length graph.now }
+    requires few { length destinations.now ≤ 64 }
+    requires destinations { All (λ d. d.position < length graph.now) destinations.now }
+    requires ends { ends_of first destinations.now ≤ length choices.old }
+    requires choices { All (λ own. length own.items ≡ length graph.now) choices.old }
+    requires loads { length loads.old ≡ 256 * length graph.now }
+    ensures balance { OnOk result (let before : Balance = record { choices = map (λ own. own.items) choices.old; loads = loads.old } in
+        with_all round graph.now sent.now before first destinations.now
+        ≡ record { choices = map (λ own. own.items) choices.new; loads = loads.new }) }
+    ensures next { IfOk result (λ end. end ≡ ends_of first destinations.now) }
+{
+    let targets = positions_of(alloc, destinations)?;
+    let sets = CandidateSets::towards(alloc, graph, &targets)?;
+    let mut end = first;
+    for (k, destination) in destinations.iter().enumerate() {
+        let ways = ways_towards(alloc, graph, &sets, k)?;
+        let order = near_first(alloc, &ways)?;
+        let next = end + destination.ends;
+        choose_between(round, &ways, &order, sent, end, next, choices, loads);
+        end = next;
+    }
+    Ok(end)
+}
+
+/// Returns the positions of destinations.
+fn positions_of(alloc: Global, destinations: &[Destination]) -> Result<Vec<usize>, AllocError>
+    ensures { IfOk result (λ positions. positions.items ≡ map (λ d. d.position) destinations.now) }
+{
+    destinations
+        .iter()
+        .map(|destination| destination.position)
+        .collect(alloc)
+}
+
+/// Makes the choices for the ends from number `first` up to, but not including, `last`.
+fn choose_between(
+    round: usize,
+    ways: &Adjacency,
+    order: &[usize],
+    sent: &[usize],
+    first: usize,
+    last: usize,
+    choices: &mut [Vec<u8>],
+    loads: &mut [usize],
+)
+    requires positions { All (λ p. p < length ways.now) order.now }
+    requires sent { length sent.now ≡ length ways.now }
+    requires ends { (first ≤ last) × (last ≤ length choices.old) }
+    requires choices { All (λ own. length own.items ≡ length ways.now) choices.old }
+    requires loads { length loads.old ≡ 256 * length ways.now }
+    ensures { let before : Balance = record { choices = map (λ own. own.items) choices.old; loads = loads.old } in
+        with_ends round ways.now sent.now order.now before (numbers_from first (last - first))
+        ≡ record { choices = map (λ own. own.items) choices.new; loads = loads.new } }
+{
+    for end in first..last {
+        choose(round, ways, order, sent, end, &mut choices[end], loads);
+    }
+}
+
+/// Returns the candidates of each position towards target `k` of the sets.
+fn ways_towards(
+    alloc: Global,
+    graph: &Adjacency,
+    sets: &CandidateSets,
+    k: usize,
+) -> Result<Adjacency, AllocError>
+    requires target { k < 64 }
+    requires rows { AreRowsOf graph.now sets.now }
+    ensures { IfOk result (λ ways. ways
+        ≡ map (λ p. picked k (sets_at sets.now p) (edges_at graph.now p)) (numbers_from 0 (length graph.now))) }
+{
+    let mut ways = Adjacency::new(alloc);
+    for position in 0..graph.len() {
+        let found = edges_having(alloc, graph.at(position), sets.at(position), k)?;
+        ways.push_vertex(&found)?;
+    }
+    Ok(ways)
+}
+
+/// Returns the edges whose set has a target.
+fn edges_having(
+    alloc: Global,
+    edges: &[Edge],
+    sets: &[TargetSet],
+    target: usize,
+) -> Result<Vec<Edge>, AllocError>
+    requires target { target < 64 }
+    requires all { length sets.now ≡ length edges.now }
+    ensures { IfOk result (λ found. found.items ≡ picked target sets.now edges.now) }
+{
+    let mut found = Vec::new(alloc);
+    for (j, edge) in edges.iter().enumerate() {
+        if sets[j].has(target) {
+            found.push(*edge)?;
+        }
+    }
+    Ok(found)
+}
