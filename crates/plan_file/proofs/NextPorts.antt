@@ -30,7 +30,7 @@ HasCost rule s t = (n : ℕ) × (rule.cost s t ≡ Some n)
 
 -- candidates are of a vertex with a mark
 marked : (edges : List (List Edge)) (by : Spreading) (lid p q port : ℕ) (mark : Option Mark)
-    → option_map (λ (e : Edge). e.port) (taken by lid p (candidates_by edges q p mark)) ≡ Some port → (n : ℕ)
+    → option_map (λ (e : Edge). e.port) (taken by lid p q (candidates_by edges q p mark)) ≡ Some port → (n : ℕ)
     × (option_map (λ (m : Mark). m.cost) mark ≡ Some n)
 marked edges by lid p q port None h = absurd (cc)
 marked edges by lid p q port (Some m) h = (m.cost, refl)

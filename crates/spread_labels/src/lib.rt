@@ -23,4 +23,4 @@ pub use level::digit_weights;
 pub use target_set::{TARGETS, TargetSet};
 pub use vertex_key::VertexKey;
 pub use vertex_keys::keys;
-pub use vertex_positions::{by_positions, positions};
+pub use vertex_positions::{by_positions, position_of, positions, positions_at};

@@ -1,7 +1,7 @@
 //! The positions of vertices in an order, and the graph numbered by them.
-ghost use Rattle.std.specs.Prelude.{◌≡◌, ◌<◌, ℕ, map, length, All, Contains, IfOk};
+ghost use Rattle.std.specs.Prelude.{◌≡◌, ◌<◌, ℕ, map, length, All, Contains, IfOk, slice_index};
 ghost use Rattle.port_graph.specs.Heads.{LeadToVertices};
-ghost use Rattle.spread_labels.specs.Orders.{by_position};
+ghost use Rattle.spread_labels.specs.Orders.{by_position, position_of};
 ghost use Rattle.spread_labels.specs.Positions.{ArePositions, StandOnce, to_position};
 
 use port_graph::{Adjacency, Edge};
@@ -17,6 +17,34 @@ pub fn positions(alloc: Global, vertices: &[usize], count: usize) -> Result<Vec<
         positions[*vertex] = position;
     }
     Ok(positions)
+}
+
+/// Returns the position of a vertex in a list, or the length of the list if it lacks the vertex. Takes a search.
+pub fn position_of(vertices: &[usize], vertex: usize) -> usize
+    ensures { result ≡ position_of vertices.now vertex }
+{
+    for (index, other) in vertices.iter().enumerate() {
+        if *other == vertex {
+            return index;
+        }
+    }
+    vertices.len()
+}
+
+/// Returns the positions of some vertices.
+pub fn positions_at(
+    alloc: Global,
+    positions: &[usize],
+    vertices: &[usize],
+) -> Result<Vec<usize>, AllocError>
+    requires { All (λ vertex. vertex < length positions.now) vertices.now }
+    ensures { IfOk result (λ found. found.items ≡ map (λ vertex. slice_index positions.now vertex) vertices.now) }
+{
+    let mut found = Vec::with_capacity(alloc, vertices.len())?;
+    for vertex in vertices {
+        found.push(positions[*vertex])?;
+    }
+    Ok(found)
 }
 
 /// Returns the edges of the vertex at each position of an order, as edges to positions. Takes one step for each edge.

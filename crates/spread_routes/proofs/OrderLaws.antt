@@ -2,7 +2,7 @@
 use Rattle.std.proofs.Common.{◌≡◌, ◌<◌, ◌&&◌, ◌||◌, ◌==◌, not, ℕ, suc, List, [], ◌∷◌, inl, inr, refl, sym, ap, ◌∙◌, subst, arith, true, false, Bool, cond, length, map}
 use Rattle.std.proofs.lemmas.Bool.{cases_eq, eq-eqb, lt-ltb, le-ltb, ne_eqb}
 use Rattle.std.proofs.lemmas.List.{get_or-map}
-use Rattle.std.specs.Prelude.{Contains, Option, nat_lt, option_map, slice_index}
+use Rattle.std.specs.Prelude.{Contains, Option, None, Some, nat_lt, option_map, slice_index}
 use Rattle.std.specs.List.{list_any}
 use Rattle.smp_bytes.proofs.Members.{contains_here, contains_later}
 use Rattle.port_graph.specs.declared.edge.Edge.{Edge}
@@ -18,9 +18,10 @@ use Rattle.subnet_view.specs.SwitchEdges.{SwitchEdges}
 use Rattle.subnet_view.specs.Graph.{guids_of}
 use Rattle.subnet_view.specs.GraphLaws.{IsGraph}
 use Rattle.subnet_view.specs.Routing.{Routing}
+use Rattle.spread_routes.specs.EndChoices.{EndChoices, end_choices}
 use Rattle.spread_routes.specs.Rule.{by_index, order_by_keys}
-use Rattle.spread_routes.specs.Spread.{OrdersStand, indices_of, keys_by, lid_digit_at, number_by, spread_at, spread_by, switches_in_order}
-use Rattle.spread_routes.specs.SwitchOrders.{key_as_named, keys_as_named, switches_by_keys}
+use Rattle.spread_routes.specs.Spread.{OrdersStand, balanced_by, indices_of, keys_by, lid_digit_at, number_by, number_with, spread_at, spread_by, switches_in_order}
+use Rattle.spread_routes.specs.SwitchOrders.{as_named, balanced_as, from_roots, key_as_named, keys_as_named, least_loaded, switches_by_keys}
 use Rattle.spread_routes.proofs.Indices.{as_many, index_of_switch}
 use Rattle.spread_routes.proofs.Names.{grows}
 use Rattle.spread_routes.proofs.Standing.{order_again}
@@ -85,7 +86,7 @@ module _ (graph : List SwitchEdges) (keys : List VertexKey) (good : IsGraph grap
       ))
 
 -- the rule by an order of indices alone
-module _ (graph : List SwitchEdges) (levels standing : List ℕ) where
+module _ (graph : List SwitchEdges) (levels standing : List ℕ) (choices : Option EndChoices) where
   abbrev edges : List (List Edge)
   edges = by_position (by_index graph) standing
 
@@ -95,12 +96,13 @@ module _ (graph : List SwitchEdges) (levels standing : List ℕ) where
   abbrev level : ℕ → ℕ
   level p = slice_index levels (at_position standing p)
 
-  abbrev number : ℕ → ℕ → List Edge → ℕ
-  number lid p es =
-      number_by (lid_digit_at graph levels (at_position standing p)) (list_any (λ e. nat_lt (level p) (level e.to)) es) lid
+  abbrev number : ℕ → ℕ → ℕ → List Edge → ℕ
+  number lid p q es =
+      number_with choices
+      (number_by (lid_digit_at graph levels (at_position standing p)) (list_any (λ e. nat_lt (level p) (level e.to)) es) lid) lid p q
 
   abbrev edge_towards : ℕ → ℕ → ℕ → Option Edge
-  edge_towards lid p q = chosen (candidates edges q p) (number lid p (candidates edges q p))
+  edge_towards lid p q = chosen (candidates edges q p) (number lid p q (candidates edges q p))
 
   abbrev by_standing : Routing
   by_standing = record {
@@ -110,18 +112,49 @@ module _ (graph : List SwitchEdges) (levels standing : List ℕ) where
   }
 
 -- it hangs on nothing else of the keys
-by_order_alone : (graph : List SwitchEdges) (keys : List VertexKey) (levels : List ℕ)
-    → spread_at (record { graph = graph; keys = keys; levels = levels }) ≡ by_standing graph levels (order_by_keys graph keys)
-by_order_alone graph keys levels = refl
+by_order_alone : (graph : List SwitchEdges) (keys : List VertexKey) (levels : List ℕ) (choices : Option EndChoices)
+    → spread_at (record { graph = graph; keys = keys; levels = levels; choices = choices }) ≡ by_standing graph levels (order_by_keys graph keys) choices
+by_order_alone graph keys levels choices = refl
+
+-- nor do the balanced choices
+choices_in : List SwitchEdges → List ℕ → ℕ → List ℕ → EndChoices
+choices_in graph leaves most standing =
+    end_choices (by_position (by_index graph) standing) (map (position_of standing) (indices_of graph leaves)) most
+
+choices_alone : (graph : List SwitchEdges) (keys : List VertexKey) (leaves : List ℕ) (most : ℕ)
+    → balanced_by graph keys leaves most ≡ choices_in graph leaves most (order_by_keys graph keys)
+choices_alone graph keys leaves most = refl
+
+module _ (graph : List SwitchEdges) (leaves : List ℕ) (most : ℕ) (keys : List VertexKey) (good : IsGraph graph) where
+  abbrev levels : List ℕ
+  levels = levels_of (by_index graph) (indices_of graph leaves)
+
+  same_order : switches_by_keys graph (keys_as_named graph (switches_by_keys graph keys)) ≡ switches_by_keys graph keys
+  same_order = ap (map (at_position (guids_of graph))) (stands_again graph keys good)
+
+  same_choices : Some (balanced_by graph (keys_as_named graph (switches_by_keys graph keys)) leaves most) ≡ Some (balanced_by graph keys leaves most)
+  same_choices =
+      ap Some (choices_alone graph (keys_as_named graph (switches_by_keys graph keys)) leaves most
+      ∙ ap (choices_in graph leaves most) (stands_again graph keys good) ∙ sym (choices_alone graph keys leaves most))
+
+  same_routing : (new old : Option EndChoices) → new ≡ old
+      → spread_at (record { graph = graph; keys = keys_as_named graph (switches_by_keys graph keys); levels = levels; choices = new })
+      ≡ spread_at (record { graph = graph; keys = keys; levels = levels; choices = old })
+  same_routing new old e =
+      by_order_alone graph (keys_as_named graph (switches_by_keys graph keys)) levels new
+      ∙ (λ i. by_standing graph levels (stands_again graph keys good i) (e i)) ∙ sym (by_order_alone graph keys levels old)
 
 pub orders_stand : OrdersStand
 unfolding spread_by switches_in_order
-orders_stand graph leaves order good =
-    let keys = keys_by graph leaves order in
-    let levels = levels_of (by_index graph) (indices_of graph leaves) in
-    let same = stands_again graph keys good in
-    record {
-      order = ap (map (at_position (guids_of graph))) same;
-      routing = by_order_alone graph (keys_as_named graph (switches_by_keys graph keys)) levels
-          ∙ ap (by_standing graph levels) same ∙ sym (by_order_alone graph keys levels);
-    }
+orders_stand graph leaves most (from_roots roots) good =
+    let keys = keys_by graph leaves (from_roots roots) in
+    record { order = same_order graph leaves most keys good; routing = same_routing graph leaves most keys good None None refl }
+orders_stand graph leaves most (as_named switches) good =
+    let keys = keys_by graph leaves (as_named switches) in
+    record { order = same_order graph leaves most keys good; routing = same_routing graph leaves most keys good None None refl }
+orders_stand graph leaves most (balanced_as switches) good =
+    let keys = keys_by graph leaves (balanced_as switches) in
+    record { order = same_order graph leaves most keys good; routing = same_routing graph leaves most keys good _ _ (same_choices graph leaves most keys good) }
+orders_stand graph leaves most least_loaded good =
+    let keys = keys_by graph leaves least_loaded in
+    record { order = same_order graph leaves most keys good; routing = same_routing graph leaves most keys good _ _ (same_choices graph leaves most keys good) }

@@ -52,7 +52,7 @@ module _ (by : Grading) (good : IsGraph by.graph) where
   -- the port of a switch to another, by its candidates
   pub port_is : (lid target i : ℕ) → target < length by.graph → i < length by.graph
       → option_map (λ (e : Edge). e.port) (chosen (candidates edges (position_of order target) (position_of order i))
-      (number_there by lid (position_of order i) (candidates edges (position_of order target) (position_of order i))))
+      (number_there by lid (position_of order i) (position_of order target) (candidates edges (position_of order target) (position_of order i))))
       ≡ (spread_at by).next lid (switch_at by.graph i) (switch_at by.graph target)
   port_is lid target i t h =
       let sp : Spreading = record { keys = by.keys; number = number_there by } in

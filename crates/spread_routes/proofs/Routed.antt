@@ -119,7 +119,7 @@ module _ (graph : List SwitchEdges) (by : Spreading) (good : IsGraph graph) wher
         → (e : Edge) × (edge_to graph by lid p q ≡ Some e) × Contains (candidates edges q p) e
     taken_there p m is apart =
         let some = (candidates_in_words edges q p m is).some apart in
-        chosen_there (candidates edges q p) (by.number lid p (candidates edges q p)) some.0 some.1
+        chosen_there (candidates edges q p) (by.number lid p q (candidates edges q p)) some.0 some.1
 
     picks : PicksCandidates edges (λ l. q) pick
     picks l p m is apart =

@@ -4,5 +4,5 @@ use Rattle.spread_routes.proofs.Routed.{spread_is_routing}
 
 pub spread_by_is_routing : SpreadByIsRouting
 unfolding spread_by
-spread_by_is_routing graph leaves order good =
-    spread_is_routing graph (record { keys = keys_by graph leaves order; number = number_there (grading_of graph leaves order) }) good
+spread_by_is_routing graph leaves most order good =
+    spread_is_routing graph (record { keys = keys_by graph leaves order; number = number_there (grading_of graph leaves most order) }) good

@@ -15,10 +15,10 @@ use Rattle.subnet_view.specs.GraphLaws.{IsGraph}
 use Rattle.subnet_view.specs.Routing.{Routing, IsRouting}
 
 -- what the rule is given: the key of each switch, by rising GUID, and the number by which a packet for a LID takes one
--- of some edges at a position
+-- of some edges at a position, towards another position
 pub record Spreading : Type 0 where
   pub keys : List VertexKey
-  pub number : ℕ → ℕ → List Edge → ℕ
+  pub number : ℕ → ℕ → ℕ → List Edge → ℕ
 
 -- the edges of each switch, to the indices of switches
 abbrev pub by_index : List SwitchEdges → List (List Edge)
@@ -40,13 +40,13 @@ switch_there graph keys p = at_position (guids_of graph) (at_position (order_by_
 abbrev pub by_positions : List SwitchEdges → List VertexKey → List (List Edge)
 by_positions graph keys = grown (by_index graph) (before_by keys)
 
--- the edge that a packet for the LID takes at position p, by its number, counted round
-abbrev pub taken : Spreading → ℕ → ℕ → List Edge → Option Edge
-taken by lid p edges = chosen edges (by.number lid p edges)
+-- the edge that a packet for the LID takes at position p towards position q, by its number, counted round
+abbrev pub taken : Spreading → ℕ → ℕ → ℕ → List Edge → Option Edge
+taken by lid p q edges = chosen edges (by.number lid p q edges)
 
 -- the edge by which a packet for the LID leaves the switch at position p for the one at position q
 abbrev pub edge_to : List SwitchEdges → Spreading → ℕ → ℕ → ℕ → Option Edge
-edge_to graph by lid p q = taken by lid p (candidates (by_positions graph by.keys) q p)
+edge_to graph by lid p q = taken by lid p q (candidates (by_positions graph by.keys) q p)
 
 -- the rule: the port of that edge; the cost and the channels by positions
 abbrev pub spread : List SwitchEdges → Spreading → Routing

@@ -1,6 +1,7 @@
--- The rule, given only the wires, the leaf switches and what the order grows by: the keys, and which of its edges a LID
--- takes.
+-- The rule, given only the wires, the leaf switches, the most adapters at one of them and what the order grows by: the
+-- keys, and which of its edges a LID takes.
 use Rattle.std.specs.Prelude.{◌≡◌, ℕ, Bool, List, [], map, filter, length, nat_lt, ◌+◌, ◌/◌, ◌%◌, slice_index, if◌then◌else◌}
+use Rattle.std.specs.Prelude.{Option, None, Some}
 use Rattle.std.specs.List.{list_any}
 use Rattle.port_graph.specs.declared.edge.Edge.{Edge}
 use Rattle.spread_labels.specs.declared.vertex_key.VertexKey.{VertexKey}
@@ -14,14 +15,17 @@ use Rattle.subnet_view.specs.GraphLaws.{IsGraph}
 use Rattle.subnet_view.specs.Routing.{Routing, IsRouting}
 use Rattle.trial_loads.specs.LeastLoaded.{least_loaded_keys}
 use Rattle.spread_routes.specs.declared.lid_digit.LidDigit.{LidDigit}
-use Rattle.spread_routes.specs.Rule.{by_index, order_by_keys, spread}
-use Rattle.spread_routes.specs.SwitchOrders.{OrderValue, as_named, from_roots, least_loaded, keys_as_named, switches_by_keys}
+use Rattle.spread_routes.specs.EndChoices.{EndChoices, choice_towards, end_choices}
+use Rattle.spread_routes.specs.Rule.{by_index, by_positions, order_by_keys, spread}
+use Rattle.spread_routes.specs.SwitchOrders.{OrderValue, as_named, balanced_as, from_roots, least_loaded, keys_as_named, named_in, switches_by_keys}
 
--- what the rule goes by: the wires, and each switch's key and level, by rising GUID
+-- what the rule goes by: the wires, each switch's key and level, by rising GUID, and the choices of ends if loads are
+-- balanced
 pub record Grading : Type 0 where
   pub graph : List SwitchEdges
   pub keys : List VertexKey
   pub levels : List ℕ
+  pub choices : Option EndChoices
 
 -- the level of the switch at position p
 abbrev pub level_there : Grading → ℕ → ℕ
@@ -48,9 +52,15 @@ goes_higher by p edges = list_any (λ e. nat_lt (level_there by p) (level_there 
 abbrev pub number_by : LidDigit → Bool → ℕ → ℕ
 number_by lid_digit higher lid = (if higher then lid / lid_digit.digit_weight else lid) + lid_digit.offset
 
--- the number of a LID at position p, if these edges can be taken
-abbrev pub number_there : Grading → ℕ → ℕ → List Edge → ℕ
-number_there by lid p edges = number_by (lid_digit_there by p) (goes_higher by p edges) lid
+-- the number of a LID at position p towards position q: its choice if loads are balanced, and otherwise this number
+abbrev pub number_with : Option EndChoices → ℕ → ℕ → ℕ → ℕ → ℕ
+number_with None number lid p q = number
+number_with (Some choices) number lid p q = choice_towards choices lid p q
+
+-- the number of a LID at position p towards position q, if these edges can be taken
+abbrev pub number_there : Grading → ℕ → ℕ → ℕ → List Edge → ℕ
+number_there by lid p q edges =
+    number_with by.choices (number_by (lid_digit_there by p) (goes_higher by p edges) lid) lid p q
 
 -- the rule by a grading
 abbrev pub spread_at : Grading → Routing
@@ -74,36 +84,54 @@ keys_least_loaded graph leaves =
 abbrev pub keys_by : List SwitchEdges → List ℕ → OrderValue → List VertexKey
 keys_by graph leaves (from_roots roots) = keys_from_roots graph leaves roots
 keys_by graph leaves (as_named switches) = keys_as_named graph switches
+keys_by graph leaves (balanced_as switches) = keys_as_named graph switches
 keys_by graph leaves least_loaded = keys_least_loaded graph leaves
 
--- what the rule goes by, given the leaf switches and the order
-abbrev pub grading_of : List SwitchEdges → List ℕ → OrderValue → Grading
-grading_of graph leaves order =
+-- the positions of the leaf switches in the order that grows by these keys
+abbrev pub leaf_positions : List SwitchEdges → List VertexKey → List ℕ → List ℕ
+leaf_positions graph keys leaves = map (position_of (order_by_keys graph keys)) (indices_of graph leaves)
+
+-- the balanced choices in that order, if each leaf switch has `most` ends
+abbrev pub balanced_by : List SwitchEdges → List VertexKey → List ℕ → ℕ → EndChoices
+balanced_by graph keys leaves most = end_choices (by_positions graph keys) (leaf_positions graph keys leaves) most
+
+-- the choices of ends, if loads are balanced
+abbrev pub choices_by : List SwitchEdges → List VertexKey → List ℕ → ℕ → OrderValue → Option EndChoices
+choices_by graph keys leaves most (from_roots roots) = None
+choices_by graph keys leaves most (as_named switches) = None
+choices_by graph keys leaves most (balanced_as switches) = Some (balanced_by graph keys leaves most)
+choices_by graph keys leaves most least_loaded = Some (balanced_by graph keys leaves most)
+
+-- what the rule goes by, given the leaf switches, the most adapters at one of them, and the order
+abbrev pub grading_of : List SwitchEdges → List ℕ → ℕ → OrderValue → Grading
+grading_of graph leaves most order =
     record {
       graph = graph;
       keys = keys_by graph leaves order;
-      levels =
-          levels_of (by_index graph) (indices_of graph leaves);
+      levels = levels_of (by_index graph) (indices_of graph leaves);
+      choices = choices_by graph (keys_by graph leaves order) leaves most order;
     }
 
 -- the whole rule
-unfoldable pub spread_by : List SwitchEdges → List ℕ → OrderValue → Routing
-spread_by graph leaves order = spread_at (grading_of graph leaves order)
+unfoldable pub spread_by : List SwitchEdges → List ℕ → ℕ → OrderValue → Routing
+spread_by graph leaves most order = spread_at (grading_of graph leaves most order)
 
 -- the whole rule is a rule of routing
 abbrev pub SpreadByIsRouting : Type 0
-SpreadByIsRouting = (graph : List SwitchEdges) (leaves : List ℕ) (order : OrderValue) → IsGraph graph
-    → IsRouting graph (spread_by graph leaves order)
+SpreadByIsRouting = (graph : List SwitchEdges) (leaves : List ℕ) (most : ℕ) (order : OrderValue) → IsGraph graph
+    → IsRouting graph (spread_by graph leaves most order)
 
 -- the switches in the order by which the rule goes
 unfoldable pub switches_in_order : List SwitchEdges → List ℕ → OrderValue → List ℕ
 switches_in_order graph leaves order = switches_by_keys graph (keys_by graph leaves order)
 
 -- named in the order by which the rule goes, the switches are in that order again, and packets are routed as before
-pub record OrderStands (graph : List SwitchEdges) (leaves : List ℕ) (by : OrderValue) : Type 0 where
-  pub order : switches_in_order graph leaves (as_named (switches_in_order graph leaves by)) ≡ switches_in_order graph leaves by
-  pub routing : spread_by graph leaves (as_named (switches_in_order graph leaves by)) ≡ spread_by graph leaves by
+pub record OrderStands (graph : List SwitchEdges) (leaves : List ℕ) (most : ℕ) (by : OrderValue) : Type 0 where
+  pub order : switches_in_order graph leaves (named_in by (switches_in_order graph leaves by))
+      ≡ switches_in_order graph leaves by
+  pub routing : spread_by graph leaves most (named_in by (switches_in_order graph leaves by))
+      ≡ spread_by graph leaves most by
 
 abbrev pub OrdersStand : Type 0
-OrdersStand = (graph : List SwitchEdges) (leaves : List ℕ) (order : OrderValue) → IsGraph graph
-    → OrderStands graph leaves order
+OrdersStand = (graph : List SwitchEdges) (leaves : List ℕ) (most : ℕ) (order : OrderValue) → IsGraph graph
+    → OrderStands graph leaves most order

@@ -1,24 +1,41 @@
--- What the order of switches grows by: roots, a list that names switches, or the least trial load.
-use Rattle.std.specs.Prelude.{ℕ, List, map}
+-- What the order of switches grows by: roots, a list that names switches, or the least trial load; and whether loads are
+-- balanced.
+use Rattle.std.specs.Prelude.{ℕ, Bool, true, false, List, map}
 use Rattle.spread_labels.specs.declared.vertex_key.VertexKey.{VertexKey}
 use Rattle.spread_labels.specs.Orders.{at_position, position_of}
 use Rattle.subnet_view.specs.SwitchEdges.{SwitchEdges}
 use Rattle.subnet_view.specs.Graph.{guids_of}
 use Rattle.spread_routes.specs.declared.switch_order.SwitchOrder.{SwitchOrder}
-use Rattle.spread_routes.specs.declared.switch_order.SwitchOrder.TheVariants.{FromRoots, AsNamed, LeastLoaded}
+use Rattle.spread_routes.specs.declared.switch_order.SwitchOrder.TheVariants.{FromRoots, AsNamed, BalancedAs, LeastLoaded}
 use Rattle.spread_routes.specs.Rule.{order_by_keys}
 
 -- from these roots, possibly none; as these switches are named; or by the keys of the least trial load, among those
--- that are tried
+-- that are tried. With the last one loads are balanced, and with an order that is named if that is asked for
 pub data OrderValue : Type 0 where
   from_roots : List ℕ → OrderValue
   as_named : List ℕ → OrderValue
+  balanced_as : List ℕ → OrderValue
   least_loaded : OrderValue
 
 abbrev pub order_value_of : SwitchOrder → OrderValue
 order_value_of (FromRoots roots) = from_roots roots.items
 order_value_of (AsNamed switches) = as_named switches.items
+order_value_of (BalancedAs switches) = balanced_as switches.items
 order_value_of LeastLoaded = least_loaded
+
+-- whether loads are balanced
+abbrev pub is_balanced : OrderValue → Bool
+is_balanced (from_roots roots) = false
+is_balanced (as_named switches) = false
+is_balanced (balanced_as switches) = true
+is_balanced least_loaded = true
+
+-- the order in which these switches are named, with loads balanced if they were
+abbrev pub named_in : OrderValue → List ℕ → OrderValue
+named_in (from_roots roots) switches = as_named switches
+named_in (as_named before) switches = as_named switches
+named_in (balanced_as before) switches = balanced_as switches
+named_in least_loaded switches = balanced_as switches
 
 -- the key of switch g by a list: how many stand before it there; all of them if it is not named
 abbrev pub key_as_named : List ℕ → ℕ → VertexKey

@@ -11,7 +11,8 @@ use Rattle.subnet_view.specs.GraphLaws.{IsGraph}
 use Rattle.subnet_view.specs.SwitchGraph.{switch_at}
 use Rattle.spread_routes.specs.declared.lid_digit.LidDigit.{LidDigit}
 use Rattle.spread_routes.specs.Rule.{by_positions, order_by_keys}
-use Rattle.spread_routes.specs.Spread.{Grading, number_by, lid_digit_there, spread_at}
+use Rattle.spread_routes.specs.EndChoices.{EndChoices}
+use Rattle.spread_routes.specs.Spread.{Grading, number_by, number_with, lid_digit_there, spread_at}
 
 -- the LID digit of no switch
 abbrev pub no_lid_digit : LidDigit
@@ -44,11 +45,15 @@ pub record AreTowards (by : Grading) (towards : TowardsValue) : Type 0 where
       ≡ candidates (by_positions by.graph by.keys) (position_of (order_by_keys by.graph by.keys) (towards.first + k)) p
 
 -- how packets leave a switch: the ports of its candidates towards each target, the targets for which one of them leads
--- to a higher switch, and the switch's LID digit
+-- to a higher switch, and the switch's LID digit; the choices of ends if loads are balanced, and the positions of the
+-- switch and of the targets
 pub record ExitsValue : Type 0 where
   pub ports : List (List ℕ)
   pub higher : TargetSet
   pub lid_digit : LidDigit
+  pub choices : Option EndChoices
+  pub own : ℕ
+  pub targets : List ℕ
 
 -- the port with this number, counted round
 abbrev pub port_chosen : List ℕ → ℕ → Option ℕ
@@ -59,10 +64,15 @@ port_chosen (port ∷ ports) choice = slice_get (port ∷ ports) (choice % lengt
 abbrev pub port_turn : List ℕ → ℕ → ℕ
 port_turn ports choice = slice_index ports (choice % length ports)
 
+-- the number by which a LID takes one of the ports towards target k
+abbrev pub exit_number : ExitsValue → ℕ → ℕ → ℕ
+exit_number exits k lid =
+    number_with exits.choices (number_by exits.lid_digit (has exits.higher k) lid) lid exits.own
+    (slice_index exits.targets k)
+
 -- the port that a LID takes towards target k
 abbrev pub port_by : ExitsValue → ℕ → ℕ → Option ℕ
-port_by exits k lid =
-    port_chosen (slice_index_or exits.ports k []) (number_by exits.lid_digit (has exits.higher k) lid)
+port_by exits k lid = port_chosen (slice_index_or exits.ports k []) (exit_number exits k lid)
 
 -- these exits give, for each LID and each target, the port by which the rule leaves the switch at index `own`
 abbrev pub AreExits : Grading → TowardsValue → ℕ → ExitsValue → Type 0

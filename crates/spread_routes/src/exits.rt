@@ -3,9 +3,12 @@ ghost use Rattle.std.specs.Prelude.{◌≡◌, ◌<◌, ◌^◌, [], All, OnOk, 
 ghost use Rattle.std.specs.Prelude.{unwrap_or};
 ghost use Rattle.spread_labels.specs.TargetSets.{EachTarget};
 ghost use Rattle.spread_labels.specs.MarkSets.{picked};
+ghost use Rattle.std.specs.Option.{option_copied};
+ghost use Rattle.spread_routes.specs.EndChoices.{choice_towards};
 ghost use Rattle.spread_routes.specs.Spread.{number_by};
 ghost use Rattle.spread_routes.specs.Tables.{port_by, port_turn, with_entries};
 
+use crate::end_choices::EndChoices;
 use crate::lid_digit::LidDigit;
 use port_graph::Edge;
 use smp_bytes::{Lid, PortNum};
@@ -15,25 +18,39 @@ use std::marker::Model;
 
 /// The ports by which packets may leave a switch towards each of some targets, and which of them a LID takes.
 #[derive(Drop)]
-pub struct Exits {
+pub struct Exits<'s> {
     lists: CandidateLists,
     /// The targets for which one of the edges leads to a higher switch.
     higher: TargetSet,
     lid_digit: LidDigit,
+    /// The choices of ends, if loads are balanced.
+    choices: Option<&'s EndChoices>,
+    /// The position of the switch.
+    own: usize,
+    /// The positions of the targets.
+    targets: &'s [usize],
 }
 
-impl Model for Exits {
+impl<'s> Model for Exits<'s> {
     ghost use Rattle.std.specs.Prelude.{◌<◌};
+    ghost use Rattle.std.specs.Option.{option_copied};
     ghost use Rattle.spread_routes.specs.Tables.{ExitsValue};
 
     ghost Value = { ExitsValue };
 
-    ghost view = { λ a. record { ports = a.lists; higher = a.higher; lid_digit = a.lid_digit } };
+    ghost view = { λ a. record {
+      ports = a.lists;
+      higher = a.higher;
+      lid_digit = a.lid_digit;
+      choices = option_copied a.choices;
+      own = a.own;
+      targets = a.targets.now;
+    } };
 
     ghost invariant = { λ a. 0 < a.lid_digit.digit_weight };
 }
 
-impl Exits {
+impl<'s> Exits<'s> {
     /// Creates exits without ports.
     pub fn new(alloc: Global) -> Result<Self, AllocError> {
         Ok(Exits {
@@ -44,7 +61,29 @@ impl Exits {
                 digit_weight: 1,
                 offset: 0,
             },
+            choices: None,
+            own: 0,
+            targets: &[],
         })
+    }
+
+    /// Sets by what LIDs choose among the ports: the choices of ends, if there are some, at the position `own` towards
+    /// the positions `targets`.
+    pub(crate) fn choose_by(
+        &mut self,
+        choices: Option<&'s EndChoices>,
+        own: usize,
+        targets: &'s [usize],
+    )
+        ensures { self.new ≡ record self.old {
+          choices = option_copied choices;
+          own = own;
+          targets = targets.now;
+        } }
+    {
+        self.choices = choices;
+        self.own = own;
+        self.targets = targets;
     }
 
     /// Sets the exits of a switch: `edges[i]` is a candidate towards each target in `sets[i]`.
@@ -61,6 +100,9 @@ impl Exits {
             ≡ map (λ edge. edge.port) (picked k sets.now edges.now))) }
         ensures higher { self.new.higher ≡ higher }
         ensures lid_digit { self.new.lid_digit ≡ lid_digit }
+        ensures choices { self.new.choices ≡ self.old.choices }
+        ensures own { self.new.own ≡ self.old.own }
+        ensures targets { self.new.targets ≡ self.old.targets }
     {
         self.lid_digit = lid_digit;
         self.higher = higher;
@@ -80,16 +122,62 @@ impl Exits {
         let ports = self.lists.at(target);
         if ports.is_empty() {
             write_none(entries, lids, none);
-        } else {
-            write_ports(
+            return;
+        }
+        match self.choices {
+            Some(choices) => write_chosen(
+                entries,
+                lids,
+                numbers,
+                ports,
+                choices,
+                self.own,
+                self.position_of(target),
+            ),
+            None => write_ports(
                 entries,
                 lids,
                 numbers,
                 ports,
                 &self.lid_digit,
                 self.higher.has(target),
-            );
+            ),
         }
+    }
+
+    /// Returns the position of a target; 0 if there is no such target.
+    fn position_of(&self, target: usize) -> usize
+        ensures { result ≡ slice_index self.now.targets target }
+    {
+        match self.targets.get(target) {
+            Some(position) => *position,
+            None => 0,
+        }
+    }
+}
+
+/// Writes for each LID the port of `ports` that it takes by its choice at the position `own` towards the position
+/// `target`.
+fn write_chosen(
+    entries: &mut [u8],
+    lids: &[Lid],
+    numbers: &[u16],
+    ports: &[PortNum],
+    choices: &EndChoices,
+    own: usize,
+    target: usize,
+)
+    requires ports { 0 < length ports.now }
+    requires lids { All (λ lid. lid < length entries.old) lids.now }
+    requires numbers { length numbers.now ≡ length entries.old }
+    ensures { entries.new ≡ with_entries
+        (λ lid. port_turn ports.now (choice_towards choices.now (slice_index numbers.now lid) own target))
+        entries.old lids.now }
+{
+    for lid in lids {
+        let lid = usize::from(lid.number());
+        let end = choices.end_of(number_of(numbers, lid), target);
+        entries[lid] = ports[choices.at(end, own) % ports.len()].number();
     }
 }
 

@@ -1,6 +1,7 @@
 //! A rule of routing that spreads routes over the wires.
 #![tactic(auto)]
 
+mod end_choices;
 mod exits;
 mod index;
 pub mod laws;

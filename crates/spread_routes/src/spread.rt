@@ -1,15 +1,19 @@
-ghost use Rattle.std.specs.Prelude.{◌≡◌, ◌<◌, ◌+◌, IfOk, OnOk, length, min};
-ghost use Rattle.spread_routes.specs.Spread.{grading_of};
-ghost use Rattle.spread_routes.specs.SwitchOrders.{order_value_of};
+ghost use Rattle.std.specs.Prelude.{◌≡◌, ◌<◌, ◌+◌, All, IfOk, None, OnOk, Some, length, map, min, slice_index};
+ghost use Rattle.spread_routes.specs.Spread.{balanced_by, grading_of};
+ghost use Rattle.spread_routes.specs.SwitchOrders.{is_balanced, order_value_of};
 ghost use Rattle.spread_routes.specs.Tables.{AreExits, AreTowards};
 
 use crate::SwitchOrder;
+use crate::end_choices::EndChoices;
 use crate::exits::Exits;
+use crate::index::indices;
 use crate::lid_digit::{LidDigit, higher_targets, lid_digits};
 use crate::switch_keys::{SwitchKeys, switch_keys};
 use port_graph::Adjacency;
 use smp_bytes::Guid;
-use spread_labels::{CandidateSets, TARGETS, VertexKey, by_positions, grown_order, positions};
+use spread_labels::{
+    CandidateSets, TARGETS, VertexKey, by_positions, grown_order, positions, positions_at,
+};
 use std::alloc::{AllocError, Global};
 use std::marker::Model;
 use subnet_view::SwitchGraph;
@@ -62,6 +66,8 @@ pub struct Spread<'g> {
     edges: Adjacency,
     /// The LID digit of the switch at each position.
     lid_digits: Vec<LidDigit>,
+    /// The choices of ends, if loads are balanced.
+    choices: Option<EndChoices>,
 }
 
 impl<'g> Model for Spread<'g> {
@@ -74,31 +80,53 @@ impl<'g> Model for Spread<'g> {
       graph = a.graph.now;
       keys = a.keys.items;
       levels = a.levels.items;
+      choices = a.choices;
     } };
 
     ghost invariant = { λ a. IsByPositions
-        (record { graph = a.graph.now; keys = a.keys.items; levels = a.levels.items })
+        (record { graph = a.graph.now; keys = a.keys.items; levels = a.levels.items; choices = a.choices })
         a.edges a.positions.items a.lid_digits.items };
 }
 
 impl<'g> Spread<'g> {
-    /// Computes the routes, given the leaf switches and what the order of switches grows by. Ignores GUIDs that are no
-    /// switch of the graph. Takes a breadth-first search from each leaf switch and each root, two for each component if
-    /// the order grows from roots, and a search for each switch that is named.
+    /// Computes the routes, given the leaf switches, the most adapters at one of them, and what the order of switches
+    /// grows by. Ignores GUIDs that are no switch of the graph. Takes a breadth-first search from each leaf switch and
+    /// each root, two for each component if the order grows from roots, and a search for each switch that is named. If
+    /// loads are balanced, takes what `balanced_choices` takes besides.
     pub fn of(
         alloc: Global,
         graph: &'g SwitchGraph,
         leaves: &[Guid],
+        most: usize,
         order: &SwitchOrder,
     ) -> Result<Self, AllocError>
         ensures { IfOk result (λ spread.
-            spread ≡ grading_of graph.now leaves.now (order_value_of order.now)) }
+            spread ≡ grading_of graph.now leaves.now most (order_value_of order.now)) }
     {
         let SwitchKeys { keys, levels } = switch_keys(alloc, graph, leaves, order)?;
-        Spread::by_keys(alloc, graph, keys, levels)
+        let spread = Spread::by_keys(alloc, graph, keys, levels)?;
+        if order.is_balanced() {
+            spread.balanced(alloc, leaves, most)
+        } else {
+            Ok(spread)
+        }
     }
 
-    /// Computes the routes, given the keys and the levels of switches.
+    /// Balances the loads of the routes, if each leaf switch has `most` ends.
+    fn balanced(self, alloc: Global, leaves: &[Guid], most: usize) -> Result<Self, AllocError>
+        ensures { IfOk result (λ spread. spread
+            ≡ record self { choices = Some (balanced_by self.graph self.keys leaves.now most) }) }
+    {
+        let leaves = indices(alloc, self.graph, leaves)?;
+        let leaves = positions_at(alloc, &self.positions, &leaves)?;
+        let choices = EndChoices::of(alloc, &self.edges, leaves, most)?;
+        Ok(Spread {
+            choices: Some(choices),
+            ..self
+        })
+    }
+
+    /// Computes the routes, given the keys and the levels of switches, if loads are not balanced.
     fn by_keys(
         alloc: Global,
         graph: &'g SwitchGraph,
@@ -108,7 +136,7 @@ impl<'g> Spread<'g> {
         requires keys { length keys.items ≡ length graph.now }
         requires levels { length levels.items ≡ length graph.now }
         ensures { IfOk result (λ spread. spread
-            ≡ record { graph = graph.now; keys = keys.items; levels = levels.items }) }
+            ≡ record { graph = graph.now; keys = keys.items; levels = levels.items; choices = None }) }
     {
         let edges = graph.adjacency();
         let order = grown_order(alloc, edges, &keys)?;
@@ -122,6 +150,7 @@ impl<'g> Spread<'g> {
             positions,
             edges,
             lid_digits,
+            choices: None,
         })
     }
 
@@ -141,11 +170,11 @@ impl<'g> Spread<'g> {
 
     /// Finds how packets leave the switch at index `own` towards each target. Replaces what `exits` had before. Takes a
     /// step or two for each edge, and one for each candidate.
-    pub fn exits_from(
-        &self,
+    pub fn exits_from<'s>(
+        &'s self,
         own: usize,
         towards: &Towards,
-        exits: &mut Exits,
+        exits: &mut Exits<'s>,
     ) -> Result<(), AllocError>
         requires own { own < length self.now.graph }
         requires towards { AreTowards self.now towards.now }
@@ -156,6 +185,8 @@ impl<'g> Spread<'g> {
         let sets = towards.sets.at(position);
         let lid_digit = self.lid_digits[position];
         let higher = higher_targets(&self.lid_digits, &lid_digit, edges, sets);
+        let targets = &self.positions[towards.first..towards.end];
+        exits.choose_by(self.choices.as_ref(), position, targets);
         exits.find(lid_digit, higher, edges, sets)
     }
 }

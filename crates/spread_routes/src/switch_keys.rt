@@ -66,7 +66,9 @@ pub(crate) fn switch_keys(
 {
     match order {
         SwitchOrder::FromRoots { roots } => from_roots(alloc, graph, leaves, roots),
-        SwitchOrder::AsNamed { switches } => as_named(alloc, graph, leaves, switches),
+        SwitchOrder::AsNamed { switches } | SwitchOrder::BalancedAs { switches } => {
+            as_named(alloc, graph, leaves, switches)
+        }
         SwitchOrder::LeastLoaded => least_loaded(alloc, graph, leaves),
     }
 }

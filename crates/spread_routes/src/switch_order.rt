@@ -1,5 +1,5 @@
 ghost use Rattle.std.specs.Prelude.{◌≡◌, IfOk};
-ghost use Rattle.spread_routes.specs.SwitchOrders.{order_value_of};
+ghost use Rattle.spread_routes.specs.SwitchOrders.{is_balanced, order_value_of};
 
 use smp_bytes::Guid;
 use std::alloc::{AllocError, Global};
@@ -18,12 +18,27 @@ pub enum SwitchOrder {
         /// The switches. Those that are missing come behind, by rising GUID; GUIDs that are no switch are ignored.
         switches: Vec<Guid>,
     },
-    /// The least load of the busiest channel: of the order without roots and the orders by depth from the eight
+    /// A list that names switches, with loads balanced.
+    BalancedAs {
+        /// The switches, as in `AsNamed`.
+        switches: Vec<Guid>,
+    },
+    /// The least load of the busiest channel, with loads balanced: of the order without roots and the orders by depth from the eight
     /// switches of least GUID, forwards and backwards, the first whose trial load between the leaf switches is least.
     LeastLoaded,
 }
 
 impl SwitchOrder {
+    /// Returns whether loads are balanced.
+    pub(crate) fn is_balanced(&self) -> bool
+        ensures { result ≡ is_balanced (order_value_of self.now) }
+    {
+        matches!(
+            self,
+            SwitchOrder::BalancedAs { .. } | SwitchOrder::LeastLoaded
+        )
+    }
+
     /// Returns a copy. Takes one step for each GUID.
     pub fn try_clone(&self, alloc: Global) -> Result<Self, AllocError>
         ensures { IfOk result (λ copy. order_value_of copy ≡ order_value_of self.now) }
@@ -33,6 +48,9 @@ impl SwitchOrder {
                 roots: Vec::from_slice(alloc, roots)?,
             }),
             SwitchOrder::AsNamed { switches } => Ok(SwitchOrder::AsNamed {
+                switches: Vec::from_slice(alloc, switches)?,
+            }),
+            SwitchOrder::BalancedAs { switches } => Ok(SwitchOrder::BalancedAs {
                 switches: Vec::from_slice(alloc, switches)?,
             }),
             SwitchOrder::LeastLoaded => Ok(SwitchOrder::LeastLoaded),

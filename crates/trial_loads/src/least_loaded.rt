@@ -2,14 +2,13 @@
 ghost use Rattle.std.specs.Prelude.{◌≡◌, ◌<◌, All, IfOk, if◌then◌else◌, length, nat_lt};
 ghost use Rattle.port_graph.specs.Heads.{LeadToVertices};
 ghost use Rattle.spread_labels.specs.LabelLaws.{IsSymmetric};
-ghost use Rattle.spread_labels.specs.Orders.{position_of};
 ghost use Rattle.trial_loads.specs.LeastLoaded.{keys_by_depth, keys_in, least_by, least_loaded_keys, tried_by_depth};
 ghost use Rattle.trial_loads.specs.TrialLoads.{trial_load};
 
 use crate::trials::trial_load;
 use depth_orders::{Direction, order_by_depth};
 use port_graph::Adjacency;
-use spread_labels::VertexKey;
+use spread_labels::{VertexKey, position_of};
 use std::alloc::{AllocError, Global};
 
 /// The greatest number of vertices from which orders by depth are tried.
@@ -124,16 +123,4 @@ fn keys_in(alloc: Global, vertices: &[usize], count: usize) -> Result<Vec<Vertex
         })?;
     }
     Ok(keys)
-}
-
-/// Returns the position of a vertex in a list, or the length of the list if it lacks the vertex.
-fn position_of(vertices: &[usize], vertex: usize) -> usize
-    ensures { result ≡ position_of vertices.now vertex }
-{
-    for (index, other) in vertices.iter().enumerate() {
-        if *other == vertex {
-            return index;
-        }
-    }
-    vertices.len()
 }

@@ -8,7 +8,7 @@ ghost use Rattle.trial_loads.specs.TrialLoads.{carried_between, load_by, trial_l
 use crate::loads::{greatest_of, no_loads};
 use crate::shares::add_packets_between;
 use port_graph::Adjacency;
-use spread_labels::{TARGETS, VertexKey, by_positions, grown_order, positions};
+use spread_labels::{TARGETS, VertexKey, by_positions, grown_order, positions, positions_at};
 use std::alloc::{AllocError, Global};
 
 /// Returns the most that a channel carries by the order that grows by `keys`, if each vertex of `bearing` sends 65,536
@@ -30,24 +30,8 @@ pub fn trial_load(
     let vertices = grown_order(alloc, edges, keys)?;
     let positions = positions(alloc, &vertices, edges.len())?;
     let graph = by_positions(alloc, edges, &vertices, &positions)?;
-    let sources = at_positions(alloc, &positions, bearing)?;
+    let sources = positions_at(alloc, &positions, bearing)?;
     load_between(alloc, &graph, &sources)
-}
-
-/// Returns the positions of the vertices `bearing`.
-fn at_positions(
-    alloc: Global,
-    positions: &[usize],
-    bearing: &[usize],
-) -> Result<Vec<usize>, AllocError>
-    requires { All (λ vertex. vertex < length positions.now) bearing.now }
-    ensures { IfOk result (λ found. found.items ≡ map (λ vertex. slice_index positions.now vertex) bearing.now) }
-{
-    let mut found = Vec::with_capacity(alloc, bearing.len())?;
-    for vertex in bearing {
-        found.push(positions[*vertex])?;
-    }
-    Ok(found)
 }
 
 /// Returns the most that a channel carries of the packets from all sources to all of them.

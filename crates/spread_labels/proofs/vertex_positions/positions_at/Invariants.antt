@@ -1,7 +1,7 @@
 use Rattle.std.proofs.Common.{◌≡◌, map, take}
 use Rattle.std.specs.Prelude.{slice_index}
-use Rattle.trial_loads.proofs.trials.at_positions.Given as goal
+use Rattle.spread_labels.proofs.vertex_positions.positions_at.Given as goal
 
 -- the positions of the vertices so far
 abbrev pub invariant-loop-vertex : goal.invariant-loop-vertex
-invariant-loop-vertex l = l.found.items ≡ map (λ v. slice_index l.positions v) (take l.vertex-index l.bearing)
+invariant-loop-vertex l = l.found.items ≡ map (λ v. slice_index l.positions v) (take l.vertex-index l.vertices)

@@ -1,7 +1,7 @@
 -- Where it is found, or that it is not.
 use Rattle.std.proofs.Common.{◌<◌, length, arith}
 use Rattle.spread_labels.proofs.Found.{found_at, not_found}
-use Rattle.trial_loads.proofs.least_loaded.position_of.Goals as goal
+use Rattle.spread_labels.proofs.vertex_positions.position_of.Goals as goal
 
 pub returns-then-other-vertex : goal.returns-then-other-vertex
 returns-then-other-vertex c =
