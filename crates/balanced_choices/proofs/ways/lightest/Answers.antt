@@ -33,12 +33,12 @@ loop-k-preserved c =
       | then-peak-least w ↦ (
           omega (arith, few, w.best-is),
           (λ i. least_from (w.best-is i) (w.least-is i) (k + 1) rest)
-              ∙ least_next best least k peak rest (lt-ltb peak least w.if-peak-least) ∙ left,
+              ∙ least_next best least k peak rest (lt-ltb peak least w.if-peak-least.true) ∙ left,
         )
       | else-peak-least w ↦ (
           omega (arith, w.best-is, c.loop-k.invariant.0),
           (λ i. least_from (w.best-is i) (w.least-is i) (k + 1) rest)
-              ∙ least_kept best least k peak rest (le-ltb peak least w.if-peak-least) ∙ left,
+              ∙ least_kept best least k peak rest (le-ltb peak least w.if-peak-least.false) ∙ left,
         )
     ]
 
