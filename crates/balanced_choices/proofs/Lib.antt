@@ -1,0 +1,4 @@
+pub mod EdgeByEdge
+pub mod EachEnd
+pub mod InOrder
+pub mod LeastPeak

@@ -53,12 +53,7 @@ fn push_below(ways: &Adjacency, order: &mut Vec<usize>) -> Result<(), AllocError
 fn is_below(ways: &Adjacency, position: usize) -> bool
     ensures { result ≡ is_below ways.now position }
 {
-    for edge in ways.at(position) {
-        if edge.to < position {
-            return true;
-        }
-    }
-    false
+    ways.at(position).iter().any(|edge| edge.to < position)
 }
 
 /// Makes the choices for an end: in round 0 the first ones, later new ones, with which its packets take other ways.

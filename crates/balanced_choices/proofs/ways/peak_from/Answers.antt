@@ -1,7 +1,7 @@
 use Rattle.std.proofs.Common.{◌≡◌, ◌+◌, ◌-◌, ◌*◌, ℕ, List, [], ◌∷◌, max, refl, sym, ap, ◌∙◌, arith, length, get_or, map}
 use Rattle.spread_labels.specs.Levels.{greatest}
 use Rattle.balanced_choices.specs.Loads.{channel_by, edge_taken, way}
-use Rattle.balanced_choices.proofs.Ways.{none_left, way_ends, way_goes}
+use Rattle.balanced_choices.proofs.EdgeByEdge.{none_left, way_ends, way_goes}
 use Rattle.balanced_choices.proofs.ways.peak_from.Goals as goal
 
 pub returns-in-None : goal.returns-in-None

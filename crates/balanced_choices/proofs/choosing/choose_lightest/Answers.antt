@@ -1,0 +1,17 @@
+use Rattle.std.proofs.Common.{◌≡◌, ◌+◌, ℕ, List, sym, ap, ◌∙◌, drop, get_or}
+use Rattle.balanced_choices.specs.Loads.{lightest}
+use Rattle.balanced_choices.specs.BalancedChoices.{Chosen, choose_each, with_choice}
+use Rattle.balanced_choices.proofs.InOrder.{choose_next}
+use Rattle.balanced_choices.proofs.choosing.choose_lightest.Goals as goal
+
+pub loop-position-preserved : goal.loop-position-preserved
+loop-position-preserved c =
+    let ways = c.args.ways.now in
+    let sent = c.args.sent.now in
+    let order = c.args.order.now in
+    let i = c.loop-position.position-index in
+    let p = get_or order i 0 in
+    let now : Chosen = record { choices = c.loop-position.choices; loads = c.loop-position.loads } in
+    let choice : Chosen → ℕ → ℕ = λ old q. lightest ways old.choices old.loads q in
+    ap (λ new. choose_each choice ways sent new (drop (i + 1) order)) (sym c.take.ensures ∙ ap (with_choice ways sent now p) c.lightest-choice.ensures)
+    ∙ choose_next choice ways sent now order i c.loop-position-test.true ∙ c.loop-position.invariant
