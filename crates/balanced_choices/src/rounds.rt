@@ -115,9 +115,10 @@ fn choose_all(
     requires ends { length choices.old ≡ ends_of 0 destinations.now }
     requires choices { All (λ own. length own.items ≡ length graph.now) choices.old }
     requires loads { length loads.old ≡ 256 * length graph.now }
-    ensures { OnOk result (let before : Balance = record { choices = map (λ own. own.items) choices.old; loads = loads.old } in
+    ensures balance { OnOk result (let before : Balance = record { choices = map (λ own. own.items) choices.old; loads = loads.old } in
         with_all round graph.now sent.now before 0 destinations.now
         ≡ record { choices = map (λ own. own.items) choices.new; loads = loads.new }) }
+    ensures long { OnOk result (All (λ own. length own.items ≡ length graph.now) choices.new) }
 {
     let mut first = 0;
     let mut end = 0;
@@ -160,6 +161,7 @@ fn choose_some(
     ensures balance { OnOk result (let before : Balance = record { choices = map (λ own. own.items) choices.old; loads = loads.old } in
         with_all round graph.now sent.now before first destinations.now
         ≡ record { choices = map (λ own. own.items) choices.new; loads = loads.new }) }
+    ensures long { OnOk result (All (λ own. length own.items ≡ length graph.now) choices.new) }
     ensures next { IfOk result (λ end. end ≡ ends_of first destinations.now) }
 {
     let targets = positions_of(alloc, destinations)?;
@@ -201,9 +203,10 @@ fn choose_between(
     requires ends { (first ≤ last) × (last ≤ length choices.old) }
     requires choices { All (λ own. length own.items ≡ length ways.now) choices.old }
     requires loads { length loads.old ≡ 256 * length ways.now }
-    ensures { let before : Balance = record { choices = map (λ own. own.items) choices.old; loads = loads.old } in
+    ensures balance { let before : Balance = record { choices = map (λ own. own.items) choices.old; loads = loads.old } in
         with_ends round ways.now sent.now order.now before (numbers_from first (last - first))
         ≡ record { choices = map (λ own. own.items) choices.new; loads = loads.new } }
+    ensures long { All (λ own. length own.items ≡ length ways.now) choices.new }
 {
     for end in first..last {
         choose(round, ways, order, sent, end, &mut choices[end], loads);
