@@ -170,6 +170,12 @@ fn remove_packets(ways: &Adjacency, sent: &[usize], choices: &[u8], loads: &mut 
         ≡ without_packets ways.now sent.now choices.now loads.old (numbers_from 0 (length ways.now)) }
 {
     for position in 0..ways.len() {
-        change_way(ways, choices, loads, position, Change::Remove(sent[position]));
+        change_way(
+            ways,
+            choices,
+            loads,
+            position,
+            Change::Remove(sent[position]),
+        );
     }
 }

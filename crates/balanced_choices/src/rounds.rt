@@ -1,5 +1,5 @@
 //! The choices for all ends, in rounds.
-ghost use Rattle.std.specs.Prelude.{◌≡◌, ◌<◌, ◌≤◌, ◌+◌, ◌-◌, ◌*◌, ◌++◌, All, IfOk, OnOk, length, map, replicate};
+ghost use Rattle.std.specs.Prelude.{◌≡◌, ◌<◌, ◌≤◌, ◌+◌, ◌-◌, ◌*◌, ◌^◌, ◌++◌, All, IfOk, OnOk, length, map, replicate};
 ghost use Rattle.port_graph.specs.Heads.{LeadToVertices, edges_at};
 ghost use Rattle.spread_labels.specs.MarkSets.{AreRowsOf, picked, sets_at};
 ghost use Rattle.spread_labels.specs.Orders.{numbers_from};
@@ -113,6 +113,7 @@ fn choose_all(
     requires sent { length sent.now ≡ length graph.now }
     requires destinations { All (λ d. d.position < length graph.now) destinations.now }
     requires ends { length choices.old ≡ ends_of 0 destinations.now }
+    requires small { ends_of 0 destinations.now < 2 ^ 64 }
     requires choices { All (λ own. length own.items ≡ length graph.now) choices.old }
     requires loads { length loads.old ≡ 256 * length graph.now }
     ensures balance { OnOk result (let before : Balance = record { choices = map (λ own. own.items) choices.old; loads = loads.old } in
@@ -156,6 +157,7 @@ fn choose_some(
     requires few { length destinations.now ≤ 64 }
     requires destinations { All (λ d. d.position < length graph.now) destinations.now }
     requires ends { ends_of first destinations.now ≤ length choices.old }
+    requires small { ends_of first destinations.now < 2 ^ 64 }
     requires choices { All (λ own. length own.items ≡ length graph.now) choices.old }
     requires loads { length loads.old ≡ 256 * length graph.now }
     ensures balance { OnOk result (let before : Balance = record { choices = map (λ own. own.items) choices.old; loads = loads.old } in
