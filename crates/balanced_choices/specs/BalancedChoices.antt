@@ -1,6 +1,7 @@
 -- Choices among candidates that balance the loads of channels. Positions send packets to ends, which are attached at
 -- some positions. For each end, each position chooses one of its candidates.
-use Rattle.std.specs.Prelude.{ℕ, zero, suc, ◌+◌, ◌*◌, ◌%◌, Bool, not, List, [], ◌∷◌, ◌++◌, filter, length, map, replicate, reverse, slice_index, slice_index_or, slice_set}
+use Rattle.std.specs.Prelude.{ℕ, zero, suc, ◌+◌, ◌*◌, ◌%◌, Bool, not, List, []}
+use Rattle.std.specs.Prelude.{◌∷◌, ◌++◌, filter, length, map, replicate, reverse, slice_index, slice_index_or, slice_set}
 use Rattle.port_graph.specs.declared.edge.Edge.{Edge}
 use Rattle.port_graph.specs.Heads.{edges_at}
 use Rattle.spread_labels.specs.Labels.{candidates, leads_up}

@@ -1,5 +1,6 @@
 //! The choices for one end.
-ghost use Rattle.std.specs.Prelude.{◌≡◌, ◌<◌, ◌≤◌, ◌+◌, ◌*◌, ◌++◌, ◌^◌, All, IfOk, OnOk, filter, length, not, reverse, slice_index};
+ghost use Rattle.std.specs.Prelude.{◌≡◌, ◌<◌, ◌≤◌, ◌+◌, ◌*◌, ◌++◌, ◌^◌};
+ghost use Rattle.std.specs.Prelude.{All, IfOk, OnOk, filter, length, not, reverse, slice_index};
 ghost use Rattle.port_graph.specs.Heads.{edges_at};
 ghost use Rattle.spread_labels.specs.Labels.{leads_up};
 ghost use Rattle.spread_labels.specs.Orders.{numbers_from};

@@ -24,9 +24,10 @@ pub struct Destination {
 }
 
 /// Finds for each end of each destination, in their order, the number of the candidate that each position takes, if
-/// position p sends `sent[p]` packets to it. For each round and each 64 destinations, takes a step or two for each edge
-/// in each of as many rounds of labels as the greatest cost; for each end, a step for each edge of each candidate's way.
-/// Keeps a byte for each end and position.
+/// position p sends `sent[p]` packets to it. Candidates and their numbers are in the order of the position's edges; a
+/// position without candidates has number 0. Takes three rounds. In each, takes for each 64 destinations a step or two
+/// for each edge and each label, and for each end a step for each edge of each candidate's way. Keeps a byte for each
+/// end and position.
 pub fn balanced_choices(
     alloc: Global,
     graph: &Adjacency,
@@ -116,7 +117,8 @@ fn choose_all(
     requires small { ends_of 0 destinations.now < 2 ^ 64 }
     requires choices { All (λ own. length own.items ≡ length graph.now) choices.old }
     requires loads { length loads.old ≡ 256 * length graph.now }
-    ensures balance { OnOk result (let before : Balance = record { choices = map (λ own. own.items) choices.old; loads = loads.old } in
+    ensures balance { OnOk result (let before : Balance
+        = record { choices = map (λ own. own.items) choices.old; loads = loads.old } in
         with_all round graph.now sent.now before 0 destinations.now
         ≡ record { choices = map (λ own. own.items) choices.new; loads = loads.new }) }
     ensures long { OnOk result (All (λ own. length own.items ≡ length graph.now) choices.new) }
@@ -160,7 +162,8 @@ fn choose_some(
     requires small { ends_of first destinations.now < 2 ^ 64 }
     requires choices { All (λ own. length own.items ≡ length graph.now) choices.old }
     requires loads { length loads.old ≡ 256 * length graph.now }
-    ensures balance { OnOk result (let before : Balance = record { choices = map (λ own. own.items) choices.old; loads = loads.old } in
+    ensures balance { OnOk result (let before : Balance
+        = record { choices = map (λ own. own.items) choices.old; loads = loads.old } in
         with_all round graph.now sent.now before first destinations.now
         ≡ record { choices = map (λ own. own.items) choices.new; loads = loads.new }) }
     ensures long { OnOk result (All (λ own. length own.items ≡ length graph.now) choices.new) }
@@ -205,7 +208,8 @@ fn choose_between(
     requires ends { (first ≤ last) × (last ≤ length choices.old) }
     requires choices { All (λ own. length own.items ≡ length ways.now) choices.old }
     requires loads { length loads.old ≡ 256 * length ways.now }
-    ensures balance { let before : Balance = record { choices = map (λ own. own.items) choices.old; loads = loads.old } in
+    ensures balance { let before : Balance
+        = record { choices = map (λ own. own.items) choices.old; loads = loads.old } in
         with_ends round ways.now sent.now order.now before (numbers_from first (last - first))
         ≡ record { choices = map (λ own. own.items) choices.new; loads = loads.new } }
     ensures long { All (λ own. length own.items ≡ length ways.now) choices.new }
