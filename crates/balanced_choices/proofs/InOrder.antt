@@ -1,5 +1,6 @@
 -- Positions, one after the other.
-use Rattle.std.proofs.Common.{◌≡◌, ◌<◌, ◌≤◌, ◌+◌, ◌-◌, ◌++◌, ℕ, zero, suc, List, [], ◌∷◌, All, sym, ap, subst, ◌∙◌, arith, add-one, append-nil, append_assoc, true, false, Bool, cond, drop, get_or, length, map}
+use Rattle.std.proofs.Common.{◌≡◌, ◌<◌, ◌≤◌, ◌+◌, ◌-◌, ◌++◌, ℕ, zero, suc, List, [], ◌∷◌, All, sym}
+use Rattle.std.proofs.Common.{ap, subst, ◌∙◌, arith, add-one, append-nil, append_assoc, true, false, Bool, cond, drop, get_or, length, map}
 use Rattle.std.proofs.lemmas.List.{drop_more, map-append, reverse-append}
 use Rattle.std.proofs.lemmas.List.Elements.{All-append, All-cons, All-filter, All-nil}
 use Rattle.std.specs.Prelude.{filter, not, reverse}

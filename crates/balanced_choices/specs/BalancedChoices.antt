@@ -1,11 +1,11 @@
 -- Choices among candidates that balance the loads of channels. Positions send packets to ends, which are attached at
 -- some positions. For each end, each position chooses one of its candidates.
-use Rattle.std.specs.Prelude.{ℕ, zero, suc, ◌+◌, ◌*◌, ◌%◌, Bool, not, List, [], ◌∷◌, ◌++◌, filter, length, map, replicate, reverse, slice_index, slice_index_or, slice_set}
+use Rattle.std.specs.Prelude.{ℕ, zero, suc, ◌+◌, ◌*◌, ◌%◌, Bool, not, List, []}
+use Rattle.std.specs.Prelude.{◌∷◌, ◌++◌, filter, length, map, replicate, reverse, slice_index, slice_index_or, slice_set}
 use Rattle.port_graph.specs.declared.edge.Edge.{Edge}
 use Rattle.port_graph.specs.Heads.{edges_at}
 use Rattle.spread_labels.specs.Labels.{candidates, leads_up}
 use Rattle.spread_labels.specs.Orders.{numbers_from}
-use Rattle.balanced_choices.specs.declared.ways.Change.{Change}
 use Rattle.balanced_choices.specs.declared.ways.Change.TheVariants.{Add, Remove}
 use Rattle.balanced_choices.specs.declared.rounds.Destination.{Destination}
 use Rattle.balanced_choices.specs.Loads.{candidates_at, lightest, way_from, with_changes}

@@ -1,5 +1,6 @@
 //! The choices for one end.
-ghost use Rattle.std.specs.Prelude.{◌≡◌, ◌<◌, ◌≤◌, ◌+◌, ◌*◌, ◌++◌, ◌^◌, All, IfOk, OnOk, filter, length, not, reverse, slice_index};
+ghost use Rattle.std.specs.Prelude.{◌≡◌, ◌<◌, ◌≤◌, ◌+◌, ◌*◌, ◌++◌, ◌^◌};
+ghost use Rattle.std.specs.Prelude.{All, IfOk, OnOk, filter, length, not, reverse, slice_index};
 ghost use Rattle.port_graph.specs.Heads.{edges_at};
 ghost use Rattle.spread_labels.specs.Labels.{leads_up};
 ghost use Rattle.spread_labels.specs.Orders.{numbers_from};
@@ -170,6 +171,12 @@ fn remove_packets(ways: &Adjacency, sent: &[usize], choices: &[u8], loads: &mut 
         ≡ without_packets ways.now sent.now choices.now loads.old (numbers_from 0 (length ways.now)) }
 {
     for position in 0..ways.len() {
-        change_way(ways, choices, loads, position, Change::Remove(sent[position]));
+        change_way(
+            ways,
+            choices,
+            loads,
+            position,
+            Change::Remove(sent[position]),
+        );
     }
 }

@@ -1,5 +1,5 @@
 //! The choices for all ends, in rounds.
-ghost use Rattle.std.specs.Prelude.{◌≡◌, ◌<◌, ◌≤◌, ◌+◌, ◌-◌, ◌*◌, ◌++◌, All, IfOk, OnOk, length, map, replicate};
+ghost use Rattle.std.specs.Prelude.{◌≡◌, ◌<◌, ◌≤◌, ◌+◌, ◌-◌, ◌*◌, ◌^◌, ◌++◌, All, IfOk, OnOk, length, map, replicate};
 ghost use Rattle.port_graph.specs.Heads.{LeadToVertices, edges_at};
 ghost use Rattle.spread_labels.specs.MarkSets.{AreRowsOf, picked, sets_at};
 ghost use Rattle.spread_labels.specs.Orders.{numbers_from};
@@ -24,9 +24,10 @@ pub struct Destination {
 }
 
 /// Finds for each end of each destination, in their order, the number of the candidate that each position takes, if
-/// position p sends `sent[p]` packets to it. For each round and each 64 destinations, takes a step or two for each edge
-/// in each of as many rounds of labels as the greatest cost; for each end, a step for each edge of each candidate's way.
-/// Keeps a byte for each end and position.
+/// position p sends `sent[p]` packets to it. Candidates and their numbers are in the order of the position's edges; a
+/// position without candidates has number 0. Takes three rounds. In each, takes for each 64 destinations a step or two
+/// for each edge and each label, and for each end a step for each edge of each candidate's way. Keeps a byte for each
+/// end and position.
 pub fn balanced_choices(
     alloc: Global,
     graph: &Adjacency,
@@ -113,11 +114,14 @@ fn choose_all(
     requires sent { length sent.now ≡ length graph.now }
     requires destinations { All (λ d. d.position < length graph.now) destinations.now }
     requires ends { length choices.old ≡ ends_of 0 destinations.now }
+    requires small { ends_of 0 destinations.now < 2 ^ 64 }
     requires choices { All (λ own. length own.items ≡ length graph.now) choices.old }
     requires loads { length loads.old ≡ 256 * length graph.now }
-    ensures { OnOk result (let before : Balance = record { choices = map (λ own. own.items) choices.old; loads = loads.old } in
+    ensures balance { OnOk result (let before : Balance
+        = record { choices = map (λ own. own.items) choices.old; loads = loads.old } in
         with_all round graph.now sent.now before 0 destinations.now
         ≡ record { choices = map (λ own. own.items) choices.new; loads = loads.new }) }
+    ensures long { OnOk result (All (λ own. length own.items ≡ length graph.now) choices.new) }
 {
     let mut first = 0;
     let mut end = 0;
@@ -155,11 +159,14 @@ fn choose_some(
     requires few { length destinations.now ≤ 64 }
     requires destinations { All (λ d. d.position < length graph.now) destinations.now }
     requires ends { ends_of first destinations.now ≤ length choices.old }
+    requires small { ends_of first destinations.now < 2 ^ 64 }
     requires choices { All (λ own. length own.items ≡ length graph.now) choices.old }
     requires loads { length loads.old ≡ 256 * length graph.now }
-    ensures balance { OnOk result (let before : Balance = record { choices = map (λ own. own.items) choices.old; loads = loads.old } in
+    ensures balance { OnOk result (let before : Balance
+        = record { choices = map (λ own. own.items) choices.old; loads = loads.old } in
         with_all round graph.now sent.now before first destinations.now
         ≡ record { choices = map (λ own. own.items) choices.new; loads = loads.new }) }
+    ensures long { OnOk result (All (λ own. length own.items ≡ length graph.now) choices.new) }
     ensures next { IfOk result (λ end. end ≡ ends_of first destinations.now) }
 {
     let targets = positions_of(alloc, destinations)?;
@@ -201,9 +208,11 @@ fn choose_between(
     requires ends { (first ≤ last) × (last ≤ length choices.old) }
     requires choices { All (λ own. length own.items ≡ length ways.now) choices.old }
     requires loads { length loads.old ≡ 256 * length ways.now }
-    ensures { let before : Balance = record { choices = map (λ own. own.items) choices.old; loads = loads.old } in
+    ensures balance { let before : Balance
+        = record { choices = map (λ own. own.items) choices.old; loads = loads.old } in
         with_ends round ways.now sent.now order.now before (numbers_from first (last - first))
         ≡ record { choices = map (λ own. own.items) choices.new; loads = loads.new } }
+    ensures long { All (λ own. length own.items ≡ length ways.now) choices.new }
 {
     for end in first..last {
         choose(round, ways, order, sent, end, &mut choices[end], loads);

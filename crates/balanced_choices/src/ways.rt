@@ -101,13 +101,7 @@ fn peak(ways: &Adjacency, choices: &[u8], loads: &[usize], position: usize, edge
 }
 
 /// Returns the greatest of `found` and the loads of the channels of the way from `from`.
-fn peak_from(
-    ways: &Adjacency,
-    choices: &[u8],
-    loads: &[usize],
-    from: usize,
-    found: usize,
-) -> usize
+fn peak_from(ways: &Adjacency, choices: &[u8], loads: &[usize], from: usize, found: usize) -> usize
     requires { length loads.now ≡ 256 * length ways.now }
     ensures { result ≡ greatest found (map (λ c. slice_index loads.now c) (way_from ways.now choices.now from)) }
 {

@@ -1,4 +1,4 @@
-use Rattle.std.proofs.Common.{◌≡◌, ◌+◌, ℕ, List, sym, ap, ◌∙◌, drop, get_or}
+use Rattle.std.proofs.Common.{◌+◌, ℕ, sym, ap, ◌∙◌, drop, get_or}
 use Rattle.balanced_choices.specs.Loads.{lightest}
 use Rattle.balanced_choices.specs.BalancedChoices.{Chosen, choose_each, with_choice}
 use Rattle.balanced_choices.proofs.InOrder.{choose_next}

@@ -1,4 +1,4 @@
-use Rattle.std.proofs.Common.{◌≡◌, ◌+◌, ◌-◌, ◌++◌, ℕ, List, Bool, [], ◌∷◌, sym, ap, ◌∙◌, arith, length}
+use Rattle.std.proofs.Common.{◌≡◌, ◌-◌, ◌++◌, ℕ, List, Bool, [], ◌∷◌, sym, ap, ◌∙◌, arith, length}
 use Rattle.std.specs.Prelude.{filter, not, reverse}
 use Rattle.spread_labels.specs.Orders.{numbers_from}
 use Rattle.balanced_choices.specs.BalancedChoices.{is_below}

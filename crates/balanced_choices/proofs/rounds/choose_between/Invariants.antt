@@ -1,4 +1,4 @@
-use Rattle.std.proofs.Common.{◌≡◌, ◌≤◌, ◌-◌, All, length, map}
+use Rattle.std.proofs.Common.{◌≡◌, ◌-◌, All, length, map}
 use Rattle.spread_labels.specs.Orders.{numbers_from}
 use Rattle.balanced_choices.specs.BalancedChoices.{Balance, with_ends}
 use Rattle.balanced_choices.proofs.rounds.choose_between.Given as goal

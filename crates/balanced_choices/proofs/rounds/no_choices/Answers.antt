@@ -1,4 +1,4 @@
-use Rattle.std.proofs.Common.{◌≡◌, ◌+◌, ◌++◌, ℕ, List, replicate, sym, ap, ◌∙◌, get_or, take}
+use Rattle.std.proofs.Common.{◌++◌, ℕ, List, replicate, sym, ap, ◌∙◌, get_or, take}
 use Rattle.std.proofs.lemmas.List.{replicate-append-replicate}
 use Rattle.balanced_choices.specs.declared.rounds.Destination.{Destination}
 use Rattle.balanced_choices.specs.BalancedChoices.{ends_of}

@@ -1,9 +1,7 @@
-use Rattle.std.proofs.Common.{◌≡◌, ◌+◌, ◌++◌, ℕ, List, [], ◌∷◌, sym, ap, ◌∙◌, add-one, arith, map}
-use Rattle.std.proofs.lemmas.List.{map-append}
+use Rattle.std.proofs.Common.{◌≡◌, ◌++◌, ℕ, List, [], ◌∷◌, sym, ◌∙◌}
 use Rattle.port_graph.specs.declared.edge.Edge.{Edge}
 use Rattle.port_graph.specs.Heads.{edges_at}
 use Rattle.spread_labels.specs.MarkSets.{picked, sets_at}
-use Rattle.spread_labels.specs.Orders.{numbers_from}
 use Rattle.balanced_choices.proofs.InOrder.{made_next}
 use Rattle.balanced_choices.proofs.rounds.ways_towards.Goals as goal
 

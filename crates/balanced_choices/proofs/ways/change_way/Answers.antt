@@ -1,4 +1,4 @@
-use Rattle.std.proofs.Common.{◌≡◌, ◌+◌, ◌-◌, ◌*◌, ℕ, [], ◌∷◌, refl, sym, ap, ◌∙◌, arith, length, get_or}
+use Rattle.std.proofs.Common.{◌≡◌, ◌+◌, ◌-◌, ◌*◌, sym, ap, ◌∙◌, arith, length, get_or}
 use Rattle.std.specs.Prelude.{slice_set}
 use Rattle.balanced_choices.specs.Loads.{changed, channel_by, edge_taken, way, with_changes}
 use Rattle.balanced_choices.proofs.EdgeByEdge.{none_left, way_ends, way_goes}

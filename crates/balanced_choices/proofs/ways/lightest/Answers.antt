@@ -1,5 +1,5 @@
 use Rattle.std.proofs.Common.{◌≡◌, ◌<◌, ◌+◌, ℕ, List, ◌∷◌, sym, ap, ◌∙◌, arith, drop, get_or, length, map}
-use Rattle.std.specs.Prelude.{nat_lt, min}
+use Rattle.std.specs.Prelude.{min}
 use Rattle.std.proofs.lemmas.Bool.{le-ltb, lt-ltb}
 use Rattle.std.proofs.lemmas.List.{drop_all, drop_more, get_or-take, length-take}
 use Rattle.port_graph.specs.declared.edge.Edge.{Edge}
@@ -31,15 +31,15 @@ loop-k-preserved c =
     ∙ sym (ap (λ es. least_from best least k (map f es)) here) ∙ c.loop-k.invariant.1 in
     elim c.if-peak-least.branch [
       | then-peak-least w ↦ (
-          omega (arith, few, w.best-is),
-          (λ i. least_from (w.best-is i) (w.least-is i) (k + 1) rest)
-              ∙ least_next best least k peak rest (lt-ltb peak least w.if-peak-least.true) ∙ left,
-        )
+        omega (arith, few, w.best-is),
+        (λ i. least_from (w.best-is i) (w.least-is i) (k + 1) rest)
+            ∙ least_next best least k peak rest (lt-ltb peak least w.if-peak-least.true) ∙ left,
+      )
       | else-peak-least w ↦ (
-          omega (arith, w.best-is, c.loop-k.invariant.0),
-          (λ i. least_from (w.best-is i) (w.least-is i) (k + 1) rest)
-              ∙ least_kept best least k peak rest (le-ltb peak least w.if-peak-least.false) ∙ left,
-        )
+        omega (arith, w.best-is, c.loop-k.invariant.0),
+        (λ i. least_from (w.best-is i) (w.least-is i) (k + 1) rest)
+            ∙ least_kept best least k peak rest (le-ltb peak least w.if-peak-least.false) ∙ left,
+      )
     ]
 
 pub returns : goal.returns

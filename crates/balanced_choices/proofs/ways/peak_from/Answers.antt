@@ -1,4 +1,4 @@
-use Rattle.std.proofs.Common.{◌≡◌, ◌+◌, ◌-◌, ◌*◌, ℕ, List, [], ◌∷◌, max, refl, sym, ap, ◌∙◌, arith, length, get_or, map}
+use Rattle.std.proofs.Common.{◌≡◌, ◌+◌, ◌-◌, ◌*◌, ℕ, List, max, sym, ap, ◌∙◌, arith, length, get_or, map}
 use Rattle.spread_labels.specs.Levels.{greatest}
 use Rattle.balanced_choices.specs.Loads.{channel_by, edge_taken, way}
 use Rattle.balanced_choices.proofs.EdgeByEdge.{none_left, way_ends, way_goes}
