@@ -57,7 +57,7 @@ module _ (x y : Facts) (same : (key : Key) → is_claim key ≡ false → cell_f
       λ i. record {
         given = given i;
         tables = tables_of (λ lid. option_and_then (λ e. attachment_same e i) (owner_of (given i) lid))
-            (numbered (numbers_same lmc given i) (rules_stay rule x y graph_same leaf_switches_same i)).next
+            (numbered (numbers_same lmc given i) (rules_stay rule x y graph_same leaf_switches_same most_same i)).next
             (block_count (top_of (given i))) (switches_same x y same i);
       }
 

@@ -6,7 +6,7 @@ use Rattle.subnet_view.specs.Reading.{Cells, IsUsable}
 use Rattle.lid_assign.specs.Lids.{IsNoRoom, lids, lid_of, top_of}
 use Rattle.lid_assign.specs.Stability.{IsClaimed, GrowsFrom}
 use Rattle.subnet_view.specs.Routing.{Routing}
-use Rattle.spread_routes.specs.SwitchOrders.{OrderValue, as_named}
+use Rattle.spread_routes.specs.SwitchOrders.{OrderValue, named_in}
 use Rattle.lft_blocks.specs.Rules.{RuleValue, order_of, spread_in}
 use Rattle.lft_blocks.specs.Entries.{Next, attachment_of_lid, entry, block, block_count, blocks}
 use Rattle.lft_blocks.specs.Plan.{plan_by, plan_of, block_at}
@@ -45,8 +45,8 @@ BlocksAreOfSwitches = (rule : Routing) (lmc : ℕ) (facts : Facts) (g b : ℕ)
 
 -- switches that are named in the order of a plan are in that order again, and give an equal plan
 pub record OrderHolds (order : OrderValue) (lmc : ℕ) (cells : Cells) : Type 0 where
-  pub order_stands : order_of (as_named (order_of order cells)) cells ≡ order_of order cells
-  pub plan_stands : plan_of (spread_in (as_named (order_of order cells))) lmc cells
+  pub order_stands : order_of (named_in order (order_of order cells)) cells ≡ order_of order cells
+  pub plan_stands : plan_of (spread_in (named_in order (order_of order cells))) lmc cells
       ≡ plan_of (spread_in order) lmc cells
 
 abbrev pub OrdersHold : Type 0

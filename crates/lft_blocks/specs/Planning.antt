@@ -2,33 +2,37 @@
 use Rattle.std.specs.Prelude.{◌≡◌, ℕ, Bool, true, false, List, Option, None, Some, refl}
 use Rattle.std.specs.Coded.{Coded, code_by, coded×, coded_bool, coded_ℕ, coded_list, coded_option}
 use Rattle.lft_blocks.specs.Rules.{RuleValue, spread_in, up_and_down}
-use Rattle.spread_routes.specs.SwitchOrders.{OrderValue, as_named, from_roots, least_loaded}
+use Rattle.spread_routes.specs.SwitchOrders.{OrderValue, as_named, balanced_as, from_roots, least_loaded}
 
 -- the LMC of adapter ports, and the rule of routing
 pub record Planning : Type 0 where
   pub lmc : ℕ
   pub rule : RuleValue
 
--- an order is stored by its GUIDs, if it has some, and by whether they are named in its order
-abbrev guids_in : OrderValue → Option (Bool × List ℕ)
-guids_in (from_roots roots) = Some (false, roots)
-guids_in (as_named switches) = Some (true, switches)
+-- an order is stored by its GUIDs, if it has some, by whether they are named in its order, and by whether loads are
+-- balanced
+abbrev guids_in : OrderValue → Option (Bool × Bool × List ℕ)
+guids_in (from_roots roots) = Some (false, false, roots)
+guids_in (as_named switches) = Some (true, false, switches)
+guids_in (balanced_as switches) = Some (true, true, switches)
 guids_in least_loaded = None
 
-abbrev order_by : Option (Bool × List ℕ) → OrderValue
-order_by (Some (false, roots)) = from_roots roots
-order_by (Some (true, switches)) = as_named switches
+abbrev order_by : Option (Bool × Bool × List ℕ) → OrderValue
+order_by (Some (false, balanced, roots)) = from_roots roots
+order_by (Some (true, false, switches)) = as_named switches
+order_by (Some (true, true, switches)) = balanced_as switches
 order_by None = least_loaded
 
 pub same_order : (order : OrderValue) → order_by (guids_in order) ≡ order
 same_order (from_roots roots) = refl
 same_order (as_named switches) = refl
+same_order (balanced_as switches) = refl
 same_order least_loaded = refl
 
 abbrev order_code : Coded OrderValue
 order_code =
-    code_by (Option (Bool × List ℕ)) (coded_option (coded× coded_bool (coded_list coded_ℕ))) guids_in order_by
-    same_order
+    code_by (Option (Bool × Bool × List ℕ)) (coded_option (coded× coded_bool (coded× coded_bool (coded_list coded_ℕ))))
+    guids_in order_by same_order
 
 -- a rule is stored by its order; up and down has none
 abbrev order_in : RuleValue → Option OrderValue

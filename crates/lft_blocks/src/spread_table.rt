@@ -3,7 +3,7 @@ ghost use Rattle.std.specs.Prelude.{◌≡◌, ◌<◌, ◌≤◌, ◌*◌, All,
 ghost use Rattle.std.specs.List.{range_with_len};
 ghost use Rattle.fact_store.specs.View.{cells_of};
 ghost use Rattle.subnet_view.specs.Graph.{graph_of, guids_of};
-ghost use Rattle.spread_routes.specs.LeafSwitches.{leaf_switches_of};
+ghost use Rattle.spread_routes.specs.LeafSwitches.{leaf_switches_of, most_adapters};
 ghost use Rattle.spread_routes.specs.Spread.{spread_at, spread_by};
 ghost use Rattle.spread_routes.specs.SwitchOrders.{order_value_of};
 ghost use Rattle.spread_routes.specs.Tables.{AreTowards};
@@ -41,14 +41,15 @@ pub(crate) fn spread_tables(
         (attachment_by_index (guids_of graph.now) attachments.now)
         (numbered (number_of (numbering_of lmc (cells_of wires.now)) (guids_of graph.now)
         (attachment_by_index (guids_of graph.now) attachments.now))
-        (spread_by graph.now (leaf_switches_of (cells_of wires.now)) (order_value_of order.now))).next
+        (spread_by graph.now (leaf_switches_of (cells_of wires.now)) (most_adapters (cells_of wires.now))
+        (order_value_of order.now))).next
         count (guids_of graph.now)) }
 {
     let guids = graph.switches();
     let leaves = leaf_switches(alloc, wires, guids)?;
     let numbering = find_numbering(alloc, wires, graph, &leaves, lmc)?;
     let numbers = lid_numbers(alloc, &numbering, attachments)?;
-    let spread = Spread::of(alloc, graph, &leaves, order)?;
+    let spread = Spread::of(alloc, graph, &leaves, usize::from(numbering.most), order)?;
     let mut rows = rows(alloc, &spread, attachments, &numbers, guids.len())?;
     tables_of(alloc, guids, &mut rows, count)
 }
@@ -88,10 +89,10 @@ fn rows(
 }
 
 /// Writes the entries of all switches for the LIDs that are attached to one of the targets.
-fn write_rows(
+fn write_rows<'s>(
     alloc: Global,
     rows: &mut [TableRow],
-    spread: &Spread,
+    spread: &'s Spread,
     towards: &Towards,
     attachments: &[Option<Attachment>],
     numbers: &[u16],
@@ -125,15 +126,15 @@ fn write_rows(
 
 /// Writes the entries of the switch at index `own` for the LIDs that are attached to one of the targets. Replaces what
 /// `exits` had before.
-fn write_row(
+fn write_row<'s>(
     row: &mut TableRow,
     own: usize,
-    spread: &Spread,
+    spread: &'s Spread,
     towards: &Towards,
     attachments: &[Option<Attachment>],
     numbers: &[u16],
     lids: &[Vec<Lid>],
-    exits: &mut Exits,
+    exits: &mut Exits<'s>,
 ) -> Result<(), AllocError>
     requires own { own < length spread.now.graph }
     requires towards { AreTowards spread.now towards.now }

@@ -12,7 +12,7 @@ use Rattle.record_file.specs.Laws.{IsReportFile, report_file}
 use Rattle.record_file.specs.RecordFile.{kept, outcome}
 use Rattle.record_file.specs.StoreFile.{cells_file}
 use Rattle.record_file.specs.StoreLaws.{IsStoreFile}
-use Rattle.spread_routes.specs.SwitchOrders.{OrderValue, as_named}
+use Rattle.spread_routes.specs.SwitchOrders.{OrderValue, named_in}
 use Rattle.lft_blocks.specs.Rules.{RuleValue, spread_in}
 use Rattle.sm_cli.specs.declared.asked.Invocation.{Invocation}
 use Rattle.sm_cli.specs.declared.asked.Output.TheVariants.{Order, Plan}
@@ -79,9 +79,9 @@ SplitStoreStands =
 pub record OrderStands (order : OrderValue) (asked again : RuleAsked) (facts : Facts) : Type 0 where
   pub named : List ℕ
   pub is_read : roots_of (answer_to (Order asked) (spread_in order) facts) ≡ Ok named
-  pub same_order : answer_to (Order again) (spread_in (as_named named)) facts
+  pub same_order : answer_to (Order again) (spread_in (named_in order named)) facts
       ≡ answer_to (Order asked) (spread_in order) facts
-  pub same_plan : (lmc : ℕ) → answer_to (Plan lmc again) (spread_in (as_named named)) facts
+  pub same_plan : (lmc : ℕ) → answer_to (Plan lmc again) (spread_in (named_in order named)) facts
       ≡ answer_to (Plan lmc asked) (spread_in order) facts
 
 -- each printed order stands, unless a switch has the GUID 0, which no text names

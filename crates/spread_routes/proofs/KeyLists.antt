@@ -10,7 +10,7 @@ use Rattle.subnet_view.specs.SwitchEdges.{SwitchEdges}
 use Rattle.subnet_view.specs.Graph.{guids_of}
 use Rattle.spread_routes.specs.Rule.{by_index}
 use Rattle.spread_routes.specs.Spread.{indices_of, keys_by, keys_from_roots}
-use Rattle.spread_routes.specs.SwitchOrders.{OrderValue, as_named, from_roots, least_loaded, key_as_named}
+use Rattle.spread_routes.specs.SwitchOrders.{OrderValue, as_named, balanced_as, from_roots, least_loaded, key_as_named}
 use Rattle.spread_routes.proofs.Positions.{indexed}
 
 pub keyed_from : (graph : List SwitchEdges) (leaves roots : List ℕ) → length (keys_from_roots graph leaves roots) ≡ length (by_index graph)
@@ -21,6 +21,8 @@ keyed_from graph leaves roots =
 pub all_keyed : (graph : List SwitchEdges) (leaves : List ℕ) (order : OrderValue) → length (keys_by graph leaves order) ≡ length graph
 all_keyed graph leaves (from_roots roots) = keyed_from graph leaves roots ∙ indexed graph
 all_keyed graph leaves (as_named switches) =
+    length_map (key_as_named switches) (guids_of graph) ∙ length_map (λ (c : SwitchEdges). c.guid) graph
+all_keyed graph leaves (balanced_as switches) =
     length_map (key_as_named switches) (guids_of graph) ∙ length_map (λ (c : SwitchEdges). c.guid) graph
 all_keyed graph leaves least_loaded =
     keys_long (by_index graph) (indices_of graph leaves) (keys_from_roots graph leaves []) (keyed_from graph leaves []) ∙ indexed graph

@@ -18,7 +18,7 @@ use Rattle.spread_labels.proofs.PortLists.{picked_first}
 use Rattle.subnet_view.specs.GraphLaws.{IsGraph}
 use Rattle.spread_routes.specs.declared.lid_digit.LidDigit.{LidDigit}
 use Rattle.spread_routes.specs.Rule.{by_positions, order_by_keys}
-use Rattle.spread_routes.specs.Spread.{Grading, goes_higher, lid_digit_there, number_by}
+use Rattle.spread_routes.specs.Spread.{Grading, goes_higher, lid_digit_there, number_by, number_with}
 use Rattle.spread_routes.specs.Tables.{AreExits, AreTowards, ExitsValue, TowardsValue, no_lid_digit, port_chosen}
 use Rattle.spread_routes.proofs.Ports.{higher_is, lead, port_is, position_there}
 
@@ -111,11 +111,11 @@ towards_are by good edges positions first end sets is all each few within are =
 
 -- what was found is how packets leave ----------------------------------------------------------
 
-module _ (by : Grading) (good : IsGraph by.graph) (towards : TowardsValue) (are : AreTowards by towards) (own : ℕ) (there : own < length by.graph)
-    (lid_digits : List LidDigit) (each : (q : ℕ) → q < length (by_positions by.graph by.keys) → slice_index_or lid_digits q no_lid_digit ≡ lid_digit_there by q)
+module _ (by : Grading) (good : IsGraph by.graph) (towards : TowardsValue) (are : AreTowards by towards) (own_index : ℕ)
+    (there : own_index < length by.graph) (lid_digits : List LidDigit) (each : (q : ℕ) → q < length (by_positions by.graph by.keys) → slice_index_or lid_digits q no_lid_digit ≡ lid_digit_there by q)
     (exits : ExitsValue) where
   abbrev p : ℕ
-  p = position_of (order_by_keys by.graph by.keys) own
+  p = position_of (order_by_keys by.graph by.keys) own_index
 
   abbrev edges : List (List Edge)
   edges = by_positions by.graph by.keys
@@ -123,19 +123,22 @@ module _ (by : Grading) (good : IsGraph by.graph) (towards : TowardsValue) (are 
   abbrev found : ℕ → List Edge
   found k = picked k (sets_at towards.sets p) (edges_at edges p)
 
-  pub exits_are : exits.lid_digit ≡ lid_digit_there by p
+  pub exits_are : exits.lid_digit ≡ lid_digit_there by p → exits.choices ≡ by.choices → exits.own ≡ p
+      → ((k : ℕ) → towards.first + k < towards.end → slice_index exits.targets k ≡ position_of (order_by_keys by.graph by.keys) (towards.first + k))
       → ((k : ℕ) → k < 64 → slice_index_or exits.ports k [] ≡ map (λ (e : Edge). e.port) (found k))
       → ((k : ℕ) → k < 64 → has exits.higher k
       ≡ list_any (λ (e : Edge). nat_lt exits.lid_digit.level (slice_index_or lid_digits e.to no_lid_digit).level) (found k))
-      → AreExits by towards own exits
-  exits_are lid_digit ports higher k lid h =
+      → AreExits by towards own_index exits
+  exits_are lid_digit choices own target ports higher k lid h =
       let few : k < 64 = omega (arith, h, are.few) in
-      let at : p < length edges = position_there by good own there in
+      let at : p < length edges = position_there by good own_index there in
       let is : found k ≡ candidates edges (position_of (order_by_keys by.graph by.keys) (towards.first + k)) p = are.each k p h at in
       let goes : has exits.higher k ≡ goes_higher by p (found k) =
       higher k few ∙ higher_is by good lid_digits p exits.lid_digit (found k) lid_digit each
       (λ e c. lead by good p e (picked_there k (sets_at towards.sets p) (edges_at edges p) e c)) in
-      (λ i. port_chosen (ports k few i) (number_by (lid_digit i) (goes i) lid))
-      ∙ port_chosen_is (found k) (number_by (lid_digit_there by p) (goes_higher by p (found k)) lid)
-      ∙ (λ i. option_map (λ (e : Edge). e.port) (chosen (is i) (number_by (lid_digit_there by p) (goes_higher by p (is i)) lid)))
-      ∙ port_is by good lid (towards.first + k) own (omega (arith, h, are.within)) there
+      let q : ℕ = position_of (order_by_keys by.graph by.keys) (towards.first + k) in
+      (λ i. port_chosen (ports k few i) (number_with (choices i) (number_by (lid_digit i) (goes i) lid) lid (own i) (target k h i)))
+      ∙ port_chosen_is (found k) (number_with by.choices (number_by (lid_digit_there by p) (goes_higher by p (found k)) lid) lid p q)
+      ∙ (λ i. option_map (λ (e : Edge). e.port)
+      (chosen (is i) (number_with by.choices (number_by (lid_digit_there by p) (goes_higher by p (is i)) lid) lid p q)))
+      ∙ port_is by good lid (towards.first + k) own_index (omega (arith, h, are.within)) there

@@ -7,6 +7,8 @@ pub mod Whole
 pub mod Leaving
 pub mod Counting
 pub mod Turns
+pub mod PastEnds
+pub mod Balanced
 pub mod AdapterCounts
 pub mod Standing
 pub mod OrderLaws

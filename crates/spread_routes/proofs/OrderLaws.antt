@@ -117,7 +117,7 @@ by_order_alone : (graph : List SwitchEdges) (keys : List VertexKey) (levels : Li
 by_order_alone graph keys levels choices = refl
 
 -- nor do the balanced choices
-choices_in : List SwitchEdges → List ℕ → ℕ → List ℕ → EndChoices
+abbrev choices_in : List SwitchEdges → List ℕ → ℕ → List ℕ → EndChoices
 choices_in graph leaves most standing =
     end_choices (by_position (by_index graph) standing) (map (position_of standing) (indices_of graph leaves)) most
 

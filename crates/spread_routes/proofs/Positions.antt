@@ -2,7 +2,7 @@
 use Rattle.std.proofs.Common.{◌≡◌, ◌<◌, ◌+◌, ◌++◌, ℕ, zero, suc, List, [], ◌∷◌, refl, sym, ap, ◌∙◌, subst, arith, true, false, cond, Bool, ◌==◌, length, map, take, get_or, All, append-nil}
 use Rattle.std.proofs.lemmas.Bool.{lt-ltb, le-ltb, eqb-true}
 use Rattle.std.proofs.lemmas.List.{ext_get_or, get_or-map, get_or_default, map-append, take_more}
-use Rattle.std.specs.Prelude.{Contains, None, Some, filter, nat_lt}
+use Rattle.std.specs.Prelude.{Contains, Option, None, Some, filter, nat_lt}
 use Rattle.smp_bytes.proofs.Members.{contains_here, contains_later}
 use Rattle.port_graph.specs.declared.edge.Edge.{Edge}
 use Rattle.port_graph.specs.Heads.{edges_at}
@@ -17,6 +17,7 @@ use Rattle.spread_labels.proofs.Growing.{contains_at}
 use Rattle.spread_labels.specs.declared.vertex_key.VertexKey.{VertexKey}
 use Rattle.spread_labels.specs.Positions.{ArePositions, StandOnce}
 use Rattle.spread_routes.specs.declared.lid_digit.LidDigit.{LidDigit}
+use Rattle.spread_routes.specs.EndChoices.{EndChoices}
 use Rattle.spread_routes.specs.Rule.{by_index, by_positions, order_by_keys}
 use Rattle.spread_routes.specs.Spread.{indices_of, lid_digit_at}
 use Rattle.spread_routes.specs.Tables.{IsByPositions, no_lid_digit}
@@ -118,10 +119,10 @@ module _ (graph : List SwitchEdges) (keys : List VertexKey) (good : IsGraph grap
       subst (λ (i : ℕ). i < length graph) (get_or_default order k 0 d h) (omega (arith, below, indexed graph))
 
   -- what is held
-  pub by_positions_is : (levels : List ℕ) (edges : List (List Edge)) (positions : List ℕ) (lid_digits : List LidDigit) → edges ≡ by_positions graph keys
+  pub by_positions_is : (levels : List ℕ) (choices : Option EndChoices) (edges : List (List Edge)) (positions : List ℕ) (lid_digits : List LidDigit) → edges ≡ by_positions graph keys
       → ArePositions (length (by_index graph)) order positions → lid_digits ≡ map (lid_digit_at graph levels) order
-      → IsByPositions (record { graph = graph; keys = keys; levels = levels }) edges positions lid_digits
-  by_positions_is levels edges positions lid_digits by_position are stand =
+      → IsByPositions (record { graph = graph; keys = keys; levels = levels; choices = choices }) edges positions lid_digits
+  by_positions_is levels choices edges positions lid_digits by_position are stand =
       let long : length edges ≡ length order = ap length by_position ∙ all_positioned graph keys good in
       let f : ℕ → LidDigit = lid_digit_at graph levels in
       record {

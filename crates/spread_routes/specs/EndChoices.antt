@@ -1,7 +1,6 @@
 -- Which candidate a packet takes by balanced loads: each leaf switch has some ends, and LIDs that are attached to it share
 -- the choices of one of them.
-use Rattle.std.specs.Prelude.{ℕ, ◌+◌, ◌*◌, ◌==◌, List, [], map, length, slice_index, slice_index_or, if◌then◌else◌}
-use Rattle.std.specs.List.{list_any}
+use Rattle.std.specs.Prelude.{ℕ, ◌+◌, ◌*◌, nat_lt, List, [], map, length, slice_index, slice_index_or, if◌then◌else◌}
 use Rattle.port_graph.specs.declared.edge.Edge.{Edge}
 use Rattle.spread_labels.specs.Orders.{numbers_from, position_of}
 use Rattle.balanced_choices.specs.BalancedChoices.{balanced_choices, in_turn}
@@ -25,7 +24,7 @@ choice_towards by lid p q = slice_index (slice_index_or by.choices (end_of by li
 
 -- each leaf switch sends a packet to each end
 abbrev pub sent_at : List ℕ → ℕ → ℕ
-sent_at leaves p = if list_any (λ q. q == p) leaves then 1 else 0
+sent_at leaves p = if nat_lt (position_of leaves p) (length leaves) then 1 else 0
 
 abbrev pub destination : ℕ → ℕ → Destination
 destination ends q = record { position = q; ends = ends }

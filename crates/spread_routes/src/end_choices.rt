@@ -1,8 +1,9 @@
 //! Choices of candidates by which the loads of channels are balanced.
-ghost use Rattle.std.specs.Prelude.{◌≡◌, ◌<◌, All, IfOk, [], length, map, slice_index, slice_index_or};
+ghost use Rattle.std.specs.Prelude.{◌≡◌, ◌<◌, ◌-◌, ◌^◌, All, IfOk, length, map, min, slice_index};
 ghost use Rattle.port_graph.specs.Heads.{LeadToVertices};
 ghost use Rattle.spread_labels.specs.Orders.{numbers_from, position_of};
-ghost use Rattle.spread_routes.specs.EndChoices.{destination, end_choices, end_of, sent_at};
+ghost use Rattle.balanced_choices.specs.BalancedChoices.{in_turn};
+ghost use Rattle.spread_routes.specs.EndChoices.{choice_towards, destination, end_choices, end_of, sent_at};
 
 use balanced_choices::{Destination, balanced_choices};
 use port_graph::Adjacency;
@@ -65,16 +66,24 @@ impl EndChoices {
         })
     }
 
-    /// Returns the end that a LID with this number shares at the leaf switch at a position.
-    pub(crate) fn end_of(&self, number: usize, position: usize) -> usize
-        ensures { result ≡ end_of self.now number position }
+    /// Returns the number of the candidate that a LID with this number takes at the position `own` towards the position
+    /// `target`; 0 if no leaf switch is there.
+    pub(crate) fn towards(&self, number: usize, own: usize, target: usize) -> usize
+        ensures { result ≡ choice_towards self.now number own target }
     {
-        let turn = if self.ends == 0 {
-            0
-        } else {
-            number % self.ends
-        };
-        self.leaf_at(position) * self.ends + turn
+        match self.choices.get(self.end_of(number, target)) {
+            Some(choices) => choice_at(choices, own),
+            None => 0,
+        }
+    }
+
+    /// Returns the end that a LID with this number shares at the leaf switch at a position, as far as 64 bits go.
+    fn end_of(&self, number: usize, position: usize) -> usize
+        ensures { result ≡ min (end_of self.now number position) (2 ^ 64 - 1) }
+    {
+        let turn = in_turn(self.ends, number);
+        let first = self.leaf_at(position).saturating_mul(self.ends);
+        first.saturating_add(turn)
     }
 
     /// Returns the index of the leaf switch at a position; the number of leaf switches if none is there.
@@ -86,16 +95,13 @@ impl EndChoices {
             None => position_of(&self.leaves, position),
         }
     }
+}
 
-    /// Returns the number of the candidate that a position takes towards an end; 0 if there is no such end or position.
-    pub(crate) fn at(&self, end: usize, position: usize) -> usize
-        ensures { result ≡ slice_index (slice_index_or self.now.choices end []) position }
-    {
-        match self.choices.get(end) {
-            Some(own) => choice_at(own, position),
-            None => 0,
-        }
-    }
+/// Returns `number`, counted round among `count`; 0 if `count` is 0.
+fn in_turn(count: usize, number: usize) -> usize
+    ensures { result ≡ in_turn count number }
+{
+    if count == 0 { 0 } else { number % count }
 }
 
 /// Returns the choice of a position, or 0 if there is no such position.
@@ -123,7 +129,7 @@ fn sent(alloc: Global, leaves: &[usize], positions: usize) -> Result<Vec<usize>,
 fn sent_at(leaves: &[usize], position: usize) -> usize
     ensures { result ≡ sent_at leaves.now position }
 {
-    if leaves.iter().any(|leaf| *leaf == position) {
+    if position_of(leaves, position) < leaves.len() {
         1
     } else {
         0

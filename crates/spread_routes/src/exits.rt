@@ -27,7 +27,7 @@ pub struct Exits<'s> {
     choices: Option<&'s EndChoices>,
     /// The position of the switch.
     own: usize,
-    /// The positions of the targets.
+    /// The positions of the targets, and of what stands behind them.
     targets: &'s [usize],
 }
 
@@ -75,11 +75,12 @@ impl<'s> Exits<'s> {
         own: usize,
         targets: &'s [usize],
     )
-        ensures { self.new ≡ record self.old {
-          choices = option_copied choices;
-          own = own;
-          targets = targets.now;
-        } }
+        ensures choices { self.new.choices ≡ option_copied choices.entry }
+        ensures own { self.new.own ≡ own }
+        ensures targets { self.new.targets ≡ targets.now }
+        ensures ports { self.new.ports ≡ self.old.ports }
+        ensures higher { self.new.higher ≡ self.old.higher }
+        ensures lid_digit { self.new.lid_digit ≡ self.old.lid_digit }
     {
         self.choices = choices;
         self.own = own;
@@ -176,8 +177,8 @@ fn write_chosen(
 {
     for lid in lids {
         let lid = usize::from(lid.number());
-        let end = choices.end_of(number_of(numbers, lid), target);
-        entries[lid] = ports[choices.at(end, own) % ports.len()].number();
+        let choice = choices.towards(number_of(numbers, lid), own, target);
+        entries[lid] = ports[choice % ports.len()].number();
     }
 }
 

@@ -1,4 +1,4 @@
-ghost use Rattle.std.specs.Prelude.{◌≡◌, ◌<◌, ◌+◌, All, IfOk, None, OnOk, Some, length, map, min, slice_index};
+ghost use Rattle.std.specs.Prelude.{◌≡◌, ◌<◌, ◌+◌, IfOk, None, OnOk, Some, drop, length, min};
 ghost use Rattle.spread_routes.specs.Spread.{balanced_by, grading_of};
 ghost use Rattle.spread_routes.specs.SwitchOrders.{is_balanced, order_value_of};
 ghost use Rattle.spread_routes.specs.Tables.{AreExits, AreTowards};
@@ -115,7 +115,7 @@ impl<'g> Spread<'g> {
     /// Balances the loads of the routes, if each leaf switch has `most` ends.
     fn balanced(self, alloc: Global, leaves: &[Guid], most: usize) -> Result<Self, AllocError>
         ensures { IfOk result (λ spread. spread
-            ≡ record self { choices = Some (balanced_by self.graph self.keys leaves.now most) }) }
+            ≡ record self.entry { choices = Some (balanced_by self.entry.graph self.entry.keys leaves.now most) }) }
     {
         let leaves = indices(alloc, self.graph, leaves)?;
         let leaves = positions_at(alloc, &self.positions, &leaves)?;
@@ -185,8 +185,18 @@ impl<'g> Spread<'g> {
         let sets = towards.sets.at(position);
         let lid_digit = self.lid_digits[position];
         let higher = higher_targets(&self.lid_digits, &lid_digit, edges, sets);
-        let targets = &self.positions[towards.first..towards.end];
+        let targets = behind(&self.positions, towards.first);
         exits.choose_by(self.choices.as_ref(), position, targets);
         exits.find(lid_digit, higher, edges, sets)
+    }
+}
+
+/// Returns what stands in a list from index `first` on.
+fn behind(list: &[usize], first: usize) -> &[usize]
+    ensures { result.now ≡ drop first list.now }
+{
+    match list.get(first..) {
+        Some(rest) => rest,
+        None => &[],
     }
 }

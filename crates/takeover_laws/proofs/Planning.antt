@@ -141,7 +141,7 @@ module _ (x y : Facts) (alike : IsAlike (cells_of x) (cells_of y)) where
       λ i. record {
         given = given i;
         tables = tables_of (λ lid. option_and_then (λ e. home_same e i) (owner_of (given i) lid))
-            (numbered (numbers_same lmc given i) (rules_stay rule x y graph_same leaf_switches_same i)).next
+            (numbered (numbers_same lmc given i) (rules_stay rule x y graph_same leaf_switches_same most_same i)).next
             (block_count (top_of (given i))) (switches_same x y alike i);
       }
 

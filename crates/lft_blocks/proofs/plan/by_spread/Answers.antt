@@ -5,7 +5,7 @@ use Rattle.fact_store.specs.View.{cells_of}
 use Rattle.subnet_view.specs.Graph.{guids_of}
 use Rattle.subnet_view.specs.Reading.{switches}
 use Rattle.subnet_view.proofs.GraphSwitches.{graph_guids}
-use Rattle.spread_routes.specs.LeafSwitches.{leaf_switches_of}
+use Rattle.spread_routes.specs.LeafSwitches.{leaf_switches_of, most_adapters}
 use Rattle.spread_routes.specs.Spread.{spread_by}
 use Rattle.spread_routes.specs.SwitchOrders.{order_value_of}
 use Rattle.lft_blocks.specs.declared.attachment.Attachment.{Attachment}
@@ -36,4 +36,4 @@ returns-clause-tables c =
     ∙ (λ i. tables_of (same_attachments (guids_of graph) attachments c.deref.result.now are i)
     (numbered
     (number_of (numbering_of c.args.lmc cells) (guids_of (c.in_ok-graph.ensures i)) (same_attachments (guids_of graph) attachments c.deref.result.now are i))
-    (spread_by (c.in_ok-graph.ensures i) leaves (order_value_of c.args.order.now))).next (counted i) (guids i))
+    (spread_by (c.in_ok-graph.ensures i) leaves (most_adapters cells) (order_value_of c.args.order.now))).next (counted i) (guids i))

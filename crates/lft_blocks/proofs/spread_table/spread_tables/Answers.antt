@@ -10,7 +10,7 @@ use Rattle.subnet_view.specs.SwitchEdges.{SwitchEdges}
 use Rattle.subnet_view.specs.Graph.{guids_of}
 use Rattle.subnet_view.proofs.GraphSwitches.{graph_guids, switches_rise}
 use Rattle.spread_routes.specs.LeafNumbers.{leaf_number, leaf_numbers, least_neighbours}
-use Rattle.spread_routes.specs.LeafSwitches.{leaf_switches_of}
+use Rattle.spread_routes.specs.LeafSwitches.{leaf_switches_of, most_adapters}
 use Rattle.spread_routes.specs.Rule.{by_index}
 use Rattle.spread_routes.specs.Spread.{Grading, grading_of, indices_of, spread_at, spread_by}
 use Rattle.spread_routes.specs.SwitchOrders.{order_value_of}
@@ -55,12 +55,14 @@ returns c =
     let leaves = leaf_switches_of (cells_of c.args.wires.now) in
     let order = order_value_of c.args.order.now in
     let count = c.args.count in
-    let by = grading_of graph leaves order in
+    let most = most_adapters (cells_of c.args.wires.now) in
+    let by = grading_of graph leaves most order in
     let rows = c.in_ok-rows.rows.items in
     let theirs = c.switches-guids.ensures in
     let numbers = c.in_ok-numbers.numbers.items in
     let is : c.in_ok-spread.spread ≡ by =
-    c.in_ok-spread.ensures ∙ ap (λ (xs : List ℕ). grading_of graph xs order) (c.deref-2.ensures.value ∙ c.in_ok-leaves.ensures) in
+    c.in_ok-spread.ensures
+    ∙ (λ i. grading_of graph ((c.deref-2.ensures.value ∙ c.in_ok-leaves.ensures) i) ((c.from.ensures ∙ ap (λ (p : Numbering). p.most) c.in_ok-numbering.ensures) i) order) in
     let rising : IsStrictlyIncreasing guids =
     subst (λ (g : List SwitchEdges). IsStrictlyIncreasing (guids_of g)) (sym c.requires.graph) (switches_rise c.args.wires.now) in
     let numbering = numbering_of c.args.lmc (cells_of c.args.wires.now) in

@@ -1,5 +1,5 @@
 use Rattle.std.proofs.Common.{◌≡◌, ◌<◌, ℕ, List, sym, ap, ◌∙◌, subst, arith, length, map, All}
-use Rattle.std.specs.Prelude.{Contains}
+use Rattle.std.specs.Prelude.{Contains, None}
 use Rattle.spread_labels.specs.LabelLaws.{IsSymmetric}
 use Rattle.spread_labels.specs.Keys.{before_by}
 use Rattle.spread_labels.specs.Orders.{by_position, order}
@@ -63,7 +63,7 @@ invariant_of-result c =
     let is : c.in_ok-order.order.items ≡ order_by_keys graph keys =
     c.in_ok-order.ensures ∙ (λ i. order (by i) (before_by (c.deref.ensures.value i))) in
     let count : c.len.result ≡ length (by_index graph) = c.len.ensures ∙ ap length by in
-    by_positions_is graph keys good levels c.in_ok-edges.edges c.in_ok-positions.positions.items c.in_ok-lid_digits.lid_digits.items
+    by_positions_is graph keys good levels None c.in_ok-edges.edges c.in_ok-positions.positions.items c.in_ok-lid_digits.lid_digits.items
     (c.in_ok-edges.ensures ∙ (λ i. by_position (by i) ((c.deref-5.ensures.value ∙ is) i)))
     (subst (λ (x : ℕ × List ℕ). ArePositions x.0 x.1 c.in_ok-positions.positions.items) (λ i. (count i, (c.deref-2.ensures.value ∙ is) i))
     c.in_ok-positions.ensures)

@@ -1,5 +1,5 @@
-use Rattle.std.proofs.Common.{◌≡◌, ◌<◌, ℕ, List, sym, ap, ◌∙◌, subst, arith, length, map}
-use Rattle.std.proofs.lemmas.List.{get_or_default}
+use Rattle.std.proofs.Common.{◌≡◌, ◌<◌, ◌+◌, ℕ, List, sym, ap, ◌∙◌, subst, arith, drop, length, map}
+use Rattle.std.proofs.lemmas.List.{get_or-drop, get_or_default}
 use Rattle.std.proofs.lemmas.Result.{on_ok_weaker}
 use Rattle.std.specs.Prelude.{nat_lt, slice_index_or}
 use Rattle.std.specs.List.{list_any}
@@ -91,6 +91,12 @@ returns c =
     (λ ports. exits_are by is.is_graph towards c.requires.towards own c.requires.own inside.lid_digits.items
     (λ q h. is.lid_digit q (omega (arith, h, ap length is.by_position))) c.find.new.self
     (c.find.ensures.lid_digit ∙ lid_digit ∙ ap (lid_digit_there by) at)
+    (c.find.ensures.choices ∙ c.choose_by.ensures.choices ∙ c.as_ref.ensures.value ∙ ap (λ (g : Grading). g.choices) c.self.view_is)
+    (c.find.ensures.own ∙ c.choose_by.ensures.own ∙ at)
+    (λ k h. ap (λ xs. slice_index_or xs k 0)
+    (c.find.ensures.targets ∙ c.choose_by.ensures.targets ∙ c.behind-targets.ensures
+    ∙ (λ i. drop (c.towards.view_is i).first (c.deref-2.ensures.value i)))
+    ∙ get_or-drop towards.first inside.positions.items k 0 ∙ is.position (towards.first + k) (omega (arith, h, c.requires.towards.within)))
     (λ k h. ports k h ∙ (λ i. map (λ (e : Edge). e.port) (picked k (sets i) (edges i))))
     (λ k h. ap (λ set. has set k) c.find.ensures.higher ∙ c.higher_targets-higher.ensures k h
     ∙ (λ i. list_any (λ (e : Edge). nat_lt (sym c.find.ensures.lid_digit i).level (slice_index_or (c.deref.ensures.value i) e.to no_lid_digit).level)

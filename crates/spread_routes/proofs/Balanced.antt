@@ -1,0 +1,21 @@
+-- Loads are balanced, or not, as the order asks for.
+use Rattle.std.proofs.Common.{◌≡◌, ℕ, true, false, List, refl}
+use Rattle.std.specs.Prelude.{None, Some}
+use Rattle.spread_labels.specs.declared.vertex_key.VertexKey.{VertexKey}
+use Rattle.subnet_view.specs.SwitchEdges.{SwitchEdges}
+use Rattle.spread_routes.specs.Spread.{balanced_by, choices_by}
+use Rattle.spread_routes.specs.SwitchOrders.{OrderValue, as_named, balanced_as, from_roots, is_balanced, least_loaded}
+
+pub choices_if : (graph : List SwitchEdges) (keys : List VertexKey) (leaves : List ℕ) (most : ℕ) (order : OrderValue) → is_balanced order ≡ true
+    → Some (balanced_by graph keys leaves most) ≡ choices_by graph keys leaves most order
+choices_if graph keys leaves most (from_roots roots) e = absurd (cc)
+choices_if graph keys leaves most (as_named switches) e = absurd (cc)
+choices_if graph keys leaves most (balanced_as switches) e = refl
+choices_if graph keys leaves most least_loaded e = refl
+
+pub no_choices_if : (graph : List SwitchEdges) (keys : List VertexKey) (leaves : List ℕ) (most : ℕ) (order : OrderValue) → is_balanced order ≡ false
+    → None ≡ choices_by graph keys leaves most order
+no_choices_if graph keys leaves most (from_roots roots) e = refl
+no_choices_if graph keys leaves most (as_named switches) e = refl
+no_choices_if graph keys leaves most (balanced_as switches) e = absurd (cc)
+no_choices_if graph keys leaves most least_loaded e = absurd (cc)
