@@ -23,14 +23,17 @@ word_behind subcommand name =
 abbrev pub word_named : ArgMatches → List ℕ → Option (List ℕ)
 word_named matches = word_behind (subcommand_rows_of matches)
 
--- roots or an order are `named`, and the word for the rule is none or not the one that takes them
-abbrev pub lacks_rule : Option (List ℕ) → Bool → Bool
-lacks_rule None named = named
-lacks_rule (Some word) named = named && not (bytes_eq word (codes "spread"))
+-- roots are named, and the word for the rule is not the one that takes them; or an order, and no word for a rule that
+-- takes one
+abbrev pub lacks_rule : Option (List ℕ) → Bool → Bool → Bool
+lacks_rule None rooted ordered = rooted || ordered
+lacks_rule (Some word) rooted ordered =
+    if bytes_eq word (codes "spread") then false
+    else (if bytes_eq word (codes "balance") then rooted else rooted || ordered)
 
 -- options contradict each other: roots and an order are both named, or one of them without the rule that takes it
 abbrev pub has_conflict_of : Option (List ℕ) → Bool → Bool → Bool
-has_conflict_of routing rooted ordered = (rooted && ordered) || lacks_rule routing (rooted || ordered)
+has_conflict_of routing rooted ordered = (rooted && ordered) || lacks_rule routing rooted ordered
 
 -- the rule of an order: `spread` if no word names one
 abbrev pub order_rule : Option (List ℕ) → Option (List ℕ)

@@ -352,7 +352,7 @@ fn planning_conflict(name: &str, words: &ArgMatches<'_>) -> bool
 {
     let rooted = is_named(words, ROOTS);
     let ordered = is_named(words, ORDER);
-    (rooted && ordered) || lacks_rule(name, words, rooted || ordered)
+    (rooted && ordered) || lacks_rule(name, words, rooted, ordered)
 }
 
 /// Returns whether the GUID of a manager's port or its SM_Key is not 1 to 16 hex digits.
@@ -396,16 +396,17 @@ fn are_hex_digits(bytes: &[u8]) -> bool
     bytes.iter().all(|byte| byte.is_ascii_hexdigit())
 }
 
-/// Returns whether roots or an order are `named`, but not the rule that takes them. For the subcommand that prints an
-/// order, that rule need not be named.
-fn lacks_rule(name: &str, words: &ArgMatches<'_>, named: bool) -> bool
+/// Returns whether roots are named (`rooted`) but not the rule that takes them, or an order (`ordered`) but no rule that
+/// takes one. For the subcommand that prints an order, `spread` need not be named.
+fn lacks_rule(name: &str, words: &ArgMatches<'_>, rooted: bool, ordered: bool) -> bool
     ensures { result ≡ lacks_rule (if bytes_eq name.now (codes "order")
         then order_rule (first_value (found_of words.now) (codes "routing"))
-        else first_value (found_of words.now) (codes "routing")) named }
+        else first_value (found_of words.now) (codes "routing")) rooted ordered }
 {
     match (name, words.get_str(ROUTING)) {
         (_, Some(SPREAD)) | (ORDER, None) => false,
-        _ => named,
+        (_, Some(BALANCE)) => rooted,
+        _ => rooted || ordered,
     }
 }
 
@@ -438,7 +439,9 @@ fn conflict_text(matches: &ArgMatches<'_>) -> &'static str {
     match (is_named(words, ROOTS), is_named(words, ORDER)) {
         (true, true) => "the argument '--roots <FILE>' cannot be used with '--order <FILE>'",
         (true, false) => "the argument '--roots <FILE>' cannot be used without '--routing spread'",
-        (false, _) => "the argument '--order <FILE>' cannot be used without '--routing spread'",
+        (false, _) => {
+            "the argument '--order <FILE>' cannot be used without '--routing spread' or '--routing balance'"
+        }
     }
 }
 

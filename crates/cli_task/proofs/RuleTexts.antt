@@ -4,7 +4,7 @@ use Rattle.std.proofs.lemmas.Option.{same_Some}
 use Rattle.std.specs.Prelude.{codes, option_map}
 use Rattle.sm_cli.specs.Asked.{texts_for}
 use Rattle.sm_cli.specs.declared.asked.RuleAsked.{RuleAsked}
-use Rattle.sm_cli.specs.declared.asked.RuleAsked.TheVariants.{UpDown, Spread, SpreadFromRoots, SpreadInOrder, Balance}
+use Rattle.sm_cli.specs.declared.asked.RuleAsked.TheVariants.{UpDown, Spread, SpreadFromRoots, SpreadInOrder, Balance, BalanceInOrder}
 use Rattle.cli_task.specs.Asked.{texts_of_rule}
 
 pub one_word : (o : Option (List ℕ)) (xs : List (List ℕ)) → option_map (λ w. w ∷ []) o ≡ Some xs → length xs ≡ 1
@@ -18,3 +18,4 @@ texts_counted word Spread xs e = ap length (sym (same_Some _ _ e))
 texts_counted word SpreadFromRoots xs e = one_word (word (codes "roots")) xs e
 texts_counted word SpreadInOrder xs e = one_word (word (codes "order")) xs e
 texts_counted word Balance xs e = ap length (sym (same_Some _ _ e))
+texts_counted word BalanceInOrder xs e = one_word (word (codes "order")) xs e

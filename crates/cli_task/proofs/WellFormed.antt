@@ -6,7 +6,7 @@ use Rattle.clap.specs.declared.parser.matches.ArgMatches.{ArgMatches}
 use Rattle.cli_arguments.specs.WellFormed.{HasItsWords, IsGiven, IsNumberWithin, IsRouting, IsWellFormed, NamesFiles, NamesOrder, NamesPlanning, NamesSeat, facts, join, plan, order, audit, order_of, next, run, serve}
 use Rattle.cli_arguments.specs.Words.{files_named, has_conflict_of, is_guid, is_key, order_rule, word_named}
 use Rattle.sm_cli.specs.declared.asked.RuleAsked.{RuleAsked}
-use Rattle.sm_cli.specs.declared.asked.RuleAsked.TheVariants.{UpDown, Spread, SpreadFromRoots, SpreadInOrder, Balance}
+use Rattle.sm_cli.specs.declared.asked.RuleAsked.TheVariants.{UpDown, Spread, SpreadFromRoots, SpreadInOrder, Balance, BalanceInOrder}
 use Rattle.cli_task.specs.Asked.{floor_asked, followed_by, guid_asked, lmc_asked, max_load_asked, number_in, port_asked, priority_asked, sm_key_asked, within, names_in, planning_asked, rule_asked, task_behind, texts_of_rule}
 use Rattle.cli_task.proofs.Guids.{guid_is_read}
 use Rattle.cli_task.proofs.Within.{number_within}
@@ -64,8 +64,7 @@ balance_there : (w : List ℕ) (roots named : Option (List ℕ)) → w ≡ codes
     → Asked (Some w) roots named
 balance_there w None None is f = (Balance, ap (λ v. rule_asked (Some v) false false) is, (λ word j k. refl))
 balance_there w None (Some o) is f =
-    let bad : has_conflict_of (Some (codes "balance")) false true ≡ false = subst (λ (v : List ℕ). has_conflict_of (Some v) false true ≡ false) is f in
-    absurd (cc)
+    (BalanceInOrder, ap (λ v. rule_asked (Some v) false true) is, (λ word j k. ap (λ x. is_some (option_map (λ named. named ∷ []) x)) k))
 balance_there w (Some r) None is f =
     let bad : has_conflict_of (Some (codes "balance")) true false ≡ false = subst (λ (v : List ℕ). has_conflict_of (Some v) true false ≡ false) is f in
     absurd (cc)

@@ -12,7 +12,7 @@ use Rattle.sm_cli.specs.Asked.{rule_for}
 use Rattle.sm_cli.specs.declared.asked.Output.{Output}
 use Rattle.sm_cli.specs.declared.asked.Output.TheVariants.{Facts, Join, Plan, Order}
 use Rattle.sm_cli.specs.declared.asked.RuleAsked.{RuleAsked}
-use Rattle.sm_cli.specs.declared.asked.RuleAsked.TheVariants.{UpDown, Spread, SpreadFromRoots, SpreadInOrder, Balance}
+use Rattle.sm_cli.specs.declared.asked.RuleAsked.TheVariants.{UpDown, Spread, SpreadFromRoots, SpreadInOrder, Balance, BalanceInOrder}
 use Rattle.next_run.specs.declared.run_step.StepAsked.{StepAsked}
 use Rattle.serve_lines.specs.ServeLine.{hex_number}
 use Rattle.serve_task.specs.declared.serving.Serving.{Serving}
@@ -53,6 +53,10 @@ spread_asked true false = Some SpreadFromRoots
 spread_asked false true = Some SpreadInOrder
 spread_asked true true = None
 
+-- the rule that spreads with balanced loads, in a named order or not
+abbrev pub balance_asked : Bool → RuleAsked
+balance_asked ordered = if ordered then BalanceInOrder else Balance
+
 -- the rule that the word names, up and down without a word; if roots or an order are named, it must be the one that
 -- takes them
 abbrev pub rule_asked : Option (List ℕ) → Bool → Bool → Option RuleAsked
@@ -60,7 +64,7 @@ rule_asked None rooted ordered = if rooted || ordered then None else Some UpDown
 rule_asked (Some word) rooted ordered =
     if bytes_eq word (codes "spread") then spread_asked rooted ordered
     else (if bytes_eq word (codes "updown") && not (rooted || ordered) then Some UpDown
-    else (if bytes_eq word (codes "balance") && not (rooted || ordered) then Some Balance else None))
+    else (if bytes_eq word (codes "balance") && not rooted then Some (balance_asked ordered) else None))
 
 -- tasks -----------------------------------------------------------------------------------------
 
@@ -158,6 +162,7 @@ texts_of_rule word Spread = Some []
 texts_of_rule word SpreadFromRoots = option_map (λ roots. roots ∷ []) (word (codes "roots"))
 texts_of_rule word SpreadInOrder = option_map (λ order. order ∷ []) (word (codes "order"))
 texts_of_rule word Balance = Some []
+texts_of_rule word BalanceInOrder = option_map (λ order. order ∷ []) (word (codes "order"))
 
 -- the rule that a task plans by; if it does not plan, one that takes no text
 abbrev pub rule_of_task : Task → RuleAsked

@@ -4,7 +4,7 @@ ghost use Rattle.clap.specs.Matches.{first_value, found_of, matched_of, raw_valu
 ghost use Rattle.cli_task.specs.Asked.{audit_asked, floor_asked, is_set, lmc_asked, max_load_asked, number_in};
 ghost use Rattle.cli_task.specs.Asked.{number_or, planning_asked, rule_asked};
 ghost use Rattle.cli_task.specs.Asked.{order_asked, output_asked, step_asked, task_asked, task_behind, within};
-ghost use Rattle.cli_task.specs.Asked.{names_asked, names_in, rule_of_task, spread_asked, takes_files, texts_asked};
+ghost use Rattle.cli_task.specs.Asked.{balance_asked, names_asked, names_in, rule_of_task, spread_asked, takes_files, texts_asked};
 ghost use Rattle.cli_task.specs.Asked.{guid_asked, port_asked, priority_asked, serving_asked, sm_key_asked};
 ghost use Rattle.cli_task.specs.Asked.{texts_of_rule};
 
@@ -290,7 +290,7 @@ fn rule_of(words: &ArgMatches<'_>) -> Option<RuleAsked>
     let ordered = words.get_str(ORDER).is_some();
     match words.get_str(ROUTING) {
         None | Some(UPDOWN) if !rooted && !ordered => Some(RuleAsked::UpDown),
-        Some(BALANCE) if !rooted && !ordered => Some(RuleAsked::Balance),
+        Some(BALANCE) if !rooted => Some(balance_by(ordered)),
         Some(SPREAD) => spread_by(rooted, ordered),
         _ => None,
     }
@@ -305,6 +305,17 @@ fn spread_by(rooted: bool, ordered: bool) -> Option<RuleAsked>
         (true, false) => Some(RuleAsked::SpreadFromRoots),
         (false, true) => Some(RuleAsked::SpreadInOrder),
         (true, true) => None,
+    }
+}
+
+/// Returns the rule that spreads with balanced loads, in a named order if `ordered`.
+fn balance_by(ordered: bool) -> RuleAsked
+    ensures { result ≡ balance_asked ordered }
+{
+    if ordered {
+        RuleAsked::BalanceInOrder
+    } else {
+        RuleAsked::Balance
     }
 }
 
@@ -360,7 +371,7 @@ fn texts_of_rule<'a>(words: &ArgMatches<'a>, rule: RuleAsked) -> Option<ArrayVec
     match rule {
         RuleAsked::UpDown | RuleAsked::Spread | RuleAsked::Balance => {}
         RuleAsked::SpreadFromRoots => texts.push(words.get_str(ROOTS)?),
-        RuleAsked::SpreadInOrder => texts.push(words.get_str(ORDER)?),
+        RuleAsked::SpreadInOrder | RuleAsked::BalanceInOrder => texts.push(words.get_str(ORDER)?),
     }
     Some(texts)
 }

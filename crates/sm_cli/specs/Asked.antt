@@ -1,7 +1,7 @@
 -- What is asked for in a run over files: the rule of routing, and the number of texts that are read for it first.
 use Rattle.std.specs.Prelude.{ℕ}
 use Rattle.sm_cli.specs.declared.asked.RuleAsked.{RuleAsked}
-use Rattle.sm_cli.specs.declared.asked.RuleAsked.TheVariants.{UpDown, Spread, SpreadFromRoots, SpreadInOrder, Balance}
+use Rattle.sm_cli.specs.declared.asked.RuleAsked.TheVariants.{UpDown, Spread, SpreadFromRoots, SpreadInOrder, Balance, BalanceInOrder}
 use Rattle.sm_cli.specs.declared.asked.Output.{Output}
 use Rattle.sm_cli.specs.declared.asked.Output.TheVariants.{Facts, Join, Plan, Order}
 
@@ -12,6 +12,7 @@ texts_for Spread = 0
 texts_for SpreadFromRoots = 1
 texts_for SpreadInOrder = 1
 texts_for Balance = 0
+texts_for BalanceInOrder = 1
 
 -- the rule of a plan or of an order; if the output needs none, one that takes no text
 abbrev pub rule_for : Output → RuleAsked

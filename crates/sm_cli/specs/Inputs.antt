@@ -7,11 +7,11 @@ use Rattle.roots_file.specs.Reading.{roots_of}
 use Rattle.roots_file.specs.RootsTextFault.{RootsTextFault as RootsFault}
 use Rattle.text_words.specs.declared.fault.LinesFault.TheVariants as wrong
 use Rattle.lft_blocks.specs.Rules.{RuleValue, spread_in, up_and_down}
-use Rattle.spread_routes.specs.SwitchOrders.{OrderValue, as_named, from_roots, least_loaded}
+use Rattle.spread_routes.specs.SwitchOrders.{OrderValue, as_named, balanced_as, from_roots, least_loaded}
 use Rattle.sm_cli.specs.Asked.{texts_for}
 use Rattle.sm_cli.specs.Sources.{IsOneRead, Parts}
 use Rattle.sm_cli.specs.declared.asked.RuleAsked.{RuleAsked}
-use Rattle.sm_cli.specs.declared.asked.RuleAsked.TheVariants.{UpDown, Spread, SpreadFromRoots, SpreadInOrder, Balance}
+use Rattle.sm_cli.specs.declared.asked.RuleAsked.TheVariants.{UpDown, Spread, SpreadFromRoots, SpreadInOrder, Balance, BalanceInOrder}
 use Rattle.sm_cli.specs.declared.fault.Fault.{Fault}
 use Rattle.sm_cli.specs.declared.fault.Fault.TheVariants.{File, Text}
 use Rattle.sm_cli.specs.declared.text_fault.TextFault.{TextFault}
@@ -36,6 +36,7 @@ roots_fault usable roots = fault_of_first roots (first_unusable usable roots)
 abbrev pub order_fault : (ℕ → Bool) → OrderValue → Option TextFault
 order_fault usable (from_roots roots) = roots_fault usable roots
 order_fault usable (as_named switches) = None
+order_fault usable (balanced_as switches) = None
 order_fault usable least_loaded = None
 
 -- why no plan can be made by the rule that was asked for, if so: only roots that a text names can be at fault
@@ -46,6 +47,7 @@ rule_fault usable SpreadFromRoots up_and_down = None
 rule_fault usable SpreadFromRoots (spread_in order) = order_fault usable order
 rule_fault usable SpreadInOrder rule = None
 rule_fault usable Balance rule = None
+rule_fault usable BalanceInOrder rule = None
 
 -- rules ------------------------------------------------------------------------------------------
 
@@ -93,6 +95,7 @@ IsRuleRead state Spread olds news rule = (news ≡ olds) × (rule ≡ spread_in 
 IsRuleRead state SpreadFromRoots olds news rule = IsOrderRead state from_roots olds news rule
 IsRuleRead state SpreadInOrder olds news rule = IsOrderRead state as_named olds news rule
 IsRuleRead state Balance olds news rule = (news ≡ olds) × (rule ≡ spread_in least_loaded)
+IsRuleRead state BalanceInOrder olds news rule = IsOrderRead state balanced_as olds news rule
 
 -- why the rule is not read: its text is not
 abbrev pub IsRuleFault : {S : Type 0} → (S → SourceState) → RuleAsked → List S → List S
@@ -104,6 +107,8 @@ IsRuleFault state SpreadFromRoots olds news fault =
 IsRuleFault state SpreadInOrder olds news fault =
     IsOneRead olds news (λ old new. IsRootsFault state old new fault)
 IsRuleFault state Balance olds news fault = ⊥
+IsRuleFault state BalanceInOrder olds news fault =
+    IsOneRead olds news (λ old new. IsRootsFault state old new fault)
 
 -- inputs ----------------------------------------------------------------------------------------
 

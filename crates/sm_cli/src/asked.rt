@@ -15,8 +15,10 @@ pub enum RuleAsked {
     SpreadFromRoots,
     /// Spread over all wires, in an order that grows as a text names switches.
     SpreadInOrder,
-    /// Spread over all wires, in the order of the least trial load.
+    /// Spread over all wires, with balanced loads, in the order of the least trial load.
     Balance,
+    /// Spread over all wires, with balanced loads, in an order that grows as a text names switches.
+    BalanceInOrder,
 }
 
 impl RuleAsked {
@@ -28,7 +30,7 @@ impl RuleAsked {
     {
         match self {
             RuleAsked::UpDown | RuleAsked::Spread | RuleAsked::Balance => 0,
-            RuleAsked::SpreadFromRoots | RuleAsked::SpreadInOrder => 1,
+            RuleAsked::SpreadFromRoots | RuleAsked::SpreadInOrder | RuleAsked::BalanceInOrder => 1,
         }
     }
 }

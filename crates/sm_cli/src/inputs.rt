@@ -106,6 +106,12 @@ fn read_rule<S: Source>(alloc: Global, asked: RuleAsked, texts: &mut [S]) -> Res
             }),
             Err(fault) => Err(fault),
         },
+        RuleAsked::BalanceInOrder => match read_roots(alloc, &mut texts[0]) {
+            Ok(switches) => Ok(Rule::Spread {
+                order: SwitchOrder::BalancedAs { switches },
+            }),
+            Err(fault) => Err(fault),
+        },
     }
 }
 
@@ -158,7 +164,8 @@ fn order_fault<S: Source, R: InputReader<S>>(
         SwitchOrder::FromRoots { roots } => {
             fault_of_first(roots, first_unusable(roots, reader, told))
         }
-        SwitchOrder::AsNamed { .. } | SwitchOrder::LeastLoaded => None,
+        SwitchOrder::AsNamed { .. } | SwitchOrder::BalancedAs { .. } | SwitchOrder::LeastLoaded =>
+            None,
     }
 }
 
