@@ -1,6 +1,7 @@
 -- Ways, an edge at a time.
-use Rattle.std.proofs.Common.{◌≡◌, ◌<◌, ◌-◌, ◌+◌, ℕ, zero, suc, [], ◌∷◌, ap, ◌∙◌, arith}
-use Rattle.std.specs.Prelude.{None, Option, Some}
+use Rattle.std.proofs.Common.{◌≡◌, ◌<◌, ◌≤◌, ◌-◌, ◌+◌, ℕ, zero, suc, List, [], ◌∷◌, ap, ◌∙◌, arith}
+use Rattle.std.specs.Prelude.{max, None, Option, Some}
+use Rattle.spread_labels.specs.Levels.{greatest}
 use Rattle.std.specs.Option.{option_map_or}
 use Rattle.port_graph.specs.declared.edge.Edge.{Edge}
 use Rattle.balanced_choices.specs.Loads.{channel_by, way}
@@ -20,3 +21,8 @@ module _ (taken : ℕ → Option Edge) where
   -- none are left
   pub none_left : (n i p : ℕ) → n - i ≡ 0 → way taken (n - i) p ≡ []
   none_left n i p none = ap (λ k. way taken k p) none
+
+-- the greatest of some is at least the first of them
+pub greatest_least : (n : ℕ) (ms : List ℕ) → n ≤ greatest n ms
+greatest_least n [] = omega arith
+greatest_least n (m ∷ ms) = let rest = greatest_least (max n m) ms in omega (arith, rest)

@@ -1,5 +1,5 @@
 //! The ways of packets, and the loads of the channels that they take.
-ghost use Rattle.std.specs.Prelude.{◌≡◌, ◌<◌, ◌+◌, ◌*◌, Contains, IfSome, length, map, slice_index};
+ghost use Rattle.std.specs.Prelude.{◌≡◌, ◌<◌, ◌+◌, ◌*◌, Contains, IfSome, length, map, min, slice_index};
 ghost use Rattle.port_graph.specs.Heads.{edges_at};
 ghost use Rattle.spread_labels.specs.Levels.{greatest};
 ghost use Rattle.balanced_choices.specs.Loads.{changed, channel_by, edge_taken, lightest, peak, way_from, with_changes};
@@ -81,7 +81,7 @@ pub(crate) fn lightest(ways: &Adjacency, choices: &[u8], loads: &[usize], positi
     let mut best = 0;
     let mut least = usize::MAX;
     for k in 0..edges.len().min(PORTS) {
-        let peak = peak(ways, choices, loads, position, edges[k]);
+        let peak = peak(ways, choices, loads, position, edges[k], least);
         if peak < least {
             best = k;
             least = peak;
@@ -90,24 +90,44 @@ pub(crate) fn lightest(ways: &Adjacency, choices: &[u8], loads: &[usize], positi
     best as u8
 }
 
-/// Returns the greatest load on the way that begins with a candidate of a position.
-fn peak(ways: &Adjacency, choices: &[u8], loads: &[usize], position: usize, edge: Edge) -> usize
+/// Returns the greatest load on the way that begins with a candidate of a position; any load on it that is at least
+/// `enough` if there is one.
+fn peak(
+    ways: &Adjacency,
+    choices: &[u8],
+    loads: &[usize],
+    position: usize,
+    edge: Edge,
+    enough: usize,
+) -> usize
     requires loads { length loads.now ≡ 256 * length ways.now }
     requires edge { Contains (edges_at ways.now position) edge }
-    ensures { result ≡ peak ways.now choices.now loads.now position edge }
+    ensures { min result enough ≡ min (peak ways.now choices.now loads.now position edge) enough }
 {
     let channel = PORTS * position + usize::from(edge.port.number());
-    peak_from(ways, choices, loads, edge.to, loads[channel])
+    peak_from(ways, choices, loads, edge.to, loads[channel], enough)
 }
 
-/// Returns the greatest of `found` and the loads of the channels of the way from `from`.
-fn peak_from(ways: &Adjacency, choices: &[u8], loads: &[usize], from: usize, found: usize) -> usize
+/// Returns the greatest of `found` and the loads of the channels of the way from `from`; any of these that is at least
+/// `enough` if there is one.
+fn peak_from(
+    ways: &Adjacency,
+    choices: &[u8],
+    loads: &[usize],
+    from: usize,
+    found: usize,
+    enough: usize,
+) -> usize
     requires { length loads.now ≡ 256 * length ways.now }
-    ensures { result ≡ greatest found (map (λ c. slice_index loads.now c) (way_from ways.now choices.now from)) }
+    ensures { min result enough
+        ≡ min (greatest found (map (λ c. slice_index loads.now c) (way_from ways.now choices.now from))) enough }
 {
     let mut peak = found;
     let mut position = from;
     for _ in 0..ways.len() {
+        if peak >= enough {
+            return peak;
+        }
         match edge_taken(ways, choices, position) {
             Some(edge) => {
                 let channel = PORTS * position + usize::from(edge.port.number());

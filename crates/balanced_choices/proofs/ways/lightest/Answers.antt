@@ -26,19 +26,20 @@ loop-k-preserved c =
     let is : get_or cands k e ≡ e = get_or-take 256 (edges_at ways p) k e (omega (arith, few)) ∙ ap (λ es. get_or es k e) (sym same) ∙ sym c.index-edges-k.is in
     let rest : List ℕ = map f (drop (k + 1) cands) in
     let here : drop k cands ≡ e ∷ drop (k + 1) cands = drop_more cands k e (omega (arith, few, long)) ∙ ap (λ x. x ∷ drop (k + 1) cands) is in
-    let left : least_from best least k (peak ∷ rest) ≡ lightest ways c.args.choices.now c.args.loads.now p =
-    ap (λ n. least_from best least k (n ∷ rest)) c.peak-peak.ensures
-    ∙ sym (ap (λ es. least_from best least k (map f es)) here) ∙ c.loop-k.invariant.1 in
+    let left : least_from best least k (f e ∷ rest) ≡ lightest ways c.args.choices.now c.args.loads.now p =
+    sym (ap (λ es. least_from best least k (map f es)) here) ∙ c.loop-k.invariant.1 in
+    let told : min peak least ≡ min (f e) least = c.peak-peak.ensures in
     elim c.if-peak-least.branch [
-      | then-peak-least w ↦ (
-        omega (arith, few, w.best-is),
-        (λ i. least_from (w.best-is i) (w.least-is i) (k + 1) rest)
-            ∙ least_next best least k peak rest (lt-ltb peak least w.if-peak-least.true) ∙ left,
-      )
+      | then-peak-least w ↦
+          let same : peak ≡ f e = omega (arith, told, w.if-peak-least.true) in (
+            omega (arith, few, w.best-is),
+            (λ i. least_from (w.best-is i) (w.least-is i) (k + 1) rest) ∙ ap (λ n. least_from k n (k + 1) rest) same
+                ∙ least_next best least k (f e) rest (lt-ltb (f e) least (omega (arith, same, w.if-peak-least.true))) ∙ left,
+          )
       | else-peak-least w ↦ (
         omega (arith, w.best-is, c.loop-k.invariant.0),
         (λ i. least_from (w.best-is i) (w.least-is i) (k + 1) rest)
-            ∙ least_kept best least k peak rest (le-ltb peak least w.if-peak-least.false) ∙ left,
+            ∙ least_kept best least k (f e) rest (le-ltb (f e) least (omega (arith, told, w.if-peak-least.false))) ∙ left,
       )
     ]
 

@@ -1,17 +1,28 @@
 use Rattle.std.proofs.Common.{◌≡◌, ◌+◌, ◌-◌, ◌*◌, ℕ, List, max, sym, ap, ◌∙◌, arith, length, get_or, map}
+use Rattle.std.specs.Prelude.{min}
 use Rattle.spread_labels.specs.Levels.{greatest}
 use Rattle.balanced_choices.specs.Loads.{channel_by, edge_taken, way}
-use Rattle.balanced_choices.proofs.EdgeByEdge.{none_left, way_ends, way_goes}
+use Rattle.balanced_choices.proofs.EdgeByEdge.{greatest_least, none_left, way_ends, way_goes}
 use Rattle.balanced_choices.proofs.ways.peak_from.Goals as goal
 
 pub returns-in-None : goal.returns-in-None
 returns-in-None c =
     let n = length c.args.ways.now in
     let loads = c.args.loads.now in
-    sym (ap (λ cs. greatest c.loop.peak (map (λ k. get_or loads k 0) cs))
+    ap (λ m. min m c.args.enough) (sym (ap (λ cs. greatest c.loop.peak (map (λ k. get_or loads k 0) cs))
     (way_ends (edge_taken c.args.ways.now c.args.choices.now) (n - c.loop.counter) c.loop.position (omega (arith, c.loop-test.true, c.len-end.ensures))
     (sym c.edge_taken.ensures.edge ∙ c.in-None.is)))
-    ∙ c.loop.invariant
+    ∙ c.loop.invariant)
+
+pub returns-then-peak-enough : goal.returns-then-peak-enough
+returns-then-peak-enough c =
+    let loads = c.args.loads.now in
+    let taken = edge_taken c.args.ways.now c.args.choices.now in
+    let rest : List ℕ = map (λ k. get_or loads k 0) (way taken (length c.args.ways.now - c.loop.counter) c.loop.position) in
+    let most = greatest_least c.loop.peak rest in
+    let is : greatest c.loop.peak rest ≡ greatest c.args.found (map (λ k. get_or loads k 0) (way taken (length c.args.ways.now) c.args.from)) =
+    c.loop.invariant in
+    omega (arith, most, is, c.if-peak-enough.true)
 
 pub loop-preserved : goal.loop-preserved
 loop-preserved c =
@@ -31,6 +42,6 @@ pub returns : goal.returns
 returns c =
     let n = length c.args.ways.now in
     let loads = c.args.loads.now in
-    sym (ap (λ cs. greatest c.loop.peak (map (λ k. get_or loads k 0) cs))
+    ap (λ m. min m c.args.enough) (sym (ap (λ cs. greatest c.loop.peak (map (λ k. get_or loads k 0) cs))
     (none_left (edge_taken c.args.ways.now c.args.choices.now) n c.loop.counter c.loop.position (omega (arith, c.loop-test.false, c.len-end.ensures))))
-    ∙ c.loop.invariant
+    ∙ c.loop.invariant)
