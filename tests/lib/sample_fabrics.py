@@ -191,6 +191,16 @@ def fat_tree(k: int, hosts: int) -> Fabric:
     return fabric
 
 
+def in_no_order(fabric: Fabric, seed: int) -> Fabric:
+    """Returns a fabric whose switches have exchanged their GUIDs, at random."""
+    names = [name for name in fabric.nodes if fabric.is_switch(name)]
+    guids = random.Random(seed).sample([fabric.guid(name) for name in names], len(names))
+    for name, guid in zip(names, guids):
+        kind, _, ports = fabric.nodes[name]
+        fabric.add(kind, name, guid, ports)
+    return fabric
+
+
 def line(count: int) -> Fabric:
     """Returns a row of switches, with an adapter at the first."""
     fabric = Fabric()

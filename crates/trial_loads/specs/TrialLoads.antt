@@ -50,7 +50,7 @@ abbrev pub last_first : ℕ → List ℕ
 last_first zero = []
 last_first (suc n) = n ∷ last_first n
 
--- whether a vertex has a candidate that leads up
+-- whether a vertex has a candidate that leads up; others of its candidates may lead down
 abbrev pub goes_up : (ℕ → List Edge) → ℕ → Bool
 goes_up towards s = leads_up s (towards s)
 
