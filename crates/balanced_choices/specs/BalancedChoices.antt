@@ -1,9 +1,10 @@
 -- Choices among candidates that balance the loads of channels. Positions send packets to ends, which are attached at
 -- some positions. For each end, each position chooses one of its candidates.
-use Rattle.std.specs.Prelude.{ℕ, zero, suc, ◌+◌, ◌*◌, ◌%◌, Bool, not, List, []}
+use Rattle.std.specs.Prelude.{ℕ, zero, suc, ◌+◌, ◌*◌, ◌%◌, Bool, not, List, [], ◌-◌, ◌/◌, ◌^◌, min, nat_le, if◌then◌else◌}
 use Rattle.std.specs.Prelude.{◌∷◌, ◌++◌, filter, length, map, replicate, reverse, slice_index, slice_index_or, slice_set}
 use Rattle.port_graph.specs.declared.edge.Edge.{Edge}
 use Rattle.port_graph.specs.Heads.{edges_at}
+use Rattle.spread_labels.specs.Levels.{greatest}
 use Rattle.spread_labels.specs.Labels.{candidates, leads_up}
 use Rattle.spread_labels.specs.Orders.{numbers_from}
 use Rattle.balanced_choices.specs.declared.ways.Change.TheVariants.{Add, Remove}
@@ -107,6 +108,24 @@ abbrev pub ends_of : ℕ → List Destination → ℕ
 ends_of n [] = n
 ends_of n (d ∷ ds) = ends_of (n + d.ends) ds
 
+-- n more than the sum of some numbers, at most 2^64 - 1
+abbrev pub sum_from : ℕ → List ℕ → ℕ
+sum_from n [] = n
+sum_from n (x ∷ xs) = sum_from (min (n + x) (2 ^ 64 - 1)) xs
+
+-- the mean of some numbers with this sum, rounded down; 0 if there are none
+abbrev pub mean : ℕ → ℕ → ℕ
+mean sum zero = 0
+mean sum (suc count) = sum / suc count
+
+-- the mean of the loads of a graph's channels
+abbrev pub mean_load : List (List Edge) → List ℕ → ℕ
+mean_load graph loads = mean (sum_from 0 loads) (sum_from 0 (map length graph))
+
+-- no load is over the mean by more than an eighth of it
+abbrev pub are_even : List (List Edge) → List ℕ → Bool
+are_even graph loads = nat_le (greatest 0 loads - mean_load graph loads) (mean_load graph loads / 8)
+
 -- no choices and no loads
 abbrev pub at_first : List (List Edge) → List Destination → Balance
 at_first graph destinations =
@@ -115,12 +134,18 @@ at_first graph destinations =
       loads = replicate (256 * length graph) 0;
     }
 
+-- a round more: the first one, or a later one if loads are not even
+abbrev pub with_round : ℕ → List (List Edge) → List ℕ → List Destination → Balance → Balance
+with_round zero graph sent destinations old = with_all zero graph sent old 0 destinations
+with_round (suc round) graph sent destinations old =
+    if are_even graph old.loads then old else with_all (suc round) graph sent old 0 destinations
+
 -- after this many rounds
 abbrev pub after_rounds : ℕ → List (List Edge) → List ℕ → List Destination → Balance
 after_rounds zero graph sent destinations = at_first graph destinations
 after_rounds (suc round) graph sent destinations =
-    with_all round graph sent (after_rounds round graph sent destinations) 0 destinations
+    with_round round graph sent destinations (after_rounds round graph sent destinations)
 
--- the balanced choices: the first, and twice new ones
+-- the balanced choices: the first ones, and then new ones, at most twice, until loads are even
 unfoldable pub balanced_choices : List (List Edge) → List ℕ → List Destination → List (List ℕ)
 balanced_choices graph sent destinations = (after_rounds 3 graph sent destinations).choices

@@ -3,6 +3,7 @@
 #![tactic(auto)]
 
 mod choosing;
+mod evenness;
 mod rounds;
 mod ways;
 

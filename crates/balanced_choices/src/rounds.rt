@@ -3,15 +3,16 @@ ghost use Rattle.std.specs.Prelude.{◌≡◌, ◌<◌, ◌≤◌, ◌+◌, ◌-
 ghost use Rattle.port_graph.specs.Heads.{LeadToVertices, edges_at};
 ghost use Rattle.spread_labels.specs.MarkSets.{AreRowsOf, picked, sets_at};
 ghost use Rattle.spread_labels.specs.Orders.{numbers_from};
-ghost use Rattle.balanced_choices.specs.BalancedChoices.{Balance, balanced_choices, ends_of, with_all, with_ends};
+ghost use Rattle.balanced_choices.specs.BalancedChoices.{Balance, balanced_choices, ends_of, with_all, with_ends, with_round};
 
 use crate::choosing::{choose, near_first};
+use crate::evenness::are_even;
 use crate::ways::PORTS;
 use port_graph::{Adjacency, Edge};
 use spread_labels::{CandidateSets, TARGETS, TargetSet};
 use std::alloc::{AllocError, Global};
 
-/// The number of rounds: one for the first choices, and two for new ones.
+/// The most rounds: one for the first choices, and two for new ones.
 const ROUNDS: usize = 3;
 
 /// A position at which ends are attached, to which packets are sent.
@@ -43,7 +44,7 @@ pub fn balanced_choices(
     let mut choices = no_choices(alloc, graph.len(), destinations)?;
     let mut loads = no_loads(alloc, graph.len())?;
     for round in 0..ROUNDS {
-        choose_all(
+        make_round(
             alloc,
             round,
             graph,
@@ -98,6 +99,35 @@ fn no_loads(alloc: Global, positions: usize) -> Result<Vec<usize>, AllocError>
         loads.extend_from_slice(&none)?;
     }
     Ok(loads)
+}
+
+/// Makes the choices of a round for all ends. Makes none if it is not the first one and loads are even.
+fn make_round(
+    alloc: Global,
+    round: usize,
+    graph: &Adjacency,
+    sent: &[usize],
+    destinations: &[Destination],
+    choices: &mut [Vec<u8>],
+    loads: &mut [usize],
+) -> Result<(), AllocError>
+    requires lead { LeadToVertices graph.now }
+    requires sent { length sent.now ≡ length graph.now }
+    requires destinations { All (λ d. d.position < length graph.now) destinations.now }
+    requires ends { length choices.old ≡ ends_of 0 destinations.now }
+    requires small { ends_of 0 destinations.now < 2 ^ 64 }
+    requires choices { All (λ own. length own.items ≡ length graph.now) choices.old }
+    requires loads { length loads.old ≡ 256 * length graph.now }
+    ensures balance { OnOk result (let before : Balance
+        = record { choices = map (λ own. own.items) choices.old; loads = loads.old } in
+        with_round round graph.now sent.now destinations.now before
+        ≡ record { choices = map (λ own. own.items) choices.new; loads = loads.new }) }
+    ensures long { OnOk result (All (λ own. length own.items ≡ length graph.now) choices.new) }
+{
+    if round > 0 && are_even(graph, loads) {
+        return Ok(());
+    }
+    choose_all(alloc, round, graph, sent, destinations, choices, loads)
 }
 
 /// Makes the choices of a round for all ends of some destinations. Finds the candidates towards 64 of these at a time.

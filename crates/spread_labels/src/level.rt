@@ -73,8 +73,8 @@ fn next_digit_weight(digit_weight: usize, width: usize) -> usize
     digit_weight.saturating_mul(width).min(GREATEST_WEIGHT)
 }
 
-/// Returns the greatest level, or 0 if there is none.
-fn greatest_of(levels: &[usize]) -> usize
+/// Returns the greatest of some levels or other numbers, or 0 if there are none.
+pub fn greatest_of(levels: &[usize]) -> usize
     ensures { result ≡ greatest 0 levels.now }
 {
     let mut found = 0;

@@ -19,7 +19,7 @@ pub use candidate_sets::CandidateSets;
 pub use distance_class::{Grades, grade};
 pub use growth::{grown_order, is_before};
 pub use label::{Label, Mark};
-pub use level::digit_weights;
+pub use level::{digit_weights, greatest_of};
 pub use target_set::{TARGETS, TargetSet};
 pub use vertex_key::VertexKey;
 pub use vertex_keys::keys;

@@ -1,6 +1,5 @@
 //! What each channel carries.
 ghost use Rattle.std.specs.Prelude.{◌≡◌, ◌*◌, IfOk, replicate};
-ghost use Rattle.spread_labels.specs.Levels.{greatest};
 
 use std::alloc::{AllocError, Global};
 
@@ -17,15 +16,4 @@ pub(crate) fn no_loads(alloc: Global, vertices: usize) -> Result<Vec<usize>, All
         loads.extend_from_slice(&none)?;
     }
     Ok(loads)
-}
-
-/// Returns the greatest load.
-pub(crate) fn greatest_of(loads: &[usize]) -> usize
-    ensures { result ≡ greatest 0 loads.now }
-{
-    let mut found = 0;
-    for load in loads {
-        found = (*load).max(found);
-    }
-    found
 }

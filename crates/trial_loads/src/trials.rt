@@ -5,10 +5,12 @@ ghost use Rattle.spread_labels.specs.LabelLaws.{IsSymmetric};
 ghost use Rattle.spread_labels.specs.Orders.{position_of};
 ghost use Rattle.trial_loads.specs.TrialLoads.{carried_between, load_by, trial_load};
 
-use crate::loads::{greatest_of, no_loads};
+use crate::loads::no_loads;
 use crate::shares::add_packets_between;
 use port_graph::Adjacency;
-use spread_labels::{TARGETS, VertexKey, by_positions, grown_order, positions, positions_at};
+use spread_labels::{
+    TARGETS, VertexKey, by_positions, greatest_of, grown_order, positions, positions_at,
+};
 use std::alloc::{AllocError, Global};
 
 /// Returns the most that a channel carries by the order that grows by `keys`, if each vertex of `bearing` sends 65,536

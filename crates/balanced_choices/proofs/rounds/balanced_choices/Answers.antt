@@ -1,7 +1,7 @@
 use Rattle.std.proofs.Common.{◌≡◌, ◌*◌, ℕ, List, [], All, sym, ap, subst, ◌∙◌, add-one, arith, get_or, length, map, replicate}
 use Rattle.std.proofs.lemmas.List.{get_or-map, get_or-replicate, length-replicate, with_items_is}
 use Rattle.port_graph.proofs.Counts.{length_map}
-use Rattle.balanced_choices.specs.BalancedChoices.{after_rounds, balanced_choices, ends_of, with_all}
+use Rattle.balanced_choices.specs.BalancedChoices.{after_rounds, balanced_choices, ends_of, with_round}
 use Rattle.balanced_choices.proofs.rounds.balanced_choices.Goals as goal
 
 pub loop-round-init : goal.loop-round-init
@@ -27,23 +27,23 @@ loop-round-preserved c =
     let sent = c.args.sent.now in
     let ds = c.args.destinations.now in
     let round = c.loop-round.round in
-    let rows = c.choose_all.new.choices in
-    let as_long : length rows ≡ c.loop-round.choices.len = c.choose_all.auto.choices ∙ c.deref_mut.ensures.len in
-    let loads_long : length c.choose_all.new.loads ≡ c.loop-round.loads.len = c.choose_all.auto.loads ∙ c.deref_mut-in-loop-round.ensures.len in
+    let rows = c.make_round.new.choices in
+    let as_long : length rows ≡ c.loop-round.choices.len = c.make_round.auto.choices ∙ c.deref_mut.ensures.len in
+    let loads_long : length c.make_round.new.loads ≡ c.loop-round.loads.len = c.make_round.auto.loads ∙ c.deref_mut-in-loop-round.ensures.len in
     let choices = with_items_is c.loop-round.choices rows as_long in
-    let loads = with_items_is c.loop-round.loads c.choose_all.new.loads loads_long in
-    let given : with_all round graph sent (record { choices = map (λ w. w.items) c.deref_mut.result.now; loads = c.deref_mut-in-loop-round.result.now }) 0 ds
-    ≡ with_all round graph sent (after_rounds round graph sent ds) 0 ds =
-    (λ i. with_all round graph sent (record {
+    let loads = with_items_is c.loop-round.loads c.make_round.new.loads loads_long in
+    let given : with_round round graph sent ds (record { choices = map (λ w. w.items) c.deref_mut.result.now; loads = c.deref_mut-in-loop-round.result.now })
+    ≡ with_round round graph sent ds (after_rounds round graph sent ds) =
+    (λ i. with_round round graph sent ds (record {
       choices = map (λ w. w.items) (c.deref_mut.ensures.value i);
       loads = c.deref_mut-in-loop-round.ensures.value i;
-    }) 0 ds)
-    ∙ ap (λ b. with_all round graph sent b 0 ds) c.loop-round.invariant.0 in
+    }))
+    ∙ ap (with_round round graph sent ds) c.loop-round.invariant.0 in
     let as_many : length c.deref_mut.result.now ≡ ends_of 0 ds = ap length c.deref_mut.ensures.value ∙ c.loop-round.invariant.1 in (
       (λ i. record { choices = map (λ w. w.items) (choices i); loads = loads i })
-          ∙ sym c.in_ok-choose_all.ensures.balance ∙ given ∙ ap (λ k. after_rounds k graph sent ds) (sym (add-one round)),
-      ap length choices ∙ c.choose_all.auto.choices ∙ as_many,
-      subst (All (λ w. length w.items ≡ length graph)) (sym choices) c.in_ok-choose_all.ensures.long,
+          ∙ sym c.in_ok-make_round.ensures.balance ∙ given ∙ ap (λ k. after_rounds k graph sent ds) (sym (add-one round)),
+      ap length choices ∙ c.make_round.auto.choices ∙ as_many,
+      subst (All (λ w. length w.items ≡ length graph)) (sym choices) c.in_ok-make_round.ensures.long,
     )
 
 pub returns : goal.returns
