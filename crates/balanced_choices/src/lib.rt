@@ -3,6 +3,7 @@
 #![tactic(auto)]
 
 mod choosing;
+pub mod laws;
 mod rounds;
 mod ways;
 
