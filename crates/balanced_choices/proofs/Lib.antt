@@ -1,4 +1,5 @@
 pub mod EdgeByEdge
 pub mod EachEnd
+pub mod FirstLeast
 pub mod InOrder
 pub mod LeastPeak

@@ -4,6 +4,7 @@
 
 mod choosing;
 mod evenness;
+pub mod laws;
 mod rounds;
 mod ways;
 

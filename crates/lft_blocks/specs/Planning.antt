@@ -11,13 +11,13 @@ pub record Planning : Type 0 where
 
 -- an order is stored by its GUIDs, if it has some, by whether they are named in its order, and by whether loads are
 -- balanced
-abbrev guids_in : OrderValue → Option (Bool × Bool × List ℕ)
+abbrev guids_in : OrderValue → Option (Bool × (Bool × List ℕ))
 guids_in (from_roots roots) = Some (false, false, roots)
 guids_in (as_named switches) = Some (true, false, switches)
 guids_in (balanced_as switches) = Some (true, true, switches)
 guids_in least_loaded = None
 
-abbrev order_by : Option (Bool × Bool × List ℕ) → OrderValue
+abbrev order_by : Option (Bool × (Bool × List ℕ)) → OrderValue
 order_by (Some (false, balanced, roots)) = from_roots roots
 order_by (Some (true, false, switches)) = as_named switches
 order_by (Some (true, true, switches)) = balanced_as switches
@@ -31,7 +31,7 @@ same_order least_loaded = refl
 
 abbrev order_code : Coded OrderValue
 order_code =
-    code_by (Option (Bool × Bool × List ℕ)) (coded_option (coded× coded_bool (coded× coded_bool (coded_list coded_ℕ))))
+    code_by (Option (Bool × (Bool × List ℕ))) (coded_option (coded× coded_bool (coded× coded_bool (coded_list coded_ℕ))))
     guids_in order_by same_order
 
 -- a rule is stored by its order; up and down has none

@@ -62,7 +62,7 @@ returns c =
     let numbers = c.in_ok-numbers.numbers.items in
     let is : c.in_ok-spread.spread ≡ by =
     c.in_ok-spread.ensures
-    ∙ (λ i. grading_of graph ((c.deref-2.ensures.value ∙ c.in_ok-leaves.ensures) i) ((c.from.ensures ∙ ap (λ (p : Numbering). p.most) c.in_ok-numbering.ensures) i) order) in
+    ∙ (λ i. grading_of graph ((c.deref-2.ensures.value ∙ c.in_ok-leaves.ensures) i) ((c.from.ensures ∙ ap (λ (p : Numbering). p.most) (c.numbering.view_is ∙ c.in_ok-numbering.ensures)) i) order) in
     let rising : IsStrictlyIncreasing guids =
     subst (λ (g : List SwitchEdges). IsStrictlyIncreasing (guids_of g)) (sym c.requires.graph) (switches_rise c.args.wires.now) in
     let numbering = numbering_of c.args.lmc (cells_of c.args.wires.now) in
