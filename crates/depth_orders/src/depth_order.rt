@@ -13,9 +13,9 @@ use std::alloc::{AllocError, Global};
 
 /// Returns the vertices in their order by depth from `root`. Next comes a neighbour of the vertex that was placed last,
 /// as long as one of its neighbours is left; else of the last one before it that has such a neighbour. Among these
-/// neighbours, the one comes that most edges lead from to placed vertices, and `direction` decides between equals. If
-/// no placed vertex has a neighbour left, the first of all that are left comes next. For each vertex, takes one step
-/// for each edge that is looked at before a neighbour is found.
+/// neighbours, the one with most edges to placed vertices comes next, and `direction` decides between equals. If no
+/// placed vertex has a neighbour left, the first of all that are left comes next. For each vertex, takes one step for
+/// each edge that is looked at before a neighbour is found.
 pub fn order_by_depth(
     alloc: Global,
     edges: &Adjacency,
@@ -87,7 +87,7 @@ fn deepest(
     None
 }
 
-/// Returns the neighbour of a vertex that is left and that most edges lead from to placed vertices.
+/// Returns, of the neighbours of a vertex that are left, the one with most edges to placed vertices.
 fn best_beside(
     edges: &Adjacency,
     keys: &[VertexKey],

@@ -1,5 +1,5 @@
--- Labels towards a target, in rounds. Vertices are numbers by their position in an order: up is to a lesser number,
--- down to a greater one.
+-- Labels towards a target, in rounds. Vertices are numbered by their positions in an order: up is to a lesser
+-- number, down to a greater one.
 use Rattle.std.specs.Prelude.{ℕ, zero, suc, Bool, true, false, ◌||◌, ◌==◌, nat_lt}
 use Rattle.std.specs.Prelude.{List, [], ◌∷◌, filter, length, Option, None, Some, if◌then◌else◌}
 use Rattle.std.specs.List.{list_any}

@@ -1,4 +1,4 @@
--- How high vertices stand over leaf vertices, and what a digit counts at each level.
+-- The levels of vertices over leaf vertices, and the digit weight of each level.
 use Rattle.std.specs.Prelude.{ℕ, zero, suc, Bool, List, [], ◌∷◌, map, filter, length, ◌==◌, nat_lt, ◌*◌, min, max, unwrap_or, slice_index}
 use Rattle.port_graph.specs.declared.edge.Edge.{Edge}
 use Rattle.port_graph.specs.Heads.{edges_at}
@@ -31,7 +31,8 @@ abbrev pub width_of : List (List Edge) → List ℕ → ℕ → ℕ
 width_of edges levels h =
     greatest 1 (map (rises_at edges levels) (filter (λ s. slice_index levels s == h) (numbers_from 0 (length edges))))
 
--- the digit weight of a level: the product of the widths of the lesser levels, but at most 65536, over which no LID is
+-- the digit weight of a level: the product of the widths of the lesser levels, but at most 65536, which no number of a
+-- LID exceeds
 abbrev pub digit_weight_of : List (List Edge) → List ℕ → ℕ → ℕ
 digit_weight_of edges levels zero = 1
 digit_weight_of edges levels (suc h) = min (digit_weight_of edges levels h * width_of edges levels h) 65536

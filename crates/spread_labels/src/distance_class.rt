@@ -23,7 +23,7 @@ pub(crate) struct DistanceSum {
     pub(crate) count: usize,
 }
 
-/// The distance classes and levels of vertices, by which they are ordered and led.
+/// The distance classes and levels of vertices.
 #[derive(Drop)]
 pub struct Grades {
     /// The distance class of each vertex: its distance from the nearest root, if its component has one; otherwise four

@@ -8,7 +8,7 @@ use crate::distance_class::DistanceSum;
 use port_graph::{Adjacency, Edge};
 use std::alloc::{AllocError, Global};
 
-/// The greatest digit weight. No LID is over it.
+/// The greatest digit weight. No number of a LID exceeds it.
 const GREATEST_WEIGHT: usize = 65536;
 
 /// Returns the least distance of each sum, or 0 if it has none.

@@ -4,4 +4,5 @@ pub mod Numbered
 pub mod PastLast
 pub mod Towards
 pub mod Least
+pub mod Turns
 pub mod Sources

@@ -1,11 +1,13 @@
 -- Packets, share by share.
-use Rattle.std.proofs.Common.{◌≡◌, ◌<◌, ◌+◌, ◌-◌, ◌^◌, ◌++◌, ℕ, suc, List, [], ◌∷◌, refl, sym, ap, ◌∙◌, add-one, arith, true, false, Bool, cond, length, get_or, map, take}
+use Rattle.std.proofs.Common.{◌≡◌, ◌<◌, ◌+◌, ◌-◌, ◌^◌, ◌++◌, ℕ, suc, List, [], ◌∷◌, length, get_or, map, take}
+use Rattle.std.proofs.Common.{refl, sym, ap, ◌∙◌, add-one, arith, true, false, Bool, cond}
 use Rattle.std.proofs.lemmas.List.{length-set, take_more}
 use Rattle.std.specs.Prelude.{filter, min, not}
 use Rattle.port_graph.specs.declared.edge.Edge.{Edge}
 use Rattle.spread_labels.specs.Labels.{candidates}
 use Rattle.spread_labels.specs.Orders.{numbers_from}
-use Rattle.trial_loads.specs.TrialLoads.{Packets, carried_between, carried_to, channel_by, first_had, goes_up, in_turn, share, shared, with_more, with_shares}
+use Rattle.trial_loads.specs.TrialLoads.{Packets, carried_between, carried_to, channel_by, first_had, goes_up, in_turn}
+use Rattle.trial_loads.specs.TrialLoads.{share, shared, with_more, with_shares}
 
 pub more_both : (more : ℕ) (xs ys numbers : List ℕ) → with_more more numbers (xs ++ ys) ≡ with_more more (with_more more numbers xs) ys
 more_both more [] ys numbers = refl

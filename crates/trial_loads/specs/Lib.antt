@@ -1,2 +1,3 @@
 pub mod TrialLoads
+pub mod ShareLaws
 pub mod LeastLoaded

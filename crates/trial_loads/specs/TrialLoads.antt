@@ -1,5 +1,5 @@
--- The trial load of an order: packets go from each of some vertices to each of them, and each vertex on their way shares
--- what it has evenly over its candidates. The load is how many the channel carries that carries most.
+-- The trial load of an order: packets go from each of some vertices to each of them, and each vertex on their way
+-- shares what it has evenly over its candidates. The load is how many the channel carries that carries most.
 use Rattle.std.specs.Prelude.{◌≡◌, ◌<◌, ℕ, zero, suc, Bool, not, ◌+◌, ◌-◌, ◌*◌, ◌/◌, ◌^◌, min}
 use Rattle.std.specs.Prelude.{List, [], ◌∷◌, ◌++◌, map, filter, length, replicate, slice_index, slice_set}
 use Rattle.port_graph.specs.declared.edge.Edge.{Edge}
@@ -23,7 +23,8 @@ with_more more numbers [] = numbers
 with_more more numbers (i ∷ is) =
     with_more more (slice_set numbers i (min (slice_index numbers i + more) (2 ^ 64 - 1))) is
 
--- packets to one target: how many each vertex has had, and how many each channel carries, for all targets so far
+-- packets on their way to a target: how many each vertex has had so far, and how many each channel carries, together
+-- with those to earlier targets
 pub record Packets : Type 0 where
   pub had : List ℕ
   pub carried : List ℕ

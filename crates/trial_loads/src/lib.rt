@@ -1,6 +1,7 @@
 //! How evenly orders of vertices spread packets over the channels of a graph, and the one that does best.
 #![tactic(auto)]
 
+pub mod laws;
 mod least_loaded;
 mod loads;
 mod shares;

@@ -14,7 +14,7 @@ use std::alloc::{AllocError, Global};
 /// Returns the most that a channel carries by the order that grows by `keys`, if each vertex of `bearing` sends 65,536
 /// packets to each of them, and each vertex on their way shares what it has evenly over its candidates. Takes what
 /// growing the order takes; for each 64 vertices of `bearing` a step or two for each edge in each of as many rounds as
-/// the greatest cost; and for each vertex of `bearing` two steps for each edge.
+/// the greatest cost; and for each vertex of `bearing` three steps for each vertex and two for each edge.
 pub fn trial_load(
     alloc: Global,
     edges: &Adjacency,

@@ -45,9 +45,11 @@ load_between-requires-clause-sources c =
     let sources : c.deref-5.result.now ≡ map (position_of vertices) bearing =
     c.deref-5.ensures.value ∙ c.in_ok-sources.ensures ∙ ap (λ ps. map (λ v. slice_index ps v) bearing) c.deref-4.ensures.value
     ∙ sources_are (length edges) vertices c.in_ok-positions.positions.items
-    (subst (λ (x : ℕ × List ℕ). ArePositions x.0 x.1 c.in_ok-positions.positions.items) (λ i. (c.len.ensures i, (c.deref.ensures.value ∙ c.in_ok-vertices.ensures) i)) c.in_ok-positions.ensures)
+    (subst (λ (x : ℕ × List ℕ). ArePositions x.0 x.1 c.in_ok-positions.positions.items)
+    (λ i. (c.len.ensures i, (c.deref.ensures.value ∙ c.in_ok-vertices.ensures) i)) c.in_ok-positions.ensures)
     grows.all bearing c.requires.bearing in
-    let long : length c.in_ok-graph.graph ≡ length vertices = ap length graph ∙ length_map (λ (s : ℕ). map (positioned_edge vertices) (edges_at edges s)) vertices in
+    let long : length c.in_ok-graph.graph ≡ length vertices =
+    ap length graph ∙ length_map (λ (s : ℕ). map (positioned_edge vertices) (edges_at edges s)) vertices in
     λ k d h. let inside : k < length bearing = omega (arith, h, ap length sources, length_map (position_of vertices) bearing) in
     let here : get_or c.deref-5.result.now k d ≡ position_of vertices (get_or bearing k 0) =
     ap (λ xs. get_or xs k d) sources ∙ get_or-map (position_of vertices) bearing k 0 d inside in
@@ -66,6 +68,7 @@ returns c =
     let sources : c.deref-5.result.now ≡ map (position_of vertices) bearing =
     c.deref-5.ensures.value ∙ c.in_ok-sources.ensures ∙ ap (λ ps. map (λ v. slice_index ps v) bearing) c.deref-4.ensures.value
     ∙ sources_are (length edges) vertices c.in_ok-positions.positions.items
-    (subst (λ (x : ℕ × List ℕ). ArePositions x.0 x.1 c.in_ok-positions.positions.items) (λ i. (c.len.ensures i, (c.deref.ensures.value ∙ c.in_ok-vertices.ensures) i)) c.in_ok-positions.ensures)
+    (subst (λ (x : ℕ × List ℕ). ArePositions x.0 x.1 c.in_ok-positions.positions.items)
+    (λ i. (c.len.ensures i, (c.deref.ensures.value ∙ c.in_ok-vertices.ensures) i)) c.in_ok-positions.ensures)
     grows.all bearing c.requires.bearing in
     subst (λ (n : ℕ). IfOk c.load_between.result (λ load. load ≡ n)) (λ i. load_by (graph i) (sources i)) c.load_between.ensures

@@ -21,8 +21,9 @@ loop-j-preserved c k h =
     let set = get_or sets j no_targets in
     let rest : List Edge = picked k (drop (j + 1) sets) (drop (j + 1) es) in
     let is_set : get_or sets j set ≡ set = get_or_default sets j set no_targets (omega (arith, c.requires, c.loop-j-test.true)) in
+    let next = picked_from k sets es j set e c.requires c.loop-j-test.true is_set (sym c.index-edges-j.is) in
     let whole : (has c.loop-j.ups k || ((has set k && nat_lt e.to p) || leads_up p rest)) ≡ leads_up p (picked k sets es) =
-    ap (λ b. has c.loop-j.ups k || b) (sym (ap (leads_up p) (picked_from k sets es j set e c.requires c.loop-j-test.true is_set (sym c.index-edges-j.is)) ∙ up_with p e rest (has set k)))
+    ap (λ b. has c.loop-j.ups k || b) (sym (ap (leads_up p) next ∙ up_with p e rest (has set k)))
     ∙ c.loop-j.invariant k h in
     (elim c.if-edge-position.branch [
       | then-edge-position w ↦
