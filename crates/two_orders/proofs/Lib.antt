@@ -1,3 +1,4 @@
+pub mod Agreement
 pub mod LabelLaws
 pub mod Reached
 pub mod Rounds

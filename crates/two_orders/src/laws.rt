@@ -1,4 +1,5 @@
-//! The laws of labels by two orders.
+//! The laws of labels by two orders, and of the orders themselves.
+ghost use Rattle.two_orders.specs.Agreement.{AgreementGrows, AgreementStays};
 ghost use Rattle.two_orders.specs.LabelLaws.{AllGetLabels, LabelledGoOn, LabelsTurnWell};
 
 /// A walk that goes on by labels, whatever they are, goes down and then up by neither order.
@@ -15,4 +16,16 @@ pub fn labelled_go_on()
 /// second by others over the tree of the first.
 pub fn all_get_labels()
     ensures law { AllGetLabels }
+{}
+
+/// If positions agree with the order that grows by a plan on its first vertices, then the order that grows by these
+/// positions does so too.
+pub fn agreement_stays()
+    ensures law { AgreementStays }
+{}
+
+/// If positions agree with the order that grows by a plan on its first vertices, then the order that grows by that plan
+/// over the tree of these positions agrees with it on one vertex more.
+pub fn agreement_grows()
+    ensures law { AgreementGrows }
 {}

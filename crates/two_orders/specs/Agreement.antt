@@ -1,0 +1,33 @@
+-- How far an order agrees with the one that grows by a plan, and the orders that grow from it.
+use Rattle.std.specs.Prelude.{◌<◌, ℕ, suc, List, Contains, length}
+use Rattle.std.specs.Prelude.{◌≡◌}
+use Rattle.port_graph.specs.declared.edge.Edge.{Edge}
+use Rattle.port_graph.specs.Heads.{LeadToVertices}
+use Rattle.two_orders.specs.Growth.{grown_by, number_at, positions_in}
+use Rattle.two_orders.specs.Trees.{tree}
+
+-- each of n vertices is in the list, once, and nothing else is
+pub record AreVertices (n : ℕ) (vertices : List ℕ) : Type 0 where
+  pub all : (s : ℕ) → s < n → Contains vertices s
+  pub vertex : (i : ℕ) → i < length vertices → number_at vertices i < n
+  pub once : (i j : ℕ) → i < length vertices → j < i → number_at vertices j ≡ number_at vertices i → ⊥
+
+-- by these positions the first k vertices of a list come one after the other as in the list, before all others of it
+abbrev pub AgreesOn : List ℕ → (ℕ → ℕ) → ℕ → Type 0
+AgreesOn vertices position k =
+    (i j : ℕ) → i < k → i < j → j < length vertices
+    → position (number_at vertices i) < position (number_at vertices j)
+
+-- as far as positions agree with an order that grows, the order that grows by them does
+abbrev pub AgreementStays : Type 0
+AgreementStays =
+    (edges : List (List Edge)) → LeadToVertices edges → (plan told : List ℕ) (k : ℕ)
+    → AgreesOn (grown_by edges plan) (number_at told) k
+    → AgreesOn (grown_by edges plan) (number_at (positions_in (grown_by edges told) (length edges))) k
+
+-- the order that grows by the same plan over the tree of these positions agrees on one vertex more
+abbrev pub AgreementGrows : Type 0
+AgreementGrows =
+    (edges : List (List Edge)) → LeadToVertices edges → (plan told : List ℕ) (k : ℕ)
+    → AgreesOn (grown_by edges plan) (number_at told) k
+    → AgreesOn (grown_by edges plan) (number_at (positions_in (grown_by (tree edges told) plan) (length edges))) (suc k)
