@@ -15,7 +15,7 @@ use Rattle.spread_labels.proofs.ByPositions.{position_at, position_less}
 use Rattle.spread_labels.proofs.Earliest.{keys_in_words}
 use Rattle.spread_labels.proofs.Growing.{contains_at, earliest_there, is_grown_order}
 use Rattle.spread_labels.proofs.KeyOrder.{keys_tell_apart}
-use Rattle.two_orders.specs.Agreement.{AgreementGrows, AgreementStays, AgreesOn, AreVertices}
+use Rattle.two_orders.specs.Agreement.{AgreementGrows, AgreementStays, AgreesUpTo, AreVertices}
 use Rattle.two_orders.specs.Growth.{grown_by, key_of, number_at, positions_in}
 use Rattle.two_orders.specs.Trees.{all_earliest, earliest_beside, is_earlier, is_in_tree, tree}
 use Rattle.two_orders.proofs.TreeEdges.{row, there, tree_is, tree_leads, tree_long}
@@ -127,7 +127,7 @@ module _ (n : ℕ) (P Q : List ℕ) (p : AreVertices n P) (q : AreVertices n Q) 
   alike k never (suc c) i less low within =
       alike_at i within (λ j j_less. (alike k never c j (omega (arith, j_less, less)) (omega (arith, j_less, low)) (omega (arith, j_less, within))).0) (never i low)
 
-  agree : (k : ℕ) → ((i : ℕ) → i < k → Differ i → ⊥) → AgreesOn P (number_at (positions_in Q n)) k
+  agree : (k : ℕ) → ((i : ℕ) → i < k → Differ i → ⊥) → AgreesUpTo P (number_at (positions_in Q n)) k
   agree k never i j low less within =
       let same : (x : ℕ) → x < k → x < length P → (number_at P x ≡ number_at Q x) × (x < length Q) =
       λ x x_low x_in. alike k never (suc x) x (omega arith) x_low x_in in
@@ -201,7 +201,7 @@ placed_alike P Q all others i from same to x h =
     ]
 
 module _ (edges : List (List Edge)) (lead : LeadToVertices edges) (plan told : List ℕ) (k : ℕ)
-    (agreed : AgreesOn (grown_by edges plan) (number_at told) k) where
+    (agreed : AgreesUpTo (grown_by edges plan) (number_at told) k) where
   abbrev P : List ℕ
   P = grown_by edges plan
 
@@ -241,7 +241,7 @@ module _ (edges : List (List Edge)) (lead : LeadToVertices edges) (plan told : L
       let not_so = turned.alone (λ e. no_edge (a.earlier.front (e.0, e.1, back e.0.to e.2)).0) in
       absurd (cc)
 
-  pub stays : AgreesOn (grown_by edges plan) (number_at (positions_in (grown_by edges told) (length edges))) k
+  pub stays : AgreesUpTo (grown_by edges plan) (number_at (positions_in (grown_by edges told) (length edges))) k
   stays = agree (length edges) P Q p q k never_differ
 
   abbrev T : List (List Edge)
@@ -302,7 +302,7 @@ module _ (edges : List (List Edge)) (lead : LeadToVertices edges) (plan told : L
       let is_y = keys.total s y apart (turned.alone (λ e. no_edge (a.earlier.front (wired y e)).0)) in
       absurd (cc)
 
-  pub grows : AgreesOn (grown_by edges plan) (number_at (positions_in (grown_by (tree edges told) plan) (length edges))) (suc k)
+  pub grows : AgreesUpTo (grown_by edges plan) (number_at (positions_in (grown_by (tree edges told) plan) (length edges))) (suc k)
   grows = agree (length edges) P R p r (suc k) never_apart
 
 pub agreement_stays : AgreementStays

@@ -13,8 +13,8 @@ pub record AreVertices (n : ℕ) (vertices : List ℕ) : Type 0 where
   pub once : (i j : ℕ) → i < length vertices → j < i → number_at vertices j ≡ number_at vertices i → ⊥
 
 -- by these positions the first k vertices of a list come one after the other as in the list, before all others of it
-abbrev pub AgreesOn : List ℕ → (ℕ → ℕ) → ℕ → Type 0
-AgreesOn vertices position k =
+abbrev pub AgreesUpTo : List ℕ → (ℕ → ℕ) → ℕ → Type 0
+AgreesUpTo vertices position k =
     (i j : ℕ) → i < k → i < j → j < length vertices
     → position (number_at vertices i) < position (number_at vertices j)
 
@@ -22,12 +22,12 @@ AgreesOn vertices position k =
 abbrev pub AgreementStays : Type 0
 AgreementStays =
     (edges : List (List Edge)) → LeadToVertices edges → (plan told : List ℕ) (k : ℕ)
-    → AgreesOn (grown_by edges plan) (number_at told) k
-    → AgreesOn (grown_by edges plan) (number_at (positions_in (grown_by edges told) (length edges))) k
+    → AgreesUpTo (grown_by edges plan) (number_at told) k
+    → AgreesUpTo (grown_by edges plan) (number_at (positions_in (grown_by edges told) (length edges))) k
 
 -- the order that grows by the same plan over the tree of these positions agrees on one vertex more
 abbrev pub AgreementGrows : Type 0
 AgreementGrows =
     (edges : List (List Edge)) → LeadToVertices edges → (plan told : List ℕ) (k : ℕ)
-    → AgreesOn (grown_by edges plan) (number_at told) k
-    → AgreesOn (grown_by edges plan) (number_at (positions_in (grown_by (tree edges told) plan) (length edges))) (suc k)
+    → AgreesUpTo (grown_by edges plan) (number_at told) k
+    → AgreesUpTo (grown_by edges plan) (number_at (positions_in (grown_by (tree edges told) plan) (length edges))) (suc k)
