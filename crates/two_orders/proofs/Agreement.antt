@@ -3,6 +3,7 @@ use Rattle.std.proofs.Common.{◌≡◌, ◌⊎◌, ◌∙◌, ◌<◌, ◌≤�
 use Rattle.std.proofs.Common.{refl, sym, ap, subst, arith, inl, inr}
 use Rattle.std.specs.Prelude.{Contains, map, nat_lt}
 use Rattle.std.proofs.lemmas.Bool.{cases_eq, cases_lt, eq-eqb, lt-ltb}
+use Rattle.std.proofs.lemmas.List.{ext_get_or}
 use Rattle.std.proofs.lemmas.List.FromFn.{get_or-map-range_with_len}
 use Rattle.smp_bytes.proofs.Members.{contains_cases, contains_filter, contains_here, contains_later, contains_none}
 use Rattle.port_graph.specs.declared.edge.Edge.{Edge}
@@ -15,7 +16,7 @@ use Rattle.spread_labels.proofs.ByPositions.{position_at, position_less}
 use Rattle.spread_labels.proofs.Earliest.{keys_in_words}
 use Rattle.spread_labels.proofs.Growing.{contains_at, earliest_there, is_grown_order}
 use Rattle.spread_labels.proofs.KeyOrder.{keys_tell_apart}
-use Rattle.two_orders.specs.Agreement.{AgreementGrows, AgreementStays, AgreesUpTo, AreVertices}
+use Rattle.two_orders.specs.Agreement.{AgreementGrows, AgreementStays, AgreesUpTo, AreVertices, GrowsAgain}
 use Rattle.two_orders.specs.Growth.{grown_by, key_of, number_at, positions_in}
 use Rattle.two_orders.specs.Trees.{all_earliest, earliest_beside, is_earlier, is_in_tree, tree}
 use Rattle.two_orders.proofs.TreeEdges.{row, there, tree_is, tree_leads, tree_long}
@@ -146,6 +147,24 @@ module _ (n : ℕ) (P Q : List ℕ) (p : AreVertices n P) (q : AreVertices n Q) 
       number_is : (v : ℕ) → v < n → number_at (positions_in Q n) v ≡ position_of Q v
       number_is v below = get_or-map-range_with_len (position_of Q) 0 n v v 0 below (omega arith)
 
+-- a list that is as long and alike everywhere is the same
+same_lists : (n : ℕ) (P Q : List ℕ) → AreVertices n P → AreVertices n Q
+    → ((i : ℕ) → i < length P → (number_at P i ≡ number_at Q i) × (i < length Q)) → P ≡ Q
+same_lists n P Q p q each = ext_get_or 0 P Q as_long (λ i less. (each i less).0)
+  where
+    as_long : length P ≡ length Q
+    as_long =
+        elim (cases_lt (length P) (length Q)) [
+          | inl shorter ↦
+              let v = number_at Q (length P) in
+              let there = position_less P v (p.all v (q.vertex (length P) shorter)) in
+              absurd (q.once (length P) (position_of P v) shorter there.0 (sym (each (position_of P v) there.0).0 ∙ there.1))
+          | inr no_shorter ↦ (elim (cases_lt (length Q) (length P)) [
+            | inl longer ↦ (let own = (each (length Q) longer).1 in absurd (omega (arith, own)))
+            | inr no_longer ↦ omega (arith, no_shorter, no_longer)
+          ])
+        ]
+
 -- a grown order is a list of all vertices -----------------------------------------------------
 
 are_vertices : (edges : List (List Edge)) (vertices : List ℕ) → IsGrownOrder edges vertices → (n : ℕ) → n ≡ length edges → AreVertices n vertices
@@ -244,6 +263,12 @@ module _ (edges : List (List Edge)) (lead : LeadToVertices edges) (plan told : L
   pub stays : AgreesUpTo (grown_by edges plan) (number_at (positions_in (grown_by edges told) (length edges))) k
   stays = agree (length edges) P Q p q k never_differ
 
+  -- with agreement on all vertices it is the same order
+  whole : length P ≤ k → P ≡ Q
+  whole all =
+      same_lists (length edges) P Q p q
+      (λ i less. alike (length edges) P Q p q k never_differ (suc i) i (omega arith) (omega (arith, less, all)) less)
+
   abbrev T : List (List Edge)
   T = tree edges told
 
@@ -304,6 +329,21 @@ module _ (edges : List (List Edge)) (lead : LeadToVertices edges) (plan told : L
 
   pub grows : AgreesUpTo (grown_by edges plan) (number_at (positions_in (grown_by (tree edges told) plan) (length edges))) (suc k)
   grows = agree (length edges) P R p r (suc k) never_apart
+
+-- the positions in a list agree with all of it
+own_agrees : (n : ℕ) (vertices : List ℕ) → AreVertices n vertices → AgreesUpTo vertices (number_at (positions_in vertices n)) (length vertices)
+own_agrees n vertices are i j low less within =
+    let at : (k : ℕ) → k < length vertices → number_at (positions_in vertices n) (number_at vertices k) ≡ k =
+    λ k k_in.
+    get_or-map-range_with_len (position_of vertices) 0 n (number_at vertices k) (number_at vertices k) 0 (are.vertex k k_in) (omega arith)
+    ∙ position_at vertices are.once k k_in in
+    omega (arith, at i low, at j within, less)
+
+pub grows_again : GrowsAgain
+grows_again edges lead positions =
+    let P = grown_by edges positions in
+    let n = length edges in
+    sym (whole edges lead positions (positions_in P n) (length P) (own_agrees n P (grown_are_vertices edges lead positions)) (omega arith))
 
 pub agreement_stays : AgreementStays
 agreement_stays = stays

@@ -31,3 +31,9 @@ AgreementGrows =
     (edges : List (List Edge)) → LeadToVertices edges → (plan told : List ℕ) (k : ℕ)
     → AgreesUpTo (grown_by edges plan) (number_at told) k
     → AgreesUpTo (grown_by edges plan) (number_at (positions_in (grown_by (tree edges told) plan) (length edges))) (suc k)
+
+-- the order that grows by the positions in an order that grew is that order
+abbrev pub GrowsAgain : Type 0
+GrowsAgain =
+    (edges : List (List Edge)) → LeadToVertices edges → (positions : List ℕ)
+    → grown_by edges (positions_in (grown_by edges positions) (length edges)) ≡ grown_by edges positions

@@ -1,5 +1,5 @@
 //! The laws of labels by two orders, and of the orders themselves.
-ghost use Rattle.two_orders.specs.Agreement.{AgreementGrows, AgreementStays};
+ghost use Rattle.two_orders.specs.Agreement.{AgreementGrows, AgreementStays, GrowsAgain};
 ghost use Rattle.two_orders.specs.LabelLaws.{AllGetLabels, LabelledGoOn, LabelsTurnWell};
 
 /// A walk that goes on by labels, whatever they are, goes down and then up by neither order.
@@ -28,4 +28,9 @@ pub fn agreement_stays()
 /// over the tree of these positions agrees with it on one vertex more.
 pub fn agreement_grows()
     ensures law { AgreementGrows }
+{}
+
+/// The order that grows by the positions in an order that grew is that order.
+pub fn grows_again()
+    ensures law { GrowsAgain }
 {}
