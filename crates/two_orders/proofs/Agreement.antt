@@ -29,7 +29,7 @@ key_is [] a = refl
 key_is (x ∷ xs) zero = refl
 key_is (x ∷ xs) (suc a) = key_is xs a
 
-less_is_before : (positions : List ℕ) (a b : ℕ) → number_at positions a < number_at positions b → before_by (map key_of positions) a b ≡ true
+pub less_is_before : (positions : List ℕ) (a b : ℕ) → number_at positions a < number_at positions b → before_by (map key_of positions) a b ≡ true
 less_is_before positions a b less =
     (λ i. key_less (key_is positions a i) (key_is positions b i) || (not (key_less (key_is positions b i) (key_is positions a i)) && nat_lt a b))
     ∙ ap (λ t. t || (not (nat_lt (number_at positions b) (number_at positions a)) && nat_lt a b))
@@ -38,14 +38,14 @@ less_is_before positions a b less =
 -- what was placed when a vertex of a grown order was ------------------------------------------
 
 module _ (edges : List (List Edge)) (before : ℕ → ℕ → Bool) where
-  record Chosen (placed vertices : List ℕ) (i j : ℕ) : Type 0 where
-    all : List ℕ
-    earlier : IsEarlier edges before all (at_position vertices i) (at_position vertices j)
-    from : (x : ℕ) → Contains all x → Contains placed x ⊎ ((k : ℕ) × (k < i) × (at_position vertices k ≡ x))
-    kept : (x : ℕ) → Contains placed x → Contains all x
-    to : (k : ℕ) → k < i → Contains all (at_position vertices k)
+  pub record Chosen (placed vertices : List ℕ) (i j : ℕ) : Type 0 where
+    pub all : List ℕ
+    pub earlier : IsEarlier edges before all (at_position vertices i) (at_position vertices j)
+    pub from : (x : ℕ) → Contains all x → Contains placed x ⊎ ((k : ℕ) × (k < i) × (at_position vertices k ≡ x))
+    pub kept : (x : ℕ) → Contains placed x → Contains all x
+    pub to : (k : ℕ) → k < i → Contains all (at_position vertices k)
 
-  chosen : (vertices placed : List ℕ) → AreEarlier edges before placed vertices → (i j : ℕ) → i < j → j < length vertices → Chosen placed vertices i j
+  pub chosen : (vertices placed : List ℕ) → AreEarlier edges before placed vertices → (i j : ℕ) → i < j → j < length vertices → Chosen placed vertices i j
   chosen [] placed are i j less within = absurd (omega arith)
   chosen (s ∷ ss) placed are i zero less within = absurd (omega arith)
   chosen (s ∷ ss) placed are zero (suc j) less within = record {

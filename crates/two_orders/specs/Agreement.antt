@@ -2,7 +2,9 @@
 use Rattle.std.specs.Prelude.{◌<◌, ℕ, suc, List, Contains, length}
 use Rattle.std.specs.Prelude.{◌≡◌}
 use Rattle.port_graph.specs.declared.edge.Edge.{Edge}
-use Rattle.port_graph.specs.Heads.{LeadToVertices}
+use Rattle.port_graph.specs.Heads.{LeadToVertices, edges_at, heads}
+use Rattle.port_graph.specs.Walks.{Walk}
+use Rattle.spread_labels.specs.LabelLaws.{IsSymmetric}
 use Rattle.two_orders.specs.Growth.{grown_by, number_at, positions_in}
 use Rattle.two_orders.specs.Trees.{tree}
 
@@ -37,3 +39,20 @@ abbrev pub GrowsAgain : Type 0
 GrowsAgain =
     (edges : List (List Edge)) → LeadToVertices edges → (positions : List ℕ)
     → grown_by edges (positions_in (grown_by edges positions) (length edges)) ≡ grown_by edges positions
+
+-- different vertices have different positions, and from each one with a walk to an earlier one an edge leads to an
+-- earlier one: so each vertex but the first of its component is beside an earlier one
+pub record CouldGrow (edges : List (List Edge)) (position : ℕ → ℕ) : Type 0 where
+  pub apart : (a b : ℕ) → a < length edges → b < length edges → position a ≡ position b → a ≡ b
+  pub earlier : (a b k : ℕ) → a < length edges → b < length edges → Walk (heads edges) a b k → position b < position a
+      → (e : Edge) × Contains (edges_at edges a) e × (position e.to < position a)
+
+-- the order that grows by the positions of such an order has the vertices of each component in the same order
+abbrev pub GrownOrdersStay : Type 0
+GrownOrdersStay =
+    (edges : List (List Edge)) → LeadToVertices edges → IsSymmetric edges → (positions : List ℕ)
+    → CouldGrow edges (number_at positions)
+    → (a b k : ℕ) → a < length edges → b < length edges → Walk (heads edges) a b k
+    → number_at positions a < number_at positions b
+    → number_at (positions_in (grown_by edges positions) (length edges)) a
+    < number_at (positions_in (grown_by edges positions) (length edges)) b

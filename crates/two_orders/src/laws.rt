@@ -1,5 +1,10 @@
 //! The laws of labels by two orders, and of the orders themselves.
-ghost use Rattle.two_orders.specs.Agreement.{AgreementGrows, AgreementStays, GrowsAgain};
+ghost use Rattle.two_orders.specs.Agreement.{
+  AgreementGrows,
+  AgreementStays,
+  GrownOrdersStay,
+  GrowsAgain,
+};
 ghost use Rattle.two_orders.specs.LabelLaws.{AllGetLabels, LabelledGoOn, LabelsTurnWell};
 
 /// A walk that goes on by labels, whatever they are, goes down and then up by neither order.
@@ -33,4 +38,10 @@ pub fn agreement_grows()
 /// The order that grows by the positions in an order that grew is that order.
 pub fn grows_again()
     ensures law { GrowsAgain }
+{}
+
+/// If each vertex but the first of its component is beside an earlier one, then the order that grows by these positions
+/// has the vertices of each component in the same order.
+pub fn grown_orders_stay()
+    ensures law { GrownOrdersStay }
 {}
