@@ -61,7 +61,7 @@ use Rattle.between_orders.proofs.StandStill.{goal_stands_still}
 
 -- what forwards packets has a wire
 module _ (facts : Facts) (tables : HeldPlan) (lid i j : ℕ) (l : Leads (cells_of facts) tables lid i j) where
-  wired_head : Contains (heads (edges_in (cells_of facts)) i) j
+  pub wired_head : Contains (heads (edges_in (cells_of facts)) i) j
   wired_head =
       let cells = cells_of facts in
       let gs = switches cells in

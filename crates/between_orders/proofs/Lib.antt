@@ -9,3 +9,4 @@ pub mod GoalTurns
 pub mod Safe
 pub mod StandStill
 pub mod Told
+pub mod WholeTables

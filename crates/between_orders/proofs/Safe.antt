@@ -93,7 +93,7 @@ module _ (facts : Facts) where
       omega (arith, at, few)
 
   -- the told order is one by which the tables are right
-  told_is : (tables : HeldPlan) (preferred taken : List ℕ) → IsTold cells tables preferred (Some taken)
+  pub told_is : (tables : HeldPlan) (preferred taken : List ℕ) → IsTold cells tables preferred (Some taken)
       → IsOrderOf cells tables (told_positions taken (length edges))
   told_is tables preferred taken is =
       let law = told_orders_are_right cells tables preferred taken is in

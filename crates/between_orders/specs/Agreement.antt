@@ -1,9 +1,11 @@
 -- How far the order that tables tell agrees with the plan's, from step to step and from goal to goal.
-use Rattle.std.specs.Prelude.{◌≡◌, ◌≤◌, ℕ, suc, true, List, None, Some, length}
+use Rattle.std.specs.Prelude.{◌≡◌, ◌≤◌, ◌<◌, ℕ, zero, suc, true, List, None, Some, length}
 use Rattle.fact_store.specs.View.{Facts, cells_of}
+use Rattle.port_graph.specs.Heads.{heads}
+use Rattle.port_graph.specs.Walks.{Walk}
 use Rattle.subnet_view.specs.Reading.{Cells, switches}
 use Rattle.plan_file.specs.Held.{HeldPlan}
-use Rattle.next_tables.specs.ByOrder.{AreRight, position_at}
+use Rattle.next_tables.specs.ByOrder.{AreRight, Leads, position_at}
 use Rattle.ordered_steps.specs.Rightness.{are_right}
 use Rattle.told_order.specs.ToldOrder.{IsTold, position_in}
 use Rattle.two_orders.specs.Agreement.{AgreesUpTo}
@@ -93,3 +95,21 @@ OrdersStay =
     → orders_from (cells_of facts) tables (edges_in (cells_of facts)) by
     (told_positions taken (length (edges_in (cells_of facts))))
     ≡ grown_twice (edges_in (cells_of facts)) told by
+
+-- packets for `lid` come from switch i to j over so many channels
+abbrev pub ComeTo : Cells → HeldPlan → ℕ → ℕ → ℕ → ℕ → Type 0
+ComeTo cells tables lid zero i j = i ≡ j
+ComeTo cells tables lid (suc n) i j = (x : ℕ) × Leads cells tables lid i x × ComeTo cells tables lid n x j
+
+-- from each switch packets for some LID come to each to which wires lead
+abbrev pub ComeEverywhere : Cells → HeldPlan → Type 0
+ComeEverywhere cells tables =
+    (i j k : ℕ) → i < length (switches cells) → j < length (switches cells) → Walk (heads (edges_in cells)) i j k
+    → (lid n : ℕ) × (1 ≤ lid) × ComeTo cells tables lid n i j
+
+-- if packets come everywhere, tables are right by the order that grows by the one that they tell
+abbrev pub WholeTablesGrow : Type 0
+WholeTablesGrow =
+    (facts : Facts) (tables : HeldPlan) (preferred taken : List ℕ) → ComeEverywhere (cells_of facts) tables
+    → IsTold (cells_of facts) tables preferred (Some taken)
+    → IsRightByGrown (cells_of facts) tables (told_positions taken (length (edges_in (cells_of facts))))

@@ -1,5 +1,11 @@
 //! The laws of tables between two orders, and of a step towards them.
-ghost use Rattle.between_orders.specs.Agreement.{GoalsAreFew, GoalsGoFurther, OrdersStay, StepsKeepAgreement};
+ghost use Rattle.between_orders.specs.Agreement.{
+  GoalsAreFew,
+  GoalsGoFurther,
+  OrdersStay,
+  StepsKeepAgreement,
+  WholeTablesGrow,
+};
 ghost use Rattle.between_orders.specs.BetweenLaws.{
   GoalDelivers,
   GoalIsReached,
@@ -73,4 +79,10 @@ pub fn goal_is_reached()
 /// that one, and the one that grows by the plan's positions over its tree.
 pub fn orders_stay()
     ensures law { OrdersStay }
+{}
+
+/// If packets for some LID come from each switch to each to which wires lead, then tables that tell an order are right by
+/// the order that grows by it.
+pub fn whole_tables_grow()
+    ensures law { WholeTablesGrow }
 {}

@@ -120,7 +120,7 @@ is_later x y taken h no_x =
       | inr later ↦ later
     ]
 
-apart : (taken : List ℕ) (i j : ℕ) → Contains taken i → Contains taken j → position_in taken i ≡ position_in taken j → i ≡ j
+pub apart : (taken : List ℕ) (i j : ℕ) → Contains taken i → Contains taken j → position_in taken i ≡ position_in taken j → i ≡ j
 apart [] i j i_in j_in e = absurd (contains_none i i_in)
 apart (x ∷ taken) i j i_in j_in e =
     (elim (x == i) as (λ t. (x == i) ≡ t → i ≡ j) [
