@@ -1,7 +1,6 @@
 -- How far the order that tables tell agrees with the plan's.
-use Rattle.std.proofs.Common.{◌≡◌, ◌∙◌, ◌<◌, ◌≤◌, ◌&&◌, ℕ, zero, suc, Bool, true, false, cond, not, List, length, refl, sym, ap, subst, arith, inl, inr, None, Some}
-use Rattle.std.specs.Prelude.{Contains, nat_lt}
-use Rattle.std.proofs.lemmas.Bool.{and_parts, cases_eq, cases_lt}
+use Rattle.std.proofs.Common.{◌≡◌, ◌∙◌, ◌<◌, ◌≤◌, ◌&&◌, ℕ, zero, suc, Bool, true, false, cond, List, length, sym, ap, subst, arith, inl, inr, Some}
+use Rattle.std.proofs.lemmas.Bool.{and_parts, cases_lt}
 use Rattle.std.proofs.lemmas.List.{length-replicate}
 use Rattle.std.proofs.lemmas.List.FromFn.{get_or-map-range_with_len}
 use Rattle.fact_store.specs.View.{Facts, cells_of}
@@ -22,7 +21,7 @@ use Rattle.ordered_steps.proofs.ToldRight.{rightness_is_told}
 use Rattle.ordered_steps.proofs.Turns.{not_true}
 use Rattle.told_order.specs.ToldOrder.{IsTold, all_left, position_in}
 use Rattle.told_order.proofs.Agreed.{told_orders_agree, told_orders_are_stable}
-use Rattle.told_order.proofs.Orders.{some_order_is_told, told_orders_are_right}
+use Rattle.told_order.proofs.Orders.{bad_is, is_le, some_order_is_told, told_orders_are_right}
 use Rattle.two_orders.specs.Agreement.{AgreesUpTo, AreVertices}
 use Rattle.two_orders.specs.Growth.{grown_by, key_of, number_at, positions_in}
 use Rattle.two_orders.specs.LabelLaws.{grown_twice}
@@ -38,12 +37,6 @@ use Rattle.between_orders.specs.Orders.{edges_in, orders_by, orders_from, told_p
 use Rattle.between_orders.proofs.Safe.{count_is, goals_are_safe, grown_most}
 use Rattle.between_orders.proofs.SameGoal.{made_alike}
 use Rattle.between_orders.proofs.Told.{told_at}
-
-bad_is : (a b c : ℕ) → a ≤ b → c ≤ b → (not (nat_lt b a) && not (nat_lt b c)) ≡ true
-bad_is a b c h k = grind arith
-
-is_le : (a b : ℕ) → not (nat_lt b a) ≡ true → a ≤ b
-is_le a b h = grind arith
 
 -- an order by which another one is right
 module _ (cells : Cells) (p q : ℕ → ℕ)

@@ -1,5 +1,5 @@
 -- Steps towards the goal between an order that grows and one that grows over its tree end in it.
-use Rattle.std.proofs.Common.{◌≡◌, ◌∙◌, ◌<◌, ◌≤◌, ◌⊎◌, ◌*◌, ◌==◌, ℕ, zero, suc, Bool, true, false, cond, List, length, Option, None, Some, refl, sym, ap, subst, arith}
+use Rattle.std.proofs.Common.{◌≡◌, ◌∙◌, ◌<◌, ◌≤◌, ◌⊎◌, ◌*◌, ◌==◌, ℕ, zero, suc, true, false, cond, List, length, Option, None, Some, refl, sym, ap, subst, arith}
 use Rattle.std.specs.Prelude.{Contains, nat_lt, slice_get}
 use Rattle.std.proofs.lemmas.Bool.{and_parts, le-ltb}
 use Rattle.fact_store.specs.View.{AreInRange, Facts, cells_of}
@@ -8,7 +8,6 @@ use Rattle.port_graph.specs.Heads.{edges_at, heads}
 use Rattle.port_graph.specs.Walks.{Walk}
 use Rattle.port_graph.proofs.Lists.{contains_mapped}
 use Rattle.subnet_view.specs.Reading.{Cells, is_switch_node, switches}
-use Rattle.subnet_view.specs.SwitchEdges.{SwitchEdges}
 use Rattle.subnet_view.specs.Graph.{graph_of, guids_of}
 use Rattle.subnet_view.specs.GraphLaws.{IsGraph, IsSwitch}
 use Rattle.subnet_view.proofs.Graphs.{graph_law, wire_is_edge}
@@ -23,7 +22,6 @@ use Rattle.held_tables.specs.Tables.{entry_for, owners_of, top_of}
 use Rattle.held_tables.proofs.HeldTables.{within_length}
 use Rattle.audit.specs.declared.end.Cause.{Cause}
 use Rattle.audit.specs.declared.end.Cause.TheVariants.{AboveTop, NoEntry, NoLink, NoPort}
-use Rattle.audit.specs.declared.end.End.{End}
 use Rattle.audit.specs.declared.end.End.TheVariants.{Taken}
 use Rattle.audit.specs.declared.next_hop.NextHop.{NextHop}
 use Rattle.audit.specs.declared.next_hop.NextHop.TheVariants.{To, Ends}
@@ -32,7 +30,7 @@ use Rattle.audit.specs.WalkEnds.{after}
 use Rattle.audit.proofs.Ended.{after_ended}
 use Rattle.audit.proofs.PlanSteps.{contains_at, leaves}
 use Rattle.subnet_view.specs.Reading.{port_count_of}
-use Rattle.next_tables.specs.ByOrder.{AreApart, AreRight, IsOrder, Leads, position_at, switch_at}
+use Rattle.next_tables.specs.ByOrder.{AreRight, IsOrder, Leads, position_at, switch_at}
 use Rattle.next_tables.specs.Next.{step_at}
 use Rattle.next_tables.proofs.Entries.{at_mapped, member}
 use Rattle.next_tables.proofs.Hops.{edge_at, leads_from, leads_within, none_taken, placed, to_within}

@@ -1,6 +1,6 @@
 -- A step is the same towards two goals whose entries and owners are the same.
-use Rattle.std.proofs.Common.{◌≡◌, ◌∙◌, ◌+◌, ◌<◌, ◌&&◌, ◌||◌, ◌==◌, ℕ, Bool, true, false, cond, not, List, length, refl, sym, ap, arith, inl, inr, Some}
-use Rattle.std.specs.Prelude.{get_or, map, slice_get, slice_index_or}
+use Rattle.std.proofs.Common.{◌≡◌, ◌∙◌, ◌+◌, ◌<◌, ◌&&◌, ◌||◌, ◌==◌, ℕ, Bool, true, false, cond, not, List, length, refl, sym, ap, arith, inl, inr}
+use Rattle.std.specs.Prelude.{map}
 use Rattle.std.specs.List.{list_all, range_with_len}
 use Rattle.std.proofs.lemmas.List.{ext_get_or}
 use Rattle.std.proofs.lemmas.List.FromFn.{get_or-map-range_with_len, get_or-range_with_len, length-map-range_with_len, length-range_with_len}
@@ -19,7 +19,7 @@ use Rattle.next_tables.proofs.Hops.{to_within}
 use Rattle.next_tables.proofs.Steps.{at_index}
 use Rattle.ordered_steps.proofs.Turns.{below_at}
 
-alike : (a b : Bool) → (a ≡ true → b ≡ true) → (b ≡ true → a ≡ true) → a ≡ b
+pub alike : (a b : Bool) → (a ≡ true → b ≡ true) → (b ≡ true → a ≡ true) → a ≡ b
 alike true b to from = sym (to refl)
 alike false true to from = from refl
 alike false false to from = refl

@@ -10,7 +10,6 @@ use Rattle.plan_file.specs.Held.{HeldPlan}
 use Rattle.std.specs.List.{find}
 use Rattle.held_tables.specs.Tables.{entry_for}
 use Rattle.held_tables.proofs.HeldTables.{within_length}
-use Rattle.audit.specs.declared.next_hop.NextHop.{NextHop}
 use Rattle.audit.specs.declared.next_hop.NextHop.TheVariants.{To}
 use Rattle.next_tables.specs.ByOrder.{position_at, switch_at, tried}
 use Rattle.next_tables.specs.Next.{comes_to, step_at}
@@ -23,16 +22,12 @@ use Rattle.two_orders.specs.declared.labels.Sides.{Sides}
 use Rattle.two_orders.specs.Labels.{label_at, leads_on}
 use Rattle.two_orders.specs.TwoOrders.{TwoOrders}
 use Rattle.between_orders.specs.BetweenLaws.{GoalStandsStill, IsGoalLine, labels_of_line}
-use Rattle.between_orders.specs.Goal.{arrives, entry_between, entry_to, entry_with, fits, port_of, tables_between}
+use Rattle.between_orders.specs.Goal.{arrives, entry_between, entry_with, fits, port_of, tables_between}
 use Rattle.between_orders.specs.Orders.{edges_in}
 use Rattle.between_orders.proofs.GoalDelivers.{entry_is, fits_to}
 use Rattle.between_orders.proofs.GoalEntries.{pair}
 use Rattle.between_orders.proofs.GoalTurns.{goal_is}
-
-alike : (a b : Bool) → (a ≡ true → b ≡ true) → (b ≡ true → a ≡ true) → a ≡ b
-alike true b to from = sym (to refl)
-alike false true to from = from refl
-alike false false to from = refl
+use Rattle.between_orders.proofs.SameGoal.{alike}
 
 -- an entry that is taken from other tables if it fits, whether it fits or not
 kept_or_chosen : (fits_now fitted : Bool) (now held other : ℕ) → (now ≡ held → fits_now ≡ fitted) → now ≡ cond fitted held other

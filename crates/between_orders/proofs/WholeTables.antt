@@ -1,5 +1,5 @@
 -- Tables by which packets come everywhere are right by the order that grows by the one that they tell.
-use Rattle.std.proofs.Common.{◌≡◌, ◌∙◌, ◌<◌, ◌≤◌, ◌&&◌, ℕ, zero, suc, Bool, true, false, not, List, length, refl, sym, ap, arith, inl, inr, Some}
+use Rattle.std.proofs.Common.{◌≡◌, ◌∙◌, ◌<◌, ◌≤◌, ◌&&◌, ℕ, zero, suc, true, false, not, List, length, refl, sym, ap, arith, inl, inr, Some}
 use Rattle.std.specs.Prelude.{Contains, nat_lt}
 use Rattle.std.proofs.lemmas.Bool.{and_parts, cases_lt}
 use Rattle.std.proofs.lemmas.List.{length-replicate}
@@ -14,12 +14,12 @@ use Rattle.subnet_view.proofs.Graphs.{graph_law}
 use Rattle.plan_file.specs.Held.{HeldPlan}
 use Rattle.spread_labels.specs.LabelLaws.{IsSymmetric}
 use Rattle.spread_routes.proofs.Indices.{leads_below, there_and_back}
-use Rattle.next_tables.specs.ByOrder.{AreRight, Leads, is_bad, is_down, is_up, position_at}
+use Rattle.next_tables.specs.ByOrder.{AreRight, Leads, is_bad, is_down, is_up}
 use Rattle.next_tables.proofs.Hops.{leads_within, to_within}
 use Rattle.ordered_steps.proofs.ToldRight.{rightness_is_told}
 use Rattle.ordered_steps.proofs.Turns.{not_true}
 use Rattle.told_order.specs.ToldOrder.{IsTold, all_left, position_in}
-use Rattle.told_order.proofs.Orders.{all_within, apart, taken_each}
+use Rattle.told_order.proofs.Orders.{all_within, apart, bad_is, is_le, taken_each}
 use Rattle.two_orders.specs.Agreement.{CouldGrow}
 use Rattle.two_orders.specs.Growth.{grown_by, number_at, positions_in}
 use Rattle.two_orders.proofs.GrownOrders.{grown_orders_stay}
@@ -28,12 +28,6 @@ use Rattle.between_orders.specs.Orders.{edges_in, told_positions}
 use Rattle.between_orders.proofs.GoalReached.{wired_head}
 use Rattle.between_orders.proofs.Safe.{count_is, told_is}
 use Rattle.between_orders.proofs.Told.{told_at}
-
-low_of : (a b : ℕ) → not (nat_lt b a) ≡ true → a ≤ b
-low_of a b h = grind arith
-
-turns_up : (a b c : ℕ) → a ≤ b → c ≤ b → (not (nat_lt b a) && not (nat_lt b c)) ≡ true
-turns_up a b c h k = grind arith
 
 goes_later : (a b c : ℕ) → a ≤ b → (not (nat_lt b a) && not (nat_lt b c)) ≡ false → b < c
 goes_later a b c le well = grind arith
@@ -125,8 +119,8 @@ module _ (facts : Facts) (tables : HeldPlan) (preferred taken : List ℕ) (whole
       let back = both_ways i j (wired_head facts tables lid i j a) in
       let on = wired_head facts tables lid j k b in
       let well = right_by_told lid some i j k a b in
-      let so = turns_up (q i) (q j) (q k) (no_earlier i j 1 i_in j_in (i, back, refl) (low_of (p i) (p j) parts.0))
-      (no_earlier k j 1 k_in j_in (k, on, refl) (low_of (p k) (p j) parts.1)) in
+      let so = bad_is (q i) (q j) (q k) (no_earlier i j 1 i_in j_in (i, back, refl) (is_le (p i) (p j) parts.0))
+      (no_earlier k j 1 k_in j_in (k, on, refl) (is_le (p k) (p j) parts.1)) in
       absurd (cc)))
 
 pub whole_tables_grow : WholeTablesGrow

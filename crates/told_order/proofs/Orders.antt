@@ -134,7 +134,7 @@ apart (x ∷ taken) i j i_in j_in e =
       ]) refl
     ]) refl
 
-is_le : (a b : ℕ) → not (nat_lt b a) ≡ true → a ≤ b
+pub is_le : (a b : ℕ) → not (nat_lt b a) ≡ true → a ≤ b
 is_le a b h = grind arith
 
 module _ (cells : Cells) (tables : HeldPlan) (preferred : List ℕ) where
@@ -269,7 +269,7 @@ last_by left q (suc n) =
       ])
     ]) refl
 
-bad_is : (a b c : ℕ) → a ≤ b → c ≤ b → (not (nat_lt b a) && not (nat_lt b c)) ≡ true
+pub bad_is : (a b c : ℕ) → a ≤ b → c ≤ b → (not (nat_lt b a) && not (nat_lt b c)) ≡ true
 bad_is a b c h k = grind arith
 
 module _ (cells : Cells) (tables : HeldPlan) (q : ℕ → ℕ) (right : (lid : ℕ) → 1 ≤ lid → AreRight cells q tables lid) where
