@@ -37,6 +37,7 @@ use Rattle.next_tables.proofs.Hops.{edge_at, leads_from, leads_within, none_take
 use Rattle.next_tables.proofs.Mixtures.{at}
 use Rattle.next_tables.proofs.Steps.{at_index}
 use Rattle.ordered_steps.specs.StepLaws.{AreStepsByOrder, DeliverFrom, IsLineStep}
+use Rattle.ordered_steps.proofs.EndRight.{end_right_by_any}
 use Rattle.ordered_steps.proofs.Goal.{end_in_twice_as_many}
 use Rattle.ordered_steps.proofs.Lost.{rule_is_tried, tried_is_choice}
 use Rattle.ordered_steps.proofs.Round.{next_deliver_or_drop_by_order}
@@ -45,7 +46,7 @@ use Rattle.two_orders.specs.declared.labels.Sides.{Sides}
 use Rattle.two_orders.specs.LabelLaws.{grown_twice}
 use Rattle.two_orders.specs.Labels.{label_at}
 use Rattle.two_orders.specs.TwoOrders.{TwoOrders}
-use Rattle.between_orders.specs.BetweenLaws.{AreGoalSteps, GoalIsReached, IsGoalLine, labels_of_line}
+use Rattle.between_orders.specs.BetweenLaws.{AreGoalSteps, GoalEndsRight, GoalIsReached, IsGoalLine, labels_of_line}
 use Rattle.between_orders.specs.Goal.{arrives, entry_with, tables_between}
 use Rattle.between_orders.specs.Orders.{edges_in}
 use Rattle.between_orders.proofs.Agreement.{p_same}
@@ -54,7 +55,7 @@ use Rattle.between_orders.proofs.GoalEntries.{pair, top_is}
 use Rattle.between_orders.proofs.GoalReaches.{goal_reaches_all}
 use Rattle.between_orders.proofs.GoalTurns.{columns, goal, goal_is, goal_turns_well}
 use Rattle.between_orders.proofs.Safe.{grown_is_order, owners_by_lids}
-use Rattle.between_orders.proofs.SameGoal.{same_step}
+use Rattle.between_orders.proofs.SameGoal.{same_next, same_step}
 use Rattle.between_orders.proofs.StandStill.{goal_stands_still}
 
 -- what forwards packets has a wire
@@ -277,8 +278,24 @@ module _ (facts : Facts) (range : AreInRange facts) (told by : List ℕ) (plan :
         (rule_is_tried its_cells q (tables k) (goal_at k) (tables (suc k)) line (are.steps k));
   }
 
+  -- and the tables are right by the second order in the end
+  module _ (taken : (i : ℕ) → i < length (switches its_cells) → step_at its_cells (tables 0) line.lid (switch_at its_cells i) ≡ Ends (Taken line.port)
+      → DeliverFrom its_cells (goal_at 0) line i) where
+    ends_right : (m : ℕ) → 1 ≤ m → 2 * length (switches its_cells) ≤ m
+        → AreRight its_cells (position_at (grown_twice (edges_in (cells_of facts)) told by).second) (tables m) line.lid
+    ends_right m one many =
+        end_right_by_any its_cells q (goal_at 0) line tables steps_to_first
+        (λ k.
+        same_next its_cells q (tables k) (goal_at k) (goal_at 0) line
+        (λ x less. same_entries k x (switch_at its_cells x) (placed (switches its_cells) x less))
+        (λ x less. same_hops k x (switch_at its_cells x) (placed (switches its_cells) x less)) (tables (suc k)) (are.steps k)) taken
+        (position_at (grown_twice (edges_in (cells_of facts)) told by).second) (goal_turns_well facts its_orders (tables 0) plan line.lid).1 m one many
+
 pub goal_is_reached : GoalIsReached
 goal_is_reached facts range told by plan line tables are i g m there d many =
     end_in_twice_as_many (cells_of facts) (position_at (grown_twice (edges_in (cells_of facts)) told by).first)
     (tables_between (cells_of facts) (edges_in (cells_of facts)) (grown_twice (edges_in (cells_of facts)) told by) (tables 0) plan) line tables
     (steps_to_first facts range told by plan line tables are) i g m there d many
+
+pub goal_ends_right : GoalEndsRight
+goal_ends_right facts range told by plan line tables are taken m one many = ends_right facts range told by plan line tables are taken m one many

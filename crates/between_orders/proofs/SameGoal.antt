@@ -1,6 +1,6 @@
 -- A step is the same towards two goals whose entries and owners are the same.
-use Rattle.std.proofs.Common.{◌≡◌, ◌∙◌, ◌+◌, ◌<◌, ◌&&◌, ◌||◌, ◌==◌, ℕ, Bool, true, false, cond, not, List, length, refl, sym, ap, arith, inl, inr}
-use Rattle.std.specs.Prelude.{map}
+use Rattle.std.proofs.Common.{◌≡◌, ◌∙◌, ◌+◌, ◌<◌, ◌&&◌, ◌||◌, ◌==◌, ℕ, Bool, true, false, cond, not, List, length, refl, sym, ap, arith, inl, inr, Some}
+use Rattle.std.specs.Prelude.{map, slice_get}
 use Rattle.std.specs.List.{list_all, range_with_len}
 use Rattle.std.proofs.lemmas.List.{ext_get_or}
 use Rattle.std.proofs.lemmas.List.FromFn.{get_or-map-range_with_len, get_or-range_with_len, length-map-range_with_len, length-range_with_len}
@@ -12,7 +12,7 @@ use Rattle.held_tables.specs.Tables.{entry_for}
 use Rattle.held_tables.proofs.HeldTables.{within_length}
 use Rattle.audit.specs.declared.next_hop.NextHop.{NextHop}
 use Rattle.audit.specs.declared.next_hop.NextHop.TheVariants.{To, Ends}
-use Rattle.next_tables.specs.ByOrder.{IsTriedByOrder, comes_down, goes_up, is_down, is_up, leads_in, may_change, none_comes_down, none_goes_up, switch_at}
+use Rattle.next_tables.specs.ByOrder.{IsNextByOrder, IsTriedByOrder, comes_down, goes_up, is_down, is_up, leads_in, may_change, none_comes_down, none_goes_up, switch_at}
 use Rattle.next_tables.specs.ByOrder.{tried, tried_at, tried_entry, turns_well}
 use Rattle.next_tables.specs.Next.{comes_to, delivers, step_at}
 use Rattle.next_tables.proofs.Hops.{to_within}
@@ -81,16 +81,24 @@ module _ (cells : Cells) (q : ℕ → ℕ) (held a b : HeldPlan) (line : HeldLid
       made_alike (tried_at cells q held a line) (tried_at cells q held b line) n (To 0)
       (λ i less. (λ k. cond (may i less k) (hops i less k) (step_at cells held line.lid (switch_at cells i))))
 
+  same_tried : (i g : ℕ) → slice_get (switches cells) i ≡ Some g → tried_entry cells q held a line i g ≡ tried_entry cells q held b line i g
+  same_tried i g there =
+      let less = within_length (switches cells) i g there in
+      let at : switch_at cells i ≡ g = at_index (switches cells) i g 0 there in
+      ap (tried_entry cells q held a line i) (sym at) ∙ entry_same i less ∙ ap (tried_entry cells q held b line i) at
+
   pub same_step : (next : HeldPlan) → IsTriedByOrder cells q held a line next → IsTriedByOrder cells q held b line next
   same_step next is = record {
     owners = is.owners;
-    entries = λ i g there. (
-        let less = within_length (switches cells) i g there in
-        let at : switch_at cells i ≡ g = at_index (switches cells) i g 0 there in
-        let same : tried_entry cells q held a line i g ≡ tried_entry cells q held b line i g =
-        ap (tried_entry cells q held a line i) (sym at) ∙ entry_same i less ∙ ap (tried_entry cells q held b line i) at in
-        (elim (is.entries i g there) [
-          | inl e ↦ inl (e ∙ same)
-          | inr dropped ↦ inr (ap (λ (l : List NextHop). comes_to line.port l (To i)) (sym tried_same) ∙ dropped.0, dropped.1)
-        ]));
+    entries = λ i g there. (elim (is.entries i g there) [
+      | inl e ↦ inl (e ∙ same_tried i g there)
+      | inr dropped ↦ inr (ap (λ (l : List NextHop). comes_to line.port l (To i)) (sym tried_same) ∙ dropped.0, dropped.1)
+    ]);
+  }
+
+  pub same_next : (next : HeldPlan) → IsNextByOrder cells q held a line next → IsNextByOrder cells q held b line next
+  same_next next is = record {
+    owners = is.owners;
+    entries = λ i g there.
+        is.entries i g there ∙ (λ k. cond (comes_to line.port (tried_same k) (To i)) (same_tried i g there k) 255);
   }

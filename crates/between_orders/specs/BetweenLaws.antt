@@ -125,3 +125,18 @@ GoalIsReached =
     ≡ entry_for (tables_between (cells_of facts) (edges_in (cells_of facts))
     (grown_twice (edges_in (cells_of facts)) told by) (tables 0) plan) line.lid g)
     × DeliverFrom (cells_of facts) (tables m) line i
+
+-- if the first tables bring packets to the end port at once only where the goal delivers, the tables are right for the
+-- LID by the second order in the end, as the goal is
+abbrev pub GoalEndsRight : Type 0
+GoalEndsRight =
+    (facts : Facts) → AreInRange facts → (told by : List ℕ) (plan : HeldPlan) (line : HeldLid) (tables : ℕ → HeldPlan)
+    → AreGoalSteps facts told by plan line tables
+    → ((i : ℕ) → i < length (switches (cells_of facts))
+    → step_at (cells_of facts) (tables 0) line.lid (switch_at (cells_of facts) i) ≡ Ends (Taken line.port)
+    → DeliverFrom (cells_of facts)
+    (tables_between (cells_of facts) (edges_in (cells_of facts)) (grown_twice (edges_in (cells_of facts)) told by)
+    (tables 0) plan) line i)
+    → (m : ℕ) → 1 ≤ m → 2 * length (switches (cells_of facts)) ≤ m
+    → AreRight (cells_of facts) (position_at (grown_twice (edges_in (cells_of facts)) told by).second) (tables m)
+    line.lid

@@ -81,8 +81,14 @@ pub fn orders_stay()
     ensures law { OrdersStay }
 {}
 
-/// If packets for some LID come from each switch to each to which wires lead, then tables that tell an order are right by
-/// the order that grows by it.
+/// If packets for some LID come from each switch to each to which wires lead, then tables that tell an order are right
+/// by the order that grows by it.
 pub fn whole_tables_grow()
     ensures law { WholeTablesGrow }
+{}
+
+/// After twice as many such steps as there are switches the tables are right for the LID by the second order, if the
+/// first tables brought packets to the end port at once only where the goal delivers.
+pub fn goal_ends_right()
+    ensures law { GoalEndsRight }
 {}
