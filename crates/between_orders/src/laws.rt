@@ -51,8 +51,8 @@ pub fn steps_keep_agreement()
     ensures law { StepsKeepAgreement }
 {}
 
-/// From tables that are right by the order that grows by the told one, a goal that is reached tells an order that agrees
-/// with the plan's on one switch more; no other tables on the way agree on fewer.
+/// From tables that are right by the order that grows by the told one, a goal that is reached tells an order that
+/// agrees with the plan's on one switch more; no other tables on the way agree on fewer.
 pub fn goals_go_further()
     ensures law { GoalsGoFurther }
 {}
@@ -62,15 +62,15 @@ pub fn goals_are_few()
     ensures law { GoalsAreFew }
 {}
 
-/// If each held entry for a LID is 255 or delivers, then the goal between the same two orders has the same entries for it
-/// after the step as before.
+/// If each held entry for a LID is 255 or delivers, then the goal between the same two orders has the same entries for
+/// it after the step as before.
 pub fn goal_stands_still()
     ensures law { GoalStandsStill }
 {}
 
-/// After twice as many steps as there are switches, towards the goal between an order that grows and one that grows over
-/// its tree, each switch from which the goal delivers has the entry of the first goal, if each held entry was 255 or
-/// delivered at first.
+/// After twice as many steps as there are switches, towards the goal between an order that grows and one that grows
+/// over its tree, each switch from which the goal delivers has the entry of the first goal, if each held entry was 255
+/// or delivered at first.
 pub fn goal_is_reached()
     ensures law { GoalIsReached }
 {}
