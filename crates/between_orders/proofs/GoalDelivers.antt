@@ -70,7 +70,7 @@ find_some {X = X} p (y ∷ xs) x there h =
     ] refl
 
 -- what arrives ends at the port
-arrives_is : (port : EndPort) (hop : NextHop) → arrives port hop ≡ true → hop ≡ Ends (Taken port)
+pub arrives_is : (port : EndPort) (hop : NextHop) → arrives port hop ≡ true → hop ≡ Ends (Taken port)
 arrives_is port (To j) h = absurd (cc)
 arrives_is port (Ends e) h = ap (λ (x : End). Ends x) (same_Some e (Taken port) (at_is port (Some e) h))
 
@@ -80,7 +80,7 @@ pub record Fits (orders : TwoOrders) (labels : List (Option Sides)) (s : Sides) 
   pub is : hop ≡ To to
   pub leads : leads_on orders labels s i to ≡ true
 
-fits_to : (orders : TwoOrders) (labels : List (Option Sides)) (s : Sides) (i : ℕ) (hop : NextHop) → fits orders labels s i hop ≡ true
+pub fits_to : (orders : TwoOrders) (labels : List (Option Sides)) (s : Sides) (i : ℕ) (hop : NextHop) → fits orders labels s i hop ≡ true
     → Fits orders labels s i hop
 fits_to orders labels s i (To j) h = record { to = j; is = refl; leads = h }
 fits_to orders labels s i (Ends e) h = absurd (cc)
@@ -140,7 +140,7 @@ module _ (facts : Facts) (range : AreInRange facts) (orders : TwoOrders) (order 
   owners_are = first_of (owners_of plan lid) line.port is.first
 
   -- the entry of a switch is that of its column
-  entry_is : (i : ℕ) → i < n → entry_for tables lid (switch_at cells i) ≡ entry_between line.port edges orders labels (i, pair cells held plan lid i)
+  pub entry_is : (i : ℕ) → i < n → entry_for tables lid (switch_at cells i) ≡ entry_between line.port edges orders labels (i, pair cells held plan lid i)
   entry_is i less =
       let g = switch_at cells i in
       let there : slice_get gs i ≡ Some g = placed gs i less in
@@ -267,6 +267,10 @@ module _ (facts : Facts) (range : AreInRange facts) (orders : TwoOrders) (order 
       (entry_is i less
       ∙ ap (λ t. cond t (entry_for plan lid (switch_at cells i)) (entry_with edges orders labels (label_at labels i) i (pair cells held plan lid i))) not_there
       ∙ ap (λ o. entry_with edges orders labels o i (pair cells held plan lid i)) has)
+
+  pub goes_on_to : (i : ℕ) (s : Sides) → label_at labels i ≡ Some s → arrives line.port (plan_hop i) ≡ false
+      → (j : ℕ) × (step_at cells tables lid (switch_at cells i) ≡ To j)
+  goes_on_to i s has not_there = let x = goes_to i s has not_there in (x.to, x.goes)
 
   -- the next switch has a label that may follow
   record IsNext (i : ℕ) (s : Sides) : Type 0 where

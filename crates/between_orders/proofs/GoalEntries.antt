@@ -87,7 +87,7 @@ module _ (facts : Facts) (held plan : HeldPlan) (columns : List (List ℕ)) wher
   held_index : (i g : ℕ) → slice_get gs i ≡ Some g → index_of made g ≡ Some i
   held_index i g there = position_mapped (λ (s : HeldSwitch). s.guid == g) (next_switch held plan) gs ∙ index_is i g there
 
-  top_is : (i g : ℕ) → slice_get gs i ≡ Some g → top_of made g ≡ next_top held plan g
+  pub top_is : (i g : ℕ) → slice_get gs i ≡ Some g → top_of made g ≡ next_top held plan g
   top_is i g there =
       ap (top_at made) (held_index i g there)
       ∙ ap (λ o. option_map_or (λ (s : HeldSwitch). s.top) o 0) (slice_mapped (next_switch held plan) gs i g there)

@@ -1,7 +1,12 @@
+pub mod Agreement
 pub mod Columns
 pub mod GoalDelivers
 pub mod GoalEntries
+pub mod GoalReached
 pub mod GoalReaches
+pub mod SameGoal
 pub mod GoalTurns
 pub mod Safe
+pub mod StandStill
 pub mod Told
+pub mod WholeTables

@@ -40,7 +40,7 @@ use Rattle.between_orders.proofs.GoalTurns.{goal_turns_well}
 use Rattle.between_orders.proofs.Told.{told_at}
 
 -- a grown order has no more than the vertices
-grown_most : (edges : List (List Edge)) (before : ℕ → ℕ → Bool) (n : ℕ) (placed rest : List ℕ) → length (grown_behind edges before n placed rest) ≤ n
+pub grown_most : (edges : List (List Edge)) (before : ℕ → ℕ → Bool) (n : ℕ) (placed rest : List ℕ) → length (grown_behind edges before n placed rest) ≤ n
 grown_most edges before zero placed rest = omega arith
 grown_most edges before (suc n) placed [] = omega arith
 grown_most edges before (suc n) placed (x ∷ rest) =
@@ -93,7 +93,7 @@ module _ (facts : Facts) where
       omega (arith, at, few)
 
   -- the told order is one by which the tables are right
-  told_is : (tables : HeldPlan) (preferred taken : List ℕ) → IsTold cells tables preferred (Some taken)
+  pub told_is : (tables : HeldPlan) (preferred taken : List ℕ) → IsTold cells tables preferred (Some taken)
       → IsOrderOf cells tables (told_positions taken (length edges))
   told_is tables preferred taken is =
       let law = told_orders_are_right cells tables preferred taken is in
@@ -117,7 +117,7 @@ module _ (facts : Facts) where
       ] refl
 
 -- who holds a LID hangs on the lines of LIDs alone
-owners_by_lids : (a b : HeldPlan) → a.lids ≡ b.lids → (lid : ℕ) → owners_of a lid ≡ owners_of b lid
+pub owners_by_lids : (a b : HeldPlan) → a.lids ≡ b.lids → (lid : ℕ) → owners_of a lid ≡ owners_of b lid
 owners_by_lids a b e lid = λ i. owners_of (record { lids = e i; switches = a.switches; blocks = a.blocks }) lid
 
 module _ (facts : Facts) (held plan : HeldPlan) (by : List ℕ) (goal : Goal) (is : IsGoalBetween (cells_of facts) held plan by goal) where

@@ -1,16 +1,16 @@
 -- What tables between two orders are, and what a step towards them brings.
-use Rattle.std.specs.Prelude.{◌≡◌, ◌≤◌, ◌<◌, ℕ, Contains, List, Option, Some, length, map, slice_get}
+use Rattle.std.specs.Prelude.{◌≡◌, ◌≤◌, ◌<◌, ◌⊎◌, ◌*◌, ℕ, suc, Contains, List, Option, Some, length, map, slice_get}
 use Rattle.fact_store.specs.View.{AreInRange, Facts, cells_of}
 use Rattle.port_graph.specs.Heads.{heads}
 use Rattle.port_graph.specs.Walks.{Walk}
 use Rattle.subnet_view.specs.Reading.{Cells, switches}
 use Rattle.plan_file.specs.Held.{HeldPlan}
 use Rattle.plan_file.specs.declared.held.HeldLid.{HeldLid}
-use Rattle.held_tables.specs.Tables.{owners_of, top_of}
+use Rattle.held_tables.specs.Tables.{entry_for, owners_of, top_of}
 use Rattle.audit.specs.declared.end.End.TheVariants.{Taken}
 use Rattle.audit.specs.declared.next_hop.NextHop.TheVariants.{Ends}
 use Rattle.audit.specs.NextHops.{switch_step}
-use Rattle.next_tables.specs.ByOrder.{AreRight, IsOrder, position_at, switch_at}
+use Rattle.next_tables.specs.ByOrder.{AreRight, IsNextByOrder, IsOrder, position_at, switch_at}
 use Rattle.next_tables.specs.Next.{step_at}
 use Rattle.next_tables.specs.NextTables.{IsKept, by_order, next_tables}
 use Rattle.ordered_steps.specs.StepLaws.{DeliverFrom, IsLineStep, IsStep}
@@ -80,3 +80,63 @@ GoalsFollowTheRule =
     (facts : Facts) (held plan : HeldPlan) (by : List ℕ) (goal : Goal) (line : HeldLid)
     → IsGoal (cells_of facts) held plan by (Some goal) → IsKept held plan line → 1 ≤ line.lid
     → IsLineStep (cells_of facts) (position_at goal.positions) held goal.tables line (next_towards facts held goal)
+
+-- where each held entry is 255 or delivers, as after a step towards a goal, the goal between the same two orders is the
+-- same from the next tables as from the held ones
+abbrev pub GoalStandsStill : Type 0
+GoalStandsStill =
+    (facts : Facts) → AreInRange facts → (orders : TwoOrders) (held plan next : HeldPlan) (line : HeldLid)
+    → IsGoalLine (cells_of facts) plan line
+    → IsLineStep (cells_of facts) (position_at orders.first) held
+    (tables_between (cells_of facts) (edges_in (cells_of facts)) orders held plan) line next
+    → ((i g : ℕ) → slice_get (switches (cells_of facts)) i ≡ Some g → (entry_for held line.lid g ≡ 255)
+    ⊎ DeliverFrom (cells_of facts) held line i)
+    → (i g : ℕ) → slice_get (switches (cells_of facts)) i ≡ Some g
+    → entry_for (tables_between (cells_of facts) (edges_in (cells_of facts)) orders next plan) line.lid g
+    ≡ entry_for (tables_between (cells_of facts) (edges_in (cells_of facts)) orders held plan) line.lid g
+
+-- steps towards the goal between an order that grows and one that grows over its tree: each step has the goal from the
+-- tables of the step before; at first each entry is 255 or delivers, as after any step
+pub record AreGoalSteps (facts : Facts) (told by : List ℕ) (plan : HeldPlan) (line : HeldLid) (tables : ℕ → HeldPlan)
+    : Type 0 where
+  pub is_line : IsGoalLine (cells_of facts) plan line
+  pub owners : owners_of plan line.lid ≡ owners_of (tables 0) line.lid
+  pub right : AreRight (cells_of facts)
+      (position_at (grown_twice (edges_in (cells_of facts)) told by).first) (tables 0) line.lid
+  pub delivering : (i g : ℕ) → slice_get (switches (cells_of facts)) i ≡ Some g
+      → (entry_for (tables 0) line.lid g ≡ 255) ⊎ DeliverFrom (cells_of facts) (tables 0) line i
+  pub steps : (n : ℕ) → IsNextByOrder (cells_of facts)
+      (position_at (grown_twice (edges_in (cells_of facts)) told by).first) (tables n)
+      (tables_between (cells_of facts) (edges_in (cells_of facts)) (grown_twice (edges_in (cells_of facts)) told by)
+      (tables n) plan) line (tables (suc n))
+
+-- after twice as many such steps as there are switches each switch from which the first goal delivers has its entry, and
+-- the tables deliver from there
+abbrev pub GoalIsReached : Type 0
+GoalIsReached =
+    (facts : Facts) → AreInRange facts → (told by : List ℕ) (plan : HeldPlan) (line : HeldLid) (tables : ℕ → HeldPlan)
+    → AreGoalSteps facts told by plan line tables
+    → (i g m : ℕ) → slice_get (switches (cells_of facts)) i ≡ Some g
+    → DeliverFrom (cells_of facts)
+    (tables_between (cells_of facts) (edges_in (cells_of facts)) (grown_twice (edges_in (cells_of facts)) told by)
+    (tables 0) plan) line i
+    → 2 * length (switches (cells_of facts)) ≤ m
+    → (entry_for (tables m) line.lid g
+    ≡ entry_for (tables_between (cells_of facts) (edges_in (cells_of facts))
+    (grown_twice (edges_in (cells_of facts)) told by) (tables 0) plan) line.lid g)
+    × DeliverFrom (cells_of facts) (tables m) line i
+
+-- if the first tables bring packets to the end port at once only where the goal delivers, the tables are right for the
+-- LID by the second order in the end, as the goal is
+abbrev pub GoalEndsRight : Type 0
+GoalEndsRight =
+    (facts : Facts) → AreInRange facts → (told by : List ℕ) (plan : HeldPlan) (line : HeldLid) (tables : ℕ → HeldPlan)
+    → AreGoalSteps facts told by plan line tables
+    → ((i : ℕ) → i < length (switches (cells_of facts))
+    → step_at (cells_of facts) (tables 0) line.lid (switch_at (cells_of facts) i) ≡ Ends (Taken line.port)
+    → DeliverFrom (cells_of facts)
+    (tables_between (cells_of facts) (edges_in (cells_of facts)) (grown_twice (edges_in (cells_of facts)) told by)
+    (tables 0) plan) line i)
+    → (m : ℕ) → 1 ≤ m → 2 * length (switches (cells_of facts)) ≤ m
+    → AreRight (cells_of facts) (position_at (grown_twice (edges_in (cells_of facts)) told by).second) (tables m)
+    line.lid

@@ -1,3 +1,4 @@
+pub mod Agreement
 pub mod Between
 pub mod BetweenLaws
 pub mod Goal

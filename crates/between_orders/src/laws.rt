@@ -1,5 +1,18 @@
 //! The laws of tables between two orders, and of a step towards them.
-ghost use Rattle.between_orders.specs.BetweenLaws.{GoalDelivers, GoalReachesAll, GoalTurnsWell};
+ghost use Rattle.between_orders.specs.Agreement.{
+  GoalsAreFew,
+  GoalsGoFurther,
+  OrdersStay,
+  StepsKeepAgreement,
+  WholeTablesGrow,
+};
+ghost use Rattle.between_orders.specs.BetweenLaws.{
+  GoalDelivers,
+  GoalIsReached,
+  GoalReachesAll,
+  GoalStandsStill,
+  GoalTurnsWell,
+};
 ghost use Rattle.between_orders.specs.BetweenLaws.{GoalsAreSafe, GoalsFollowTheRule};
 
 /// In the tables between two orders, whatever these are, no packet for any LID goes down and then up by either order.
@@ -30,4 +43,52 @@ pub fn goals_are_safe()
 /// that the held tables tell (`ordered_steps`): no packet that the held tables deliver is lost in any mixture.
 pub fn goals_follow_the_rule()
     ensures law { GoalsFollowTheRule }
+{}
+
+/// A step towards the goal leaves tables that tell an order, and this agrees with the plan's order on as many first
+/// switches as that of the held tables does.
+pub fn steps_keep_agreement()
+    ensures law { StepsKeepAgreement }
+{}
+
+/// From tables that are right by the order that grows by the told one, a goal that is reached tells an order that
+/// agrees with the plan's on one switch more; no other tables on the way agree on fewer.
+pub fn goals_go_further()
+    ensures law { GoalsGoFurther }
+{}
+
+/// Once as many such goals were reached as there are switches but one, tables are right by the plan's order.
+pub fn goals_are_few()
+    ensures law { GoalsAreFew }
+{}
+
+/// If each held entry for a LID is 255 or delivers, then the goal between the same two orders has the same entries for
+/// it after the step as before.
+pub fn goal_stands_still()
+    ensures law { GoalStandsStill }
+{}
+
+/// After twice as many steps as there are switches, towards the goal between an order that grows and one that grows
+/// over its tree, each switch from which the goal delivers has the entry of the first goal, if each held entry was 255
+/// or delivered at first.
+pub fn goal_is_reached()
+    ensures law { GoalIsReached }
+{}
+
+/// If tables are right by an order that grew, and this is the list of preferences, then the orders of the next step are
+/// that one, and the one that grows by the plan's positions over its tree.
+pub fn orders_stay()
+    ensures law { OrdersStay }
+{}
+
+/// If packets for some LID come from each switch to each to which wires lead, then tables that tell an order are right
+/// by the order that grows by it.
+pub fn whole_tables_grow()
+    ensures law { WholeTablesGrow }
+{}
+
+/// After twice as many such steps as there are switches the tables are right for the LID by the second order, if the
+/// first tables brought packets to the end port at once only where the goal delivers.
+pub fn goal_ends_right()
+    ensures law { GoalEndsRight }
 {}

@@ -1,3 +1,4 @@
+pub mod Agreed
 pub mod MayBeLast
 pub mod Noted
 pub mod Orders

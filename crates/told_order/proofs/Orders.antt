@@ -16,7 +16,7 @@ not_true : (t : Bool) → (t ≡ true → ⊥) → t ≡ false
 not_true true h = absurd (h refl)
 not_true false h = refl
 
-differ : (x i : ℕ) → (x ≡ i → ⊥) → (x == i) ≡ false
+pub differ : (x i : ℕ) → (x ≡ i → ⊥) → (x == i) ≡ false
 differ x i h = not_true (x == i) (λ e. h (eqb-true x i e))
 
 -- one that is taken is not left
@@ -37,7 +37,7 @@ left_other (b ∷ left) (suc x) zero e = refl
 left_other (b ∷ left) (suc x) (suc i) e = left_other left x i (less_equal x i e)
 
 -- so it was before
-left_before : (left : List Bool) (x i : ℕ) → is_left (slice_set left x false) i ≡ true → is_left left i ≡ true
+pub left_before : (left : List Bool) (x i : ℕ) → is_left (slice_set left x false) i ≡ true → is_left left i ≡ true
 left_before left x i h =
     (elim (x == i) as (λ t. (x == i) ≡ t → is_left left i ≡ true) [
       | true ↦ λ e. let own = left_own left x in let same : is_left (slice_set left x false) x ≡ is_left (slice_set left x false) i = ap (is_left (slice_set left x false)) (eqb-true x i e) in absurd (cc)
@@ -64,12 +64,12 @@ lefts_all : (n : ℕ) → lefts (replicate n true) ≡ n
 lefts_all zero = refl
 lefts_all (suc n) = ap suc (lefts_all n)
 
-all_within : (n i : ℕ) → i < n → is_left (replicate n true) i ≡ true
+pub all_within : (n i : ℕ) → i < n → is_left (replicate n true) i ≡ true
 all_within zero i h = absurd (omega arith)
 all_within (suc n) zero h = refl
 all_within (suc n) (suc i) h = all_within n i (omega arith)
 
-none_beyond : (n i : ℕ) → is_left (replicate n true) i ≡ true → i < n
+pub none_beyond : (n i : ℕ) → is_left (replicate n true) i ≡ true → i < n
 none_beyond zero i h = absurd (cc)
 none_beyond (suc n) zero h = omega arith
 none_beyond (suc n) (suc i) h = let less = none_beyond n i h in omega arith
@@ -96,7 +96,7 @@ none_left (false ∷ left) h zero = refl
 none_left (false ∷ left) h (suc i) = none_left left h i
 
 -- positions
-position_less : (taken : List ℕ) (i : ℕ) → Contains taken i → position_in taken i < length taken
+pub position_less : (taken : List ℕ) (i : ℕ) → Contains taken i → position_in taken i < length taken
 position_less [] i h = absurd (contains_none i h)
 position_less (x ∷ taken) i h =
     (elim (x == i) as (λ t. (x == i) ≡ t → cond t (length taken) (position_in taken i) < suc (length taken)) [
@@ -107,10 +107,10 @@ position_less (x ∷ taken) i h =
       ])
     ]) refl
 
-position_here : (x i : ℕ) (taken : List ℕ) → (x == i) ≡ true → position_in (x ∷ taken) i ≡ length taken
+pub position_here : (x i : ℕ) (taken : List ℕ) → (x == i) ≡ true → position_in (x ∷ taken) i ≡ length taken
 position_here x i taken e = ap (λ t. cond t (length taken) (position_in taken i)) e
 
-position_later : (x i : ℕ) (taken : List ℕ) → (x == i) ≡ false → position_in (x ∷ taken) i ≡ position_in taken i
+pub position_later : (x i : ℕ) (taken : List ℕ) → (x == i) ≡ false → position_in (x ∷ taken) i ≡ position_in taken i
 position_later x i taken e = ap (λ t. cond t (length taken) (position_in taken i)) e
 
 is_later : (x y : ℕ) (taken : List ℕ) → Contains (x ∷ taken) y → (x == y) ≡ false → Contains taken y
@@ -120,7 +120,7 @@ is_later x y taken h no_x =
       | inr later ↦ later
     ]
 
-apart : (taken : List ℕ) (i j : ℕ) → Contains taken i → Contains taken j → position_in taken i ≡ position_in taken j → i ≡ j
+pub apart : (taken : List ℕ) (i j : ℕ) → Contains taken i → Contains taken j → position_in taken i ≡ position_in taken j → i ≡ j
 apart [] i j i_in j_in e = absurd (contains_none i i_in)
 apart (x ∷ taken) i j i_in j_in e =
     (elim (x == i) as (λ t. (x == i) ≡ t → i ≡ j) [
@@ -134,7 +134,7 @@ apart (x ∷ taken) i j i_in j_in e =
       ]) refl
     ]) refl
 
-is_le : (a b : ℕ) → not (nat_lt b a) ≡ true → a ≤ b
+pub is_le : (a b : ℕ) → not (nat_lt b a) ≡ true → a ≤ b
 is_le a b h = grind arith
 
 module _ (cells : Cells) (tables : HeldPlan) (preferred : List ℕ) where
@@ -152,7 +152,7 @@ module _ (cells : Cells) (tables : HeldPlan) (preferred : List ℕ) where
       omega (arith, rest, own)
 
   -- where none is left at the end, those that are taken are those that were left
-  taken_each : (left : List Bool) (taken : List ℕ) (end : List Bool) → AreTaken cells tables preferred left taken end → ((i : ℕ) → is_left end i ≡ false)
+  pub taken_each : (left : List Bool) (taken : List ℕ) (end : List Bool) → AreTaken cells tables preferred left taken end → ((i : ℕ) → is_left end i ≡ false)
       → (i : ℕ) → is_left left i ≡ true → Contains taken i
   taken_each left [] end are none i h = let no = none i in let at = ap (λ (l : List Bool). is_left l i) are in absurd (cc)
   taken_each left (x ∷ taken) end are none i h =
@@ -215,7 +215,7 @@ told_orders_are_right cells tables preferred taken told =
     )
 
 -- of those that are left the last by an order
-last_by : (left : List Bool) (q : ℕ → ℕ) (n : ℕ) → ((i : ℕ) → i < n → is_left left i ≡ false)
+pub last_by : (left : List Bool) (q : ℕ → ℕ) (n : ℕ) → ((i : ℕ) → i < n → is_left left i ≡ false)
     ⊎ ((j : ℕ) × (j < n) × (is_left left j ≡ true) × ((i : ℕ) → i < n → is_left left i ≡ true → q i ≤ q j))
 last_by left q zero = inl (λ i less. absurd (omega arith))
 last_by left q (suc n) =
@@ -269,19 +269,19 @@ last_by left q (suc n) =
       ])
     ]) refl
 
-bad_is : (a b c : ℕ) → a ≤ b → c ≤ b → (not (nat_lt b a) && not (nat_lt b c)) ≡ true
+pub bad_is : (a b c : ℕ) → a ≤ b → c ≤ b → (not (nat_lt b a) && not (nat_lt b c)) ≡ true
 bad_is a b c h k = grind arith
 
 module _ (cells : Cells) (tables : HeldPlan) (q : ℕ → ℕ) (right : (lid : ℕ) → 1 ≤ lid → AreRight cells q tables lid) where
   -- it may be the last
-  last_may : (left : List Bool) (j : ℕ) → ((i : ℕ) → is_left left i ≡ true → q i ≤ q j) → MayBeLast cells tables left j
+  pub last_may : (left : List Bool) (j : ℕ) → ((i : ℕ) → is_left left i ≡ true → q i ≤ q j) → MayBeLast cells tables left j
   last_may left j last i k i_in k_in turn =
       let well = right turn.lid turn.is_lid i j k turn.comes turn.leaves in
       let bad = bad_is (q i) (q j) (q k) (last i i_in) (last k k_in) in
       absurd (cc)
 
 -- an element stands at an index
-index_in_list : (xs : List ℕ) (x : ℕ) → Contains xs x → (k : ℕ) × (slice_get xs k ≡ Some x)
+pub index_in_list : (xs : List ℕ) (x : ℕ) → Contains xs x → (k : ℕ) × (slice_get xs k ≡ Some x)
 index_in_list [] x h = absurd (contains_none x h)
 index_in_list (y ∷ xs) x h =
     elim (contains_cases y x xs h) [

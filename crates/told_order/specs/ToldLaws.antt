@@ -1,8 +1,10 @@
 -- The laws of the order that tables tell.
-use Rattle.std.specs.Prelude.{◌≤◌, ◌<◌, ℕ, List, Contains, None, Some, length}
+use Rattle.std.specs.Prelude.{◌≡◌, ◌≤◌, ◌<◌, ℕ, List, Contains, None, Some, length}
 use Rattle.subnet_view.specs.Reading.{Cells, switches}
 use Rattle.plan_file.specs.Held.{HeldPlan}
 use Rattle.next_tables.specs.ByOrder.{AreApart, AreRight, IsOrder}
+use Rattle.spread_labels.specs.Orders.{position_of}
+use Rattle.two_orders.specs.Agreement.{AgreesUpTo, AreVertices}
 use Rattle.told_order.specs.ToldOrder.{IsTold, position_in}
 
 -- tables are right for every LID by the positions of switches in the order that they tell
@@ -18,3 +20,19 @@ SomeOrderIsTold =
     (cells : Cells) (tables : HeldPlan) (preferred : List ℕ) (q : ℕ → ℕ)
     → ((i : ℕ) → i < length (switches cells) → Contains preferred i)
     → ((lid : ℕ) → 1 ≤ lid → AreRight cells q tables lid) → IsTold cells tables preferred None → ⊥
+
+-- as far as some order by which tables are right agrees with the preferences, the order that they tell does
+abbrev pub ToldOrdersAgree : Type 0
+ToldOrdersAgree =
+    (cells : Cells) (tables : HeldPlan) (preferred taken : List ℕ) (q : ℕ → ℕ) (k : ℕ)
+    → AreVertices (length (switches cells)) preferred → IsTold cells tables preferred (Some taken)
+    → ((lid : ℕ) → 1 ≤ lid → AreRight cells q tables lid) → AgreesUpTo preferred q k
+    → AgreesUpTo preferred (position_in taken) k
+
+-- tables that are right by the order of the preferences tell that order
+abbrev pub ToldOrdersAreStable : Type 0
+ToldOrdersAreStable =
+    (cells : Cells) (tables : HeldPlan) (preferred taken : List ℕ)
+    → AreVertices (length (switches cells)) preferred → IsTold cells tables preferred (Some taken)
+    → ((lid : ℕ) → 1 ≤ lid → AreRight cells (position_of preferred) tables lid)
+    → (s : ℕ) → s < length (switches cells) → position_in taken s ≡ position_of preferred s

@@ -1,3 +1,5 @@
+pub mod Agreement
+pub mod GrownOrders
 pub mod LabelLaws
 pub mod Reached
 pub mod Rounds

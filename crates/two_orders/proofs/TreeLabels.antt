@@ -33,7 +33,7 @@ use Rattle.two_orders.proofs.Rounds.{Turn, first_round, label_of, last_round, se
 use Rattle.two_orders.proofs.TreeEdges.{row, there, tree_is, tree_leads, tree_long, tree_symmetric}
 
 -- the earliest is no later than each
-earliest_low : (positions : List ℕ) (x : ℕ) (ys : List ℕ) (y : ℕ) → Contains (x ∷ ys) y
+pub earliest_low : (positions : List ℕ) (x : ℕ) (ys : List ℕ) (y : ℕ) → Contains (x ∷ ys) y
     → number_at positions (earliest (is_earlier positions) x ys) ≤ number_at positions y
 earliest_low positions x [] y h =
     elim (contains_cases x y [] h) [ inl same ↦ omega (arith, ap (number_at positions) same) | inr none ↦ absurd (contains_none y none) ]

@@ -1,3 +1,4 @@
+pub mod Agreement
 pub mod Growth
 pub mod LabelLaws
 pub mod Labels

@@ -1,4 +1,10 @@
-//! The laws of labels by two orders.
+//! The laws of labels by two orders, and of the orders themselves.
+ghost use Rattle.two_orders.specs.Agreement.{
+  AgreementGrows,
+  AgreementStays,
+  GrownOrdersStay,
+  GrowsAgain,
+};
 ghost use Rattle.two_orders.specs.LabelLaws.{AllGetLabels, LabelledGoOn, LabelsTurnWell};
 
 /// A walk that goes on by labels, whatever they are, goes down and then up by neither order.
@@ -15,4 +21,27 @@ pub fn labelled_go_on()
 /// second by others over the tree of the first.
 pub fn all_get_labels()
     ensures law { AllGetLabels }
+{}
+
+/// If positions agree with the order that grows by a plan on its first vertices, then the order that grows by these
+/// positions does so too.
+pub fn agreement_stays()
+    ensures law { AgreementStays }
+{}
+
+/// If positions agree with the order that grows by a plan on its first vertices, then the order that grows by that plan
+/// over the tree of these positions agrees with it on one vertex more.
+pub fn agreement_grows()
+    ensures law { AgreementGrows }
+{}
+
+/// The order that grows by the positions in an order that grew is that order.
+pub fn grows_again()
+    ensures law { GrowsAgain }
+{}
+
+/// If each vertex but the first of its component is beside an earlier one, then the order that grows by these positions
+/// has the vertices of each component in the same order.
+pub fn grown_orders_stay()
+    ensures law { GrownOrdersStay }
 {}

@@ -1,0 +1,301 @@
+-- Steps towards the goal between an order that grows and one that grows over its tree end in it.
+use Rattle.std.proofs.Common.{◌≡◌, ◌∙◌, ◌<◌, ◌≤◌, ◌⊎◌, ◌*◌, ◌==◌, ℕ, zero, suc, true, false, cond, List, length, Option, None, Some, refl, sym, ap, subst, arith}
+use Rattle.std.specs.Prelude.{Contains, nat_lt, slice_get}
+use Rattle.std.proofs.lemmas.Bool.{and_parts, le-ltb}
+use Rattle.fact_store.specs.View.{AreInRange, Facts, cells_of}
+use Rattle.port_graph.specs.declared.edge.Edge.{Edge}
+use Rattle.port_graph.specs.Heads.{edges_at, heads}
+use Rattle.port_graph.specs.Walks.{Walk}
+use Rattle.port_graph.proofs.Lists.{contains_mapped}
+use Rattle.subnet_view.specs.Reading.{Cells, is_switch_node, switches}
+use Rattle.subnet_view.specs.Graph.{graph_of, guids_of}
+use Rattle.subnet_view.specs.GraphLaws.{IsGraph, IsSwitch}
+use Rattle.subnet_view.proofs.Graphs.{graph_law, wire_is_edge}
+use Rattle.subnet_view.proofs.GraphSwitches.{graph_guids, switch_usable}
+use Rattle.spread_labels.specs.Orders.{at_position, position_of, positioned_edge}
+use Rattle.spread_labels.proofs.Growing.{contains_at as vertex_at}
+use Rattle.spread_routes.proofs.Indices.{edge_there, index_of_switch}
+use Rattle.plan_file.specs.declared.held.HeldLid.{HeldLid}
+use Rattle.plan_file.specs.Held.{HeldPlan}
+use Rattle.held_tables.specs.Switches.{row_of}
+use Rattle.held_tables.specs.Tables.{entry_for, owners_of, top_of}
+use Rattle.held_tables.proofs.HeldTables.{within_length}
+use Rattle.audit.specs.declared.end.Cause.{Cause}
+use Rattle.audit.specs.declared.end.Cause.TheVariants.{AboveTop, NoEntry, NoLink, NoPort}
+use Rattle.audit.specs.declared.end.End.TheVariants.{Taken}
+use Rattle.audit.specs.declared.next_hop.NextHop.{NextHop}
+use Rattle.audit.specs.declared.next_hop.NextHop.TheVariants.{To, Ends}
+use Rattle.audit.specs.NextHops.{by_entry, cause_of, next_hops_of}
+use Rattle.audit.specs.WalkEnds.{after}
+use Rattle.audit.proofs.Ended.{after_ended}
+use Rattle.audit.proofs.PlanSteps.{contains_at, leaves}
+use Rattle.subnet_view.specs.Reading.{port_count_of}
+use Rattle.next_tables.specs.ByOrder.{AreRight, IsOrder, Leads, position_at, switch_at}
+use Rattle.next_tables.specs.Next.{step_at}
+use Rattle.next_tables.proofs.Entries.{at_mapped, member}
+use Rattle.next_tables.proofs.Hops.{edge_at, leads_from, leads_within, none_taken, placed, to_within}
+use Rattle.next_tables.proofs.Mixtures.{at}
+use Rattle.next_tables.proofs.Steps.{at_index}
+use Rattle.ordered_steps.specs.StepLaws.{AreStepsByOrder, DeliverFrom, IsLineStep}
+use Rattle.ordered_steps.proofs.EndRight.{end_right_by_any}
+use Rattle.ordered_steps.proofs.Goal.{end_in_twice_as_many}
+use Rattle.ordered_steps.proofs.Lost.{rule_is_tried, tried_is_choice}
+use Rattle.ordered_steps.proofs.Round.{next_deliver_or_drop_by_order}
+use Rattle.ordered_steps.proofs.Turns.{next_are_right}
+use Rattle.two_orders.specs.declared.labels.Sides.{Sides}
+use Rattle.two_orders.specs.LabelLaws.{grown_twice}
+use Rattle.two_orders.specs.Labels.{label_at}
+use Rattle.two_orders.specs.TwoOrders.{TwoOrders}
+use Rattle.between_orders.specs.BetweenLaws.{AreGoalSteps, GoalEndsRight, GoalIsReached, IsGoalLine, labels_of_line}
+use Rattle.between_orders.specs.Goal.{arrives, entry_with, tables_between}
+use Rattle.between_orders.specs.Orders.{edges_in}
+use Rattle.between_orders.proofs.Agreement.{p_same}
+use Rattle.between_orders.proofs.GoalDelivers.{arrives_is, entry_is, goes_on_to}
+use Rattle.between_orders.proofs.GoalEntries.{pair, top_is}
+use Rattle.between_orders.proofs.GoalReaches.{goal_reaches_all}
+use Rattle.between_orders.proofs.GoalTurns.{columns, goal, goal_is, goal_turns_well}
+use Rattle.between_orders.proofs.Safe.{grown_is_order, owners_by_lids}
+use Rattle.between_orders.proofs.SameGoal.{same_next, same_step}
+use Rattle.between_orders.proofs.StandStill.{goal_stands_still}
+
+-- what forwards packets has a wire
+module _ (facts : Facts) (tables : HeldPlan) (lid i j : ℕ) (l : Leads (cells_of facts) tables lid i j) where
+  pub wired_head : Contains (heads (edges_in (cells_of facts)) i) j
+  wired_head =
+      let cells = cells_of facts in
+      let gs = switches cells in
+      let graph = graph_of cells in
+      let good : IsGraph graph = graph_law facts in
+      let guids = guids_of graph in
+      let same : guids ≡ gs = graph_guids cells in
+      let as_many = ap (λ (xs : List ℕ). length xs) same in
+      let g = switch_at cells i in
+      let i_in = leads_within cells tables lid i j l in
+      let entry = entry_for tables lid g in
+      let out = leaves cells g entry (record { port = entry; to = j }) (edge_at cells tables lid i j l) in
+      let h = out.end.0 in
+      let e : Edge = record { port = entry; to = h } in
+      let usable = switch_usable facts h (contains_at gs j h out.index) in
+      let edge = wire_is_edge cells g entry h (member gs i i_in)
+      (record { end_port = out.end.1; wire = out.wire; is_switch = (and_parts (is_switch_node cells h) _ usable).0 }) in
+      let i_below : i < length guids = omega (arith, i_in, as_many) in
+      let j_below : j < length guids = omega (arith, within_length gs j h out.index, as_many) in
+      let from : at_position guids i ≡ g = ap (λ (xs : List ℕ). at_position xs i) same in
+      let to : at_position guids j ≡ h = ap (λ (xs : List ℕ). at_position xs j) same ∙ at_index gs j h 0 out.index in
+      let is_g : IsSwitch graph g = subst (λ (x : ℕ). IsSwitch graph x) from (vertex_at guids i i_below) in
+      let index_g : position_of guids g ≡ i = ap (position_of guids) (sym from) ∙ index_of_switch graph good i i_below in
+      let index_h : position_of guids h ≡ j = ap (position_of guids) (sym to) ∙ index_of_switch graph good j j_below in
+      let there = contains_mapped (λ (y : Edge). y.to) (edges_at (edges_in cells) (position_of guids g)) (positioned_edge guids e)
+      (edge_there graph good g e is_g edge) in
+      subst (λ (x : ℕ × ℕ). Contains (heads (edges_in cells) x.0) x.1) (λ k. (index_g k, index_h k)) there
+
+-- where the goal delivers, a walk leads to a switch from which the plan leads to the end port
+module _ (facts : Facts) (range : AreInRange facts) (told by : List ℕ) (held plan : HeldPlan) (line : HeldLid) (is : IsGoalLine (cells_of facts) plan line) where
+  abbrev cells : Cells
+  cells = cells_of facts
+
+  abbrev edges : List (List Edge)
+  edges = edges_in (cells_of facts)
+
+  abbrev n : ℕ
+  n = length (switches (cells_of facts))
+
+  abbrev lid : ℕ
+  lid = line.lid
+
+  abbrev orders : TwoOrders
+  orders = grown_twice (edges_in (cells_of facts)) told by
+
+  order : IsOrder cells (position_at orders.first)
+  order = grown_is_order facts told
+
+  abbrev G : HeldPlan
+  G = goal facts (grown_twice (edges_in (cells_of facts)) told by) held plan line.lid
+
+  abbrev labels : List (Option Sides)
+  labels = labels_of_line (cells_of facts) (grown_twice (edges_in (cells_of facts)) told by) plan line
+
+  ends_by_plan : (i : ℕ) → i < n → step_at cells G lid (switch_at cells i) ≡ Ends (Taken line.port)
+      → step_at cells plan lid (switch_at cells i) ≡ Ends (Taken line.port)
+  ends_by_plan i less h =
+      let g = switch_at cells i in
+      let hop = step_at cells plan lid g in
+      elim (arrives line.port hop) as (λ t. arrives line.port hop ≡ t → hop ≡ Ends (Taken line.port)) [
+        | true ↦ λ e. arrives_is line.port hop e
+        | false ↦ λ e. absurd (never e (label_at labels i) refl)
+      ] refl
+    where
+      never : arrives line.port (step_at cells plan lid (switch_at cells i)) ≡ false → (o : Option Sides) → label_at labels i ≡ o → ⊥
+      never e None none =
+          none_taken cells G lid (switch_at cells i) line.port
+          (entry_is facts range orders order held plan line is i less
+          ∙ ap (λ t. cond t (entry_for plan lid (switch_at cells i)) (entry_with edges orders labels (label_at labels i) i (pair cells held plan lid i))) e
+          ∙ ap (λ o. entry_with edges orders labels o i (pair cells held plan lid i)) none) h
+      never e (Some s) has =
+          let on = goes_on_to facts range orders order held plan line is i s has e in
+          let clash : To on.0 ≡ Ends (Taken line.port) = sym on.1 ∙ h in
+          absurd (cc)
+
+  record Reached (i : ℕ) : Type 0 where
+    target : ℕ
+    within : target < n
+    long : ℕ
+    walk : Walk (heads edges) i target long
+    ends : step_at cells plan lid (switch_at cells target) ≡ Ends (Taken line.port)
+
+  reached : (k i : ℕ) → i < n → after k (next_hops_of cells G lid) (To i) ≡ Ends (Taken line.port) → Reached i
+  reached zero i less h = absurd (cc)
+  reached (suc k) i less h =
+      let hop = step_at cells G lid (switch_at cells i) in
+      let here : at (next_hops_of cells G lid) i ≡ hop = at_mapped (step_at cells G lid) (switches cells) i (To i) less in
+      on (reached k) hop refl (sym (ap (after k (next_hops_of cells G lid)) here) ∙ h)
+    where
+      on : ((j : ℕ) → j < n → after k (next_hops_of cells G lid) (To j) ≡ Ends (Taken line.port) → Reached j) → (s : NextHop)
+          → step_at cells G lid (switch_at cells i) ≡ s → after k (next_hops_of cells G lid) s ≡ Ends (Taken line.port) → Reached i
+      on later (Ends e) is_s h =
+          record {
+            target = i;
+            within = less;
+            long = 0;
+            walk = refl;
+            ends = ends_by_plan i less (is_s ∙ sym (after_ended k (next_hops_of cells G lid) e) ∙ h);
+          }
+      on later (To j) is_s h =
+          let rest = later j (to_within cells G lid (switch_at cells i) j is_s) h in
+          record {
+            target = rest.target;
+            within = rest.within;
+            long = suc rest.long;
+            walk = (j, wired_head facts G lid i j (leads_from cells G lid i j less is_s), rest.walk);
+            ends = rest.ends;
+          }
+
+  abbrev between : HeldPlan
+  between = tables_between (cells_of facts) (edges_in (cells_of facts)) (grown_twice (edges_in (cells_of facts)) told by) held plan
+
+  pub goal_covers : (tables : HeldPlan) (i j : ℕ) → Leads cells tables lid i j → DeliverFrom cells between line j → DeliverFrom cells between line i
+  goal_covers tables i j l delivers =
+      let d = subst (λ (t : HeldPlan). DeliverFrom cells t line j) (goal_is facts orders held plan lid) delivers in
+      let j_in = to_within cells tables lid l.switch j l.goes in
+      let x = reached d.0 j j_in d.1 in
+      goal_reaches_all facts range told by held plan line is i x.target (suc x.long) x.within (j, wired_head facts tables lid i j l, x.walk) x.ends
+
+-- steps
+module _ (facts : Facts) (range : AreInRange facts) (told by : List ℕ) (plan : HeldPlan) (line : HeldLid) (tables : ℕ → HeldPlan)
+    (are : AreGoalSteps facts told by plan line tables) where
+  abbrev its_cells : Cells
+  its_cells = cells_of facts
+
+  abbrev its_orders : TwoOrders
+  its_orders = grown_twice (edges_in (cells_of facts)) told by
+
+  abbrev q : ℕ → ℕ
+  q = position_at (grown_twice (edges_in (cells_of facts)) told by).first
+
+  abbrev goal_at : ℕ → HeldPlan
+  goal_at k = tables_between (cells_of facts) (edges_in (cells_of facts)) (grown_twice (edges_in (cells_of facts)) told by) (tables k) plan
+
+  goal_owners : (k : ℕ) → owners_of (goal_at k) line.lid ≡ owners_of plan line.lid
+  goal_owners k =
+      ap (λ (t : HeldPlan). owners_of t line.lid) (goal_is facts its_orders (tables k) plan line.lid)
+      ∙ owners_by_lids (goal facts its_orders (tables k) plan line.lid) plan refl line.lid
+
+  goal_right : (k : ℕ) → AreRight its_cells q (goal_at k) line.lid
+  goal_right k = (goal_turns_well facts its_orders (tables k) plan line.lid).0
+
+  -- what holds of the tables of each step
+  record Holds (k : ℕ) : Type 0 where
+    owners : owners_of plan line.lid ≡ owners_of (tables k) line.lid
+    right : AreRight its_cells q (tables k) line.lid
+    delivering : (i g : ℕ) → slice_get (switches its_cells) i ≡ Some g → (entry_for (tables k) line.lid g ≡ 255) ⊎ DeliverFrom its_cells (tables k) line i
+
+  holds : (k : ℕ) → Holds k
+  holds zero = record { owners = are.owners; right = are.right; delivering = are.delivering }
+  holds (suc k) =
+      let now = holds k in
+      let step = are.steps k in
+      let tried = rule_is_tried its_cells q (tables k) (goal_at k) (tables (suc k)) line step in
+      record {
+        owners = now.owners ∙ sym step.owners;
+        right = next_are_right its_cells q (tables k) (goal_at k) (tables (suc k)) line.lid now.right (goal_right k)
+            (tried_is_choice its_cells q (tables k) (goal_at k) (tables (suc k)) line tried);
+        delivering = next_deliver_or_drop_by_order its_cells q (tables k) (goal_at k) (tables (suc k)) line (goal_owners k ∙ now.owners) step;
+      }
+
+  line_step : (k : ℕ) → IsLineStep its_cells q (tables k) (goal_at k) line (tables (suc k))
+  line_step k =
+      let now = holds k in
+      record {
+        order = grown_is_order facts told;
+        owners = goal_owners k ∙ now.owners;
+        held_right = now.right;
+        goal_right = goal_right k;
+        is_next = rule_is_tried its_cells q (tables k) (goal_at k) (tables (suc k)) line (are.steps k);
+      }
+
+  -- the goals are the same
+  same_entries : (k i g : ℕ) → slice_get (switches its_cells) i ≡ Some g → entry_for (goal_at k) line.lid g ≡ entry_for (goal_at 0) line.lid g
+  same_entries zero i g there = refl
+  same_entries (suc k) i g there =
+      let now = holds k in
+      goal_stands_still facts range its_orders (tables k) plan (tables (suc k)) line are.is_line (line_step k) now.delivering i g there
+      ∙ same_entries k i g there
+
+  within_top : (k i g : ℕ) → slice_get (switches its_cells) i ≡ Some g → line.lid ≤ top_of (goal_at k) g
+  within_top k i g there =
+      let top = ap (λ (t : HeldPlan). top_of t g) (goal_is facts its_orders (tables k) plan line.lid)
+      ∙ top_is facts (tables k) plan (columns facts its_orders (tables k) plan line.lid) i g there in
+      let low = are.is_line.within g (contains_at (switches its_cells) i g there) in
+      omega (arith, top, low)
+
+  abbrev below_top : ℕ → ℕ → Cause
+  below_top g entry = cond (entry == 255) NoEntry (cond (nat_lt (port_count_of (cells_of facts) g) entry) NoPort NoLink)
+
+  cause_is : (k i g : ℕ) → slice_get (switches its_cells) i ≡ Some g
+      → cause_of its_cells (goal_at k) line.lid g ≡ below_top g (entry_for (goal_at k) line.lid g)
+  cause_is k i g there =
+      ap (λ t. cond t AboveTop (below_top g (entry_for (goal_at k) line.lid g))) (le-ltb (top_of (goal_at k) g) line.lid (within_top k i g there))
+
+  same_hops : (k i g : ℕ) → slice_get (switches its_cells) i ≡ Some g → step_at its_cells (goal_at k) line.lid g ≡ step_at its_cells (goal_at 0) line.lid g
+  same_hops k i g there =
+      let owners = goal_owners k ∙ sym (goal_owners 0) in
+      let entry = same_entries k i g there in
+      let cause = cause_is k i g there ∙ ap (below_top g) entry ∙ sym (cause_is 0 i g there) in
+      (λ t. by_entry (owners t) g (cause t) (row_of its_cells g) (entry t))
+
+  steps_to_first : AreStepsByOrder its_cells q (goal_at 0) line tables
+  steps_to_first = record {
+    order = grown_is_order facts told;
+    apart = λ i j i_in j_in wired e. p_same facts told i j i_in j_in e;
+    owners = goal_owners 0 ∙ are.owners;
+    held_right = are.right;
+    goal_right = goal_right 0;
+    covers = λ i j l d. goal_covers facts range told by (tables 0) plan line are.is_line (tables 0) i j l d;
+    steps = λ k.
+        same_step its_cells q (tables k) (goal_at k) (goal_at 0) line
+        (λ x less. same_entries k x (switch_at its_cells x) (placed (switches its_cells) x less))
+        (λ x less. same_hops k x (switch_at its_cells x) (placed (switches its_cells) x less)) (tables (suc k))
+        (rule_is_tried its_cells q (tables k) (goal_at k) (tables (suc k)) line (are.steps k));
+  }
+
+  -- and the tables are right by the second order in the end
+  module _ (taken : (i : ℕ) → i < length (switches its_cells) → step_at its_cells (tables 0) line.lid (switch_at its_cells i) ≡ Ends (Taken line.port)
+      → DeliverFrom its_cells (goal_at 0) line i) where
+    ends_right : (m : ℕ) → 1 ≤ m → 2 * length (switches its_cells) ≤ m
+        → AreRight its_cells (position_at (grown_twice (edges_in (cells_of facts)) told by).second) (tables m) line.lid
+    ends_right m one many =
+        end_right_by_any its_cells q (goal_at 0) line tables steps_to_first
+        (λ k.
+        same_next its_cells q (tables k) (goal_at k) (goal_at 0) line
+        (λ x less. same_entries k x (switch_at its_cells x) (placed (switches its_cells) x less))
+        (λ x less. same_hops k x (switch_at its_cells x) (placed (switches its_cells) x less)) (tables (suc k)) (are.steps k)) taken
+        (position_at (grown_twice (edges_in (cells_of facts)) told by).second) (goal_turns_well facts its_orders (tables 0) plan line.lid).1 m one many
+
+pub goal_is_reached : GoalIsReached
+goal_is_reached facts range told by plan line tables are i g m there d many =
+    end_in_twice_as_many (cells_of facts) (position_at (grown_twice (edges_in (cells_of facts)) told by).first)
+    (tables_between (cells_of facts) (edges_in (cells_of facts)) (grown_twice (edges_in (cells_of facts)) told by) (tables 0) plan) line tables
+    (steps_to_first facts range told by plan line tables are) i g m there d many
+
+pub goal_ends_right : GoalEndsRight
+goal_ends_right facts range told by plan line tables are taken m one many = ends_right facts range told by plan line tables are taken m one many

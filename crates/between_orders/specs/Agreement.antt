@@ -1,0 +1,115 @@
+-- How far the order that tables tell agrees with the plan's, from step to step and from goal to goal.
+use Rattle.std.specs.Prelude.{◌≡◌, ◌≤◌, ◌<◌, ℕ, zero, suc, true, List, None, Some, length}
+use Rattle.fact_store.specs.View.{Facts, cells_of}
+use Rattle.port_graph.specs.Heads.{heads}
+use Rattle.port_graph.specs.Walks.{Walk}
+use Rattle.subnet_view.specs.Reading.{Cells, switches}
+use Rattle.plan_file.specs.Held.{HeldPlan}
+use Rattle.next_tables.specs.ByOrder.{AreRight, Leads, position_at}
+use Rattle.ordered_steps.specs.Rightness.{are_right}
+use Rattle.told_order.specs.ToldOrder.{IsTold, position_in}
+use Rattle.two_orders.specs.Agreement.{AgreesUpTo}
+use Rattle.two_orders.specs.Growth.{grown_by, positions_in}
+use Rattle.two_orders.specs.LabelLaws.{grown_twice}
+use Rattle.between_orders.specs.Between.{Goal, IsGoal}
+use Rattle.between_orders.specs.BetweenLaws.{next_towards}
+use Rattle.between_orders.specs.Orders.{edges_in, orders_from, told_positions}
+
+-- the plan's order, as it grows by the plan's positions
+abbrev pub order_of_plan : Cells → List ℕ → List ℕ
+order_of_plan cells by = grown_by (edges_in cells) by
+
+-- tables tell an order, and it agrees with the plan's on the first k switches
+pub record AgreeTo (cells : Cells) (tables : HeldPlan) (by : List ℕ) (k : ℕ) : Type 0 where
+  pub some : IsTold cells tables (order_of_plan cells by) None → ⊥
+  pub agrees : (taken : List ℕ) → IsTold cells tables (order_of_plan cells by) (Some taken)
+      → AgreesUpTo (order_of_plan cells by) (position_in taken) k
+
+-- tables are right for every LID by these positions
+abbrev pub AreRightBy : Cells → List ℕ → HeldPlan → Type 0
+AreRightBy cells positions tables = (lid : ℕ) → 1 ≤ lid → AreRight cells (position_at positions) tables lid
+
+-- tables that tell an order are right by the one that grows by its positions
+abbrev pub IsRightByGrown : Cells → HeldPlan → List ℕ → Type 0
+IsRightByGrown cells tables told =
+    are_right cells (position_at (positions_in (grown_by (edges_in cells) told) (length (edges_in cells)))) tables ≡ true
+
+-- the positions that tables tell
+pub record TellsPositions (cells : Cells) (tables : HeldPlan) (by : List ℕ) : Type 0 where
+  pub taken : List ℕ
+  pub is_told : IsTold cells tables (order_of_plan cells by) (Some taken)
+  pub positions : List ℕ
+  pub are : positions ≡ told_positions taken (length (edges_in cells))
+
+-- a step towards the goal between two orders leaves tables whose order agrees with the plan's at least as far
+abbrev pub StepsKeepAgreement : Type 0
+StepsKeepAgreement =
+    (facts : Facts) (held plan : HeldPlan) (by : List ℕ) (goal : Goal) (k : ℕ)
+    → IsGoal (cells_of facts) held plan by (Some goal) → AgreeTo (cells_of facts) held by k
+    → AgreeTo (cells_of facts) (next_towards facts held goal) by k
+
+-- from `held`, tables are right by the first order of a step, or by the second, as the goal is; and if the second one
+-- grows by the plan's positions, the goal counts
+pub data IsOnward (cells : Cells) (held next : HeldPlan) (by : List ℕ) (count later : ℕ) : Type 0 where
+  first : (told : TellsPositions cells held by)
+      → AreRightBy cells (orders_from cells held (edges_in cells) by told.positions).first next → later ≡ count
+      → IsOnward cells held next by count later
+  second : (told : TellsPositions cells held by)
+      → AreRightBy cells (orders_from cells held (edges_in cells) by told.positions).second next → later ≡ count
+      → IsOnward cells held next by count later
+  goal : (told : TellsPositions cells held by) → IsRightByGrown cells held told.positions
+      → AreRightBy cells (orders_from cells held (edges_in cells) by told.positions).second next → later ≡ suc count
+      → IsOnward cells held next by count later
+
+-- each goal that is reached from tables that are right by the order that grows by the told one takes the agreement one
+-- switch further, and no other tables on the way take it back
+abbrev pub GoalsGoFurther : Type 0
+GoalsGoFurther =
+    (facts : Facts) (held next : HeldPlan) (by : List ℕ) (count later : ℕ)
+    → IsOnward (cells_of facts) held next by count later → AgreeTo (cells_of facts) held by count
+    → AgreeTo (cells_of facts) next by later
+
+-- tables on the way, from some that tell an order, with how many such goals were reached
+pub record AreOnTheWay (cells : Cells) (by : List ℕ) (tables : ℕ → HeldPlan) (reached : ℕ → ℕ) : Type 0 where
+  pub told : TellsPositions cells (tables 0) by
+  pub none_yet : reached 0 ≡ 0
+  pub each : (m : ℕ) → IsOnward cells (tables m) (tables (suc m)) by (reached m) (reached (suc m))
+
+-- once there were as many such goals as switches but one, tables are right by the plan's order
+abbrev pub GoalsAreFew : Type 0
+GoalsAreFew =
+    (facts : Facts) (by : List ℕ) (tables : ℕ → HeldPlan) (reached : ℕ → ℕ)
+    → AreOnTheWay (cells_of facts) by tables reached
+    → (m : ℕ) → length (switches (cells_of facts)) ≤ suc (reached m)
+    → AreRightBy (cells_of facts)
+    (positions_in (order_of_plan (cells_of facts) by) (length (edges_in (cells_of facts)))) (tables m)
+
+-- if tables are right by an order that grew, and this is the list of preferences, then the orders of the next step are
+-- that one, and the one that grows by the plan's positions over its tree
+abbrev pub OrdersStay : Type 0
+OrdersStay =
+    (facts : Facts) (tables : HeldPlan) (told by taken : List ℕ)
+    → AreRightBy (cells_of facts)
+    (positions_in (grown_by (edges_in (cells_of facts)) told) (length (edges_in (cells_of facts)))) tables
+    → IsTold (cells_of facts) tables (grown_by (edges_in (cells_of facts)) told) (Some taken)
+    → orders_from (cells_of facts) tables (edges_in (cells_of facts)) by
+    (told_positions taken (length (edges_in (cells_of facts))))
+    ≡ grown_twice (edges_in (cells_of facts)) told by
+
+-- packets for `lid` come from switch i to j over so many channels
+abbrev pub ComeTo : Cells → HeldPlan → ℕ → ℕ → ℕ → ℕ → Type 0
+ComeTo cells tables lid zero i j = i ≡ j
+ComeTo cells tables lid (suc n) i j = (x : ℕ) × Leads cells tables lid i x × ComeTo cells tables lid n x j
+
+-- from each switch packets for some LID come to each to which wires lead
+abbrev pub ComeEverywhere : Cells → HeldPlan → Type 0
+ComeEverywhere cells tables =
+    (i j k : ℕ) → i < length (switches cells) → j < length (switches cells) → Walk (heads (edges_in cells)) i j k
+    → (lid n : ℕ) × (1 ≤ lid) × ComeTo cells tables lid n i j
+
+-- if packets come everywhere, tables are right by the order that grows by the one that they tell
+abbrev pub WholeTablesGrow : Type 0
+WholeTablesGrow =
+    (facts : Facts) (tables : HeldPlan) (preferred taken : List ℕ) → ComeEverywhere (cells_of facts) tables
+    → IsTold (cells_of facts) tables preferred (Some taken)
+    → IsRightByGrown (cells_of facts) tables (told_positions taken (length (edges_in (cells_of facts))))

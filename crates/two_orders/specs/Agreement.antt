@@ -1,0 +1,58 @@
+-- How far an order agrees with the one that grows by a plan, and the orders that grow from it.
+use Rattle.std.specs.Prelude.{◌<◌, ℕ, suc, List, Contains, length}
+use Rattle.std.specs.Prelude.{◌≡◌}
+use Rattle.port_graph.specs.declared.edge.Edge.{Edge}
+use Rattle.port_graph.specs.Heads.{LeadToVertices, edges_at, heads}
+use Rattle.port_graph.specs.Walks.{Walk}
+use Rattle.spread_labels.specs.LabelLaws.{IsSymmetric}
+use Rattle.two_orders.specs.Growth.{grown_by, number_at, positions_in}
+use Rattle.two_orders.specs.Trees.{tree}
+
+-- each of n vertices is in the list, once, and nothing else is
+pub record AreVertices (n : ℕ) (vertices : List ℕ) : Type 0 where
+  pub all : (s : ℕ) → s < n → Contains vertices s
+  pub vertex : (i : ℕ) → i < length vertices → number_at vertices i < n
+  pub once : (i j : ℕ) → i < length vertices → j < i → number_at vertices j ≡ number_at vertices i → ⊥
+
+-- by these positions the first k vertices of a list come one after the other as in the list, before all others of it
+abbrev pub AgreesUpTo : List ℕ → (ℕ → ℕ) → ℕ → Type 0
+AgreesUpTo vertices position k =
+    (i j : ℕ) → i < k → i < j → j < length vertices
+    → position (number_at vertices i) < position (number_at vertices j)
+
+-- as far as positions agree with an order that grows, the order that grows by them does
+abbrev pub AgreementStays : Type 0
+AgreementStays =
+    (edges : List (List Edge)) → LeadToVertices edges → (plan told : List ℕ) (k : ℕ)
+    → AgreesUpTo (grown_by edges plan) (number_at told) k
+    → AgreesUpTo (grown_by edges plan) (number_at (positions_in (grown_by edges told) (length edges))) k
+
+-- the order that grows by the same plan over the tree of these positions agrees on one vertex more
+abbrev pub AgreementGrows : Type 0
+AgreementGrows =
+    (edges : List (List Edge)) → LeadToVertices edges → (plan told : List ℕ) (k : ℕ)
+    → AgreesUpTo (grown_by edges plan) (number_at told) k
+    → AgreesUpTo (grown_by edges plan) (number_at (positions_in (grown_by (tree edges told) plan) (length edges))) (suc k)
+
+-- the order that grows by the positions in an order that grew is that order
+abbrev pub GrowsAgain : Type 0
+GrowsAgain =
+    (edges : List (List Edge)) → LeadToVertices edges → (positions : List ℕ)
+    → grown_by edges (positions_in (grown_by edges positions) (length edges)) ≡ grown_by edges positions
+
+-- different vertices have different positions, and from each one with a walk to an earlier one an edge leads to an
+-- earlier one: so each vertex but the first of its component is beside an earlier one
+pub record CouldGrow (edges : List (List Edge)) (position : ℕ → ℕ) : Type 0 where
+  pub apart : (a b : ℕ) → a < length edges → b < length edges → position a ≡ position b → a ≡ b
+  pub earlier : (a b k : ℕ) → a < length edges → b < length edges → Walk (heads edges) a b k → position b < position a
+      → (e : Edge) × Contains (edges_at edges a) e × (position e.to < position a)
+
+-- the order that grows by the positions of such an order has the vertices of each component in the same order
+abbrev pub GrownOrdersStay : Type 0
+GrownOrdersStay =
+    (edges : List (List Edge)) → LeadToVertices edges → IsSymmetric edges → (positions : List ℕ)
+    → CouldGrow edges (number_at positions)
+    → (a b k : ℕ) → a < length edges → b < length edges → Walk (heads edges) a b k
+    → number_at positions a < number_at positions b
+    → number_at (positions_in (grown_by edges positions) (length edges)) a
+    < number_at (positions_in (grown_by edges positions) (length edges)) b
