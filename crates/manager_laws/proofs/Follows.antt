@@ -42,14 +42,14 @@ use Rattle.sm_state.specs.Standing.{after_request_heard, moved_to}
 use Rattle.sm_manager.specs.Writing.{is_done_by, is_spent, noted, after_step, went_on_with}
 use Rattle.manager_laws.specs.Scene.{Handed, Scene}
 use Rattle.manager_laws.specs.Sweeping as sweeping
-use Rattle.manager_laws.specs.Sweeping.{Sweeping, SweepEvent, reports_of, after_sweep_event, after_sweep_events}
+use Rattle.manager_laws.specs.Sweeping.{AlwaysSo, Sweeping, SweepEvent, reports_of, after_sweep_event, after_sweep_events}
 use Rattle.manager_laws.specs.Complete.{facts_of}
 use Rattle.manager_laws.proofs.Sweeps.{told_in, told_more}
 use Rattle.manager_laws.specs.Managing.{Managing, ManagerEvent, Around, Begin, Write, Take, Send, Hear, TimeOut, Raise, Merge, Poll, HandOver, CanBe}
 use Rattle.manager_laws.specs.Managing.{hearing, sending, after_manager_event}
 use Rattle.manager_laws.specs.WritingPings.{BeginsNoSweep}
 use Rattle.manager_laws.proofs.Before.{is_none-none, takes_first}
-use Rattle.manager_laws.proofs.Followed.{SeenBySweeps, HasAskedAll, on_scene, event_seen, asks, asks_can, asks_all}
+use Rattle.manager_laws.proofs.Followed.{SeenBySweeps, HasAskedAll, nothing_seen, event_seen, asks, asks_can, asks_all, asks_stay}
 use Rattle.manager_laws.proofs.Generations.{AreOf, answer_of, cells_above, of_both}
 use Rattle.manager_laws.proofs.Goes.{Goes}
 use Rattle.manager_laws.proofs.WritingSweeps.{Ground}
@@ -133,18 +133,21 @@ pub record Follows (w : Managing) (u : Sweeping) : Type 0 where
 pub holds_all : (w : Managing) (u : Sweeping) → Follows w u → cells_of w.manager.store ≡ cells_of (facts_of u.reports)
 holds_all w u f = ap cells_of f.store ∙ cells_above f.floor (told_in u.reports) f.told
 
-pub record IsFollowed (after : Managing) (u : Sweeping) : Type 0 where
+pub record IsFollowed (is_so : Scene → Type 0) (after : Managing) (u : Sweeping) : Type 0 where
   pub events : List SweepEvent
   pub can_be : All sweeping.CanBe events
   pub follows : Follows after (after_sweep_events events u)
+  pub stays : AlwaysSo is_so events u
 
 -- what is nothing to the manager's sweep
-quiet_followed : (w after : Managing) (u : Sweeping) → SeenBySweeps w.scene after.scene → after.seat ≡ w.seat → KeepsSweep w.manager after.manager → Follows w u
-    → IsFollowed after u
-quiet_followed w after u seen seat keeps f =
+quiet_followed : (is_so : Scene → Type 0) (w after : Managing) (u : Sweeping) → SeenBySweeps is_so w.scene after.scene → after.seat ≡ w.seat
+    → KeepsSweep w.manager after.manager → Follows w u
+    → IsFollowed is_so after u
+quiet_followed is_so w after u seen seat keeps f =
     record {
       events = seen.events;
       can_be = seen.can_be;
+      stays = seen.stays u f.scene;
       follows = subst (Follows after) (sym (seen.is u f.scene))
           (record {
             scene = refl;
@@ -157,9 +160,6 @@ quiet_followed w after u seen seat keeps f =
           });
     }
 
-unseen : (w : Managing) → SeenBySweeps w.scene w.scene
-unseen w = record { events = []; can_be = All-nil sweeping.CanBe; is = λ u e. λ i. on_scene u (e i) }
-
 -- what an answer tells is what its report does
 facts_more : (floor : ℕ) (reports : List Report) (answer : Answer)
     → merge (view_at floor (told_in reports)) (view (sightings_by answer)) ≡ view_at floor (told_in (reports ++ reports_of answer))
@@ -168,15 +168,18 @@ facts_more floor reports answer =
     ∙ at_same_floor (max floor 1) floor (seen (told_in reports ++ sightings_by answer)) (omega arith)
     ∙ ap (view_at floor) (sym (told_more reports answer))
 
-module _ (start : Simulation) (seat : NodePort) (plan : PlanValue) (ground : Ground start seat) where
+module _ (is_so : Scene → Type 0) (start : Simulation) (seat : NodePort) (plan : PlanValue) (ground : Ground start seat) where
   -- a reply that the sweep takes ---------------------------------------------------------------------------------
 
   module _ (w : Managing) (u : Sweeping) (f : Follows w u) (bytes : List ℕ) (answer : Answer) (taken : judged u.sweep bytes ≡ Ok answer) where
     reply_follows : (which : ℕ) (h : Handed) → slice_get w.scene.handed which ≡ Some h → h.packet.bytes ≡ bytes → is_same_port h.at w.seat ≡ true
-        → (after : Manager) → after ≡ (answered_by w.manager u.sweep bytes (Ok answer)).manager → IsFollowed (record w { manager = after }) u
-    reply_follows which h there bytes_are same after after_is =
+        → is_so w.scene
+        → (after : Manager) → after ≡ (answered_by w.manager u.sweep bytes (Ok answer)).manager → IsFollowed is_so (record w { manager = after }) u
+    reply_follows which h there bytes_are same stays after after_is =
         record {
           events = sweeping.Hear which ∷ asks (after_reply u.sweep bytes).queued;
+          stays = subst (λ x. is_so x.scene × AlwaysSo is_so (asks (after_reply u.sweep bytes).queued) x) (sym heard)
+              (subst (is_so) (sym f.scene) stays, asks_stay is_so (after_reply u.sweep bytes).queued hears (subst (is_so) (sym f.scene) stays));
           can_be = All-cons sweeping.CanBe (sweeping.Hear which) (asks (after_reply u.sweep bytes).queued) tt (asks_can (after_reply u.sweep bytes).queued);
           follows = subst (λ x. Follows (record w { manager = after }) (after_sweep_events (asks (after_reply u.sweep bytes).queued) x)) (sym heard)
               (subst (λ x. Follows (record w { manager = x }) (after_sweep_events (asks (after_reply u.sweep bytes).queued) hears)) (sym after_is)
@@ -215,61 +218,62 @@ module _ (start : Simulation) (seat : NodePort) (plan : PlanValue) (ground : Gro
   -- events ---------------------------------------------------------------------------------------------------------
 
   heard_followed : (w : Managing) (which : ℕ) (m : Option Handed) (u : Sweeping) → slice_get w.scene.handed which ≡ m → Goes start seat plan ⊥ w → Follows w u
-      → IsFollowed (hearing w m) u
-  heard_followed w which None u there g f = quiet_followed w w u (unseen w) refl (kept w.manager) f
-  heard_followed w which (Some h) u there g f = by_port (is_same_port h.at w.seat) refl
+      → is_so w.scene → IsFollowed is_so (hearing w m) u
+  heard_followed w which None u there g f now = quiet_followed is_so w w u (nothing_seen is_so w.scene) refl (kept w.manager) f
+  heard_followed w which (Some h) u there g f now = by_port (is_same_port h.at w.seat) refl
     where
-      quiet : (after : Manager) → KeepsSweep w.manager after → IsFollowed (record w { manager = after }) u
-      quiet after keeps = quiet_followed w (record w { manager = after }) u (unseen w) refl keeps f
+      quiet : (after : Manager) → KeepsSweep w.manager after → IsFollowed is_so (record w { manager = after }) u
+      quiet after keeps = quiet_followed is_so w (record w { manager = after }) u (nothing_seen is_so w.scene) refl keeps f
 
       by_answer : is_same_port h.at w.seat ≡ true → (r : Result Answer SweepFault) → judged u.sweep h.packet.bytes ≡ r
-          → IsFollowed (record w { manager = (answered_by w.manager u.sweep h.packet.bytes r).manager }) u
+          → IsFollowed is_so (record w { manager = (answered_by w.manager u.sweep h.packet.bytes r).manager }) u
       by_answer same (Err why) e = quiet w.manager (kept w.manager)
       by_answer same (Ok answer) e =
-          reply_follows w u f h.packet.bytes answer e which h there refl same (answered_by w.manager u.sweep h.packet.bytes (Ok answer)).manager refl
+          reply_follows w u f h.packet.bytes answer e which h there refl same now (answered_by w.manager u.sweep h.packet.bytes (Ok answer)).manager refl
 
       by_pending : (o : Option Pending) → KeepsSweep w.manager (request_answered w.manager h.packet.bytes o).manager
       by_pending None = kept w.manager
       by_pending (Some p) = request_keeps w.manager p (Some (status h.packet.bytes)) p.purpose
 
       by_fault : is_same_port h.at w.seat ≡ true → (why : Option SmpFault)
-          → IsFollowed (record w { manager = (packet_taken w.manager h.packet.bytes (Some h.packet.slid) why).manager }) u
+          → IsFollowed is_so (record w { manager = (packet_taken w.manager h.packet.bytes (Some h.packet.slid) why).manager }) u
       by_fault same (Some why) = quiet w.manager (kept w.manager)
       by_fault same None =
-          cond_both (is_info_request h.packet.bytes) _ _ (λ (x : Called). IsFollowed (record w { manager = x.manager }) u)
+          cond_both (is_info_request h.packet.bytes) _ _ (λ (x : Called). IsFollowed is_so (record w { manager = x.manager }) u)
           (λ _. quiet _ (served_keeps w.manager h.packet.bytes (Some h.packet.slid)))
-          (λ _. cond_both (represses w.manager h.packet.bytes) _ _ (λ (x : Called). IsFollowed (record w { manager = x.manager }) u)
+          (λ _. cond_both (represses w.manager h.packet.bytes) _ _ (λ (x : Called). IsFollowed is_so (record w { manager = x.manager }) u)
           (λ _. quiet (repressing w.manager h.packet.bytes (Some h.packet.slid)) (record { sweep = refl; store = refl }))
-          (λ _. cond_both (is_for_sweep h.packet.bytes) _ _ (λ (x : Called). IsFollowed (record w { manager = x.manager }) u)
-          (λ _. subst (λ o. IsFollowed (record w { manager = (sweep_answered w.manager h.packet.bytes o).manager }) u) (sym f.sweep)
+          (λ _. cond_both (is_for_sweep h.packet.bytes) _ _ (λ (x : Called). IsFollowed is_so (record w { manager = x.manager }) u)
+          (λ _. subst (λ o. IsFollowed is_so (record w { manager = (sweep_answered w.manager h.packet.bytes o).manager }) u) (sym f.sweep)
           (by_answer same (judged u.sweep h.packet.bytes) refl))
           (λ _. quiet _ (by_pending (pending_for w.manager h.packet.bytes)))))
 
-      by_port : (b : Bool) → is_same_port h.at w.seat ≡ b → IsFollowed
+      by_port : (b : Bool) → is_same_port h.at w.seat ≡ b → IsFollowed is_so
           (cond b (record w { manager = (after_packet w.manager h.packet.bytes (Some h.packet.slid)).manager }) w) u
-      by_port false e = quiet_followed w w u (unseen w) refl (kept w.manager) f
+      by_port false e = quiet_followed is_so w w u (nothing_seen is_so w.scene) refl (kept w.manager) f
       by_port true e = by_fault e (fault_of h.packet.bytes)
 
-  timed_followed : (w : Managing) (transaction : ℕ) (u : Sweeping) → Follows w u
-      → IsFollowed (record w { manager = (after_timeout w.manager transaction).manager }) u
-  timed_followed w transaction u f =
-      cond_both (nat_le (2 ^ 32) transaction) _ _ (λ (x : Called). IsFollowed (record w { manager = x.manager }) u)
-      (λ _. subst (λ o. IsFollowed (record w { manager = (sweep_gave_up w.manager transaction o).manager }) u) (sym f.sweep)
+  timed_followed : (w : Managing) (transaction : ℕ) (u : Sweeping) → Follows w u → is_so w.scene
+      → IsFollowed is_so (record w { manager = (after_timeout w.manager transaction).manager }) u
+  timed_followed w transaction u f now =
+      cond_both (nat_le (2 ^ 32) transaction) _ _ (λ (x : Called). IsFollowed is_so (record w { manager = x.manager }) u)
+      (λ _. subst (λ o. IsFollowed is_so (record w { manager = (sweep_gave_up w.manager transaction o).manager }) u) (sym f.sweep)
       (by_fault (timeout_fault u.sweep transaction)))
       (λ _. quiet _ (by_pending (with_number transaction w.manager.pending)))
     where
-      quiet : (after : Manager) → KeepsSweep w.manager after → IsFollowed (record w { manager = after }) u
-      quiet after keeps = quiet_followed w (record w { manager = after }) u (unseen w) refl keeps f
+      quiet : (after : Manager) → KeepsSweep w.manager after → IsFollowed is_so (record w { manager = after }) u
+      quiet after keeps = quiet_followed is_so w (record w { manager = after }) u (nothing_seen is_so w.scene) refl keeps f
 
       by_pending : (o : Option Pending) → KeepsSweep w.manager (request_gave_up w.manager o).manager
       by_pending None = kept w.manager
       by_pending (Some p) = request_keeps w.manager p None p.purpose
 
-      by_fault : (why : Option SweepFault) → IsFollowed (record w { manager = (sweep_timed_out w.manager u.sweep transaction why).manager }) u
+      by_fault : (why : Option SweepFault) → IsFollowed is_so (record w { manager = (sweep_timed_out w.manager u.sweep transaction why).manager }) u
       by_fault (Some why) = quiet w.manager (kept w.manager)
       by_fault None =
           record {
             events = sweeping.TimeOut transaction ∷ [];
+            stays = (subst (is_so) (sym f.scene) now, tt);
             can_be = All-cons sweeping.CanBe (sweeping.TimeOut transaction) [] tt (All-nil sweeping.CanBe);
             follows = record {
               scene = f.scene;
@@ -284,40 +288,45 @@ module _ (start : Simulation) (seat : NodePort) (plan : PlanValue) (ground : Gro
           }
 
   pub event_followed : (w : Managing) (event : ManagerEvent) (u : Sweeping) → Goes start seat plan ⊥ w → BeginsNoSweep w event → CanBe seat event → Follows w u
-      → IsFollowed (after_manager_event w event) u
-  event_followed w (Around event) u g quiet can_be f =
-      quiet_followed w (after_manager_event w (Around event)) u (event_seen start seat plan ⊥ w.manager.counter [] w (Around event) g.fair can_be) refl
+      → is_so w.scene → is_so (after_manager_event w event).scene → IsFollowed is_so (after_manager_event w event) u
+  event_followed w (Around event) u g quiet can_be f now stays =
+      quiet_followed is_so w (after_manager_event w (Around event)) u (event_seen is_so start seat plan ⊥ w.manager.counter [] w (Around event) g.fair can_be stays)
+      refl
       (kept w.manager) f
-  event_followed w Begin u g quiet can_be f =
-      quiet_followed w (after_manager_event w Begin) u (unseen w) refl
+  event_followed w Begin u g quiet can_be f now stays =
+      quiet_followed is_so w (after_manager_event w Begin) u (nothing_seen is_so w.scene) refl
       (cond_both (is_none (begin_fault w.manager)) _ _ (KeepsSweep w.manager) (λ e. absurd (quiet (is_none-none _ e))) (λ _. kept w.manager)) f
-  event_followed w Write u g quiet can_be f =
-      quiet_followed w (after_manager_event w Write) u (unseen w) refl
+  event_followed w Write u g quiet can_be f now stays =
+      quiet_followed is_so w (after_manager_event w Write) u (nothing_seen is_so w.scene) refl
       (cond_both (is_none (writing_fault w.manager)) _ _ (KeepsSweep w.manager) (λ _. record { sweep = refl; store = refl }) (λ _. kept w.manager)) f
-  event_followed w Take u g quiet can_be f =
+  event_followed w Take u g quiet can_be f now stays =
       let t = takes_first w.manager in
-      quiet_followed w (after_manager_event w Take) u (unseen w) refl (record { sweep = t.sweep; store = t.store }) f
-  event_followed w (Send which) u g quiet can_be f =
-      by_packet (slice_get w.out which) (event_seen start seat plan ⊥ w.manager.counter [] w (Send which) g.fair can_be)
+      quiet_followed is_so w (after_manager_event w Take) u (nothing_seen is_so w.scene) refl (record { sweep = t.sweep; store = t.store }) f
+  event_followed w (Send which) u g quiet can_be f now stays =
+      by_packet (slice_get w.out which) (event_seen is_so start seat plan ⊥ w.manager.counter [] w (Send which) g.fair can_be stays)
     where
-      by_packet : (o : Option Outgoing) → SeenBySweeps w.scene (sending w o).scene → IsFollowed (sending w o) u
-      by_packet None seen = quiet_followed w w u seen refl (kept w.manager) f
-      by_packet (Some o) seen = quiet_followed w (sending w (Some o)) u seen refl (kept w.manager) f
-  event_followed w (Hear which) u g quiet can_be f = heard_followed w which (slice_get w.scene.handed which) u refl g f
-  event_followed w (TimeOut transaction) u g quiet can_be f = timed_followed w transaction u f
-  event_followed w (Raise floor) u g quiet can_be f =
-      quiet_followed w (after_manager_event w (Raise floor)) u (unseen w) refl (record { sweep = refl; store = raised_same w.manager.store floor quiet }) f
-  event_followed w (Merge floor sightings) u g quiet can_be f =
-      quiet_followed w (after_manager_event w (Merge floor sightings)) u (unseen w) refl
+      by_packet : (o : Option Outgoing) → SeenBySweeps is_so w.scene (sending w o).scene → IsFollowed is_so (sending w o) u
+      by_packet None seen = quiet_followed is_so w w u seen refl (kept w.manager) f
+      by_packet (Some o) seen = quiet_followed is_so w (sending w (Some o)) u seen refl (kept w.manager) f
+  event_followed w (Hear which) u g quiet can_be f now stays = heard_followed w which (slice_get w.scene.handed which) u refl g f now
+  event_followed w (TimeOut transaction) u g quiet can_be f now stays = timed_followed w transaction u f now
+  event_followed w (Raise floor) u g quiet can_be f now stays =
+      quiet_followed is_so w (after_manager_event w (Raise floor)) u (nothing_seen is_so w.scene) refl (record {
+        sweep = refl;
+        store =
+            raised_same w.manager.store floor quiet;
+      }) f
+  event_followed w (Merge floor sightings) u g quiet can_be f now stays =
+      quiet_followed is_so w (after_manager_event w (Merge floor sightings)) u (nothing_seen is_so w.scene) refl
       (record {
         sweep = refl;
         store = ap (λ told. merge w.manager.store (view_at floor told)) quiet.0 ∙ sym (raised_is_merge w.manager.store floor)
             ∙ raised_same w.manager.store floor quiet.1;
       }) f
-  event_followed w (Poll lid) u g quiet can_be f =
-      quiet_followed w (after_manager_event w (Poll lid)) u (unseen w) refl
+  event_followed w (Poll lid) u g quiet can_be f now stays =
+      quiet_followed is_so w (after_manager_event w (Poll lid)) u (nothing_seen is_so w.scene) refl
       (cond_both (is_none (poll_fault w.manager lid)) _ _ (KeepsSweep w.manager) (λ _. record { sweep = refl; store = refl }) (λ _. kept w.manager)) f
-  event_followed w HandOver u g quiet can_be f =
-      quiet_followed w (after_manager_event w HandOver) u (unseen w) refl
+  event_followed w HandOver u g quiet can_be f now stays =
+      quiet_followed is_so w (after_manager_event w HandOver) u (nothing_seen is_so w.scene) refl
       (cond_both (is_none (handover_fault w.manager)) _ _ (KeepsSweep w.manager) (λ _. handed_keeps w.manager (successor_lid w.manager)) (λ _. kept w.manager))
       f

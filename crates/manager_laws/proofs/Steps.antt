@@ -1,24 +1,20 @@
 -- The steps of a writing: what each sets, and where it goes; and that there is one for all that the plan has where the sweep came to.
-use Rattle.std.proofs.Common.{◌≡◌, ◌≢◌, ℕ, ◌+◌, ◌*◌, ◌<◌, ◌≤◌, ◌^◌, Bool, true, false, List, [], ◌∷◌, length, replicate, get_or, inl, inr, refl, sym, ap, ◌∙◌, subst, arith}
+use Rattle.std.proofs.Common.{◌≡◌, ◌≢◌, ℕ, ◌+◌, ◌*◌, ◌<◌, ◌≤◌, ◌^◌, Bool, true, false, List, [], ◌∷◌, length, refl, sym, ap, ◌∙◌, subst, arith}
 use Rattle.std.proofs.lemmas.Bool.{cond_both, eqb-true}
-use Rattle.std.proofs.lemmas.List.{length-replicate, get_or-replicate}
 use Rattle.std.proofs.lemmas.List.FromFn.{length-map-range_with_len}
 use Rattle.std.proofs.lemmas.Option.{same_Some, slice_get_within}
 use Rattle.std.specs.Prelude.{Contains, Option, Some, None, option_map, option_and_then, slice_get, ◌==◌, if◌then◌else◌}
 use Rattle.std.specs.Option.{option_map_or}
 use Rattle.std.specs.List.{find, filter_map, range_with_len}
 use Rattle.smp_bytes.specs.Header.{port_info, switch_info, linear_forwarding_table, sm_info}
-use Rattle.smp_bytes.specs.Field.{number_in, bits_in, with_bits, with_number}
-use Rattle.smp_bytes.proofs.FieldLaws.{length-with_number, number_in-with_number, number_in-with_number_apart}
-use Rattle.smp_bytes.proofs.OffsetLaws.{get_or-with_number}
+use Rattle.smp_bytes.specs.Field.{number_in}
+use Rattle.smp_bytes.proofs.FieldLaws.{length-with_number}
 use Rattle.smp_bytes.proofs.LidRanges.{has_its_lid}
-use Rattle.smp_bytes.proofs.BitLaws.{bits_in-with_bits, bits_in-with_bits_apart}
 use Rattle.attr_codec.specs.PortInfo as ids
-use Rattle.attr_codec.specs.PortInfo.{base_lid, master_sm_lid, range_in, port_state, number_of_state}
+use Rattle.attr_codec.specs.PortInfo.{range_in}
 use Rattle.attr_codec.specs.SwitchInfo.{linear_fdb_top}
 use Rattle.attr_codec.specs.declared.port_state.PortState.{PortState}
 use Rattle.attr_codec.specs.declared.port_state.PortState.TheVariants.{NoChange, Armed, Active}
-use Rattle.attr_codec.proofs.PortStates.{state_small}
 use Rattle.fact_store.specs.View.{Facts, cells_of}
 use Rattle.subnet_view.specs.declared.end_port.EndPort.{EndPort}
 use Rattle.subnet_view.specs.Reading.{Cells, is_usable, switches}

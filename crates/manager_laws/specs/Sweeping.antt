@@ -78,6 +78,12 @@ abbrev pub after_sweep_events : List SweepEvent → Sweeping → Sweeping
 after_sweep_events [] w = w
 after_sweep_events (event ∷ events) w = after_sweep_events events (after_sweep_event w event)
 
+-- what is so of the scene after each event of a run
+abbrev pub AlwaysSo : (Scene → Type 0) → List SweepEvent → Sweeping → Type 0
+AlwaysSo is_so [] w = Unit {0}
+AlwaysSo is_so (event ∷ events) w =
+    is_so (after_sweep_event w event).scene × AlwaysSo is_so events (after_sweep_event w event)
+
 -- a fabric where nothing is going on and whose nodes have different GUIDs, and a sweep that has just begun at a seat,
 -- with the number of its port; it keeps images or does not
 pub record Begins (w : Sweeping) (at from : ℕ) : Type 0 where

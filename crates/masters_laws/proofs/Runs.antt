@@ -8,7 +8,7 @@ use Rattle.lft_blocks.specs.Plan.{PlanValue}
 use Rattle.sm_manager.specs.Manager.{begin_fault}
 use Rattle.manager_laws.specs.Scene.{Scene, Event, CanSend, Send as SendFrom, after_event, sent, sent_from}
 use Rattle.manager_laws.specs.Managing as one
-use Rattle.manager_laws.specs.Managing.{Managing, ManagerEvent, Starts, after_manager_event, after_manager_events, packet_of}
+use Rattle.manager_laws.specs.Managing.{Managing, ManagerEvent, after_manager_event, after_manager_events, packet_of}
 use Rattle.manager_laws.specs.Written.{BeginsNoWriting, BeginsSweep, SweepsFirst, plan_at}
 use Rattle.manager_laws.proofs.Before.{before_goes, event_goes, is_none-none}
 use Rattle.manager_laws.proofs.Fair.{own_there}

@@ -21,13 +21,12 @@ use Rattle.lft_blocks.specs.Plan.{PlanValue}
 use Rattle.manager_laws.specs.Scene.{Handed, Scene, Sending, ByLid, ByPath, Answer, Event, Deliver, Lose, Repeat, Send, CanHappen, CanSend}
 use Rattle.manager_laws.specs.Scene.{after_event, answer_to, answered_from, asks_manager, sent, sent_from}
 use Rattle.manager_laws.proofs.Answers.{Continues, bytes_answered, continued, seat_in_port}
+use Rattle.manager_laws.proofs.Followed.{SeenBySweeps, one_seen, seen_further}
 use Rattle.manager_laws.proofs.Scenes.{SetsInfoAlone}
 use Rattle.manager_laws.proofs.Sound.{CanBeSwept}
 use Rattle.manager_laws.proofs.TracedScenes.{WereTraced, manager_traced, other_traced, sent_traced, traced_by, traced_more, traced_there}
 use Rattle.takeover_laws.specs.Claims.{HasLidsOf}
 use Rattle.takeover_laws.proofs.HeldOn.{AgentsKeep, AreListed, HasLids, HeldOn, KeepsHeld, held_later, lids_later, same_keep}
-use Rattle.takeover_laws.proofs.Seen.{SeenKeeping, one_seen}
-use Rattle.takeover_laws.proofs.Takeover.{seen_further}
 use Rattle.masters_laws.proofs.Deliveries.{Sends, Tells, agents_keep, none_comes}
 use Rattle.masters_laws.proofs.KeptLids.{KeepsLids}
 use Rattle.masters_laws.proofs.Harmless.{AreHarmless, IsHarmless, copied_harmless, delivered_harmless, directed_harmless, injected_harmless, lost_harmless}
@@ -49,7 +48,7 @@ module _ (from : Scene) (plan : PlanValue) (IsSeat : NodePort → Type 0) where
   -- what is so at each moment: what is joined to each seat holds the plan's LIDs, and each port has its own
   pub record Stands (w : Scene) : Type 0 where
     pub continues : Continues from.fabric w
-    pub seen : SeenKeeping (fabric_of from.fabric) from w
+    pub seen : SeenBySweeps (HasLidsOf (fabric_of from.fabric)) from w
     pub lids : HasLidsOf (fabric_of from.fabric) w
     pub flights : AreTraced (Sends from.fabric plan IsSeat) (Tells from.fabric plan IsSeat) from.fabric w.fabric.flights
     pub handed : WereTraced (Sends from.fabric plan IsSeat) (Tells from.fabric plan IsSeat) from.fabric w.handed
@@ -81,7 +80,7 @@ module _ (from : Scene) (plan : PlanValue) (IsSeat : NodePort → Type 0) where
         let lids = same_lids w (after_event w event) so.agents st.lids in
         record {
           continues = continued cables counts w event st.continues can_happen;
-          seen = seen_further (fabric_of from.fabric) from w (after_event w event) st.seen (one_seen (fabric_of from.fabric) w event can_happen lids);
+          seen = seen_further (HasLidsOf (fabric_of from.fabric)) from w (after_event w event) st.seen (one_seen (HasLidsOf (fabric_of from.fabric)) w event can_happen lids);
           lids = lids;
           flights = so.flights;
           handed = so.handed;
@@ -151,7 +150,7 @@ module _ (from : Scene) (plan : PlanValue) (IsSeat : NodePort → Type 0) where
         let after = after_event w (Deliver n) in
         record {
           continues = continued cables counts w (Deliver n) st.continues tt;
-          seen = seen_further (fabric_of from.fabric) from w after st.seen (one_seen (fabric_of from.fabric) w (Deliver n) tt lids);
+          seen = seen_further (HasLidsOf (fabric_of from.fabric)) from w after st.seen (one_seen (HasLidsOf (fabric_of from.fabric)) w (Deliver n) tt lids);
           lids = lids;
           flights = deliveries_trace Requests Told cables counts st.continues.fabric.along st.continues.fabric.is st.flights n (λ flight request asked r. tt);
           handed = traced_more Requests Told from.fabric w.handed _ st.handed

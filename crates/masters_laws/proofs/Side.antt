@@ -39,8 +39,8 @@ use Rattle.manager_laws.specs.WritingPings.{BeginsNoSweep}
 use Rattle.manager_laws.proofs.Before.{begin_goes, event_goes, is_none-none}
 use Rattle.manager_laws.proofs.Done.{done_sweeps_are_complete}
 use Rattle.manager_laws.proofs.Fair.{AreOwnPackets, own_there}
-use Rattle.manager_laws.proofs.Followed.{HasAskedAll, asks, asks_all, asks_can, can_append, on_scene, runs_append}
-use Rattle.manager_laws.proofs.Follows.{Follows, holds_all}
+use Rattle.manager_laws.proofs.Followed.{HasAskedAll, SeenBySweeps, asks, asks_all, asks_can, asks_stay, can_append, on_scene, runs_append, stays_append}
+use Rattle.manager_laws.proofs.Follows.{Follows, event_followed, holds_all}
 use Rattle.manager_laws.proofs.Generations.{AreOf, floor_small}
 use Rattle.manager_laws.proofs.Goes.{Goes}
 use Rattle.manager_laws.proofs.Scenes.{IsOfStep, IsOwn, IsOwnSending}
@@ -52,9 +52,7 @@ use Rattle.manager_laws.proofs.Writings.{MayWrite, may_write, own_carries, writi
 use Rattle.takeover_laws.specs.Claims.{HasLidsOf, LidsStay}
 use Rattle.takeover_laws.specs.Takeover.{plan_by_it}
 use Rattle.takeover_laws.proofs.Claimed.{swept_claims_are_true}
-use Rattle.takeover_laws.proofs.Following.{event_followed}
 use Rattle.takeover_laws.proofs.Seeing.{held_lids}
-use Rattle.takeover_laws.proofs.Seen.{SeenKeeping, asks_lids, lids_append}
 use Rattle.masters_laws.specs.Masters.{IsItsOwn, IsWholeSweep, Seated, WritesWhole, has_swept_after, knows_one_after, seated_after, seen_by}
 use Rattle.masters_laws.specs.InForce.{HoldsLids}
 use Rattle.masters_laws.specs.Runs.{WritesSwept}
@@ -141,19 +139,19 @@ module _ (from : Scene) (seat : NodePort) where
         → FollowsOne (after_manager_event w event)
     follows_on w event one g quiet can_be now lids =
         let u = after_sweep_events one.events (first_of from seat one.at one.keeps) in
-        let more = event_followed (fabric_of from.fabric) from.fabric seat plan ground w event u g quiet can_be one.follows now lids in
+        let more = event_followed (HasLidsOf (fabric_of from.fabric)) from.fabric seat plan ground w event u g quiet can_be one.follows now lids in
         record {
           at = one.at;
           few = one.few;
           keeps = one.keeps;
           events = one.events ++ more.events;
           can_be = can_append one.events more.events one.can_be more.can_be;
-          lids = lids_append (fabric_of from.fabric) one.events more.events (first_of from seat one.at one.keeps) one.lids more.lids;
+          lids = stays_append (HasLidsOf (fabric_of from.fabric)) one.events more.events (first_of from seat one.at one.keeps) one.lids more.stays;
           follows = subst (Follows (after_manager_event w event)) (sym (runs_append one.events more.events (first_of from seat one.at one.keeps))) more.follows;
         }
 
     -- a sweep begins as the manager knows nothing
-    module _ (old : Type 0) (w : Managing) (seen : SeenKeeping (fabric_of from.fabric) from w.scene) (lids : HasLidsOf (fabric_of from.fabric) w.scene)
+    module _ (old : Type 0) (w : Managing) (seen : SeenBySweeps (HasLidsOf (fabric_of from.fabric)) from w.scene) (lids : HasLidsOf (fabric_of from.fabric) w.scene)
         (g : Goes from.fabric seat plan old w) (nothing : cells_of w.manager.store ≡ []) where
       abbrev generation_of : ℕ
       generation_of = next_generation w.manager.store
@@ -197,9 +195,9 @@ module _ (from : Scene) (seat : NodePort) where
             keeps = keeps_so;
             events = seen.events ++ asks queue;
             can_be = can_append seen.events (asks queue) seen.can_be (asks_can queue);
-            lids = lids_append (fabric_of from.fabric) seen.events (asks queue) (first_of from seat generation_of keeps_so)
-                (seen.lids (first_of from seat generation_of keeps_so) refl)
-                (asks_lids (fabric_of from.fabric) queue begun
+            lids = stays_append (HasLidsOf (fabric_of from.fabric)) seen.events (asks queue) (first_of from seat generation_of keeps_so)
+                (seen.stays (first_of from seat generation_of keeps_so) refl)
+                (asks_stay (HasLidsOf (fabric_of from.fabric)) queue begun
                 (subst (HasLidsOf (fabric_of from.fabric)) (sym (ap (λ (u : Sweeping). u.scene) begun_is)) lids));
             follows = subst (Follows (record w { manager = after_begin_sweep w.manager }))
                 (sym (runs_append seen.events (asks queue) (first_of from seat generation_of keeps_so)))
@@ -416,7 +414,7 @@ module _ (from : Scene) (held : Facts) (planning : Planning) where
     goes_new knows = subst (λ b. Goes from.fabric m.seat (plan_by_it planning held) (Old b) (seen_by scene m)) (side.swept knows) side.goes
 
     -- what it knows afterwards from one sweep
-    follows_after : (event : ManagerEvent) → IsItsOwn event → CanBe m.seat event → SeenKeeping (fabric_of from.fabric) from scene
+    follows_after : (event : ManagerEvent) → IsItsOwn event → CanBe m.seat event → SeenBySweeps (HasLidsOf (fabric_of from.fabric)) from scene
         → HasLidsOf (fabric_of from.fabric) scene
         → HasLidsOf (fabric_of from.fabric) (after_manager_event (seen_by scene m) event).scene → knows_one_after m event ≡ true
         → FollowsOne from m.seat (after_manager_event (seen_by scene m) event)
@@ -504,7 +502,7 @@ module _ (from : Scene) (held : Facts) (planning : Planning) where
 
     -- by an event of its own
     pub own_side : (event : ManagerEvent) → IsItsOwn event → CanBe m.seat event → WritesWhole m event
-        → SeenKeeping (fabric_of from.fabric) from scene → HasLidsOf (fabric_of from.fabric) scene
+        → SeenBySweeps (HasLidsOf (fabric_of from.fabric)) from scene → HasLidsOf (fabric_of from.fabric) scene
         → HasLidsOf (fabric_of from.fabric) (after_manager_event (seen_by scene m) event).scene
         → Side (after_manager_event (seen_by scene m) event).scene (seated_after m event (after_manager_event (seen_by scene m) event))
     own_side event its can_be whole seen now lids =

@@ -13,7 +13,7 @@ use Rattle.lft_blocks.specs.Plan.{PlanValue}
 use Rattle.lft_blocks.specs.Planning.{Planning}
 use Rattle.manager_laws.specs.Scene.{Scene, ByLid, ByPath, Answer, Event, Deliver, Lose, Repeat, Send as SendFrom, CanHappen, after_event}
 use Rattle.manager_laws.specs.Managing as one
-use Rattle.manager_laws.specs.Managing.{Managing, ManagerEvent, Starts, IsElsewhere, after_manager_event}
+use Rattle.manager_laws.specs.Managing.{Managing, ManagerEvent, Starts, after_manager_event}
 use Rattle.manager_laws.specs.Written.{plan_at}
 use Rattle.manager_laws.proofs.Answers as scenes
 use Rattle.manager_laws.proofs.Done.{seat_end}
@@ -28,7 +28,8 @@ use Rattle.subnet_view.proofs.Members.{contains_none}
 use Rattle.takeover_laws.specs.Takeover.{plan_by_it}
 use Rattle.takeover_laws.proofs.HeldOn.{AreListed, HeldOn, held_of_now}
 use Rattle.takeover_laws.proofs.Listed.{are_listed}
-use Rattle.takeover_laws.proofs.Takeover.{none_seen}
+use Rattle.manager_laws.proofs.Followed.{nothing_seen}
+use Rattle.takeover_laws.specs.Claims.{HasLidsOf}
 use Rattle.takeover_laws.proofs.Throughout.{in_use}
 use Rattle.masters_laws.specs.Masters.{AllCanBe, Around, At, CanBe, IsAt, IsItsOwn, Masters, MastersEvent, Seated, SetsInfoOnly, StartTogether, WritesWhole}
 use Rattle.masters_laws.specs.Masters.{IsWholeSweep, acting, after_masters_event, after_masters_events, seated_after, seen_by}
@@ -304,7 +305,7 @@ module _ (held : Facts) (planning : Planning) (t0 : Masters) (h : ShareLids held
       record {
         stands = record {
           continues = scenes.begun t0.scene quiet;
-          seen = none_seen (fabric_of t0.scene.fabric) t0.scene;
+          seen = nothing_seen (HasLidsOf (fabric_of t0.scene.fabric)) t0.scene;
           lids = λ p. refl;
           flights = subst (AreTraced (Sends t0.scene.fabric (plan_by_it planning held) IsSeat) (Tells t0.scene.fabric (plan_by_it planning held) IsSeat)
               t0.scene.fabric) (sym quiet.flights) tt;

@@ -10,7 +10,7 @@ use Rattle.sm_manager.specs.declared.outgoing.Outgoing.{Outgoing}
 use Rattle.sm_manager.specs.Manager.{Manager, begin_fault}
 use Rattle.sm_manager.specs.Plans.{writing_fault}
 use Rattle.manager_laws.specs.Scene as around
-use Rattle.manager_laws.specs.Scene.{Scene, Sending, ByLid, ByPath, Answer, Event, CanHappen, IsQuiet, after_event}
+use Rattle.manager_laws.specs.Scene.{Scene, ByLid, ByPath, Event, CanHappen, IsQuiet, after_event}
 use Rattle.manager_laws.specs.Managing as one
 use Rattle.manager_laws.specs.Managing.{Managing, ManagerEvent, Starts, IsElsewhere, after_manager_event}
 use Rattle.manager_laws.specs.Complete.{IsWhole}

@@ -6,8 +6,6 @@ pub mod Returned
 pub mod LidScenes
 pub mod ClaimRuns
 pub mod Claimed
-pub mod Seen
-pub mod Following
 pub mod Takeover
 pub mod HeldOn
 pub mod Listed

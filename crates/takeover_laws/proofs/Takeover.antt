@@ -1,5 +1,5 @@
 -- A manager that sweeps a subnet which holds a plan, while no LID changes, comes to this plan.
-use Rattle.std.proofs.Common.{◌≡◌, inl, inr, ℕ, ◌<◌, ◌≤◌, ◌^◌, Bool, false, List, [], ◌∷◌, ◌++◌, map, refl, sym, ap, ◌∙◌, subst, arith}
+use Rattle.std.proofs.Common.{◌≡◌, inl, inr, ℕ, ◌<◌, ◌≤◌, ◌^◌, Bool, List, [], ◌∷◌, ◌++◌, map, refl, sym, ap, ◌∙◌, subst, arith}
 use Rattle.std.proofs.lemmas.List.Elements.{All-nil, All-head, All-tail}
 use Rattle.std.proofs.lemmas.Option.{same_Some}
 use Rattle.std.specs.Prelude.{Some, All}
@@ -17,7 +17,6 @@ use Rattle.lid_assign.specs.Lids.{IsNoRoom}
 use Rattle.sweep.specs.Sweep.{Sweep, started}
 use Rattle.sm_manager.specs.Manager.{newest_held, next_generation, with_all_sent}
 use Rattle.manager_laws.specs.Pings.{EachPingArrives}
-use Rattle.manager_laws.specs.Scene.{Scene}
 use Rattle.manager_laws.specs.Sweeping as sweeping
 use Rattle.manager_laws.specs.Sweeping.{Sweeping, SweepEvent, Begins, after_sweep_events}
 use Rattle.manager_laws.proofs.PlannedPings.{pings_arrive}
@@ -28,36 +27,18 @@ use Rattle.manager_laws.specs.Managing.{Managing, ManagerEvent, Begin, CanBe, af
 use Rattle.manager_laws.specs.WritingPings.{AreNoSweeps}
 use Rattle.manager_laws.specs.Written.{IsWritingRun, SweepsFirst, at_end, at_writing, plan_at}
 use Rattle.manager_laws.proofs.Before.{begins_first, event_goes}
-use Rattle.manager_laws.proofs.Followed.{on_scene, runs_append, can_append, asks, asks_can, asks_all}
-use Rattle.manager_laws.proofs.Follows.{Follows, holds_all}
-use Rattle.fabric_model.specs.Fabric.{Fabric}
+use Rattle.manager_laws.proofs.Followed.{SeenBySweeps, on_scene, runs_append, can_append, nothing_seen, event_seen, seen_further, stays_append, asks, asks_can, asks_all, asks_stay}
+use Rattle.manager_laws.proofs.Follows.{Follows, IsFollowed, event_followed, holds_all}
 use Rattle.fact_store.specs.View.{Facts}
 use Rattle.manager_laws.proofs.Arrive.{pings_arrive_once_written}
 use Rattle.takeover_laws.specs.Alike.{ClaimsAreTrue}
 use Rattle.takeover_laws.specs.Claims.{HasLidsOf, LidsStay}
 use Rattle.takeover_laws.specs.Takeover.{LidsStayAround, TakesOver, TakeoverChangesNothing, planning_at, plan_by_it}
 use Rattle.takeover_laws.proofs.Claimed.{swept_claims_are_true, takeovers_change_nothing}
-use Rattle.takeover_laws.proofs.Seen.{SeenKeeping, event_seen, asks_lids, lids_append}
-use Rattle.takeover_laws.proofs.Following.{IsFollowed, event_followed}
 use Rattle.manager_laws.proofs.Generations.{AreOf, floor_small}
 use Rattle.manager_laws.proofs.Goes.{Goes}
 use Rattle.sm_state.specs.Conducts.{is_live}
 use Rattle.manager_laws.proofs.Held as held
-
--- scenes one after the other ---------------------------------------------------------------------------------
-
-pub seen_further : (f : Fabric) (a b c : Scene) → SeenKeeping f a b → SeenKeeping f b c → SeenKeeping f a c
-seen_further f a b c one other =
-    record {
-      events = one.events ++ other.events;
-      can_be = can_append one.events other.events one.can_be other.can_be;
-      is = λ u e. runs_append one.events other.events u ∙ ap (after_sweep_events other.events) (one.is u e) ∙ other.is (on_scene u b) refl;
-      lids = λ u e. lids_append f one.events other.events u (one.lids u e)
-          (subst (LidsStay f other.events) (sym (one.is u e)) (other.lids (on_scene u b) refl));
-    }
-
-pub none_seen : (f : Fabric) (a : Scene) → SeenKeeping f a a
-none_seen f a = record { lids = λ u e. tt; events = []; can_be = All-nil sweeping.CanBe; is = λ u e. λ i. on_scene u (e i) }
 
 module _ (w : Managing) (before between after : List ManagerEvent) (run : IsWritingRun w before between after) where
   plan : PlanValue
@@ -67,34 +48,34 @@ module _ (w : Managing) (before between after : List ManagerEvent) (run : IsWrit
 
   -- once a sweep began
   swept_seen : (events : List ManagerEvent) (x : Managing) → Goes w.scene.fabric w.seat (plan_at (at_writing w before between)) ⊥ x → All (CanBe w.seat) events
-      → LidsStayAround (fabric_of w.scene.fabric) events x → SeenKeeping (fabric_of w.scene.fabric) x.scene (after_manager_events events x).scene
-  swept_seen [] x g all lids = none_seen (fabric_of w.scene.fabric) x.scene
+      → LidsStayAround (fabric_of w.scene.fabric) events x → SeenBySweeps (HasLidsOf (fabric_of w.scene.fabric)) x.scene (after_manager_events events x).scene
+  swept_seen [] x g all lids = nothing_seen (HasLidsOf (fabric_of w.scene.fabric)) x.scene
   swept_seen (event ∷ events) x g all lids =
       let s = w.scene.fabric in
       let p = plan_at (at_writing w before between) in
       let can = All-head (CanBe w.seat) event events all in
-      seen_further (fabric_of w.scene.fabric) x.scene (after_manager_event x event).scene _
-      (event_seen (fabric_of w.scene.fabric) s w.seat p ⊥ x.manager.counter [] x event g.fair can lids.0)
+      seen_further (HasLidsOf (fabric_of w.scene.fabric)) x.scene (after_manager_event x event).scene _
+      (event_seen (HasLidsOf (fabric_of w.scene.fabric)) s w.seat p ⊥ x.manager.counter [] x event g.fair can lids.0)
       (swept_seen events (after_manager_event x event)
       (event_goes s w.seat p (held.ground w before between after run) ⊥ x event (inr (λ none. none)) g can) (All-tail (CanBe w.seat) event events all) lids.1)
 
   before_seen : (events : List ManagerEvent) (x : Managing) → SweepsFirst events x
       → Goes w.scene.fabric w.seat (plan_at (at_writing w before between)) (Unit {0}) x → All (CanBe w.seat) events
-      → LidsStayAround (fabric_of w.scene.fabric) events x → SeenKeeping (fabric_of w.scene.fabric) x.scene (after_manager_events events x).scene
-  before_seen [] x first g all lids = none_seen (fabric_of w.scene.fabric) x.scene
+      → LidsStayAround (fabric_of w.scene.fabric) events x → SeenBySweeps (HasLidsOf (fabric_of w.scene.fabric)) x.scene (after_manager_events events x).scene
+  before_seen [] x first g all lids = nothing_seen (HasLidsOf (fabric_of w.scene.fabric)) x.scene
   before_seen (event ∷ events) x (inl begins) g all lids =
       let s = w.scene.fabric in
       let p = plan_at (at_writing w before between) in
-      seen_further (fabric_of w.scene.fabric) x.scene (after_manager_event x event).scene _
-      (event_seen (fabric_of w.scene.fabric) s w.seat p (Unit {0}) x.manager.counter [] x event g.fair (All-head (CanBe w.seat) event events all) lids.0)
+      seen_further (HasLidsOf (fabric_of w.scene.fabric)) x.scene (after_manager_event x event).scene _
+      (event_seen (HasLidsOf (fabric_of w.scene.fabric)) s w.seat p (Unit {0}) x.manager.counter [] x event g.fair (All-head (CanBe w.seat) event events all) lids.0)
       (swept_seen events (after_manager_event x event) (begins_first s w.seat p (held.ground w before between after run) x event begins g)
       (All-tail (CanBe w.seat) event events all) lids.1)
   before_seen (event ∷ events) x (inr (quiet, first)) g all lids =
       let s = w.scene.fabric in
       let p = plan_at (at_writing w before between) in
       let can = All-head (CanBe w.seat) event events all in
-      seen_further (fabric_of w.scene.fabric) x.scene (after_manager_event x event).scene _
-      (event_seen (fabric_of w.scene.fabric) s w.seat p (Unit {0}) x.manager.counter [] x event g.fair can lids.0)
+      seen_further (HasLidsOf (fabric_of w.scene.fabric)) x.scene (after_manager_event x event).scene _
+      (event_seen (HasLidsOf (fabric_of w.scene.fabric)) s w.seat p (Unit {0}) x.manager.counter [] x event g.fair can lids.0)
       (before_seen events (after_manager_event x event) first
       (event_goes s w.seat p (held.ground w before between after run) (Unit {0}) x event (inl quiet) g can) (All-tail (CanBe w.seat) event events all) lids.1)
 
@@ -103,20 +84,20 @@ module _ (w : Managing) (before between after : List ManagerEvent) (run : IsWrit
   between_followed : (events : List ManagerEvent) (x : Managing) (u : Sweeping) → AreNoSweeps events x
       → Goes w.scene.fabric w.seat (plan_at (at_writing w before between)) ⊥ x → All (CanBe w.seat) events → Follows x u
       → HasLidsOf (fabric_of w.scene.fabric) x.scene → LidsStayAround (fabric_of w.scene.fabric) events x
-      → IsFollowed (fabric_of w.scene.fabric) (after_manager_events events x) u
-  between_followed [] x u quiet g all f now lids = record { lids = tt; events = []; can_be = All-nil sweeping.CanBe; follows = f }
+      → IsFollowed (HasLidsOf (fabric_of w.scene.fabric)) (after_manager_events events x) u
+  between_followed [] x u quiet g all f now lids = record { stays = tt; events = []; can_be = All-nil sweeping.CanBe; follows = f }
   between_followed (event ∷ events) x u quiet g all f now lids =
       let s = w.scene.fabric in
       let p = plan_at (at_writing w before between) in
       let ground = held.ground w before between after run in
       let can_be = All-head (CanBe w.seat) event events all in
-      let one = event_followed (fabric_of w.scene.fabric) s w.seat p ground x event u g quiet.0 can_be f now lids.0 in
+      let one = event_followed (HasLidsOf (fabric_of w.scene.fabric)) s w.seat p ground x event u g quiet.0 can_be f now lids.0 in
       let rest = between_followed events (after_manager_event x event) (after_sweep_events one.events u) quiet.1
       (event_goes s w.seat p ground ⊥ x event (inr (λ none. none)) g can_be) (All-tail (CanBe w.seat) event events all) one.follows lids.0 lids.1 in
       record {
         events = one.events ++ rest.events;
         can_be = can_append one.events rest.events one.can_be rest.can_be;
-        lids = lids_append (fabric_of w.scene.fabric) one.events rest.events u one.lids rest.lids;
+        stays = stays_append (HasLidsOf (fabric_of w.scene.fabric)) one.events rest.events u one.stays rest.stays;
         follows = subst (Follows (after_manager_events events (after_manager_event x event))) (sym (runs_append one.events rest.events u)) rest.follows;
       }
 
@@ -181,7 +162,7 @@ module _ (w : Managing) (before between after : List ManagerEvent) (run : IsWrit
               ∙ ap (λ (y : List Report). view_at floor (told_in y)) (sym reports);
         })
 
-    seen : SeenKeeping (fabric_of w.scene.fabric) w.scene (after_manager_events before w).scene
+    seen : SeenBySweeps (HasLidsOf (fabric_of w.scene.fabric)) w.scene (after_manager_events before w).scene
     seen =
         before_seen before w run.sweeps_first
         (held.starting w run.starts (plan_at (at_writing w before between))) run.before_can lids_before
@@ -198,7 +179,7 @@ module _ (w : Managing) (before between after : List ManagerEvent) (run : IsWrit
     begun_lids : HasLidsOf (fabric_of w.scene.fabric) (after_manager_event (after_manager_events before w) Begin).scene
     begun_lids = lids_last before w (λ p. refl) lids_before
 
-    followed : IsFollowed (fabric_of w.scene.fabric) (at_writing w before between) ready
+    followed : IsFollowed (HasLidsOf (fabric_of w.scene.fabric)) (at_writing w before between) ready
     unfolding ready first
     followed =
         between_followed between (after_manager_event (after_manager_events before w) Begin) ready alone
@@ -232,8 +213,8 @@ module _ (w : Managing) (before between after : List ManagerEvent) (run : IsWrit
         let begun = after_sweep_events seen.events first in
         let scene : HasLidsOf f begun.scene = subst (HasLidsOf f) (sym (ap (λ (u : Sweeping). u.scene) (seen.is first refl)))
         (lids_last before w (λ p. refl) lids_before) in
-        lids_append f seen.events (asks queue ++ followed.events) first (seen.lids first refl)
-        (lids_append f (asks queue) followed.events begun (asks_lids f queue begun scene) followed.lids)
+        stays_append (HasLidsOf f) seen.events (asks queue ++ followed.events) first (seen.stays first refl)
+        (stays_append (HasLidsOf f) (asks queue) followed.events begun (asks_stay (HasLidsOf f) queue begun scene) followed.stays)
 
     pub same : (facts : Facts) → IsWhole sweep → ¬ (IsNoRoom (planning_at w before between).lmc (cells_of facts))
         → AgreesOn (IsJoinedTo (fabric_of w.scene.fabric) w.seat) (cells_of facts) (fabric_of w.scene.fabric)
