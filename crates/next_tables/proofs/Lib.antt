@@ -5,6 +5,7 @@ pub mod Changing
 pub mod ChangingFabric
 pub mod Entries
 pub mod Hops
+pub mod InChange
 pub mod Listed
 pub mod NextText
 pub mod Ordered
