@@ -138,7 +138,7 @@ pub(crate) fn routing<'a>(alloc: Global, routings: &'a [&'a str]) -> Arg<'a>
         .help(
             "updown leads packets by one root of each component, and is what is taken where none is named; \
              spread leads them over all wires, so that none is much busier than others; balance does so in \
-             the best of several orders of switches, which pays where the fabric is no tree",
+             the best of several orders of switches and by counted loads, which pays where the fabric is no tree",
         )
         .value_parser(routings)
         .action(ArgAction::Set)
@@ -167,7 +167,7 @@ pub(crate) fn order_file<'a>(alloc: Global) -> Arg<'a>
         .long(ORDER)
         .value_name("FILE")
         .help(
-            "spread orders switches as FILE names them, a GUID a line, and those that it lacks behind them",
+            "spread and balance order switches as FILE names them, a GUID a line, and those that it lacks behind them",
         )
         .action(ArgAction::Set)
 }
