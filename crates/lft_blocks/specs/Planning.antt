@@ -12,15 +12,15 @@ pub record Planning : Type 0 where
 -- an order is stored by its GUIDs, if it has some, by whether they are named in its order, and by whether loads are
 -- balanced
 abbrev guids_in : OrderValue → Option (Bool × (Bool × List ℕ))
-guids_in (from_roots roots) = Some (false, false, roots)
-guids_in (as_named switches) = Some (true, false, switches)
-guids_in (balanced_as switches) = Some (true, true, switches)
+guids_in (from_roots roots) = Some (false, (false, roots))
+guids_in (as_named switches) = Some (true, (false, switches))
+guids_in (balanced_as switches) = Some (true, (true, switches))
 guids_in least_loaded = None
 
 abbrev order_by : Option (Bool × (Bool × List ℕ)) → OrderValue
-order_by (Some (false, balanced, roots)) = from_roots roots
-order_by (Some (true, false, switches)) = as_named switches
-order_by (Some (true, true, switches)) = balanced_as switches
+order_by (Some (false, (balanced, roots))) = from_roots roots
+order_by (Some (true, (false, switches))) = as_named switches
+order_by (Some (true, (true, switches))) = balanced_as switches
 order_by None = least_loaded
 
 pub same_order : (order : OrderValue) → order_by (guids_in order) ≡ order
