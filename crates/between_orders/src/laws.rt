@@ -8,6 +8,7 @@ ghost use Rattle.between_orders.specs.Agreement.{
 };
 ghost use Rattle.between_orders.specs.BetweenLaws.{
   GoalDelivers,
+  GoalEndsRight,
   GoalIsReached,
   GoalReachesAll,
   GoalStandsStill,
