@@ -48,8 +48,8 @@ StepsKeepAgreement =
     → IsGoal (cells_of facts) held plan by (Some goal) → AgreeTo (cells_of facts) held by k
     → AgreeTo (cells_of facts) (next_towards facts held goal) by k
 
--- from `held`, tables are right by the first order of a step, or by the second, as the goal is; and if the second one
--- grows by the plan's positions, the goal counts
+-- the next tables are right by the first or by the second order of a step from `held`. Reaching the second counts as a
+-- goal if that one grows by the plan's positions
 pub data IsOnward (cells : Cells) (held next : HeldPlan) (by : List ℕ) (count later : ℕ) : Type 0 where
   first : (told : TellsPositions cells held by)
       → AreRightBy cells (orders_from cells held (edges_in cells) by told.positions).first next → later ≡ count
@@ -69,13 +69,14 @@ GoalsGoFurther =
     → IsOnward (cells_of facts) held next by count later → AgreeTo (cells_of facts) held by count
     → AgreeTo (cells_of facts) next by later
 
--- tables on the way, from some that tell an order, with how many such goals were reached
+-- a sequence of tables, each from the one before by a step or a goal. The first ones tell an order, and `reached m` counts
+-- the goals until then
 pub record AreOnTheWay (cells : Cells) (by : List ℕ) (tables : ℕ → HeldPlan) (reached : ℕ → ℕ) : Type 0 where
   pub told : TellsPositions cells (tables 0) by
   pub none_yet : reached 0 ≡ 0
   pub each : (m : ℕ) → IsOnward cells (tables m) (tables (suc m)) by (reached m) (reached (suc m))
 
--- once there were as many such goals as switches but one, tables are right by the plan's order
+-- once n - 1 such goals were reached, for n switches, tables are right by the plan's order
 abbrev pub GoalsAreFew : Type 0
 GoalsAreFew =
     (facts : Facts) (by : List ℕ) (tables : ℕ → HeldPlan) (reached : ℕ → ℕ)
@@ -101,7 +102,8 @@ abbrev pub ComeTo : Cells → HeldPlan → ℕ → ℕ → ℕ → ℕ → Type 
 ComeTo cells tables lid zero i j = i ≡ j
 ComeTo cells tables lid (suc n) i j = (x : ℕ) × Leads cells tables lid i x × ComeTo cells tables lid n x j
 
--- from each switch packets for some LID come to each to which wires lead
+-- for any two switches that wires join, directly or over others, packets for at least one LID get from the one to the
+-- other
 abbrev pub ComeEverywhere : Cells → HeldPlan → Type 0
 ComeEverywhere cells tables =
     (i j k : ℕ) → i < length (switches cells) → j < length (switches cells) → Walk (heads (edges_in cells)) i j k

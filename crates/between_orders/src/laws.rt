@@ -52,13 +52,13 @@ pub fn steps_keep_agreement()
     ensures law { StepsKeepAgreement }
 {}
 
-/// From tables that are right by the order that grows by the told one, a goal that is reached tells an order that
-/// agrees with the plan's on one switch more; no other tables on the way agree on fewer.
+/// If tables are right by the order that grows by the told one, then tables that reach the next goal tell an order that
+/// agrees with the plan's on at least one more first switch. In between, agreement never gets less.
 pub fn goals_go_further()
     ensures law { GoalsGoFurther }
 {}
 
-/// Once as many such goals were reached as there are switches but one, tables are right by the plan's order.
+/// Once n - 1 such goals were reached, for n switches, the tables are right by the plan's order.
 pub fn goals_are_few()
     ensures law { GoalsAreFew }
 {}
@@ -82,14 +82,14 @@ pub fn orders_stay()
     ensures law { OrdersStay }
 {}
 
-/// If packets for some LID come from each switch to each to which wires lead, then tables that tell an order are right
-/// by the order that grows by it.
+/// If, for any two switches that wires join, directly or over others, packets for at least one LID get from the one to
+/// the other, then tables that tell an order are also right by the order that grows by it.
 pub fn whole_tables_grow()
     ensures law { WholeTablesGrow }
 {}
 
-/// After twice as many such steps as there are switches the tables are right for the LID by the second order, if the
-/// first tables brought packets to the end port at once only where the goal delivers.
+/// After 2n such steps, for n switches, the tables are right for the LID by the second order, if the goal delivers from
+/// each switch that, by the first tables, sends packets for the LID straight to the end port.
 pub fn goal_ends_right()
     ensures law { GoalEndsRight }
 {}
