@@ -1,5 +1,5 @@
 -- How far the order that tables tell agrees with the plan's.
-use Rattle.std.proofs.Common.{◌≡◌, ◌∙◌, ◌<◌, ◌≤◌, ℕ, zero, suc, Bool, true, false, cond, List, length, sym, ap, subst, arith, inl, inr, Some, map}
+use Rattle.std.proofs.Common.{[], ◌≡◌, ◌∙◌, ◌<◌, ◌≤◌, ℕ, zero, suc, Bool, true, false, cond, List, length, sym, ap, subst, arith, inl, inr, Some, map}
 use Rattle.std.proofs.lemmas.Bool.{and_parts, cases_lt}
 use Rattle.std.proofs.lemmas.List.{length-replicate}
 use Rattle.std.proofs.lemmas.List.FromFn.{get_or-map-range_with_len}
