@@ -39,9 +39,9 @@ use Rattle.manager_laws.proofs.Held as held
 use Rattle.sm_state.specs.Conducts.{is_live}
 use Rattle.manager_laws.proofs.Planned.{holds_plan}
 
--- nothing has to stay so
-abbrev nothing : Scene → Type 0
-nothing scene = Unit {0}
+-- anything may become of the scene
+abbrev anything : Scene → Type 0
+anything scene = Unit {0}
 
 module _ (w : Managing) (before between after : List ManagerEvent) (run : IsWritingRun w before between after) where
   plan : PlanValue
@@ -51,34 +51,34 @@ module _ (w : Managing) (before between after : List ManagerEvent) (run : IsWrit
 
   -- once a sweep began
   swept_seen : (events : List ManagerEvent) (x : Managing) → Goes w.scene.fabric w.seat (plan_at (at_writing w before between)) ⊥ x → All (CanBe w.seat) events
-      → SeenBySweeps nothing x.scene (after_manager_events events x).scene
-  swept_seen [] x g all = nothing_seen nothing x.scene
+      → SeenBySweeps anything x.scene (after_manager_events events x).scene
+  swept_seen [] x g all = nothing_seen anything x.scene
   swept_seen (event ∷ events) x g all =
       let s = w.scene.fabric in
       let p = plan_at (at_writing w before between) in
       let can = All-head (CanBe w.seat) event events all in
-      seen_further nothing x.scene (after_manager_event x event).scene _
-      (event_seen nothing s w.seat p ⊥ x.manager.counter [] x event g.fair can tt)
+      seen_further anything x.scene (after_manager_event x event).scene _
+      (event_seen anything s w.seat p ⊥ x.manager.counter [] x event g.fair can tt)
       (swept_seen events (after_manager_event x event)
       (event_goes s w.seat p (held.ground w before between after run) ⊥ x event (inr (λ none. none)) g can) (All-tail (CanBe w.seat) event events all))
 
   before_seen : (events : List ManagerEvent) (x : Managing) → SweepsFirst events x
       → Goes w.scene.fabric w.seat (plan_at (at_writing w before between)) (Unit {0}) x → All (CanBe w.seat) events
-      → SeenBySweeps nothing x.scene (after_manager_events events x).scene
-  before_seen [] x first g all = nothing_seen nothing x.scene
+      → SeenBySweeps anything x.scene (after_manager_events events x).scene
+  before_seen [] x first g all = nothing_seen anything x.scene
   before_seen (event ∷ events) x (inl begins) g all =
       let s = w.scene.fabric in
       let p = plan_at (at_writing w before between) in
-      seen_further nothing x.scene (after_manager_event x event).scene _
-      (event_seen nothing s w.seat p (Unit {0}) x.manager.counter [] x event g.fair (All-head (CanBe w.seat) event events all) tt)
+      seen_further anything x.scene (after_manager_event x event).scene _
+      (event_seen anything s w.seat p (Unit {0}) x.manager.counter [] x event g.fair (All-head (CanBe w.seat) event events all) tt)
       (swept_seen events (after_manager_event x event) (begins_first s w.seat p (held.ground w before between after run) x event begins g)
       (All-tail (CanBe w.seat) event events all))
   before_seen (event ∷ events) x (inr (quiet, first)) g all =
       let s = w.scene.fabric in
       let p = plan_at (at_writing w before between) in
       let can = All-head (CanBe w.seat) event events all in
-      seen_further nothing x.scene (after_manager_event x event).scene _
-      (event_seen nothing s w.seat p (Unit {0}) x.manager.counter [] x event g.fair can tt)
+      seen_further anything x.scene (after_manager_event x event).scene _
+      (event_seen anything s w.seat p (Unit {0}) x.manager.counter [] x event g.fair can tt)
       (before_seen events (after_manager_event x event) first
       (event_goes s w.seat p (held.ground w before between after run) (Unit {0}) x event (inl quiet) g can) (All-tail (CanBe w.seat) event events all))
 
@@ -86,20 +86,20 @@ module _ (w : Managing) (before between after : List ManagerEvent) (run : IsWrit
 
   between_followed : (events : List ManagerEvent) (x : Managing) (u : Sweeping) → AreNoSweeps events x
       → Goes w.scene.fabric w.seat (plan_at (at_writing w before between)) ⊥ x → All (CanBe w.seat) events → Follows x u
-      → IsFollowed nothing (after_manager_events events x) u
+      → IsFollowed anything (after_manager_events events x) u
   between_followed [] x u quiet g all f = record { stays = tt; events = []; can_be = All-nil sweeping.CanBe; follows = f }
   between_followed (event ∷ events) x u quiet g all f =
       let s = w.scene.fabric in
       let p = plan_at (at_writing w before between) in
       let ground = held.ground w before between after run in
       let can_be = All-head (CanBe w.seat) event events all in
-      let one = event_followed nothing s w.seat p ground x event u g quiet.0 can_be f tt tt in
+      let one = event_followed anything s w.seat p ground x event u g quiet.0 can_be f tt tt in
       let rest = between_followed events (after_manager_event x event) (after_sweep_events one.events u) quiet.1
       (event_goes s w.seat p ground ⊥ x event (inr (λ none. none)) g can_be) (All-tail (CanBe w.seat) event events all) one.follows in
       record {
         events = one.events ++ rest.events;
         can_be = can_append one.events rest.events one.can_be rest.can_be;
-        stays = stays_append nothing one.events rest.events u one.stays rest.stays;
+        stays = stays_append anything one.events rest.events u one.stays rest.stays;
         follows = subst (Follows (after_manager_events events (after_manager_event x event))) (sym (runs_append one.events rest.events u)) rest.follows;
       }
 
@@ -162,7 +162,7 @@ module _ (w : Managing) (before between after : List ManagerEvent) (run : IsWrit
               ∙ ap (λ (y : List Report). view_at floor (told_in y)) (sym reports);
         })
 
-    seen : SeenBySweeps nothing w.scene (after_manager_events before w).scene
+    seen : SeenBySweeps anything w.scene (after_manager_events before w).scene
     seen =
         before_seen before w run.sweeps_first
         (held.starting w run.starts (plan_at (at_writing w before between))) run.before_can
@@ -170,7 +170,7 @@ module _ (w : Managing) (before between after : List ManagerEvent) (run : IsWrit
     ready : Sweeping
     ready = after_sweep_events (asks (started w.seat.port at 1 keeps).queued) (after_sweep_events seen.events first)
 
-    followed : IsFollowed nothing (at_writing w before between) ready
+    followed : IsFollowed anything (at_writing w before between) ready
     unfolding ready first
     followed =
         between_followed between (after_manager_event (after_manager_events before w) Begin) ready alone
@@ -189,22 +189,22 @@ module _ (w : Managing) (before between after : List ManagerEvent) (run : IsWrit
 
     after_seen : (events : List ManagerEvent) (x : Managing)
         → AllKeep (plan_at (at_writing w before between)) (own_sets w (at_writing w before between)) events x → Runs x → All (CanBe w.seat) events
-        → SeenBySweeps nothing x.scene (after_manager_events events x).scene
-    after_seen [] x keep g all = nothing_seen nothing x.scene
+        → SeenBySweeps anything x.scene (after_manager_events events x).scene
+    after_seen [] x keep g all = nothing_seen anything x.scene
     after_seen (event ∷ events) x keep g all =
         let s = w.scene.fabric in
         let p = plan_at (at_writing w before between) in
         let c = (at_writing w before between).manager.counter in
         let can = All-head (CanBe w.seat) event events all in
-        seen_further nothing x.scene (after_manager_event x event).scene _
-        (event_seen nothing s w.seat p ⊥ c g.all x event g.fair can tt)
+        seen_further anything x.scene (after_manager_event x event).scene _
+        (event_seen anything s w.seat p ⊥ c g.all x event g.fair can tt)
         (after_seen events (after_manager_event x event) keep.1
         (event_writes s w.seat p c (held.phases w before between after run sweep sweep_is) (held.good w before between after run sweep sweep_is)
         (held.ground w before between after run) (own_sets w (at_writing w before between))
         (held.owns w before between after run sweep sweep_is) x event keep.0 g can)
         (All-tail (CanBe w.seat) event events all))
 
-    later_seen : SeenBySweeps nothing (at_writing w before between).scene (at_end w before between after).scene
+    later_seen : SeenBySweeps anything (at_writing w before between).scene (at_end w before between after).scene
     later_seen = after_seen after (at_first_steps w before between) run.keep (held.begins w before between after run sweep sweep_is) run.after_can
 
     -- all that happened, to the sweep
