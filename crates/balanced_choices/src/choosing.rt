@@ -8,7 +8,8 @@ ghost use Rattle.balanced_choices.specs.Loads.{lightest};
 ghost use Rattle.balanced_choices.specs.BalancedChoices.{Chosen, choices_in, choose_each, first_choices, in_turn};
 ghost use Rattle.balanced_choices.specs.BalancedChoices.{is_below, near_first, with_choice, without_packets};
 
-use crate::ways::{Change, PORTS, change_way, lightest};
+use crate::loads::PORTS;
+use crate::ways::{Change, change_way, lightest};
 use port_graph::{Adjacency, Edge};
 use std::alloc::{AllocError, Global};
 

@@ -6,7 +6,7 @@ use port_graph::Adjacency;
 use spread_labels::greatest_of;
 
 /// Returns whether no load is over the mean load of the graph's channels by more than an eighth of that.
-pub(crate) fn are_even(graph: &Adjacency, loads: &[usize]) -> bool
+pub fn are_even(graph: &Adjacency, loads: &[usize]) -> bool
     ensures { result ≡ are_even graph.now loads.now }
 {
     let mean = mean(sum(loads), count_edges(graph));

@@ -5,7 +5,10 @@
 mod choosing;
 mod evenness;
 pub mod laws;
+mod loads;
 mod rounds;
 mod ways;
 
+pub use evenness::are_even;
+pub use loads::{PORTS, no_loads};
 pub use rounds::{Destination, balanced_choices};

@@ -7,7 +7,7 @@ ghost use Rattle.balanced_choices.specs.BalancedChoices.{Balance, balanced_choic
 
 use crate::choosing::{choose, near_first};
 use crate::evenness::are_even;
-use crate::ways::PORTS;
+use crate::loads::no_loads;
 use port_graph::{Adjacency, Edge};
 use spread_labels::{CandidateSets, TARGETS, TargetSet};
 use std::alloc::{AllocError, Global};
@@ -87,18 +87,6 @@ fn push_choices(
         choices.push(vec![in alloc; 0; positions]?)?;
     }
     Ok(())
-}
-
-/// Returns a load of 0 for each channel of `positions` positions.
-fn no_loads(alloc: Global, positions: usize) -> Result<Vec<usize>, AllocError>
-    ensures { IfOk result (λ loads. loads.items ≡ replicate (256 * positions) 0) }
-{
-    let none = [0; PORTS];
-    let mut loads = Vec::new(alloc);
-    for _ in 0..positions {
-        loads.extend_from_slice(&none)?;
-    }
-    Ok(loads)
 }
 
 /// Makes the choices of a round for all ends. Makes none if it is not the first one and loads are even.

@@ -4,10 +4,8 @@ ghost use Rattle.port_graph.specs.Heads.{edges_at};
 ghost use Rattle.spread_labels.specs.Levels.{greatest};
 ghost use Rattle.balanced_choices.specs.Loads.{changed, channel_by, edge_taken, lightest, peak, way_from, with_changes};
 
+use crate::loads::PORTS;
 use port_graph::{Adjacency, Edge};
-
-/// The number of channels of a position, one for each port number, and so the greatest number of its candidates.
-pub(crate) const PORTS: usize = 256;
 
 /// How a load changes: by packets that are added, or that are removed.
 #[derive(Clone, Copy)]

@@ -27,22 +27,23 @@ pub earliest_more : (before : ℕ → ℕ → Bool) (xs : List ℕ) (y : ℕ) �
 earliest_more before [] y = refl
 earliest_more before (x ∷ xs) y = ap Some (earliest_then before x xs y)
 
-module _ (before : ℕ → ℕ → Bool) (test : ℕ → Bool) (n : ℕ) where
-  grown : filter test (numbers_from 0 (n + 1)) ≡ filter test (numbers_from 0 n) ++ cond (test n) (n ∷ []) []
-  grown =
-      let is : 0 + n ≡ n = omega arith in
-      ap (filter test) (ap (numbers_from 0) (add-one n) ∙ numbers_more 0 n ∙ ap (λ x. numbers_from 0 n ++ x ∷ []) is)
-      ∙ filter_more test (numbers_from 0 n) n
+-- one number more that passes a test or not
+pub filter_grown : (test : ℕ → Bool) (n : ℕ) → filter test (numbers_from 0 (n + 1)) ≡ filter test (numbers_from 0 n) ++ cond (test n) (n ∷ []) []
+filter_grown test n =
+    let is : 0 + n ≡ n = omega arith in
+    ap (filter test) (ap (numbers_from 0) (add-one n) ∙ numbers_more 0 n ∙ ap (λ x. numbers_from 0 n ++ x ∷ []) is)
+    ∙ filter_more test (numbers_from 0 n) n
 
+module _ (before : ℕ → ℕ → Bool) (test : ℕ → Bool) (n : ℕ) where
   -- one more number that passes, or does not
   pub earliest_passing : test n ≡ true
       → earliest_of before (filter test (numbers_from 0 (n + 1))) ≡ Some (earlier_of before (earliest_of before (filter test (numbers_from 0 n))) n)
-  earliest_passing is = ap (earliest_of before) (grown ∙ ap (λ b. filter test (numbers_from 0 n) ++ cond b (n ∷ []) []) is)
+  earliest_passing is = ap (earliest_of before) (filter_grown test n ∙ ap (λ b. filter test (numbers_from 0 n) ++ cond b (n ∷ []) []) is)
       ∙ earliest_more before (filter test (numbers_from 0 n)) n
 
   pub earliest_failing : test n ≡ false → earliest_of before (filter test (numbers_from 0 (n + 1))) ≡ earliest_of before (filter test (numbers_from 0 n))
   earliest_failing is =
-      ap (earliest_of before) (grown ∙ ap (λ b. filter test (numbers_from 0 n) ++ cond b (n ∷ []) []) is ∙ append-nil (filter test (numbers_from 0 n)))
+      ap (earliest_of before) (filter_grown test n ∙ ap (λ b. filter test (numbers_from 0 n) ++ cond b (n ∷ []) []) is ∙ append-nil (filter test (numbers_from 0 n)))
 
 -- one more vertex at the stage, or at another
 pub earliest_with : (before : ℕ → ℕ → Bool) (stages : List Stage) (stage : Stage) (n : ℕ) → is_stage (stage_at stages n) stage ≡ true

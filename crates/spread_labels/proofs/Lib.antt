@@ -11,6 +11,7 @@ pub mod Following
 pub mod Rising
 pub mod Growing
 pub mod Earlier
+pub mod LeafVertices
 pub mod Numbers
 pub mod FromFirst
 pub mod Widths

@@ -9,6 +9,7 @@ pub mod DistanceClasses
 pub mod Stages
 pub mod Firsts
 pub mod Levels
+pub mod LeafVertices
 pub mod Positions
 pub mod Sides
 pub mod EveryPair

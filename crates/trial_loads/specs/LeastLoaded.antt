@@ -1,5 +1,5 @@
 -- The order of the least trial load, among those that are tried.
-use Rattle.std.specs.Prelude.{ℕ, min, nat_lt, List, [], ◌∷◌, ◌++◌, map, length, if◌then◌else◌}
+use Rattle.std.specs.Prelude.{ℕ, Bool, min, nat_lt, List, [], ◌∷◌, ◌++◌, map, length, if◌then◌else◌}
 use Rattle.port_graph.specs.declared.edge.Edge.{Edge}
 use Rattle.spread_labels.specs.declared.vertex_key.VertexKey.{VertexKey}
 use Rattle.spread_labels.specs.Keys.{before_by}
@@ -7,7 +7,8 @@ use Rattle.spread_labels.specs.Orders.{numbers_from, position_of}
 use Rattle.depth_orders.specs.declared.direction.Direction.{Direction}
 use Rattle.depth_orders.specs.declared.direction.Direction.TheVariants.{Forwards, Backwards}
 use Rattle.depth_orders.specs.DepthOrders.{order_by_depth, turned}
-use Rattle.trial_loads.specs.TrialLoads.{trial_load}
+use Rattle.balanced_choices.specs.BalancedChoices.{are_even}
+use Rattle.trial_loads.specs.TrialLoads.{trial_load, trial_loads}
 
 -- the key of vertex s by a list: how many vertices stand before it there
 abbrev pub key_in : List ℕ → ℕ → VertexKey
@@ -30,8 +31,14 @@ abbrev pub least_by : (List VertexKey → ℕ) → List VertexKey → List (List
 least_by load keys [] = keys
 least_by load keys (other ∷ others) = least_by load (if nat_lt (load other) (load keys) then other else keys) others
 
--- the first whose trial load is least: the keys themselves, those by depth, and those by depth backwards
+-- whether the trial loads of the keys are even
+abbrev pub is_even : List (List Edge) → List ℕ → List VertexKey → Bool
+is_even edges adapters keys = are_even edges (trial_loads edges adapters keys)
+
+-- the keys themselves if their trial loads are even; otherwise the first whose trial load is least, of these, those by
+-- depth, and those by depth backwards
 unfoldable pub least_loaded_keys : List (List Edge) → List ℕ → List VertexKey → List VertexKey
-least_loaded_keys edges bearing keys =
-    least_by (trial_load edges bearing) keys
+least_loaded_keys edges adapters keys =
+    if is_even edges adapters keys then keys
+    else least_by (trial_load edges adapters) keys
     (tried_by_depth edges keys Forwards ++ tried_by_depth edges keys Backwards)

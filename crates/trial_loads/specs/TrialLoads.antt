@@ -1,5 +1,5 @@
--- The trial load of an order: packets go from each of some vertices to each of them, and each vertex on their way
--- shares what it has evenly over its candidates. The load is how many the channel carries that carries most.
+-- The trial loads of an order: packets go from each adapter to each adapter, and each vertex on their way shares what it
+-- has evenly over its candidates.
 use Rattle.std.specs.Prelude.{◌≡◌, ◌<◌, ℕ, zero, suc, Bool, not, ◌+◌, ◌-◌, ◌*◌, ◌/◌, ◌^◌, min}
 use Rattle.std.specs.Prelude.{List, [], ◌∷◌, ◌++◌, map, filter, length, replicate, slice_index, slice_set}
 use Rattle.port_graph.specs.declared.edge.Edge.{Edge}
@@ -8,14 +8,12 @@ use Rattle.spread_labels.specs.declared.target_set.TargetSet.{TargetSet}
 use Rattle.spread_labels.specs.declared.vertex_key.VertexKey.{VertexKey}
 use Rattle.spread_labels.specs.Keys.{before_by}
 use Rattle.spread_labels.specs.Labels.{candidates, leads_up}
+use Rattle.spread_labels.specs.LeafVertices.{leaf_vertices}
 use Rattle.spread_labels.specs.Levels.{greatest}
 use Rattle.spread_labels.specs.MarkSets.{picked, set_at, sets_at}
-use Rattle.spread_labels.specs.Orders.{by_position, numbers_from, order, position_of}
+use Rattle.spread_labels.specs.Orders.{by_position, numbers_from, order}
 use Rattle.spread_labels.specs.TargetSets.{EachTarget, has}
-
--- the number of the channel by which edge e leaves vertex s
-abbrev pub channel_by : ℕ → Edge → ℕ
-channel_by s e = 256 * s + e.port
+use Rattle.balanced_choices.specs.Loads.{channel_by}
 
 -- the numbers, with `more` added at each of these indices; a number stops at 2^64 - 1
 abbrev pub with_more : ℕ → List ℕ → List ℕ → List ℕ
@@ -60,30 +58,36 @@ abbrev pub in_turn : (ℕ → List Edge) → ℕ → List ℕ
 in_turn towards n =
     filter (goes_up towards) (last_first n) ++ filter (λ s. not (goes_up towards s)) (numbers_from 0 n)
 
--- what n vertices start with: each source has 65,536 packets
-abbrev pub first_had : List ℕ → ℕ → List ℕ
-first_had sources n = with_more 65536 (replicate n 0) sources
+-- what vertices start with towards `to` adapters: 65,536 packets from each adapter to each; `adapters` has how many each
+-- vertex has
+abbrev pub first_had : ℕ → List ℕ → List ℕ
+first_had to adapters = map (λ from. 65536 * from * to) adapters
 
--- what the channels of n vertices carry, with the packets from all sources to one target more
+-- what the channels of n vertices carry when these packets have gone to one target, too
 abbrev pub carried_to : (ℕ → List Edge) → ℕ → List ℕ → List ℕ → List ℕ
-carried_to towards n sources carried =
-    (shared towards (in_turn towards n) (record { had = first_had sources n; carried = carried })).carried
+carried_to towards n had carried = (shared towards (in_turn towards n) (record { had = had; carried = carried })).carried
 
--- the same, with the packets to each target of the list
+-- what they carry when the packets have gone to the adapters of each target of the list, too
 abbrev pub carried_between : List (List Edge) → List ℕ → List ℕ → List ℕ → List ℕ
-carried_between graph sources carried [] = carried
-carried_between graph sources carried (t ∷ ts) =
-    carried_between graph sources (carried_to (candidates graph t) (length graph) sources carried) ts
+carried_between graph adapters carried [] = carried
+carried_between graph adapters carried (t ∷ ts) =
+    carried_between graph adapters
+    (carried_to (candidates graph t) (length graph) (first_had (slice_index adapters t) adapters) carried) ts
 
--- the most that a channel carries of the packets from all sources to all of them
-abbrev pub load_by : List (List Edge) → List ℕ → ℕ
-load_by graph sources = greatest 0 (carried_between graph sources (replicate (256 * length graph) 0) sources)
+-- what each channel carries of the packets between all adapters
+abbrev pub loads_by : List (List Edge) → List ℕ → List ℕ
+loads_by graph adapters =
+    carried_between graph adapters (replicate (256 * length graph) 0) (leaf_vertices adapters)
 
--- the trial load of the order that grows by these keys
-unfoldable pub trial_load : List (List Edge) → List ℕ → List VertexKey → ℕ
-trial_load edges bearing keys =
+-- the trial loads of the order that grows by these keys
+unfoldable pub trial_loads : List (List Edge) → List ℕ → List VertexKey → List ℕ
+trial_loads edges adapters keys =
     let vertices = order edges (before_by keys) in
-    load_by (by_position edges vertices) (map (position_of vertices) bearing)
+    loads_by (by_position edges vertices) (map (slice_index adapters) vertices)
+
+-- how many the channel carries that carries most
+abbrev pub trial_load : List (List Edge) → List ℕ → List VertexKey → ℕ
+trial_load edges adapters keys = greatest 0 (trial_loads edges adapters keys)
 
 -- how candidates are found: ----------------------------------------------------------------------------
 

@@ -5,10 +5,11 @@ ghost use Rattle.spread_labels.specs.LabelLaws.{IsSymmetric};
 ghost use Rattle.trial_loads.specs.LeastLoaded.{keys_by_depth, keys_in, least_by, least_loaded_keys, tried_by_depth};
 ghost use Rattle.trial_loads.specs.TrialLoads.{trial_load};
 
-use crate::trials::trial_load;
+use crate::trials::{trial_load, trial_loads};
+use balanced_choices::are_even;
 use depth_orders::{Direction, order_by_depth};
 use port_graph::Adjacency;
-use spread_labels::{VertexKey, position_of};
+use spread_labels::{VertexKey, greatest_of, position_of};
 use std::alloc::{AllocError, Global};
 
 /// The greatest number of vertices from which orders by depth are tried.
@@ -21,24 +22,33 @@ struct Trial {
     load: usize,
 }
 
-/// Returns the keys of the order whose trial load between the vertices `bearing` is least: `keys` themselves, or those
-/// by an order by depth from one of the first eight vertices, forwards or backwards. Of equals the first counts. Takes
-/// 17 trials at most.
+/// Returns `keys` if the trial loads of the order that grows by them are even. Otherwise returns the keys of the order
+/// whose trial load is least: `keys` themselves, or those by an order by depth from one of the first eight vertices,
+/// forwards or backwards; the first of equals. `adapters` has the number of adapters at each vertex. Takes 17 trials at
+/// most.
 pub fn least_loaded_keys(
     alloc: Global,
     edges: &Adjacency,
-    bearing: &[usize],
+    adapters: &[u16],
     keys: &[VertexKey],
 ) -> Result<Vec<VertexKey>, AllocError>
     requires keys { length keys.now ≡ length edges.now }
     requires lead { LeadToVertices edges.now }
     requires symmetric { IsSymmetric edges.now }
-    requires bearing { All (λ vertex. vertex < length edges.now) bearing.now }
-    ensures { IfOk result (λ found. found.items ≡ least_loaded_keys edges.now bearing.now keys.now) }
+    requires adapters { length adapters.now ≡ length edges.now }
+    ensures { IfOk result (λ found. found.items ≡ least_loaded_keys edges.now adapters.now keys.now) }
 {
-    let first = trial_of(alloc, edges, bearing, Vec::from_slice(alloc, keys)?)?;
-    let best = try_by_depth(alloc, edges, bearing, keys, Direction::Forwards, first)?;
-    let best = try_by_depth(alloc, edges, bearing, keys, Direction::Backwards, best)?;
+    let keys_tried = Vec::from_slice(alloc, keys)?;
+    let loads = trial_loads(alloc, edges, adapters, keys)?;
+    if are_even(edges, &loads) {
+        return Ok(keys_tried);
+    }
+    let first = Trial {
+        keys: keys_tried,
+        load: greatest_of(&loads),
+    };
+    let best = try_by_depth(alloc, edges, adapters, keys, Direction::Forwards, first)?;
+    let best = try_by_depth(alloc, edges, adapters, keys, Direction::Backwards, best)?;
     Ok(best.keys)
 }
 
@@ -46,7 +56,7 @@ pub fn least_loaded_keys(
 fn try_by_depth(
     alloc: Global,
     edges: &Adjacency,
-    bearing: &[usize],
+    adapters: &[u16],
     keys: &[VertexKey],
     direction: Direction,
     first: Trial,
@@ -54,16 +64,16 @@ fn try_by_depth(
     requires keys { length keys.now ≡ length edges.now }
     requires lead { LeadToVertices edges.now }
     requires symmetric { IsSymmetric edges.now }
-    requires bearing { All (λ vertex. vertex < length edges.now) bearing.now }
-    requires first { first.load ≡ trial_load edges.now bearing.now first.keys.items }
-    ensures keys { IfOk result (λ best. best.keys.items ≡ least_by (trial_load edges.now bearing.now)
+    requires adapters { length adapters.now ≡ length edges.now }
+    requires first { first.load ≡ trial_load edges.now adapters.now first.keys.items }
+    ensures keys { IfOk result (λ best. best.keys.items ≡ least_by (trial_load edges.now adapters.now)
         first.keys.items (tried_by_depth edges.now keys.now direction)) }
-    ensures load { IfOk result (λ best. best.load ≡ trial_load edges.now bearing.now best.keys.items) }
+    ensures load { IfOk result (λ best. best.load ≡ trial_load edges.now adapters.now best.keys.items) }
 {
     let mut best = first;
     for root in 0..edges.len().min(TRIED) {
         let tried = keys_by_depth(alloc, edges, keys, direction, root)?;
-        let other = trial_of(alloc, edges, bearing, tried)?;
+        let other = trial_of(alloc, edges, adapters, tried)?;
         best = lesser(best, other);
     }
     Ok(best)
@@ -73,17 +83,17 @@ fn try_by_depth(
 fn trial_of(
     alloc: Global,
     edges: &Adjacency,
-    bearing: &[usize],
+    adapters: &[u16],
     keys: Vec<VertexKey>,
 ) -> Result<Trial, AllocError>
     requires keys { length keys.items ≡ length edges.now }
     requires lead { LeadToVertices edges.now }
     requires symmetric { IsSymmetric edges.now }
-    requires bearing { All (λ vertex. vertex < length edges.now) bearing.now }
+    requires adapters { length adapters.now ≡ length edges.now }
     ensures keys { IfOk result (λ found. found.keys.items ≡ keys.items) }
-    ensures load { IfOk result (λ found. found.load ≡ trial_load edges.now bearing.now keys.items) }
+    ensures load { IfOk result (λ found. found.load ≡ trial_load edges.now adapters.now keys.items) }
 {
-    let load = trial_load(alloc, edges, bearing, &keys)?;
+    let load = trial_load(alloc, edges, adapters, &keys)?;
     Ok(Trial { keys, load })
 }
 

@@ -3,10 +3,8 @@
 
 pub mod laws;
 mod least_loaded;
-mod loads;
 mod shares;
 mod trials;
 mod upward;
 
 pub use least_loaded::least_loaded_keys;
-pub use trials::trial_load;

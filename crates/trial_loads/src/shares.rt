@@ -7,47 +7,47 @@ ghost use Rattle.spread_labels.specs.TargetSets.{has};
 ghost use Rattle.trial_loads.specs.TrialLoads.{AreUpward, candidates_in, carried_between, carried_to};
 ghost use Rattle.trial_loads.specs.TrialLoads.{first_had, goes_up, last_first, shared, with_shares};
 
-use crate::loads::PORTS;
 use crate::upward::upward;
+use balanced_choices::PORTS;
 use port_graph::{Adjacency, Edge};
 use spread_labels::{CandidateSets, TargetSet};
 use std::alloc::{AllocError, Global};
 
-/// The number of packets that each source has for each target.
+/// The number of packets from each adapter to each.
 const PACKETS: usize = 65_536;
 
-/// Adds to `loads` what each channel carries of the packets from each source to each target. There are at most 64
-/// targets.
+/// Adds to `loads` what each channel carries of the packets from all adapters to those at each target. There are at most
+/// 64 targets.
 pub(crate) fn add_packets_between(
     alloc: Global,
     graph: &Adjacency,
-    sources: &[usize],
+    adapters: &[u16],
     targets: &[usize],
     loads: &mut [usize],
 ) -> Result<(), AllocError>
     requires lead { LeadToVertices graph.now }
     requires few { length targets.now ≤ 64 }
-    requires sources { All (λ source. source < length graph.now) sources.now }
+    requires adapters { length adapters.now ≡ length graph.now }
     requires targets { All (λ target. target < length graph.now) targets.now }
     requires loads { length loads.old ≡ 256 * length graph.now }
-    ensures { OnOk result (loads.new ≡ carried_between graph.now sources.now loads.old targets.now) }
+    ensures { OnOk result (loads.new ≡ carried_between graph.now adapters.now loads.old targets.now) }
 {
     let sets = CandidateSets::towards(alloc, graph, targets)?;
     let ups = upward(alloc, graph, &sets)?;
     let mut had = vec![in alloc; 0; graph.len()]?;
     for k in 0..targets.len() {
-        add_packets_to(graph, &sets, &ups, k, sources, &mut had, loads);
+        start(adapters, adapters[targets[k]], &mut had);
+        add_packets_to(graph, &sets, &ups, k, &mut had, loads);
     }
     Ok(())
 }
 
-/// Adds to `loads` what each channel carries of the packets from each source to target `k`. Overwrites `had`.
+/// Adds to `loads` what each channel carries when the packets that positions have go to target `k`.
 fn add_packets_to(
     graph: &Adjacency,
     sets: &CandidateSets,
     ups: &[TargetSet],
     k: usize,
-    sources: &[usize],
     had: &mut [usize],
     loads: &mut [usize],
 )
@@ -55,25 +55,22 @@ fn add_packets_to(
     requires target { k < 64 }
     requires rows { AreRowsOf graph.now sets.now }
     requires ups { AreUpward graph.now sets.now ups.now }
-    requires sources { All (λ source. source < length graph.now) sources.now }
     requires had { length had.old ≡ length graph.now }
     requires loads { length loads.old ≡ 256 * length graph.now }
     ensures { loads.new
-        ≡ carried_to (candidates_in graph.now sets.now k) (length graph.now) sources.now loads.old }
+        ≡ carried_to (candidates_in graph.now sets.now k) (length graph.now) had.old loads.old }
 {
-    start(sources, had);
     share_up(graph, sets, ups, k, had, loads);
     share_down(graph, sets, ups, k, had, loads);
 }
 
-/// Sets what positions start with: each source has `PACKETS`, others have none.
-fn start(sources: &[usize], had: &mut [usize])
-    requires { All (λ source. source < length had.old) sources.now }
-    ensures { had.new ≡ first_had sources.now (length had.old) }
+/// Sets what positions start with towards `to` adapters: `PACKETS` from each adapter to each.
+fn start(adapters: &[u16], to: u16, had: &mut [usize])
+    requires { length adapters.now ≡ length had.old }
+    ensures { had.new ≡ first_had to adapters.now }
 {
-    had.fill(0);
-    for source in sources {
-        had[*source] = had[*source].saturating_add(PACKETS);
+    for (position, from) in adapters.iter().enumerate() {
+        had[position] = PACKETS * usize::from(*from) * usize::from(to);
     }
 }
 

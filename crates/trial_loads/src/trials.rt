@@ -2,66 +2,81 @@
 ghost use Rattle.std.specs.Prelude.{◌≡◌, ◌<◌, ◌*◌, All, IfOk, length, map, replicate, slice_index};
 ghost use Rattle.port_graph.specs.Heads.{LeadToVertices};
 ghost use Rattle.spread_labels.specs.LabelLaws.{IsSymmetric};
-ghost use Rattle.spread_labels.specs.Orders.{position_of};
-ghost use Rattle.trial_loads.specs.TrialLoads.{carried_between, load_by, trial_load};
+ghost use Rattle.trial_loads.specs.TrialLoads.{loads_by, trial_load, trial_loads};
 
-use crate::loads::no_loads;
 use crate::shares::add_packets_between;
+use balanced_choices::no_loads;
 use port_graph::Adjacency;
 use spread_labels::{
-    TARGETS, VertexKey, by_positions, greatest_of, grown_order, positions, positions_at,
+    TARGETS, VertexKey, by_positions, greatest_of, grown_order, leaf_vertices, positions,
 };
 use std::alloc::{AllocError, Global};
 
-/// Returns the most that a channel carries by the order that grows by `keys`, if each vertex of `bearing` sends 65,536
-/// packets to each of them, and each vertex on their way shares what it has evenly over its candidates. Takes what
-/// growing the order takes; for each 64 vertices of `bearing` a step or two for each edge in each of as many rounds as
-/// the greatest cost; and for each vertex of `bearing` three steps for each vertex and two for each edge.
+/// Returns the most that a channel carries by the order that grows by `keys`. Takes what `trial_loads` takes.
 pub fn trial_load(
     alloc: Global,
     edges: &Adjacency,
-    bearing: &[usize],
+    adapters: &[u16],
     keys: &[VertexKey],
 ) -> Result<usize, AllocError>
     requires keys { length keys.now ≡ length edges.now }
     requires lead { LeadToVertices edges.now }
     requires symmetric { IsSymmetric edges.now }
-    requires bearing { All (λ vertex. vertex < length edges.now) bearing.now }
-    ensures { IfOk result (λ load. load ≡ trial_load edges.now bearing.now keys.now) }
+    requires adapters { length adapters.now ≡ length edges.now }
+    ensures { IfOk result (λ load. load ≡ trial_load edges.now adapters.now keys.now) }
+{
+    let loads = trial_loads(alloc, edges, adapters, keys)?;
+    Ok(greatest_of(&loads))
+}
+
+/// Returns what each channel carries by the order that grows by `keys`, if each adapter sends 65,536 packets to each
+/// adapter, and each vertex on their way shares what it has evenly over its candidates. `adapters` has the number of
+/// adapters at each vertex. Takes what growing the order takes; for each 64 vertices that have adapters a step or two
+/// for each edge in each of as many rounds as the greatest cost; and for each of them three steps for each vertex and
+/// two for each edge.
+pub(crate) fn trial_loads(
+    alloc: Global,
+    edges: &Adjacency,
+    adapters: &[u16],
+    keys: &[VertexKey],
+) -> Result<Vec<usize>, AllocError>
+    requires keys { length keys.now ≡ length edges.now }
+    requires lead { LeadToVertices edges.now }
+    requires symmetric { IsSymmetric edges.now }
+    requires adapters { length adapters.now ≡ length edges.now }
+    ensures { IfOk result (λ loads. loads.items ≡ trial_loads edges.now adapters.now keys.now) }
 {
     let vertices = grown_order(alloc, edges, keys)?;
     let positions = positions(alloc, &vertices, edges.len())?;
     let graph = by_positions(alloc, edges, &vertices, &positions)?;
-    let sources = positions_at(alloc, &positions, bearing)?;
-    load_between(alloc, &graph, &sources)
+    let adapters = counts_at(alloc, adapters, &vertices)?;
+    loads_by(alloc, &graph, &adapters)
 }
 
-/// Returns the most that a channel carries of the packets from all sources to all of them.
-fn load_between(alloc: Global, graph: &Adjacency, sources: &[usize]) -> Result<usize, AllocError>
-    requires lead { LeadToVertices graph.now }
-    requires sources { All (λ source. source < length graph.now) sources.now }
-    ensures { IfOk result (λ load. load ≡ load_by graph.now sources.now) }
+/// Returns the numbers of adapters at these vertices.
+fn counts_at(alloc: Global, adapters: &[u16], vertices: &[usize]) -> Result<Vec<u16>, AllocError>
+    requires { All (λ vertex. vertex < length adapters.now) vertices.now }
+    ensures { IfOk result (λ found. found.items ≡ map (slice_index adapters.now) vertices.now) }
 {
-    let loads = loads_between(alloc, graph, sources)?;
-    Ok(greatest_of(&loads))
+    let mut found = Vec::with_capacity(alloc, vertices.len())?;
+    for vertex in vertices {
+        found.push(adapters[*vertex])?;
+    }
+    Ok(found)
 }
 
-/// Returns what each channel carries. Counts the packets to 64 targets at a time.
-fn loads_between(
-    alloc: Global,
-    graph: &Adjacency,
-    sources: &[usize],
-) -> Result<Vec<usize>, AllocError>
+/// Returns what each channel carries of the packets between all adapters. Counts the packets to 64 targets at a time.
+fn loads_by(alloc: Global, graph: &Adjacency, adapters: &[u16]) -> Result<Vec<usize>, AllocError>
     requires lead { LeadToVertices graph.now }
-    requires sources { All (λ source. source < length graph.now) sources.now }
-    ensures { IfOk result (λ loads. loads.items
-        ≡ carried_between graph.now sources.now (replicate (256 * length graph.now) 0) sources.now) }
+    requires adapters { length adapters.now ≡ length graph.now }
+    ensures { IfOk result (λ loads. loads.items ≡ loads_by graph.now adapters.now) }
 {
+    let targets = leaf_vertices(alloc, adapters)?;
     let mut loads = no_loads(alloc, graph.len())?;
     let mut first = 0;
-    while first < sources.len() {
-        let end = first + TARGETS.min(sources.len() - first);
-        add_packets_between(alloc, graph, sources, &sources[first..end], &mut loads)?;
+    while first < targets.len() {
+        let end = first + TARGETS.min(targets.len() - first);
+        add_packets_between(alloc, graph, adapters, &targets[first..end], &mut loads)?;
         first = end;
     }
     Ok(loads)

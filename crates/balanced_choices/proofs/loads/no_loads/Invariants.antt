@@ -1,5 +1,5 @@
 use Rattle.std.proofs.Common.{◌≡◌, ◌*◌, replicate}
-use Rattle.balanced_choices.proofs.rounds.no_loads.Given as goal
+use Rattle.balanced_choices.proofs.loads.no_loads.Given as goal
 
 -- those of the positions so far
 abbrev pub invariant-loop : goal.invariant-loop

@@ -1,6 +1,6 @@
 use Rattle.std.proofs.Common.{◌≡◌, ◌+◌, ◌*◌, ◌++◌, ℕ, List, replicate, ap, ◌∙◌, arith}
 use Rattle.std.proofs.lemmas.List.{replicate-append-replicate}
-use Rattle.trial_loads.proofs.loads.no_loads.Goals as goal
+use Rattle.balanced_choices.proofs.loads.no_loads.Goals as goal
 
 pub loop-preserved : goal.loop-preserved
 loop-preserved c =

@@ -4,10 +4,10 @@ ghost use Rattle.std.specs.Prelude.{◌≡◌, ◌*◌, IfOk, replicate};
 use std::alloc::{AllocError, Global};
 
 /// The number of channels of a vertex, one for each port number.
-pub(crate) const PORTS: usize = 256;
+pub const PORTS: usize = 256;
 
 /// Returns a load of 0 for each channel of `vertices` vertices.
-pub(crate) fn no_loads(alloc: Global, vertices: usize) -> Result<Vec<usize>, AllocError>
+pub fn no_loads(alloc: Global, vertices: usize) -> Result<Vec<usize>, AllocError>
     ensures { IfOk result (λ loads. loads.items ≡ replicate (256 * vertices) 0) }
 {
     let none = [0; PORTS];

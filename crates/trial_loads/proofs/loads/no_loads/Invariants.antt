@@ -1,6 +1,0 @@
-use Rattle.std.proofs.Common.{◌≡◌, ◌*◌, replicate}
-use Rattle.trial_loads.proofs.loads.no_loads.Given as goal
-
--- those of the vertices so far
-abbrev pub invariant-loop : goal.invariant-loop
-invariant-loop l = l.loads.items ≡ replicate (256 * l.counter) 0
