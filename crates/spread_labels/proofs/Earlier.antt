@@ -1,5 +1,6 @@
 -- The earliest of vertices, one after the other.
-use Rattle.std.proofs.Common.{◌≡◌, ◌+◌, ℕ, zero, suc, List, [], ◌∷◌, ◌++◌, refl, ap, ◌∙◌, arith, add-one, append-nil, true, false, Bool, cond}
+use Rattle.std.proofs.Common.{◌≡◌, ◌+◌, ℕ, zero, suc, List, [], ◌∷◌, ◌++◌, refl, ap, ◌∙◌, arith, add-one, append-nil, true, false, Bool, cond, map}
+use Rattle.std.proofs.lemmas.List.{map-append}
 use Rattle.std.specs.Prelude.{◌<◌, MatchOption, Option, None, Some, filter}
 use Rattle.spread_labels.specs.declared.growth.Stage.{Stage}
 use Rattle.spread_labels.specs.Orders.{earliest, numbers_from}
@@ -33,6 +34,12 @@ filter_grown test n =
     let is : 0 + n ≡ n = omega arith in
     ap (filter test) (ap (numbers_from 0) (add-one n) ∙ numbers_more 0 n ∙ ap (λ x. numbers_from 0 n ++ x ∷ []) is)
     ∙ filter_more test (numbers_from 0 n) n
+
+-- what is made of one number more
+pub mapped_grown : {X : Type 0} (f : ℕ → X) (n : ℕ) → map f (numbers_from 0 (n + 1)) ≡ map f (numbers_from 0 n) ++ f n ∷ []
+mapped_grown f n =
+    let is : 0 + n ≡ n = omega arith in
+    ap (map f) (ap (numbers_from 0) (add-one n) ∙ numbers_more 0 n ∙ ap (λ x. numbers_from 0 n ++ x ∷ []) is) ∙ map-append f (numbers_from 0 n) (n ∷ [])
 
 module _ (before : ℕ → ℕ → Bool) (test : ℕ → Bool) (n : ℕ) where
   -- one more number that passes, or does not

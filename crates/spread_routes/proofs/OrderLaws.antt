@@ -8,6 +8,7 @@ use Rattle.smp_bytes.proofs.Members.{contains_here, contains_later}
 use Rattle.port_graph.specs.declared.edge.Edge.{Edge}
 use Rattle.spread_labels.specs.declared.vertex_key.VertexKey.{VertexKey}
 use Rattle.spread_labels.specs.Labels.{candidates}
+use Rattle.spread_labels.specs.LeafVertices.{leaf_vertices}
 use Rattle.spread_labels.specs.Levels.{levels_of}
 use Rattle.spread_labels.specs.Candidates.{chosen}
 use Rattle.spread_labels.specs.Ways.{cost, channel_number}
@@ -18,9 +19,9 @@ use Rattle.subnet_view.specs.SwitchEdges.{SwitchEdges}
 use Rattle.subnet_view.specs.Graph.{guids_of}
 use Rattle.subnet_view.specs.GraphLaws.{IsGraph}
 use Rattle.subnet_view.specs.Routing.{Routing}
-use Rattle.spread_routes.specs.EndChoices.{EndChoices, end_choices}
+use Rattle.spread_routes.specs.AdapterChoices.{AdapterChoices, adapter_choices}
 use Rattle.spread_routes.specs.Rule.{by_index, order_by_keys}
-use Rattle.spread_routes.specs.Spread.{OrdersStand, balanced_by, indices_of, keys_by, lid_digit_at, number_by, number_with, spread_at, spread_by, switches_in_order}
+use Rattle.spread_routes.specs.Spread.{OrdersStand, balanced_by, keys_by, lid_digit_at, number_by, number_with, spread_at, spread_by, switches_in_order}
 use Rattle.spread_routes.specs.SwitchOrders.{as_named, balanced_as, from_roots, key_as_named, keys_as_named, least_loaded, switches_by_keys}
 use Rattle.spread_routes.proofs.Indices.{as_many, index_of_switch}
 use Rattle.spread_routes.proofs.Names.{grows}
@@ -86,7 +87,7 @@ module _ (graph : List SwitchEdges) (keys : List VertexKey) (good : IsGraph grap
       ))
 
 -- the rule by an order of indices alone
-module _ (graph : List SwitchEdges) (levels standing : List ℕ) (choices : Option EndChoices) where
+module _ (graph : List SwitchEdges) (levels standing : List ℕ) (choices : Option AdapterChoices) where
   abbrev edges : List (List Edge)
   edges = by_position (by_index graph) standing
 
@@ -112,32 +113,32 @@ module _ (graph : List SwitchEdges) (levels standing : List ℕ) (choices : Opti
   }
 
 -- it hangs on nothing else of the keys
-by_order_alone : (graph : List SwitchEdges) (keys : List VertexKey) (levels : List ℕ) (choices : Option EndChoices)
+by_order_alone : (graph : List SwitchEdges) (keys : List VertexKey) (levels : List ℕ) (choices : Option AdapterChoices)
     → spread_at (record { graph = graph; keys = keys; levels = levels; choices = choices }) ≡ by_standing graph levels (order_by_keys graph keys) choices
 by_order_alone graph keys levels choices = refl
 
 -- nor do the balanced choices
-abbrev choices_in : List SwitchEdges → List ℕ → ℕ → List ℕ → EndChoices
-choices_in graph leaves most standing =
-    end_choices (by_position (by_index graph) standing) (map (position_of standing) (indices_of graph leaves)) most
+abbrev choices_in : List SwitchEdges → List ℕ → List ℕ → AdapterChoices
+choices_in graph adapters standing =
+    adapter_choices (by_position (by_index graph) standing) (map (slice_index adapters) standing)
 
-choices_alone : (graph : List SwitchEdges) (keys : List VertexKey) (leaves : List ℕ) (most : ℕ)
-    → balanced_by graph keys leaves most ≡ choices_in graph leaves most (order_by_keys graph keys)
-choices_alone graph keys leaves most = refl
+choices_alone : (graph : List SwitchEdges) (keys : List VertexKey) (adapters : List ℕ)
+    → balanced_by graph keys adapters ≡ choices_in graph adapters (order_by_keys graph keys)
+choices_alone graph keys adapters = refl
 
-module _ (graph : List SwitchEdges) (leaves : List ℕ) (most : ℕ) (keys : List VertexKey) (good : IsGraph graph) where
+module _ (graph : List SwitchEdges) (adapters : List ℕ) (keys : List VertexKey) (good : IsGraph graph) where
   abbrev levels : List ℕ
-  levels = levels_of (by_index graph) (indices_of graph leaves)
+  levels = levels_of (by_index graph) (leaf_vertices adapters)
 
   same_order : switches_by_keys graph (keys_as_named graph (switches_by_keys graph keys)) ≡ switches_by_keys graph keys
   same_order = ap (map (at_position (guids_of graph))) (stands_again graph keys good)
 
-  same_choices : Some (balanced_by graph (keys_as_named graph (switches_by_keys graph keys)) leaves most) ≡ Some (balanced_by graph keys leaves most)
+  same_choices : Some (balanced_by graph (keys_as_named graph (switches_by_keys graph keys)) adapters) ≡ Some (balanced_by graph keys adapters)
   same_choices =
-      ap Some (choices_alone graph (keys_as_named graph (switches_by_keys graph keys)) leaves most
-      ∙ ap (choices_in graph leaves most) (stands_again graph keys good) ∙ sym (choices_alone graph keys leaves most))
+      ap Some (choices_alone graph (keys_as_named graph (switches_by_keys graph keys)) adapters
+      ∙ ap (choices_in graph adapters) (stands_again graph keys good) ∙ sym (choices_alone graph keys adapters))
 
-  same_routing : (new old : Option EndChoices) → new ≡ old
+  same_routing : (new old : Option AdapterChoices) → new ≡ old
       → spread_at (record { graph = graph; keys = keys_as_named graph (switches_by_keys graph keys); levels = levels; choices = new })
       ≡ spread_at (record { graph = graph; keys = keys; levels = levels; choices = old })
   same_routing new old e =
@@ -146,15 +147,15 @@ module _ (graph : List SwitchEdges) (leaves : List ℕ) (most : ℕ) (keys : Lis
 
 pub orders_stand : OrdersStand
 unfolding spread_by switches_in_order
-orders_stand graph leaves most (from_roots roots) good =
-    let keys = keys_by graph leaves (from_roots roots) in
-    record { order = same_order graph leaves most keys good; routing = same_routing graph leaves most keys good None None refl }
-orders_stand graph leaves most (as_named switches) good =
-    let keys = keys_by graph leaves (as_named switches) in
-    record { order = same_order graph leaves most keys good; routing = same_routing graph leaves most keys good None None refl }
-orders_stand graph leaves most (balanced_as switches) good =
-    let keys = keys_by graph leaves (balanced_as switches) in
-    record { order = same_order graph leaves most keys good; routing = same_routing graph leaves most keys good _ _ (same_choices graph leaves most keys good) }
-orders_stand graph leaves most least_loaded good =
-    let keys = keys_by graph leaves least_loaded in
-    record { order = same_order graph leaves most keys good; routing = same_routing graph leaves most keys good _ _ (same_choices graph leaves most keys good) }
+orders_stand graph adapters (from_roots roots) good =
+    let keys = keys_by graph adapters (from_roots roots) in
+    record { order = same_order graph adapters keys good; routing = same_routing graph adapters keys good None None refl }
+orders_stand graph adapters (as_named switches) good =
+    let keys = keys_by graph adapters (as_named switches) in
+    record { order = same_order graph adapters keys good; routing = same_routing graph adapters keys good None None refl }
+orders_stand graph adapters (balanced_as switches) good =
+    let keys = keys_by graph adapters (balanced_as switches) in
+    record { order = same_order graph adapters keys good; routing = same_routing graph adapters keys good _ _ (same_choices graph adapters keys good) }
+orders_stand graph adapters least_loaded good =
+    let keys = keys_by graph adapters least_loaded in
+    record { order = same_order graph adapters keys good; routing = same_routing graph adapters keys good _ _ (same_choices graph adapters keys good) }

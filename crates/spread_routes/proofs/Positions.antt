@@ -17,7 +17,7 @@ use Rattle.spread_labels.proofs.Growing.{contains_at}
 use Rattle.spread_labels.specs.declared.vertex_key.VertexKey.{VertexKey}
 use Rattle.spread_labels.specs.Positions.{ArePositions, StandOnce}
 use Rattle.spread_routes.specs.declared.lid_digit.LidDigit.{LidDigit}
-use Rattle.spread_routes.specs.EndChoices.{EndChoices}
+use Rattle.spread_routes.specs.AdapterChoices.{AdapterChoices}
 use Rattle.spread_routes.specs.Rule.{by_index, by_positions, order_by_keys}
 use Rattle.spread_routes.specs.Spread.{indices_of, lid_digit_at}
 use Rattle.spread_routes.specs.Tables.{IsByPositions, no_lid_digit}
@@ -119,7 +119,7 @@ module _ (graph : List SwitchEdges) (keys : List VertexKey) (good : IsGraph grap
       subst (λ (i : ℕ). i < length graph) (get_or_default order k 0 d h) (omega (arith, below, indexed graph))
 
   -- what is held
-  pub by_positions_is : (levels : List ℕ) (choices : Option EndChoices) (edges : List (List Edge)) (positions : List ℕ) (lid_digits : List LidDigit) → edges ≡ by_positions graph keys
+  pub by_positions_is : (levels : List ℕ) (choices : Option AdapterChoices) (edges : List (List Edge)) (positions : List ℕ) (lid_digits : List LidDigit) → edges ≡ by_positions graph keys
       → ArePositions (length (by_index graph)) order positions → lid_digits ≡ map (lid_digit_at graph levels) order
       → IsByPositions (record { graph = graph; keys = keys; levels = levels; choices = choices }) edges positions lid_digits
   by_positions_is levels choices edges positions lid_digits by_position are stand =

@@ -2,10 +2,10 @@
 -- other, so that their LIDs spread over the wires of that neighbour.
 use Rattle.std.specs.Prelude.{ℕ, ◌%◌, ◌^◌, Bool, ◌&&◌, ◌||◌, List, [], ◌∷◌, ◌==◌, filter, length, map, min, nat_lt, slice_index}
 use Rattle.port_graph.specs.declared.edge.Edge.{Edge}
+use Rattle.spread_labels.specs.LeafVertices.{leaf_vertices}
 use Rattle.spread_labels.specs.Orders.{numbers_from}
 use Rattle.subnet_view.specs.SwitchEdges.{SwitchEdges}
 use Rattle.spread_routes.specs.Rule.{by_index}
-use Rattle.spread_routes.specs.Spread.{indices_of}
 
 -- the least of n and the numbers of the list
 abbrev pub least : ℕ → List ℕ → ℕ
@@ -30,7 +30,7 @@ goes_first neighbours a b =
 abbrev pub leaf_number : List ℕ → List ℕ → ℕ → ℕ
 leaf_number neighbours leaves s = length (filter (λ leaf. goes_first neighbours leaf s) leaves) % 2 ^ 16
 
--- the leaf number of each switch, by rising GUID
+-- the leaf number of each switch, by rising GUID, given how many adapters each has
 abbrev pub leaf_numbers : List SwitchEdges → List ℕ → List ℕ
-leaf_numbers graph leaves =
-    map (leaf_number (least_neighbours (by_index graph)) (indices_of graph leaves)) (numbers_from 0 (length graph))
+leaf_numbers graph adapters =
+    map (leaf_number (least_neighbours (by_index graph)) (leaf_vertices adapters)) (numbers_from 0 (length graph))

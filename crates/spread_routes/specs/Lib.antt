@@ -1,7 +1,7 @@
 pub mod Rule
-pub mod LeafSwitches
+pub mod Adapters
 pub mod SwitchOrders
-pub mod EndChoices
+pub mod AdapterChoices
 pub mod Spread
 pub mod LeafNumbers
 pub mod Tables

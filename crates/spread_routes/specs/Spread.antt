@@ -1,5 +1,5 @@
--- The rule, given only the wires, the leaf switches, the most adapters at one of them and what the order grows by: the
--- keys, and which of its edges a LID takes.
+-- The rule, given only the wires, how many adapters each switch has, and what the order grows by: the keys, and which of
+-- its edges a LID takes.
 use Rattle.std.specs.Prelude.{◌≡◌, ℕ, Bool, List, [], map, filter, length, nat_lt, ◌+◌, ◌/◌, ◌%◌, slice_index, if◌then◌else◌}
 use Rattle.std.specs.Prelude.{Option, None, Some}
 use Rattle.std.specs.List.{list_any}
@@ -7,6 +7,7 @@ use Rattle.port_graph.specs.declared.edge.Edge.{Edge}
 use Rattle.spread_labels.specs.declared.vertex_key.VertexKey.{VertexKey}
 use Rattle.spread_labels.specs.DistanceClasses.{distance_classes_of}
 use Rattle.spread_labels.specs.Firsts.{keys_of}
+use Rattle.spread_labels.specs.LeafVertices.{leaf_vertices}
 use Rattle.spread_labels.specs.Levels.{levels_of, digit_weight_of}
 use Rattle.spread_labels.specs.Orders.{at_position, position_of}
 use Rattle.subnet_view.specs.SwitchEdges.{SwitchEdges}
@@ -15,17 +16,17 @@ use Rattle.subnet_view.specs.GraphLaws.{IsGraph}
 use Rattle.subnet_view.specs.Routing.{Routing, IsRouting}
 use Rattle.trial_loads.specs.LeastLoaded.{least_loaded_keys}
 use Rattle.spread_routes.specs.declared.lid_digit.LidDigit.{LidDigit}
-use Rattle.spread_routes.specs.EndChoices.{EndChoices, choice_towards, end_choices}
+use Rattle.spread_routes.specs.AdapterChoices.{AdapterChoices, adapter_choices, choice_towards}
 use Rattle.spread_routes.specs.Rule.{by_index, by_positions, order_by_keys, spread}
 use Rattle.spread_routes.specs.SwitchOrders.{OrderValue, as_named, balanced_as, from_roots, least_loaded, keys_as_named, named_in, switches_by_keys}
 
--- what the rule goes by: the wires, each switch's key and level, by rising GUID, and the choices of ends if loads are
--- balanced
+-- what the rule goes by: the wires, each switch's key and level, by rising GUID, and the choices for adapters if loads
+-- are balanced
 pub record Grading : Type 0 where
   pub graph : List SwitchEdges
   pub keys : List VertexKey
   pub levels : List ℕ
-  pub choices : Option EndChoices
+  pub choices : Option AdapterChoices
 
 -- the level of the switch at position p
 abbrev pub level_there : Grading → ℕ → ℕ
@@ -53,7 +54,7 @@ abbrev pub number_by : LidDigit → Bool → ℕ → ℕ
 number_by lid_digit higher lid = (if higher then lid / lid_digit.digit_weight else lid) + lid_digit.offset
 
 -- the number of a LID at position p towards position q: its choice if loads are balanced, and otherwise this number
-abbrev pub number_with : Option EndChoices → ℕ → ℕ → ℕ → ℕ → ℕ
+abbrev pub number_with : Option AdapterChoices → ℕ → ℕ → ℕ → ℕ → ℕ
 number_with None number lid p q = number
 number_with (Some choices) number lid p q = choice_towards choices lid p q
 
@@ -70,68 +71,69 @@ spread_at by = spread by.graph (record { keys = by.keys; number = number_there b
 abbrev pub indices_of : List SwitchEdges → List ℕ → List ℕ
 indices_of graph guids = filter (λ i. nat_lt i (length graph)) (map (position_of (guids_of graph)) guids)
 
--- the keys of switches, by the distance classes that the leaf switches and the roots give
+-- the keys of switches, by the distance classes that the leaf switches and the roots give; `adapters` has how many
+-- adapters each switch has, by rising GUID
 abbrev pub keys_from_roots : List SwitchEdges → List ℕ → List ℕ → List VertexKey
-keys_from_roots graph leaves roots =
-    keys_of (by_index graph) (distance_classes_of (by_index graph) (indices_of graph leaves) (indices_of graph roots))
+keys_from_roots graph adapters roots =
+    keys_of (by_index graph) (distance_classes_of (by_index graph) (leaf_vertices adapters) (indices_of graph roots))
 
--- the keys whose order has the least trial load between the leaf switches, among those from no roots and those by depth
+-- the keys whose order has the least trial load, among those from no roots and those by depth
 abbrev pub keys_least_loaded : List SwitchEdges → List ℕ → List VertexKey
-keys_least_loaded graph leaves =
-    least_loaded_keys (by_index graph) (indices_of graph leaves) (keys_from_roots graph leaves [])
+keys_least_loaded graph adapters =
+    least_loaded_keys (by_index graph) adapters (keys_from_roots graph adapters [])
 
 -- the keys, by what the order grows by
 abbrev pub keys_by : List SwitchEdges → List ℕ → OrderValue → List VertexKey
-keys_by graph leaves (from_roots roots) = keys_from_roots graph leaves roots
-keys_by graph leaves (as_named switches) = keys_as_named graph switches
-keys_by graph leaves (balanced_as switches) = keys_as_named graph switches
-keys_by graph leaves least_loaded = keys_least_loaded graph leaves
+keys_by graph adapters (from_roots roots) = keys_from_roots graph adapters roots
+keys_by graph adapters (as_named switches) = keys_as_named graph switches
+keys_by graph adapters (balanced_as switches) = keys_as_named graph switches
+keys_by graph adapters least_loaded = keys_least_loaded graph adapters
 
--- the positions of the leaf switches in the order that grows by these keys
-abbrev pub leaf_positions : List SwitchEdges → List VertexKey → List ℕ → List ℕ
-leaf_positions graph keys leaves = map (position_of (order_by_keys graph keys)) (indices_of graph leaves)
+-- how many adapters each position has, in the order that grows by these keys
+abbrev pub adapters_there : List SwitchEdges → List VertexKey → List ℕ → List ℕ
+adapters_there graph keys adapters = map (slice_index adapters) (order_by_keys graph keys)
 
--- the balanced choices in that order, if each leaf switch has `most` ends
-abbrev pub balanced_by : List SwitchEdges → List VertexKey → List ℕ → ℕ → EndChoices
-balanced_by graph keys leaves most = end_choices (by_positions graph keys) (leaf_positions graph keys leaves) most
+-- the balanced choices in that order
+abbrev pub balanced_by : List SwitchEdges → List VertexKey → List ℕ → AdapterChoices
+balanced_by graph keys adapters = adapter_choices (by_positions graph keys) (adapters_there graph keys adapters)
 
--- the choices of ends, if loads are balanced
-abbrev pub choices_by : List SwitchEdges → List VertexKey → List ℕ → ℕ → OrderValue → Option EndChoices
-choices_by graph keys leaves most (from_roots roots) = None
-choices_by graph keys leaves most (as_named switches) = None
-choices_by graph keys leaves most (balanced_as switches) = Some (balanced_by graph keys leaves most)
-choices_by graph keys leaves most least_loaded = Some (balanced_by graph keys leaves most)
+-- the choices for adapters, if loads are balanced
+abbrev pub choices_by : List SwitchEdges → List VertexKey → List ℕ → OrderValue → Option AdapterChoices
+choices_by graph keys adapters (from_roots roots) = None
+choices_by graph keys adapters (as_named switches) = None
+choices_by graph keys adapters (balanced_as switches) = Some (balanced_by graph keys adapters)
+choices_by graph keys adapters least_loaded = Some (balanced_by graph keys adapters)
 
--- what the rule goes by, given the leaf switches, the most adapters at one of them, and the order
-abbrev pub grading_of : List SwitchEdges → List ℕ → ℕ → OrderValue → Grading
-grading_of graph leaves most order =
+-- what the rule goes by, given how many adapters each switch has, and the order
+abbrev pub grading_of : List SwitchEdges → List ℕ → OrderValue → Grading
+grading_of graph adapters order =
     record {
       graph = graph;
-      keys = keys_by graph leaves order;
-      levels = levels_of (by_index graph) (indices_of graph leaves);
-      choices = choices_by graph (keys_by graph leaves order) leaves most order;
+      keys = keys_by graph adapters order;
+      levels = levels_of (by_index graph) (leaf_vertices adapters);
+      choices = choices_by graph (keys_by graph adapters order) adapters order;
     }
 
 -- the whole rule
-unfoldable pub spread_by : List SwitchEdges → List ℕ → ℕ → OrderValue → Routing
-spread_by graph leaves most order = spread_at (grading_of graph leaves most order)
+unfoldable pub spread_by : List SwitchEdges → List ℕ → OrderValue → Routing
+spread_by graph adapters order = spread_at (grading_of graph adapters order)
 
 -- the whole rule is a rule of routing
 abbrev pub SpreadByIsRouting : Type 0
-SpreadByIsRouting = (graph : List SwitchEdges) (leaves : List ℕ) (most : ℕ) (order : OrderValue) → IsGraph graph
-    → IsRouting graph (spread_by graph leaves most order)
+SpreadByIsRouting = (graph : List SwitchEdges) (adapters : List ℕ) (order : OrderValue) → IsGraph graph
+    → IsRouting graph (spread_by graph adapters order)
 
 -- the switches in the order by which the rule goes
 unfoldable pub switches_in_order : List SwitchEdges → List ℕ → OrderValue → List ℕ
-switches_in_order graph leaves order = switches_by_keys graph (keys_by graph leaves order)
+switches_in_order graph adapters order = switches_by_keys graph (keys_by graph adapters order)
 
 -- named in the order by which the rule goes, the switches are in that order again, and packets are routed as before
-pub record OrderStands (graph : List SwitchEdges) (leaves : List ℕ) (most : ℕ) (by : OrderValue) : Type 0 where
-  pub order : switches_in_order graph leaves (named_in by (switches_in_order graph leaves by))
-      ≡ switches_in_order graph leaves by
-  pub routing : spread_by graph leaves most (named_in by (switches_in_order graph leaves by))
-      ≡ spread_by graph leaves most by
+pub record OrderStands (graph : List SwitchEdges) (adapters : List ℕ) (by : OrderValue) : Type 0 where
+  pub order : switches_in_order graph adapters (named_in by (switches_in_order graph adapters by))
+      ≡ switches_in_order graph adapters by
+  pub routing : spread_by graph adapters (named_in by (switches_in_order graph adapters by))
+      ≡ spread_by graph adapters by
 
 abbrev pub OrdersStand : Type 0
-OrdersStand = (graph : List SwitchEdges) (leaves : List ℕ) (most : ℕ) (order : OrderValue) → IsGraph graph
-    → OrderStands graph leaves most order
+OrdersStand = (graph : List SwitchEdges) (adapters : List ℕ) (order : OrderValue) → IsGraph graph
+    → OrderStands graph adapters order

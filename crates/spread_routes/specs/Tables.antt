@@ -11,7 +11,7 @@ use Rattle.subnet_view.specs.GraphLaws.{IsGraph}
 use Rattle.subnet_view.specs.SwitchGraph.{switch_at}
 use Rattle.spread_routes.specs.declared.lid_digit.LidDigit.{LidDigit}
 use Rattle.spread_routes.specs.Rule.{by_positions, order_by_keys}
-use Rattle.spread_routes.specs.EndChoices.{EndChoices}
+use Rattle.spread_routes.specs.AdapterChoices.{AdapterChoices}
 use Rattle.spread_routes.specs.Spread.{Grading, number_by, number_with, lid_digit_there, spread_at}
 
 -- the LID digit of no switch
@@ -45,13 +45,13 @@ pub record AreTowards (by : Grading) (towards : TowardsValue) : Type 0 where
       ≡ candidates (by_positions by.graph by.keys) (position_of (order_by_keys by.graph by.keys) (towards.first + k)) p
 
 -- how packets leave a switch: the ports of its candidates towards each target, the targets for which one of them leads
--- to a higher switch, and the switch's LID digit; the choices of ends if loads are balanced, and the positions of the
+-- to a higher switch, and the switch's LID digit; the choices for adapters if loads are balanced, and the positions of the
 -- switch and of the targets
 pub record ExitsValue : Type 0 where
   pub ports : List (List ℕ)
   pub higher : TargetSet
   pub lid_digit : LidDigit
-  pub choices : Option EndChoices
+  pub choices : Option AdapterChoices
   pub own : ℕ
   pub targets : List ℕ
 

@@ -4,11 +4,11 @@ ghost use Rattle.std.specs.Prelude.{unwrap_or};
 ghost use Rattle.spread_labels.specs.TargetSets.{EachTarget};
 ghost use Rattle.spread_labels.specs.MarkSets.{picked};
 ghost use Rattle.std.specs.Option.{option_copied};
-ghost use Rattle.spread_routes.specs.EndChoices.{choice_towards};
+ghost use Rattle.spread_routes.specs.AdapterChoices.{choice_towards};
 ghost use Rattle.spread_routes.specs.Spread.{number_by};
 ghost use Rattle.spread_routes.specs.Tables.{port_by, port_turn, with_entries};
 
-use crate::end_choices::EndChoices;
+use crate::adapter_choices::AdapterChoices;
 use crate::lid_digit::LidDigit;
 use port_graph::Edge;
 use smp_bytes::{Lid, PortNum};
@@ -24,7 +24,7 @@ pub struct Exits<'s> {
     higher: TargetSet,
     lid_digit: LidDigit,
     /// The choices of ends, if loads are balanced.
-    choices: Option<&'s EndChoices>,
+    choices: Option<&'s AdapterChoices>,
     /// The position of the switch.
     own: usize,
     /// The positions of the targets, and of what stands behind them.
@@ -71,7 +71,7 @@ impl<'s> Exits<'s> {
     /// the positions `targets`.
     pub(crate) fn choose_by(
         &mut self,
-        choices: Option<&'s EndChoices>,
+        choices: Option<&'s AdapterChoices>,
         own: usize,
         targets: &'s [usize],
     )
@@ -164,7 +164,7 @@ fn write_chosen(
     lids: &[Lid],
     numbers: &[u16],
     ports: &[PortNum],
-    choices: &EndChoices,
+    choices: &AdapterChoices,
     own: usize,
     target: usize,
 )

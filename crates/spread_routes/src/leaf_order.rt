@@ -1,27 +1,26 @@
 //! The order of leaf switches in which LIDs take their turns.
 ghost use Rattle.std.specs.Prelude.{◌≡◌, ◌<◌, All, IfOk, filter, length};
-ghost use Rattle.spread_routes.specs.Spread.{indices_of};
 ghost use Rattle.spread_routes.specs.LeafNumbers.{goes_first, leaf_number, leaf_numbers, least_head, least_neighbours};
 
-use crate::index::indices;
 use port_graph::{Adjacency, Edge};
-use smp_bytes::Guid;
+use spread_labels::leaf_vertices;
 use std::alloc::{AllocError, Global};
 use subnet_view::SwitchGraph;
 
 /// Returns the number of each switch among the leaf switches, by rising GUID, counted round at 2^16. Leaf switches with a
-/// common least neighbour come one after the other. Takes a search for each leaf switch, and as many steps for each
-/// switch as there are leaf switches.
+/// common least neighbour come one after the other. `adapters` has the number of adapters at each switch, by rising GUID.
+/// Takes as many steps for each switch as there are leaf switches.
 pub fn leaf_numbers(
     alloc: Global,
     graph: &SwitchGraph,
-    leaves: &[Guid],
+    adapters: &[u16],
 ) -> Result<Vec<u16>, AllocError>
-    ensures { IfOk result (λ numbers. numbers.items ≡ leaf_numbers graph.now leaves.now) }
+    requires { length adapters.now ≡ length graph.now }
+    ensures { IfOk result (λ numbers. numbers.items ≡ leaf_numbers graph.now adapters.now) }
 {
     let edges = graph.adjacency();
     let neighbours = least_neighbours(alloc, edges)?;
-    let leaves = indices(alloc, graph, leaves)?;
+    let leaves = leaf_vertices(alloc, adapters)?;
     let mut numbers = Vec::with_capacity(alloc, graph.len())?;
     for index in 0..graph.len() {
         numbers.push(leaf_number(&neighbours, &leaves, index))?;

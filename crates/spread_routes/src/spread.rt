@@ -1,19 +1,18 @@
-ghost use Rattle.std.specs.Prelude.{◌≡◌, ◌<◌, ◌+◌, IfOk, None, OnOk, Some, drop, length, min};
-ghost use Rattle.spread_routes.specs.Spread.{balanced_by, grading_of};
+ghost use Rattle.std.specs.Prelude.{◌≡◌, ◌<◌, ◌+◌, All, IfOk, None, OnOk, Some};
+ghost use Rattle.std.specs.Prelude.{drop, length, map, min, slice_index};
+ghost use Rattle.spread_routes.specs.AdapterChoices.{adapter_choices};
+ghost use Rattle.spread_routes.specs.Rule.{by_positions, order_by_keys};
+ghost use Rattle.spread_routes.specs.Spread.{grading_of};
 ghost use Rattle.spread_routes.specs.SwitchOrders.{is_balanced, order_value_of};
 ghost use Rattle.spread_routes.specs.Tables.{AreExits, AreTowards};
 
 use crate::SwitchOrder;
-use crate::end_choices::EndChoices;
+use crate::adapter_choices::AdapterChoices;
 use crate::exits::Exits;
-use crate::index::indices;
 use crate::lid_digit::{LidDigit, higher_targets, lid_digits};
 use crate::switch_keys::{SwitchKeys, switch_keys};
 use port_graph::Adjacency;
-use smp_bytes::Guid;
-use spread_labels::{
-    CandidateSets, TARGETS, VertexKey, by_positions, grown_order, positions, positions_at,
-};
+use spread_labels::{CandidateSets, TARGETS, VertexKey, by_positions, grown_order, positions};
 use std::alloc::{AllocError, Global};
 use std::marker::Model;
 use subnet_view::SwitchGraph;
@@ -67,7 +66,7 @@ pub struct Spread<'g> {
     /// The LID digit of the switch at each position.
     lid_digits: Vec<LidDigit>,
     /// The choices of ends, if loads are balanced.
-    choices: Option<EndChoices>,
+    choices: Option<AdapterChoices>,
 }
 
 impl<'g> Model for Spread<'g> {
@@ -89,60 +88,63 @@ impl<'g> Model for Spread<'g> {
 }
 
 impl<'g> Spread<'g> {
-    /// Computes the routes, given the leaf switches, the most adapters at one of them, and what the order of switches
-    /// grows by. Ignores GUIDs that are no switch of the graph. Takes a breadth-first search from each leaf switch and
-    /// each root, two for each component if the order grows from roots, and a search for each switch that is named. If
-    /// loads are balanced, takes what `balanced_choices` takes besides.
+    /// Computes the routes. `adapters` has the number of adapters at each switch, by rising GUID, and `order` says what
+    /// the order of switches grows by. Ignores GUIDs that are no switch of the graph. Takes a breadth-first search from
+    /// each leaf switch and each root, two for each component if the order grows from roots, and a search for each switch
+    /// that is named. If loads are balanced, takes what `balanced_choices` takes besides.
     pub fn of(
         alloc: Global,
         graph: &'g SwitchGraph,
-        leaves: &[Guid],
-        most: usize,
+        adapters: &[u16],
         order: &SwitchOrder,
     ) -> Result<Self, AllocError>
-        ensures { IfOk result (λ spread.
-            spread ≡ grading_of graph.now leaves.now most (order_value_of order.now)) }
+        requires { length adapters.now ≡ length graph.now }
+        ensures { IfOk result (λ spread. spread ≡ grading_of graph.now adapters.now (order_value_of order.now)) }
     {
-        let SwitchKeys { keys, levels } = switch_keys(alloc, graph, leaves, order)?;
-        let spread = Spread::by_keys(alloc, graph, keys, levels)?;
+        let SwitchKeys { keys, levels } = switch_keys(alloc, graph, adapters, order)?;
+        let vertices = grown_order(alloc, graph.adjacency(), &keys)?;
+        let spread = Spread::by_keys(alloc, graph, keys, levels, &vertices)?;
         if order.is_balanced() {
-            spread.balanced(alloc, leaves, most)
+            let adapters = counts_at(alloc, adapters, &vertices)?;
+            spread.balanced(alloc, adapters)
         } else {
             Ok(spread)
         }
     }
 
-    /// Balances the loads of the routes, if each leaf switch has `most` ends.
-    fn balanced(self, alloc: Global, leaves: &[Guid], most: usize) -> Result<Self, AllocError>
-        ensures { IfOk result (λ spread. spread
-            ≡ record self.entry { choices = Some (balanced_by self.entry.graph self.entry.keys leaves.now most) }) }
+    /// Balances the loads of the routes, given the number of adapters at each position.
+    fn balanced(self, alloc: Global, adapters: Vec<u16>) -> Result<Self, AllocError>
+        requires { length adapters.items ≡ length (by_positions self.graph self.keys) }
+        ensures { IfOk result (λ spread. spread ≡ record self.entry {
+          choices = Some (adapter_choices (by_positions self.entry.graph self.entry.keys) adapters.items);
+        }) }
     {
-        let leaves = indices(alloc, self.graph, leaves)?;
-        let leaves = positions_at(alloc, &self.positions, &leaves)?;
-        let choices = EndChoices::of(alloc, &self.edges, leaves, most)?;
+        let choices = AdapterChoices::of(alloc, &self.edges, adapters)?;
         Ok(Spread {
             choices: Some(choices),
             ..self
         })
     }
 
-    /// Computes the routes, given the keys and the levels of switches, if loads are not balanced.
+    /// Computes the routes if loads are not balanced, given the keys and the levels of switches and their indices in
+    /// their order.
     fn by_keys(
         alloc: Global,
         graph: &'g SwitchGraph,
         keys: Vec<VertexKey>,
         levels: Vec<usize>,
+        vertices: &[usize],
     ) -> Result<Self, AllocError>
         requires keys { length keys.items ≡ length graph.now }
         requires levels { length levels.items ≡ length graph.now }
+        requires vertices { vertices.now ≡ order_by_keys graph.now keys.items }
         ensures { IfOk result (λ spread. spread
             ≡ record { graph = graph.now; keys = keys.items; levels = levels.items; choices = None }) }
     {
         let edges = graph.adjacency();
-        let order = grown_order(alloc, edges, &keys)?;
-        let positions = positions(alloc, &order, edges.len())?;
-        let lid_digits = lid_digits(alloc, graph, edges, &levels, &order)?;
-        let edges = by_positions(alloc, edges, &order, &positions)?;
+        let positions = positions(alloc, vertices, edges.len())?;
+        let lid_digits = lid_digits(alloc, graph, edges, &levels, vertices)?;
+        let edges = by_positions(alloc, edges, vertices, &positions)?;
         Ok(Spread {
             graph,
             keys,
@@ -189,6 +191,18 @@ impl<'g> Spread<'g> {
         exits.choose_by(self.choices.as_ref(), position, targets);
         exits.find(lid_digit, higher, edges, sets)
     }
+}
+
+/// Returns the numbers of adapters of the switches at these indices.
+fn counts_at(alloc: Global, adapters: &[u16], indices: &[usize]) -> Result<Vec<u16>, AllocError>
+    requires { All (λ i. i < length adapters.now) indices.now }
+    ensures { IfOk result (λ found. found.items ≡ map (slice_index adapters.now) indices.now) }
+{
+    let mut found = Vec::with_capacity(alloc, indices.len())?;
+    for index in indices {
+        found.push(adapters[*index])?;
+    }
+    Ok(found)
 }
 
 /// Returns what stands in a list from index `first` on.

@@ -1,17 +1,18 @@
 //! What switches are ordered by, and the order that grows by it.
 ghost use Rattle.std.specs.Prelude.{◌≡◌, ◌<◌, All, IfOk, length, map};
 ghost use Rattle.subnet_view.specs.GraphLaws.{IsGraph};
+ghost use Rattle.spread_labels.specs.LeafVertices.{leaf_vertices};
 ghost use Rattle.spread_labels.specs.Levels.{levels_of};
 ghost use Rattle.spread_labels.specs.Orders.{at_position};
 ghost use Rattle.spread_routes.specs.Rule.{by_index};
-ghost use Rattle.spread_routes.specs.Spread.{indices_of, keys_by, keys_from_roots, keys_least_loaded};
+ghost use Rattle.spread_routes.specs.Spread.{keys_by, keys_from_roots, keys_least_loaded};
 ghost use Rattle.spread_routes.specs.Spread.{switches_in_order};
 ghost use Rattle.spread_routes.specs.SwitchOrders.{keys_as_named, order_value_of};
 
 use crate::SwitchOrder;
 use crate::index::indices;
 use smp_bytes::Guid;
-use spread_labels::{Grades, VertexKey, grade, grown_order, keys};
+use spread_labels::{Grades, VertexKey, grade, grown_order, keys, leaf_vertices};
 use std::alloc::{AllocError, Global};
 use subnet_view::SwitchGraph;
 use trial_loads::least_loaded_keys;
@@ -25,18 +26,19 @@ pub(crate) struct SwitchKeys {
     pub(crate) levels: Vec<usize>,
 }
 
-/// Returns the switches of a graph in the order by which the rule goes, given the leaf switches and `order`. Takes what
-/// `Spread::of` takes, except for the edges.
+/// Returns the switches of a graph in the order by which the rule goes. `adapters` has the number of adapters at each
+/// switch, by rising GUID. Takes what `Spread::of` takes, except for the edges.
 pub fn switches_in_order(
     alloc: Global,
     graph: &SwitchGraph,
-    leaves: &[Guid],
+    adapters: &[u16],
     order: &SwitchOrder,
 ) -> Result<Vec<Guid>, AllocError>
+    requires { length adapters.now ≡ length graph.now }
     ensures { IfOk result (λ found.
-        found.items ≡ switches_in_order graph.now leaves.now (order_value_of order.now)) }
+        found.items ≡ switches_in_order graph.now adapters.now (order_value_of order.now)) }
 {
-    let SwitchKeys { keys, levels: _ } = switch_keys(alloc, graph, leaves, order)?;
+    let SwitchKeys { keys, levels: _ } = switch_keys(alloc, graph, adapters, order)?;
     let vertices = grown_order(alloc, graph.adjacency(), &keys)?;
     switches_at(alloc, graph.switches(), &vertices)
 }
@@ -57,19 +59,20 @@ fn switches_at(alloc: Global, guids: &[Guid], indices: &[usize]) -> Result<Vec<G
 pub(crate) fn switch_keys(
     alloc: Global,
     graph: &SwitchGraph,
-    leaves: &[Guid],
+    adapters: &[u16],
     order: &SwitchOrder,
 ) -> Result<SwitchKeys, AllocError>
-    ensures keys { IfOk result (λ found. found.keys.items ≡ keys_by graph.now leaves.now (order_value_of order.now)) }
+    requires { length adapters.now ≡ length graph.now }
+    ensures keys { IfOk result (λ found. found.keys.items ≡ keys_by graph.now adapters.now (order_value_of order.now)) }
     ensures levels { IfOk result (λ found. found.levels.items
-        ≡ levels_of (by_index graph.now) (indices_of graph.now leaves.now)) }
+        ≡ levels_of (by_index graph.now) (leaf_vertices adapters.now)) }
 {
     match order {
-        SwitchOrder::FromRoots { roots } => from_roots(alloc, graph, leaves, roots),
+        SwitchOrder::FromRoots { roots } => from_roots(alloc, graph, adapters, roots),
         SwitchOrder::AsNamed { switches } | SwitchOrder::BalancedAs { switches } => {
-            as_named(alloc, graph, leaves, switches)
+            as_named(alloc, graph, adapters, switches)
         }
-        SwitchOrder::LeastLoaded => least_loaded(alloc, graph, leaves),
+        SwitchOrder::LeastLoaded => least_loaded(alloc, graph, adapters),
     }
 }
 
@@ -77,15 +80,16 @@ pub(crate) fn switch_keys(
 fn from_roots(
     alloc: Global,
     graph: &SwitchGraph,
-    leaves: &[Guid],
+    adapters: &[u16],
     roots: &[Guid],
 ) -> Result<SwitchKeys, AllocError>
-    ensures keys { IfOk result (λ found. found.keys.items ≡ keys_from_roots graph.now leaves.now roots.now) }
+    requires { length adapters.now ≡ length graph.now }
+    ensures keys { IfOk result (λ found. found.keys.items ≡ keys_from_roots graph.now adapters.now roots.now) }
     ensures levels { IfOk result (λ found. found.levels.items
-        ≡ levels_of (by_index graph.now) (indices_of graph.now leaves.now)) }
+        ≡ levels_of (by_index graph.now) (leaf_vertices adapters.now)) }
 {
     let edges = graph.adjacency();
-    let leaves = indices(alloc, graph, leaves)?;
+    let leaves = leaf_vertices(alloc, adapters)?;
     let roots = indices(alloc, graph, roots)?;
     let Grades {
         distance_classes,
@@ -99,15 +103,16 @@ fn from_roots(
 fn as_named(
     alloc: Global,
     graph: &SwitchGraph,
-    leaves: &[Guid],
+    adapters: &[u16],
     switches: &[Guid],
 ) -> Result<SwitchKeys, AllocError>
+    requires { length adapters.now ≡ length graph.now }
     ensures keys { IfOk result (λ found. found.keys.items ≡ keys_as_named graph.now switches.now) }
     ensures levels { IfOk result (λ found. found.levels.items
-        ≡ levels_of (by_index graph.now) (indices_of graph.now leaves.now)) }
+        ≡ levels_of (by_index graph.now) (leaf_vertices adapters.now)) }
 {
     let edges = graph.adjacency();
-    let leaves = indices(alloc, graph, leaves)?;
+    let leaves = leaf_vertices(alloc, adapters)?;
     let Grades {
         distance_classes: _,
         levels,
@@ -120,16 +125,16 @@ fn as_named(
 fn least_loaded(
     alloc: Global,
     graph: &SwitchGraph,
-    leaves: &[Guid],
+    adapters: &[u16],
 ) -> Result<SwitchKeys, AllocError>
-    ensures keys { IfOk result (λ found. found.keys.items ≡ keys_least_loaded graph.now leaves.now) }
+    requires { length adapters.now ≡ length graph.now }
+    ensures keys { IfOk result (λ found. found.keys.items ≡ keys_least_loaded graph.now adapters.now) }
     ensures levels { IfOk result (λ found. found.levels.items
-        ≡ levels_of (by_index graph.now) (indices_of graph.now leaves.now)) }
+        ≡ levels_of (by_index graph.now) (leaf_vertices adapters.now)) }
 {
     let edges = graph.adjacency();
-    let SwitchKeys { keys, levels } = from_roots(alloc, graph, leaves, &[])?;
-    let bearing = indices(alloc, graph, leaves)?;
-    let keys = least_loaded_keys(alloc, edges, &bearing, &keys)?;
+    let SwitchKeys { keys, levels } = from_roots(alloc, graph, adapters, &[])?;
+    let keys = least_loaded_keys(alloc, edges, adapters, &keys)?;
     Ok(SwitchKeys { keys, levels })
 }
 

@@ -1,5 +1,5 @@
 use Rattle.std.proofs.Common.{◌≡◌, drop, get_or, length}
-use Rattle.spread_routes.specs.EndChoices.{choice_towards}
+use Rattle.spread_routes.specs.AdapterChoices.{choice_towards}
 use Rattle.spread_routes.specs.Tables.{port_turn, with_entries}
 use Rattle.spread_routes.proofs.exits.write_chosen.Given as goal
 

@@ -1,17 +1,10 @@
 use Rattle.std.proofs.Common.{◌≡◌, ◌+◌, ◌++◌, ℕ, [], ◌∷◌, sym, ap, ◌∙◌, arith, add-one, length, map}
-use Rattle.std.proofs.lemmas.List.{map-append}
 use Rattle.spread_labels.specs.Orders.{numbers_from}
-use Rattle.spread_labels.proofs.Earlier.{numbers_more}
+use Rattle.spread_labels.proofs.Earlier.{mapped_grown}
 use Rattle.spread_routes.specs.LeafNumbers.{leaf_number, least_neighbours}
 use Rattle.spread_routes.specs.Rule.{by_index}
 use Rattle.spread_routes.proofs.Positions.{edges_are}
 use Rattle.spread_routes.proofs.leaf_order.leaf_numbers.Goals as goal
-
--- one number more
-mapped_more : (f : ℕ → ℕ) (n : ℕ) → map f (numbers_from 0 (n + 1)) ≡ map f (numbers_from 0 n) ++ f n ∷ []
-mapped_more f n =
-    let last : 0 + n ≡ n = omega arith in
-    ap (map f) (ap (numbers_from 0) (add-one n) ∙ numbers_more 0 n ∙ ap (λ x. numbers_from 0 n ++ x ∷ []) last) ∙ map-append f (numbers_from 0 n) (n ∷ [])
 
 pub loop-index-preserved : goal.loop-index-preserved
 loop-index-preserved c =
@@ -19,7 +12,7 @@ loop-index-preserved c =
     let f = leaf_number c.in_ok-neighbours.neighbours.items c.in_ok-leaves.leaves.items in
     let number : c.leaf_number.result ≡ f k =
     c.leaf_number.ensures ∙ (λ i. leaf_number (c.deref.ensures.value i) (c.deref-in-loop-index.ensures.value i) k) in
-    c.in_ok-push.ensures.items ∙ (λ i. c.loop-index.invariant i ++ number i ∷ []) ∙ sym (mapped_more f k)
+    c.in_ok-push.ensures.items ∙ (λ i. c.loop-index.invariant i ++ number i ∷ []) ∙ sym (mapped_grown f k)
 
 pub returns : goal.returns
 returns c =
@@ -28,4 +21,4 @@ returns c =
     let are : edges ≡ by_index graph = edges_are graph c.adjacency-edges.ensures.is_graph edges c.adjacency-edges.ensures.edges in
     let neighbours = c.in_ok-neighbours.ensures ∙ ap least_neighbours are in
     let all : c.loop-index.index ≡ length graph = omega (arith, c.loop-index-test.false, c.loop-index.auto.index-end, c.len-index-end.ensures.count) in
-    c.loop-index.invariant ∙ (λ i. map (leaf_number (neighbours i) (c.in_ok-leaves.ensures.indices i)) (numbers_from 0 (all i)))
+    c.loop-index.invariant ∙ (λ i. map (leaf_number (neighbours i) (c.in_ok-leaves.ensures.vertices i)) (numbers_from 0 (all i)))

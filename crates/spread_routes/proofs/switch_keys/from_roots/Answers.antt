@@ -1,6 +1,7 @@
 use Rattle.std.proofs.Common.{◌≡◌, ap, sym, ◌∙◌, subst, length}
 use Rattle.spread_labels.specs.DistanceClasses.{distance_class_of, distance_classes_of}
 use Rattle.spread_labels.specs.Firsts.{keys_of}
+use Rattle.spread_labels.specs.LeafVertices.{leaf_vertices}
 use Rattle.spread_labels.specs.Levels.{levels_of}
 use Rattle.spread_labels.proofs.Numbers.{numbers_long}
 use Rattle.spread_labels.specs.LabelLaws.{IsSymmetric}
@@ -25,11 +26,11 @@ keys-requires-clause-all c =
 pub returns-clause-keys : goal.returns-clause-keys
 returns-clause-keys c =
     let graph = c.args.graph.now in
-    let leaves = c.args.leaves.now in
+    let adapters = c.args.adapters.now in
     let roots = c.args.roots.now in
     let edges = c.adjacency-edges.result.now in
     let ex : edges ≡ by_index graph = edges_are graph c.adjacency-edges.ensures.is_graph edges c.adjacency-edges.ensures.edges in
-    let b : c.deref.result.now ≡ indices_of graph leaves = c.deref.ensures.value ∙ c.in_ok-leaves.ensures.indices in
+    let b : c.deref.result.now ≡ leaf_vertices adapters = c.deref.ensures.value ∙ c.in_ok-leaves.ensures.vertices in
     let r : c.deref-2.result.now ≡ indices_of graph roots = c.deref-2.ensures.value ∙ c.in_ok-roots.ensures.indices in
     let distance_classes : c.deref-3.result.now ≡ distance_classes_of edges c.deref.result.now c.deref-2.result.now =
     c.deref-3.ensures.value ∙ c.in_ok-distance_classes.ensures.distance_classes in
@@ -38,8 +39,8 @@ returns-clause-keys c =
 pub returns-clause-levels : goal.returns-clause-levels
 returns-clause-levels c =
     let graph = c.args.graph.now in
-    let leaves = c.args.leaves.now in
+    let adapters = c.args.adapters.now in
     let edges = c.adjacency-edges.result.now in
     let ex : edges ≡ by_index graph = edges_are graph c.adjacency-edges.ensures.is_graph edges c.adjacency-edges.ensures.edges in
-    let b : c.deref.result.now ≡ indices_of graph leaves = c.deref.ensures.value ∙ c.in_ok-leaves.ensures.indices in
+    let b : c.deref.result.now ≡ leaf_vertices adapters = c.deref.ensures.value ∙ c.in_ok-leaves.ensures.vertices in
     c.in_ok-distance_classes.ensures.levels ∙ (λ i. levels_of (ex i) (b i))

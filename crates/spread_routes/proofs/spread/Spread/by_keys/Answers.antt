@@ -10,12 +10,6 @@ use Rattle.spread_routes.proofs.Indices.{there_and_back}
 use Rattle.spread_routes.proofs.Positions.{all_stand, are_indices, by_positions_is, edges_are, stand_once}
 use Rattle.spread_routes.proofs.spread.Spread.by_keys.Goals as goal
 
-pub grown_order-requires-clause-symmetric : goal.grown_order-requires-clause-symmetric
-grown_order-requires-clause-symmetric c =
-    let graph = c.args.graph.now in
-    let good = c.adjacency-edges.ensures.is_graph in
-    subst IsSymmetric (sym (edges_are graph good c.adjacency-edges.result.now c.adjacency-edges.ensures.edges)) (there_and_back graph good)
-
 pub lid_digits-requires-clause-edges : goal.lid_digits-requires-clause-edges
 lid_digits-requires-clause-edges c =
     edges_are c.args.graph.now c.adjacency-edges.ensures.is_graph c.adjacency-edges.result.now c.adjacency-edges.ensures.edges
@@ -26,11 +20,8 @@ positions-requires c =
     let good = c.adjacency-edges.ensures.is_graph in
     let by : c.adjacency-edges.result.now ≡ by_index graph = edges_are graph good c.adjacency-edges.result.now c.adjacency-edges.ensures.edges in
     let keys = c.args.keys.items in
-    let is : c.in_ok-order.order.items ≡ order_by_keys graph keys =
-    c.in_ok-order.ensures ∙ (λ i. order (by i) (before_by (c.deref.ensures.value i))) in
-    let list : c.deref-2.result.now ≡ order_by_keys graph keys = c.deref-2.ensures.value ∙ is in
     let count : c.len.result ≡ length (by_index graph) = c.len.ensures ∙ ap length by in
-    subst (λ (x : ℕ × List ℕ). StandOnce x.0 x.1) (λ i. (sym count i, sym list i)) (stand_once graph keys good)
+    subst (λ (x : ℕ × List ℕ). StandOnce x.0 x.1) (λ i. (sym count i, sym c.requires.vertices i)) (stand_once graph keys good)
 
 pub lid_digits-requires-clause-order : goal.lid_digits-requires-clause-order
 lid_digits-requires-clause-order c =
@@ -38,9 +29,7 @@ lid_digits-requires-clause-order c =
     let good = c.adjacency-edges.ensures.is_graph in
     let by : c.adjacency-edges.result.now ≡ by_index graph = edges_are graph good c.adjacency-edges.result.now c.adjacency-edges.ensures.edges in
     let keys = c.args.keys.items in
-    let is : c.in_ok-order.order.items ≡ order_by_keys graph keys =
-    c.in_ok-order.ensures ∙ (λ i. order (by i) (before_by (c.deref.ensures.value i))) in
-    subst (λ (xs : List ℕ). All (λ i. i < length graph) xs) (sym (c.deref-4.ensures.value ∙ is)) (are_indices graph keys good)
+    subst (λ (xs : List ℕ). All (λ i. i < length graph) xs) (sym c.requires.vertices) (are_indices graph keys good)
 
 pub by_positions-requires-clause-all : goal.by_positions-requires-clause-all
 by_positions-requires-clause-all c =
@@ -48,9 +37,7 @@ by_positions-requires-clause-all c =
     let good = c.adjacency-edges.ensures.is_graph in
     let by : c.adjacency-edges.result.now ≡ by_index graph = edges_are graph good c.adjacency-edges.result.now c.adjacency-edges.ensures.edges in
     let keys = c.args.keys.items in
-    let is : c.in_ok-order.order.items ≡ order_by_keys graph keys =
-    c.in_ok-order.ensures ∙ (λ i. order (by i) (before_by (c.deref.ensures.value i))) in
-    λ s h. subst (λ (xs : List ℕ). Contains xs s) (sym (c.deref-5.ensures.value ∙ is))
+    λ s h. subst (λ (xs : List ℕ). Contains xs s) (sym c.requires.vertices)
     (all_stand graph keys good s (omega (arith, h, ap length by)))
 
 pub invariant_of-result : goal.invariant_of-result
@@ -60,11 +47,9 @@ invariant_of-result c =
     let by : c.adjacency-edges.result.now ≡ by_index graph = edges_are graph good c.adjacency-edges.result.now c.adjacency-edges.ensures.edges in
     let keys = c.args.keys.items in
     let levels = c.args.levels.items in
-    let is : c.in_ok-order.order.items ≡ order_by_keys graph keys =
-    c.in_ok-order.ensures ∙ (λ i. order (by i) (before_by (c.deref.ensures.value i))) in
     let count : c.len.result ≡ length (by_index graph) = c.len.ensures ∙ ap length by in
     by_positions_is graph keys good levels None c.in_ok-edges.edges c.in_ok-positions.positions.items c.in_ok-lid_digits.lid_digits.items
-    (c.in_ok-edges.ensures ∙ (λ i. by_position (by i) ((c.deref-5.ensures.value ∙ is) i)))
-    (subst (λ (x : ℕ × List ℕ). ArePositions x.0 x.1 c.in_ok-positions.positions.items) (λ i. (count i, (c.deref-2.ensures.value ∙ is) i))
+    (c.in_ok-edges.ensures ∙ (λ i. by_position (by i) (c.requires.vertices i)))
+    (subst (λ (x : ℕ × List ℕ). ArePositions x.0 x.1 c.in_ok-positions.positions.items) (λ i. (count i, c.requires.vertices i))
     c.in_ok-positions.ensures)
-    (c.in_ok-lid_digits.ensures ∙ (λ i. map (lid_digit_at graph (c.deref-3.ensures.value i)) ((c.deref-4.ensures.value ∙ is) i)))
+    (c.in_ok-lid_digits.ensures ∙ (λ i. map (lid_digit_at graph (c.deref.ensures.value i)) (c.requires.vertices i)))

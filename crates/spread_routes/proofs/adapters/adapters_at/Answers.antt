@@ -2,10 +2,10 @@ use Rattle.std.proofs.Common.{◌≡◌, ◌+◌, Bool, true, false, sym, ap, �
 use Rattle.std.specs.Prelude.{filter}
 use Rattle.std.specs.List.{range_with_len}
 use Rattle.fact_store.specs.View.{cells_of}
-use Rattle.spread_routes.specs.LeafSwitches.{has_adapter_at}
+use Rattle.spread_routes.specs.Adapters.{has_adapter_at}
 use Rattle.spread_routes.proofs.AdapterCounts.{count_more}
-use Rattle.spread_routes.proofs.leaves.adapters_at.Goals as goal
-use Rattle.spread_routes.proofs.leaves.adapters_at.Goals.{then-has_adapter_at, else-has_adapter_at}
+use Rattle.spread_routes.proofs.adapters.adapters_at.Goals as goal
+use Rattle.spread_routes.proofs.adapters.adapters_at.Goals.{then-has_adapter_at, else-has_adapter_at}
 
 pub loop-before-preserved : goal.loop-before-preserved
 loop-before-preserved c =

@@ -2,8 +2,8 @@ use Rattle.std.proofs.Common.{◌≡◌, ◌≤◌, length}
 use Rattle.std.specs.Prelude.{filter}
 use Rattle.std.specs.List.{range_with_len}
 use Rattle.fact_store.specs.View.{cells_of}
-use Rattle.spread_routes.specs.LeafSwitches.{has_adapter_at}
-use Rattle.spread_routes.proofs.leaves.adapters_at.Given as goal
+use Rattle.spread_routes.specs.Adapters.{has_adapter_at}
+use Rattle.spread_routes.proofs.adapters.adapters_at.Given as goal
 
 -- the ports so far
 abbrev pub invariant-loop-before : goal.invariant-loop-before

@@ -1,0 +1,7 @@
+use Rattle.std.proofs.Common.{◌≡◌, map, take}
+use Rattle.spread_routes.specs.AdapterChoices.{destination}
+use Rattle.spread_routes.proofs.adapter_choices.destinations.Given as goal
+
+-- those at the positions so far
+abbrev pub invariant-loop-leaf : goal.invariant-loop-leaf
+invariant-loop-leaf l = l.found.items ≡ map (destination l.adapters) (take l.leaf-index l.leaves)

@@ -1,0 +1,56 @@
+//! The adapters at switches.
+ghost use Rattle.std.specs.Prelude.{◌≡◌, IfOk};
+ghost use Rattle.fact_store.specs.View.{cells_of};
+ghost use Rattle.spread_labels.specs.Levels.{greatest};
+ghost use Rattle.subnet_view.specs.Reading.{switches};
+ghost use Rattle.spread_routes.specs.Adapters.{adapters_at, adapters_of, has_adapter_at};
+
+use smp_bytes::{Guid, PortNum};
+use std::alloc::{AllocError, Global};
+use subnet_view::{Wires, is_usable, port_count};
+
+/// Returns the number of adapter ports that are wired to each usable switch, by rising GUID. Takes two searches for each
+/// port of a switch.
+pub fn adapters_of(alloc: Global, wires: &Wires, guids: &[Guid]) -> Result<Vec<u16>, AllocError>
+    requires { guids.now ≡ switches (cells_of wires.now) }
+    ensures { IfOk result (λ adapters. adapters.items ≡ adapters_of (cells_of wires.now)) }
+{
+    guids
+        .iter()
+        .map(|guid| adapters_at(wires, *guid))
+        .collect(alloc)
+}
+
+/// Returns the most adapters that a switch has, given how many each has; 0 if there are no switches.
+pub fn most_adapters(adapters: &[u16]) -> u16
+    ensures { result ≡ greatest 0 adapters.now }
+{
+    let mut most = 0;
+    for count in adapters {
+        most = (*count).max(most);
+    }
+    most
+}
+
+/// Counts the adapter ports that are wired to a switch.
+fn adapters_at(wires: &Wires, switch: Guid) -> u16
+    ensures { result ≡ adapters_at (cells_of wires.now) switch }
+{
+    let mut count = 0;
+    for before in 0..port_count(wires.store(), switch) {
+        if has_adapter_at(wires, switch, PortNum::new(before + 1)) {
+            count += 1;
+        }
+    }
+    count
+}
+
+/// Returns whether the wire in a port leads to an adapter.
+fn has_adapter_at(wires: &Wires, switch: Guid, port: PortNum) -> bool
+    ensures { result ≡ has_adapter_at (cells_of wires.now) switch port }
+{
+    match wires.across(switch, port) {
+        Some((far, _)) => !is_usable(wires.store(), far),
+        None => false,
+    }
+}
