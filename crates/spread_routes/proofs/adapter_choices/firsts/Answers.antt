@@ -10,8 +10,9 @@ pub loop-count-preserved : goal.loop-count-preserved
 loop-count-preserved c =
     let counts = c.args.adapters.now in
     let i = c.loop-count.count-index in
+    let count : c.from.result ≡ get_or counts i 0 = ? in
     let first : ℕ → ℕ = λ q. min (first_at counts q) (2 ^ 64 - 1) in (
-      c.saturating_add-first.ensures ∙ ap (λ n. min (n + get_or counts i 0) (2 ^ 64 - 1)) c.loop-count.invariant.0
+      c.saturating_add-first.ensures ∙ (λ j. min (c.loop-count.invariant.0 j + count j) (2 ^ 64 - 1))
           ∙ stopped (first_at counts i) (get_or counts i 0) (2 ^ 64 - 1)
           ∙ ap (λ n. min n (2 ^ 64 - 1)) (sym (sum_by_more (λ n. n) counts i 0 c.loop-count-test.true)),
       c.in_ok-push.ensures.items ∙ (λ j. c.loop-count.invariant.1 j ++ c.loop-count.invariant.0 j ∷ []) ∙ sym (mapped_grown first i),

@@ -9,6 +9,7 @@ use Rattle.spread_routes.specs.Spread.{Grading}
 use Rattle.spread_routes.specs.Tables.{IsByPositions}
 use Rattle.spread_routes.proofs.Ports.{lead}
 use Rattle.spread_routes.proofs.spread.Spread.balanced.Goals as goal
+use Rattle.spread_routes.proofs.spread.Spread.balanced.Goals.{in-Some-2, in-None-2}
 
 abbrev Is : (edges : List (List Edge)) (positions : List ℕ) (lid_digits : List LidDigit) → Grading → Type 0
 Is edges positions lid_digits by = IsByPositions by edges positions lid_digits
@@ -26,4 +27,14 @@ of-requires-clause-adapters c =
     c.requires ∙ sym (ap length is.by_position)
 
 pub returns : goal.returns
-returns c = ?
+returns c =
+    let inside = c.self.inside in
+    let by = c.args.self in
+    let is = subst (Is inside.edges inside.positions.items inside.lid_digits.items) c.self.view_is c.self.invariant in
+    let choices = c.in_ok-choices.ensures ∙ ap (λ (es : List (List Edge)). adapter_choices es c.args.adapters.items) is.by_position in
+    let all = ap (λ (g : Grading). record { graph = g.graph; keys = g.keys; levels = g.levels; choices = Some c.in_ok-choices.choices }) c.self.view_is
+    ∙ ap (λ (ch : AdapterChoices). record { graph = by.graph; keys = by.keys; levels = by.levels; choices = Some ch }) choices in
+    elim c.match-self-2.branch [
+      | in-Some-2 w ↦ all
+      | in-None-2 w ↦ all
+    ]

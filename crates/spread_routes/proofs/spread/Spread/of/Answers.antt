@@ -1,12 +1,15 @@
-use Rattle.std.proofs.Common.{◌≡◌, sym, ap, ◌∙◌, subst, length}
-use Rattle.std.specs.Prelude.{IfOk, Some}
+use Rattle.std.proofs.Common.{◌≡◌, ◌<◌, ℕ, List, sym, ap, ◌∙◌, subst, length, map}
+use Rattle.std.specs.Prelude.{All, IfOk, Some, slice_index}
+use Rattle.port_graph.proofs.Counts.{length_map}
 use Rattle.spread_labels.specs.Keys.{before_by}
 use Rattle.spread_labels.specs.LabelLaws.{IsSymmetric}
 use Rattle.spread_labels.specs.Orders.{order}
 use Rattle.spread_routes.specs.Rule.{by_index, by_positions, order_by_keys}
 use Rattle.spread_routes.proofs.Indices.{there_and_back}
+use Rattle.spread_routes.proofs.Names.{all_positioned}
 use Rattle.spread_routes.proofs.Positions.{are_indices, edges_are}
-use Rattle.spread_routes.specs.Spread.{Grading, balanced_by, grading_of, keys_by}
+use Rattle.spread_routes.specs.Spread.{Grading, adapters_there, grading_of, keys_by}
+use Rattle.spread_routes.specs.AdapterChoices.{adapter_choices}
 use Rattle.spread_routes.specs.SwitchOrders.{order_value_of}
 use Rattle.spread_routes.proofs.KeyLists.{all_keyed, all_levelled}
 use Rattle.spread_routes.proofs.Balanced.{choices_if, no_choices_if}
@@ -18,25 +21,6 @@ by_keys-requires-clause-keys c =
 
 pub by_keys-requires-clause-levels : goal.by_keys-requires-clause-levels
 by_keys-requires-clause-levels c = ap length c.in_ok-keys.ensures.levels ∙ all_levelled c.args.graph.now c.args.adapters.now
-
-pub returns-then-is_balanced : goal.returns-then-is_balanced
-returns-then-is_balanced c =
-    let graph = c.args.graph.now in
-    let adapters = c.args.adapters.now in
-    let order = order_value_of c.args.order.now in
-    let keys = c.in_ok-keys.ensures.keys in
-    let all : record c.in_ok-spread.spread { choices = Some (balanced_by c.in_ok-spread.spread.graph c.in_ok-spread.spread.keys adapters) }
-    ≡ grading_of graph adapters order =
-    ap (λ (g : Grading). record { graph = g.graph; keys = g.keys; levels = g.levels; choices = Some (balanced_by g.graph g.keys adapters) })
-    c.in_ok-spread.ensures
-    ∙ (λ i. record {
-      graph = graph;
-      keys = keys i;
-      levels = c.in_ok-keys.ensures.levels i;
-      choices = (ap (λ k. Some (balanced_by graph k adapters)) keys
-          ∙ choices_if graph (keys_by graph adapters order) adapters order (sym c.is_balanced.ensures ∙ c.if-is_balanced.true)) i;
-    }) in
-    subst (λ (g : Grading). IfOk c.balanced.result (λ s. s ≡ g)) all c.balanced.ensures
 
 pub grown_order-requires-clause-keys : goal.grown_order-requires-clause-keys
 grown_order-requires-clause-keys c =
@@ -57,7 +41,49 @@ by_keys-requires-clause-vertices c =
     c.deref-2.ensures.value ∙ c.in_ok-vertices.ensures ∙ (λ i. order (by i) (before_by (c.deref.ensures.value i)))
 
 pub counts_at-requires : goal.counts_at-requires
-counts_at-requires c = ?
+counts_at-requires c =
+    let graph = c.args.graph.now in
+    let good = c.adjacency.ensures.is_graph in
+    let keys = c.in_ok-keys.field-0.keys.items in
+    let by : c.adjacency.result.now ≡ by_index graph = edges_are graph good c.adjacency.result.now c.adjacency.ensures.edges in
+    let is : c.deref-then-is_balanced.result.now ≡ order_by_keys graph keys =
+    c.deref-then-is_balanced.ensures.value ∙ c.in_ok-vertices.ensures ∙ (λ i. order (by i) (before_by (c.deref.ensures.value i))) in
+    subst (λ (x : List ℕ × ℕ). All (λ i. i < x.1) x.0) (λ i. (sym is i, sym c.requires i)) (are_indices graph keys good)
 
 pub balanced-requires : goal.balanced-requires
-balanced-requires c = ?
+balanced-requires c =
+    let graph = c.args.graph.now in
+    let good = c.adjacency.ensures.is_graph in
+    let keys = c.in_ok-keys.field-0.keys.items in
+    let by : c.adjacency.result.now ≡ by_index graph = edges_are graph good c.adjacency.result.now c.adjacency.ensures.edges in
+    let is : c.deref-then-is_balanced.result.now ≡ order_by_keys graph keys =
+    c.deref-then-is_balanced.ensures.value ∙ c.in_ok-vertices.ensures ∙ (λ i. order (by i) (before_by (c.deref.ensures.value i))) in
+    ap length c.in_ok-adapters.ensures ∙ length_map (slice_index c.args.adapters.now) c.deref-then-is_balanced.result.now
+    ∙ ap length is ∙ sym (all_positioned graph keys good) ∙ ap (λ (g : Grading). length (by_positions g.graph g.keys)) (sym c.in_ok-spread.ensures)
+
+pub returns-then-is_balanced : goal.returns-then-is_balanced
+returns-then-is_balanced c =
+    let graph = c.args.graph.now in
+    let good = c.adjacency.ensures.is_graph in
+    let adapters = c.args.adapters.now in
+    let order_value = order_value_of c.args.order.now in
+    let keys = c.in_ok-keys.ensures.keys in
+    let by : c.adjacency.result.now ≡ by_index graph = edges_are graph good c.adjacency.result.now c.adjacency.ensures.edges in
+    let is : c.deref-then-is_balanced.result.now ≡ order_by_keys graph c.in_ok-keys.field-0.keys.items =
+    c.deref-then-is_balanced.ensures.value ∙ c.in_ok-vertices.ensures ∙ (λ i. order (by i) (before_by (c.deref.ensures.value i))) in
+    let there : c.in_ok-adapters.adapters.items ≡ adapters_there graph (keys_by graph adapters order_value) adapters =
+    c.in_ok-adapters.ensures ∙ ap (map (slice_index adapters)) (is ∙ ap (order_by_keys graph) keys) in
+    let all : record c.in_ok-spread.spread {
+      choices = Some (adapter_choices (by_positions c.in_ok-spread.spread.graph c.in_ok-spread.spread.keys) c.in_ok-adapters.adapters.items);
+    } ≡ grading_of graph adapters order_value =
+    ap (λ (g : Grading). record { graph = g.graph; keys = g.keys; levels = g.levels;
+      choices = Some (adapter_choices (by_positions g.graph g.keys) c.in_ok-adapters.adapters.items) })
+    c.in_ok-spread.ensures
+    ∙ (λ i. record {
+      graph = graph;
+      keys = keys i;
+      levels = c.in_ok-keys.ensures.levels i;
+      choices = ((λ j. Some (adapter_choices (by_positions graph (keys j)) (there j)))
+          ∙ choices_if graph (keys_by graph adapters order_value) adapters order_value (sym c.is_balanced.ensures ∙ c.if-is_balanced.true)) i;
+    }) in
+    subst (λ (g : Grading). IfOk c.balanced.result (λ s. s ≡ g)) all c.balanced.ensures
