@@ -38,7 +38,7 @@ module _ (edges : List (List Edge)) (adapters : List ℕ) (keys : List VertexKey
 
   pub found_least : is_even edges adapters keys ≡ false → least_loaded_keys edges adapters keys ≡ least_tried
   unfolding least_loaded_keys
-  found_least even = ap (λ b. cond b keys least_tried) even
+  found_least uneven = ap (λ b. cond b keys least_tried) uneven
 
 -- the keys of the least load are as many as the others ------------------------------------------
 
