@@ -9,7 +9,7 @@ use Rattle.spread_labels.proofs.Numbers.{numbers_long}
 use Rattle.depth_orders.specs.declared.direction.Direction.{Direction}
 use Rattle.depth_orders.specs.declared.direction.Direction.TheVariants.{Forwards, Backwards}
 use Rattle.depth_orders.specs.DepthOrders.{order_by_depth, turned}
-use Rattle.trial_loads.specs.LeastLoaded.{key_in, keys_by_depth, least_by, least_loaded_keys, tried_by_depth}
+use Rattle.trial_loads.specs.LeastLoaded.{is_even, key_in, keys_by_depth, least_by, least_loaded_keys, tried_by_depth}
 use Rattle.trial_loads.specs.TrialLoads.{trial_load}
 
 module _ (load : List VertexKey → ℕ) where
@@ -26,6 +26,20 @@ pub made_of_either : {X Y : Type 0} (f : X → Y) (b : Bool) (x y : X) → f (co
 made_of_either f true x y = refl
 made_of_either f false x y = refl
 
+-- the keys themselves, or the least of those that are tried ------------------------------------
+
+module _ (edges : List (List Edge)) (adapters : List ℕ) (keys : List VertexKey) where
+  abbrev least_tried : List VertexKey
+  least_tried = least_by (trial_load edges adapters) keys (tried_by_depth edges keys Forwards ++ tried_by_depth edges keys Backwards)
+
+  pub found_even : is_even edges adapters keys ≡ true → least_loaded_keys edges adapters keys ≡ keys
+  unfolding least_loaded_keys
+  found_even even = ap (λ b. cond b keys least_tried) even
+
+  pub found_least : is_even edges adapters keys ≡ false → least_loaded_keys edges adapters keys ≡ least_tried
+  unfolding least_loaded_keys
+  found_least uneven = ap (λ b. cond b keys least_tried) uneven
+
 -- the keys of the least load are as many as the others ------------------------------------------
 
 module _ (load : List VertexKey → ℕ) (n : ℕ) (f : ℕ → List VertexKey) (long : (x : ℕ) → length (f x) ≡ n) where
@@ -35,16 +49,20 @@ module _ (load : List VertexKey → ℕ) (n : ℕ) (f : ℕ → List VertexKey) 
       least_long (cond (nat_lt (load (f x)) (load keys)) (f x) keys) xs
       (of_either (λ ks. length ks ≡ n) (nat_lt (load (f x)) (load keys)) (f x) keys (long x) own)
 
-pub keys_long : (edges : List (List Edge)) (bearing : List ℕ) (keys : List VertexKey) → length keys ≡ length edges
-    → length (least_loaded_keys edges bearing keys) ≡ length edges
+pub keys_long : (edges : List (List Edge)) (adapters : List ℕ) (keys : List VertexKey) → length keys ≡ length edges
+    → length (least_loaded_keys edges adapters keys) ≡ length edges
 unfolding least_loaded_keys
-keys_long edges bearing keys own =
+keys_long edges adapters keys own =
     let n = length edges in
-    let load = trial_load edges bearing in
+    let load = trial_load edges adapters in
     let by : Direction → ℕ → List VertexKey = keys_by_depth edges keys in
     let long : (direction : Direction) (root : ℕ) → length (by direction root) ≡ n =
     (λ direction root. numbers_long (key_in (order_by_depth edges (turned direction (before_by keys)) root)) 0 n) in
     let roots = numbers_from 0 (min n 8) in
-    ap length (least_both load keys (tried_by_depth edges keys Forwards) (tried_by_depth edges keys Backwards))
+    let forwards = tried_by_depth edges keys Forwards in
+    let backwards = tried_by_depth edges keys Backwards in
+    of_either (λ ks. length ks ≡ n) (is_even edges adapters keys) keys (least_by load keys (forwards ++ backwards)) own (
+    ap length (least_both load keys forwards backwards)
     ∙ least_long load n (by Backwards) (long Backwards) (least_by load keys (map (by Forwards) roots)) roots
     (least_long load n (by Forwards) (long Forwards) keys roots own)
+    )

@@ -5,4 +5,3 @@ pub mod PastLast
 pub mod Towards
 pub mod Least
 pub mod Turns
-pub mod Sources

@@ -1,22 +1,34 @@
 -- Packets, share by share.
 use Rattle.std.proofs.Common.{◌≡◌, ◌<◌, ◌+◌, ◌-◌, ◌^◌, ◌++◌, ℕ, suc, List, [], ◌∷◌, length, get_or, map, take}
-use Rattle.std.proofs.Common.{refl, sym, ap, ◌∙◌, add-one, arith, true, false, Bool, cond}
-use Rattle.std.proofs.lemmas.List.{length-set, take_more}
-use Rattle.std.specs.Prelude.{filter, min, not}
+use Rattle.std.proofs.Common.{refl, sym, ap, ◌∙◌, add-one, add-zero, arith, true, false, Bool, cond}
+use Rattle.std.proofs.lemmas.List.{set-get_or, take_more}
+use Rattle.std.proofs.Math.Nat.{min-eq_left, zero-div}
+use Rattle.std.specs.Prelude.{filter, min, not, slice_set}
 use Rattle.port_graph.specs.declared.edge.Edge.{Edge}
 use Rattle.spread_labels.specs.Labels.{candidates}
 use Rattle.spread_labels.specs.Orders.{numbers_from}
-use Rattle.trial_loads.specs.TrialLoads.{Packets, carried_between, carried_to, channel_by, first_had, goes_up, in_turn}
+use Rattle.balanced_choices.specs.Loads.{channel_by}
+use Rattle.trial_loads.specs.TrialLoads.{Packets, carried_between, carried_to, first_had, goes_up}
 use Rattle.trial_loads.specs.TrialLoads.{share, shared, with_more, with_shares}
 
-pub more_both : (more : ℕ) (xs ys numbers : List ℕ) → with_more more numbers (xs ++ ys) ≡ with_more more (with_more more numbers xs) ys
-more_both more [] ys numbers = refl
-more_both more (x ∷ xs) ys numbers = more_both more xs ys _
+-- 0 more changes no number that is at most 2^64 - 1
+pub none_more : (is numbers : List ℕ) → ((i : ℕ) → get_or numbers i 0 < 2 ^ 64) → with_more 0 numbers is ≡ numbers
+none_more [] numbers fit = refl
+none_more (i ∷ is) numbers fit =
+    let same : min (get_or numbers i 0 + 0) (2 ^ 64 - 1) ≡ get_or numbers i 0 =
+    ap (λ n. min n (2 ^ 64 - 1)) (add-zero (get_or numbers i 0)) ∙ min-eq_left (omega (arith, fit i)) in
+    ap (λ ns. with_more 0 ns is) (ap (slice_set numbers i) same ∙ set-get_or numbers i 0) ∙ none_more is numbers fit
 
-pub more_long : (more : ℕ) (xs numbers : List ℕ) → length (with_more more numbers xs) ≡ length numbers
-more_long more [] numbers = refl
-more_long more (x ∷ xs) numbers =
-    more_long more xs _ ∙ length-set numbers x (min (get_or numbers x 0 + more) (2 ^ 64 - 1))
+-- a vertex that has had none shares nothing
+pub nothing_shared : (s : ℕ) (es : List Edge) (packets : Packets) → get_or packets.had s 0 ≡ 0
+    → ((i : ℕ) → get_or packets.had i 0 < 2 ^ 64) → ((i : ℕ) → get_or packets.carried i 0 < 2 ^ 64)
+    → packets ≡ with_shares s es packets
+nothing_shared s es packets none had carried =
+    let is : share (get_or packets.had s 0) es ≡ 0 = ap (λ n. share n es) none ∙ zero-div (length es) in
+    (λ i. record {
+      had = (sym (ap (λ n. with_more n packets.had (map (λ e. e.to) es)) is ∙ none_more (map (λ e. e.to) es) packets.had had)) i;
+      carried = (sym (ap (λ n. with_more n packets.carried (map (channel_by s) es)) is ∙ none_more (map (channel_by s) es) packets.carried carried)) i;
+    })
 
 pub none_shared : (s : ℕ) (es : List Edge) (packets : Packets) → length es ≡ 0 → packets ≡ with_shares s es packets
 none_shared s [] packets none = refl
@@ -26,13 +38,6 @@ pub shared_both : (towards : ℕ → List Edge) (xs ys : List ℕ) (packets : Pa
     → shared towards (xs ++ ys) packets ≡ shared towards ys (shared towards xs packets)
 shared_both towards [] ys packets = refl
 shared_both towards (x ∷ xs) ys packets = shared_both towards xs ys _
-
-pub carried_long : (towards : ℕ → List Edge) (xs : List ℕ) (packets : Packets)
-    → length (shared towards xs packets).carried ≡ length packets.carried
-carried_long towards [] packets = refl
-carried_long towards (x ∷ xs) packets =
-    carried_long towards xs (with_shares x (towards x) packets)
-    ∙ more_long (share (get_or packets.had x 0) (towards x)) (map (channel_by x) (towards x)) packets.carried
 
 -- of those that do not go up, one vertex and then those that are left
 or_shared : (towards : ℕ → List Edge) (s : ℕ) (ss : List ℕ) (packets : Packets) (up : Bool)
@@ -52,22 +57,16 @@ from_next towards s n packets h =
     ∙ ap (λ k. shared towards (from k) (cond (goes_up towards s) packets (with_shares s (towards s) packets))) (sym (add-one s))
 
 -- target by target
-pub between_both : (graph : List (List Edge)) (sources xs ys carried : List ℕ)
-    → carried_between graph sources carried (xs ++ ys) ≡ carried_between graph sources (carried_between graph sources carried xs) ys
-between_both graph sources [] ys carried = refl
-between_both graph sources (x ∷ xs) ys carried = between_both graph sources xs ys _
+module _ (graph : List (List Edge)) (adapters : List ℕ) where
+  pub between_both : (xs ys carried : List ℕ)
+      → carried_between graph adapters carried (xs ++ ys) ≡ carried_between graph adapters (carried_between graph adapters carried xs) ys
+  between_both [] ys carried = refl
+  between_both (x ∷ xs) ys carried = between_both xs ys _
 
-pub between_long : (graph : List (List Edge)) (sources ts carried : List ℕ)
-    → length (carried_between graph sources carried ts) ≡ length carried
-between_long graph sources [] carried = refl
-between_long graph sources (t ∷ ts) carried =
-    between_long graph sources ts (carried_to (candidates graph t) (length graph) sources carried)
-    ∙ carried_long (candidates graph t) (in_turn (candidates graph t) (length graph))
-    (record { had = first_had sources (length graph); carried = carried })
-
-pub between_more : (graph : List (List Edge)) (sources carried ts : List ℕ) (i d : ℕ) → i < length ts
-    → carried_to (candidates graph (get_or ts i d)) (length graph) sources (carried_between graph sources carried (take i ts))
-    ≡ carried_between graph sources carried (take (i + 1) ts)
-between_more graph sources carried ts i d h =
-    sym (between_both graph sources (take i ts) (get_or ts i d ∷ []) carried)
-    ∙ ap (carried_between graph sources carried) (sym (take_more ts i d h))
+  pub between_more : (carried ts : List ℕ) (i : ℕ) → i < length ts
+      → carried_to (candidates graph (get_or ts i 0)) (length graph) (first_had (get_or adapters (get_or ts i 0) 0) adapters)
+      (carried_between graph adapters carried (take i ts))
+      ≡ carried_between graph adapters carried (take (i + 1) ts)
+  between_more carried ts i h =
+      sym (between_both (take i ts) (get_or ts i 0 ∷ []) carried)
+      ∙ ap (carried_between graph adapters carried) (sym (take_more ts i 0 h))

@@ -147,6 +147,9 @@ fn share(
     ensures { record { had = had.new; carried = loads.new }
         ≡ with_shares position (picked k sets.now edges.now) (record { had = had.old; carried = loads.old }) }
 {
+    if had[position] == 0 {
+        return;
+    }
     let count = count_having(sets, k);
     if count == 0 {
         return;

@@ -13,7 +13,7 @@ use spread_labels::{
 use std::alloc::{AllocError, Global};
 
 /// Returns the most that a channel carries by the order that grows by `keys`. Takes what `trial_loads` takes.
-pub fn trial_load(
+pub(crate) fn trial_load(
     alloc: Global,
     edges: &Adjacency,
     adapters: &[u16],
@@ -33,7 +33,7 @@ pub fn trial_load(
 /// adapter, and each vertex on their way shares what it has evenly over its candidates. `adapters` has the number of
 /// adapters at each vertex. Takes what growing the order takes; for each 64 vertices that have adapters a step or two
 /// for each edge in each of as many rounds as the greatest cost; and for each of them three steps for each vertex and
-/// two for each edge.
+/// at most two for each edge.
 pub(crate) fn trial_loads(
     alloc: Global,
     edges: &Adjacency,

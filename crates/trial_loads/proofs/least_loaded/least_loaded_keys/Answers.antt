@@ -1,18 +1,28 @@
 use Rattle.std.proofs.Common.{◌≡◌, sym, ap, ◌∙◌}
-use Rattle.trial_loads.specs.LeastLoaded.{least_by, least_loaded_keys, tried_by_depth}
-use Rattle.trial_loads.specs.TrialLoads.{trial_load}
+use Rattle.balanced_choices.specs.BalancedChoices.{are_even}
+use Rattle.trial_loads.specs.LeastLoaded.{least_by, tried_by_depth}
+use Rattle.trial_loads.specs.TrialLoads.{trial_load, trial_loads}
 use Rattle.depth_orders.specs.declared.direction.Direction.TheVariants.{Forwards, Backwards}
-use Rattle.trial_loads.proofs.Least.{least_both}
+use Rattle.trial_loads.proofs.Least.{least_both, found_even, found_least}
 use Rattle.trial_loads.proofs.least_loaded.least_loaded_keys.Goals as goal
 
+pub returns-then-are_even : goal.returns-then-are_even
+returns-then-are_even c =
+    let edges = c.args.edges.now in
+    let loads : c.deref.result.now ≡ trial_loads edges c.args.adapters.now c.args.keys.now = c.deref.ensures.value ∙ c.in_ok-loads.ensures in
+    c.in_ok-keys_tried.ensures.items
+    ∙ sym (found_even edges c.args.adapters.now c.args.keys.now (ap (are_even edges) (sym loads) ∙ sym c.are_even.ensures ∙ c.if-are_even.true))
+
 pub returns : goal.returns
-unfolding least_loaded_keys
 returns c =
     let edges = c.args.edges.now in
+    let adapters = c.args.adapters.now in
     let keys = c.args.keys.now in
-    let load = trial_load edges c.args.bearing.now in
+    let load = trial_load edges adapters in
     let forwards = tried_by_depth edges keys Forwards in
     let backwards = tried_by_depth edges keys Backwards in
-    let first : c.in_ok-first.first.keys.items ≡ keys = c.in_ok-first.ensures.keys ∙ c.in_ok-from_slice.ensures.items in
-    let best : c.in_ok-best.best.keys.items ≡ least_by load keys forwards = c.in_ok-best.ensures.keys ∙ ap (λ ks. least_by load ks forwards) first in
+    let loads : c.deref.result.now ≡ trial_loads edges adapters keys = c.deref.ensures.value ∙ c.in_ok-loads.ensures in
+    let best : c.in_ok-best.best.keys.items ≡ least_by load keys forwards =
+    c.in_ok-best.ensures.keys ∙ ap (λ ks. least_by load ks forwards) c.in_ok-keys_tried.ensures.items in
     c.in_ok-best-2.ensures.keys ∙ ap (λ ks. least_by load ks backwards) best ∙ sym (least_both load keys forwards backwards)
+    ∙ sym (found_least edges adapters keys (ap (are_even edges) (sym loads) ∙ sym c.are_even.ensures ∙ c.if-are_even.false))

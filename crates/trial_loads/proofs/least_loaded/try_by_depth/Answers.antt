@@ -18,7 +18,7 @@ trial_of-requires-clause-keys c =
 
 pub loop-root-preserved : goal.loop-root-preserved
 loop-root-preserved c =
-    let load = trial_load c.args.edges.now c.args.bearing.now in
+    let load = trial_load c.args.edges.now c.args.adapters.now in
     let f = keys_by_depth c.args.edges.now c.args.keys.now c.args.direction in
     let r = c.loop-root.root in
     let best = c.loop-root.best in

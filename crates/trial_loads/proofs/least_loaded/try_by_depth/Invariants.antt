@@ -8,7 +8,7 @@ use Rattle.trial_loads.proofs.least_loaded.try_by_depth.Given as goal
 abbrev pub invariant-loop-root : goal.invariant-loop-root
 invariant-loop-root l =
     record {
-      keys : l.best.keys.items ≡ least_by (trial_load l.edges l.bearing) l.fn.first.keys.items
+      keys : l.best.keys.items ≡ least_by (trial_load l.edges l.adapters) l.fn.first.keys.items
           (map (keys_by_depth l.edges l.keys l.direction) (numbers_from 0 l.root));
-      load : l.best.load ≡ trial_load l.edges l.bearing l.best.keys.items;
+      load : l.best.load ≡ trial_load l.edges l.adapters l.best.keys.items;
     }

@@ -4,6 +4,7 @@ use Rattle.trial_loads.proofs.shares.add_packets_between.Given as goal
 
 -- the packets to the targets so far
 abbrev pub invariant-loop-k : goal.invariant-loop-k
-invariant-loop-k l =
-    (l.had.len ≡ length l.graph)
-    × (l.loads ≡ carried_between l.graph l.sources l.fn.loads (take l.k l.targets))
+invariant-loop-k l = record {
+  had : l.had.len ≡ length l.graph;
+  loads : l.loads ≡ carried_between l.graph l.adapters l.fn.loads (take l.k l.targets);
+}

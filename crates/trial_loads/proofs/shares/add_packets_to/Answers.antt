@@ -1,7 +1,7 @@
-use Rattle.std.proofs.Common.{List, ℕ, sym, ap, ◌∙◌, length}
+use Rattle.std.proofs.Common.{sym, ap, ◌∙◌, length}
 use Rattle.std.specs.Prelude.{filter, not}
 use Rattle.spread_labels.specs.Orders.{numbers_from}
-use Rattle.trial_loads.specs.TrialLoads.{Packets, candidates_in, first_had, goes_up, last_first, shared}
+use Rattle.trial_loads.specs.TrialLoads.{Packets, candidates_in, goes_up, last_first, shared}
 use Rattle.trial_loads.proofs.Packets.{shared_both}
 use Rattle.trial_loads.proofs.shares.add_packets_to.Goals as goal
 
@@ -11,11 +11,7 @@ returns c =
     let n = length c.args.graph.now in
     let ups = filter (goes_up towards) (last_first n) in
     let downs = filter (λ s. not (goes_up towards s)) (numbers_from 0 n) in
-    let first : (had : List ℕ) → Packets = (λ had. record { had = had; carried = c.args.loads.now }) in
+    let first : Packets = record { had = c.args.had.now; carried = c.args.loads.now } in
     ap (λ (packets : Packets). packets.carried) (
-    c.share_down.ensures
-    ∙ ap (shared towards downs) (
-    c.share_up.ensures ∙ ap (λ had. shared towards ups (first had)) (c.start.ensures ∙ ap (first_had c.args.sources.now) c.requires.had)
-    )
-    ∙ sym (shared_both towards ups downs (first (first_had c.args.sources.now n)))
+    c.share_down.ensures ∙ ap (shared towards downs) c.share_up.ensures ∙ sym (shared_both towards ups downs first)
     )

@@ -1,11 +1,18 @@
 use Rattle.std.proofs.Common.{◌≡◌, ◌/◌, ℕ, List, [], sym, ap, ◌∙◌, arith, drop, get_or, length, map}
 use Rattle.std.proofs.lemmas.List.{drop_all}
+use Rattle.std.proofs.Math.Facts.{Fits-lt-pow}
 use Rattle.port_graph.specs.declared.edge.Edge.{Edge}
 use Rattle.spread_labels.specs.MarkSets.{picked}
-use Rattle.trial_loads.specs.TrialLoads.{channel_by, with_more}
-use Rattle.trial_loads.proofs.Packets.{none_shared}
+use Rattle.balanced_choices.specs.Loads.{channel_by}
+use Rattle.trial_loads.specs.TrialLoads.{with_more}
+use Rattle.trial_loads.proofs.Packets.{none_shared, nothing_shared}
 use Rattle.trial_loads.proofs.Picked.{picked_long}
 use Rattle.trial_loads.proofs.shares.share.Goals as goal
+
+pub returns-then-had-position-eq0 : goal.returns-then-had-position-eq0
+returns-then-had-position-eq0 c =
+    nothing_shared c.args.position (picked c.args.k c.args.sets.now c.args.edges.now) (record { had = c.args.had.now; carried = c.args.loads.now })
+    c.if-had-position-eq0.true (λ i. Fits-lt-pow (c.type_inv.had i)) (λ i. Fits-lt-pow (c.type_inv.loads i))
 
 pub returns-then-count-eq0 : goal.returns-then-count-eq0
 returns-then-count-eq0 c =

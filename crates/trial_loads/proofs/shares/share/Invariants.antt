@@ -1,6 +1,7 @@
 use Rattle.std.proofs.Common.{◌≡◌, drop, map}
 use Rattle.spread_labels.specs.MarkSets.{picked}
-use Rattle.trial_loads.specs.TrialLoads.{channel_by, with_more}
+use Rattle.balanced_choices.specs.Loads.{channel_by}
+use Rattle.trial_loads.specs.TrialLoads.{with_more}
 use Rattle.trial_loads.proofs.shares.share.Given as goal
 
 -- the shares of the candidates that are left make up the rest

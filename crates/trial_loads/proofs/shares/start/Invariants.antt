@@ -1,9 +1,10 @@
-use Rattle.std.proofs.Common.{◌≡◌, length, replicate, take}
-use Rattle.trial_loads.specs.TrialLoads.{with_more}
+use Rattle.std.proofs.Common.{◌≡◌, length, take}
+use Rattle.trial_loads.specs.TrialLoads.{first_had}
 use Rattle.trial_loads.proofs.shares.start.Given as goal
 
--- what the sources so far start with
-abbrev pub invariant-loop-source : goal.invariant-loop-source
-invariant-loop-source l =
-    (length l.had ≡ length l.fn.had)
-    × (l.had ≡ with_more 65536 (replicate (length l.fn.had) 0) (take l.source-index l.sources))
+-- what the positions so far start with
+abbrev pub invariant-loop-position : goal.invariant-loop-position
+invariant-loop-position l = record {
+  long : length l.had ≡ length l.adapters;
+  had : take l.position l.had ≡ first_had l.to (take l.position l.adapters);
+}

@@ -1,0 +1,14 @@
+use Rattle.std.proofs.Common.{◌≡◌, ◌≤◌, ◌*◌, ◌-◌, length, replicate, take}
+use Rattle.trial_loads.specs.TrialLoads.{carried_between}
+use Rattle.trial_loads.proofs.trials.loads_by.Given as goal
+
+-- the packets to the targets so far
+abbrev pub invariant-loop-first : goal.invariant-loop-first
+invariant-loop-first l = record {
+  first : l.first ≤ l.targets.len;
+  long : l.loads.len ≡ 256 * length l.graph;
+  loads : l.loads.items ≡ carried_between l.graph l.adapters (replicate (256 * length l.graph) 0) (take l.first l.targets.items);
+}
+
+abbrev pub decreases-loop-first : goal.decreases-loop-first
+decreases-loop-first l = l.targets.len - l.first
