@@ -10,7 +10,7 @@ pub loop-count-preserved : goal.loop-count-preserved
 loop-count-preserved c =
     let counts = c.args.adapters.now in
     let i = c.loop-count.count-index in
-    let count : c.from.result ≡ get_or counts i 0 = ? in
+    let count : c.from.result ≡ get_or counts i 0 = c.from.ensures in
     let first : ℕ → ℕ = λ q. min (first_at counts q) (2 ^ 64 - 1) in (
       c.saturating_add-first.ensures ∙ (λ j. min (c.loop-count.invariant.0 j + count j) (2 ^ 64 - 1))
           ∙ stopped (first_at counts i) (get_or counts i 0) (2 ^ 64 - 1)
