@@ -1,7 +1,7 @@
 -- Facts that differ in claims alone, and give the same LIDs, have the same plan.
 use Rattle.std.proofs.Common.{◌≡◌, ℕ, sym, false, cond, length, map}
 use Rattle.std.specs.Prelude.{None, Some, filter, not, option_and_then}
-use Rattle.std.specs.List.{filter_map, list_any, range_with_len}
+use Rattle.std.specs.List.{filter_map, range_with_len}
 use Rattle.std.specs.Option.{option_map_or}
 use Rattle.reply_facts.specs.declared.key.Key.{Key}
 use Rattle.fact_store.specs.View.{Facts, cell_for, cells_of}
@@ -10,10 +10,8 @@ use Rattle.subnet_view.proofs.BesideClaims.{is_claim, switch_same, usable_same, 
 use Rattle.lid_assign.specs.Lids.{lids, owner_of, top_of}
 use Rattle.lid_assign.proofs.Staying.{same_but_claims, lids_settle}
 use Rattle.subnet_view.specs.Graph.{edge_at, graph_of, guids_of}
-use Rattle.spread_labels.specs.Levels.{greatest}
-use Rattle.spread_routes.specs.LeafNumbers.{leaf_numbers}
-use Rattle.spread_routes.specs.LeafSwitches.{adapters_at, leaf_switches_of, is_leaf, has_adapter_at, most_adapters}
-use Rattle.lft_blocks.specs.LidNumbers.{lid_numbers, number_of, numbered}
+use Rattle.spread_routes.specs.Adapters.{adapters_at, adapters_of, has_adapter_at}
+use Rattle.lft_blocks.specs.LidNumbers.{lid_numbers, number_of, numbered, numbering_by}
 use Rattle.lft_blocks.specs.Rules.{RuleValue}
 use Rattle.lft_blocks.proofs.RulesRoute.{rules_stay}
 use Rattle.lft_blocks.specs.Entries.{attachment_of, block_count}
@@ -34,22 +32,16 @@ module _ (x y : Facts) (same : (key : Key) → is_claim key ≡ false → cell_f
   has_adapter_at_same : (g p : ℕ) → has_adapter_at (cells_of x) g p ≡ has_adapter_at (cells_of y) g p
   has_adapter_at_same g p = λ i. option_map_or (λ q. not (usable_same x y same q.0 i)) (across_same x y same g p i) false
 
-  is_leaf_same : (g : ℕ) → is_leaf (cells_of x) g ≡ is_leaf (cells_of y) g
-  is_leaf_same g = λ i. list_any (λ p. has_adapter_at_same g p i) (range_with_len 1 (count_same x y same g i))
-
-  leaf_switches_same : leaf_switches_of (cells_of x) ≡ leaf_switches_of (cells_of y)
-  leaf_switches_same = λ i. filter (λ g. is_leaf_same g i) (switches_same x y same i)
-
   adapters_same : (g : ℕ) → adapters_at (cells_of x) g ≡ adapters_at (cells_of y) g
   adapters_same g = λ i. length (filter (λ p. has_adapter_at_same g p i) (range_with_len 1 (count_same x y same g i)))
 
-  most_same : most_adapters (cells_of x) ≡ most_adapters (cells_of y)
-  most_same = λ i. greatest 0 (map (λ g. adapters_same g i) (switches_same x y same i))
+  all_adapters_same : adapters_of (cells_of x) ≡ adapters_of (cells_of y)
+  all_adapters_same = λ i. map (λ g. adapters_same g i) (switches_same x y same i)
 
   numbers_same : (lmc : ℕ) → lids lmc (cells_of x) ≡ lids lmc (cells_of y)
       → lid_numbers lmc (cells_of x) (lids lmc (cells_of x)) ≡ lid_numbers lmc (cells_of y) (lids lmc (cells_of y))
   numbers_same lmc given =
-      λ i. number_of (record { lmc = lmc; leaf_numbers = leaf_numbers (graph_same i) (leaf_switches_same i); most = most_same i }) (guids_of (graph_same i))
+      λ i. number_of (numbering_by lmc (graph_same i) (all_adapters_same i)) (guids_of (graph_same i))
       (λ lid. option_and_then (λ e. attachment_same e i) (owner_of (given i) lid))
 
   plan_same : (rule : RuleValue) (lmc : ℕ) → lids lmc (cells_of x) ≡ lids lmc (cells_of y) → plan_of rule lmc (cells_of x) ≡ plan_of rule lmc (cells_of y)
@@ -57,7 +49,7 @@ module _ (x y : Facts) (same : (key : Key) → is_claim key ≡ false → cell_f
       λ i. record {
         given = given i;
         tables = tables_of (λ lid. option_and_then (λ e. attachment_same e i) (owner_of (given i) lid))
-            (numbered (numbers_same lmc given i) (rules_stay rule x y graph_same leaf_switches_same most_same i)).next
+            (numbered (numbers_same lmc given i) (rules_stay rule x y graph_same all_adapters_same i)).next
             (block_count (top_of (given i))) (switches_same x y same i);
       }
 

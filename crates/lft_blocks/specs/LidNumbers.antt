@@ -3,13 +3,15 @@
 use Rattle.std.specs.Prelude.{ℕ, ◌+◌, ◌*◌, ◌%◌, ◌^◌, List, Option, None, map, length, slice_index, slice_index_or}
 use Rattle.std.specs.List.{range_with_len}
 use Rattle.std.specs.Option.{option_map_or}
+use Rattle.spread_labels.specs.Levels.{greatest}
 use Rattle.spread_labels.specs.Orders.{position_of}
 use Rattle.subnet_view.specs.Graph.{graph_of, guids_of}
 use Rattle.subnet_view.specs.Reading.{Cells}
 use Rattle.subnet_view.specs.Routing.{Routing}
+use Rattle.subnet_view.specs.SwitchEdges.{SwitchEdges}
 use Rattle.lid_assign.specs.Lids.{Given}
 use Rattle.spread_routes.specs.LeafNumbers.{leaf_numbers}
-use Rattle.spread_routes.specs.LeafSwitches.{leaf_switches_of, most_adapters}
+use Rattle.spread_routes.specs.Adapters.{adapters_of}
 use Rattle.lft_blocks.specs.declared.attachment.Attachment.{Attachment}
 use Rattle.lft_blocks.specs.Entries.{attachment_of_lid}
 
@@ -40,13 +42,17 @@ indexed_number by attachments lid =
 abbrev pub indexed_numbers : Numbering → List (Option Attachment) → List ℕ
 indexed_numbers by attachments = map (indexed_number by attachments) (range_with_len 0 (length attachments))
 
+-- what they follow from, given the wires and how many adapters each switch has
+abbrev pub numbering_by : ℕ → List SwitchEdges → List ℕ → Numbering
+numbering_by lmc graph adapters = record {
+  lmc = lmc;
+  leaf_numbers = leaf_numbers graph adapters;
+  most = greatest 0 adapters;
+}
+
 -- what the numbers of a view's LIDs follow from
 abbrev pub numbering_of : ℕ → Cells → Numbering
-numbering_of lmc cells = record {
-  lmc = lmc;
-  leaf_numbers = leaf_numbers (graph_of cells) (leaf_switches_of cells);
-  most = most_adapters cells;
-}
+numbering_of lmc cells = numbering_by lmc (graph_of cells) (adapters_of cells)
 
 -- the number of each LID of a view, if end ports have these LIDs
 abbrev pub lid_numbers : ℕ → Cells → Given → ℕ → ℕ

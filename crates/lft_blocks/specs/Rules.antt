@@ -7,7 +7,7 @@ use Rattle.subnet_view.specs.Routing.{Routing, IsRouting}
 use Rattle.updown_routes.specs.Updown.{updown}
 use Rattle.lft_blocks.specs.declared.rule.Rule.{Rule}
 use Rattle.lft_blocks.specs.declared.rule.Rule.TheVariants.{UpDown, Spread}
-use Rattle.spread_routes.specs.LeafSwitches.{leaf_switches_of, most_adapters}
+use Rattle.spread_routes.specs.Adapters.{adapters_of}
 use Rattle.spread_routes.specs.Spread.{spread_by, switches_in_order}
 use Rattle.spread_routes.specs.SwitchOrders.{OrderValue, order_value_of}
 
@@ -23,11 +23,11 @@ value_of (Spread order) = spread_in (order_value_of order)
 -- the routing of a rule on the wires of a view
 abbrev pub routing_by : RuleValue → Cells → Routing
 routing_by up_and_down cells = updown (graph_of cells)
-routing_by (spread_in order) cells = spread_by (graph_of cells) (leaf_switches_of cells) (most_adapters cells) order
+routing_by (spread_in order) cells = spread_by (graph_of cells) (adapters_of cells) order
 
 -- the usable switches in the order by which the rule that spreads goes
 abbrev pub order_of : OrderValue → Cells → List ℕ
-order_of order cells = switches_in_order (graph_of cells) (leaf_switches_of cells) order
+order_of order cells = switches_in_order (graph_of cells) (adapters_of cells) order
 
 -- the routing of a rule as code has it
 abbrev pub rule_of : Rule → Cells → Routing
@@ -38,9 +38,7 @@ abbrev pub RulesAreRoutings : Type 0
 RulesAreRoutings =
     (rule : RuleValue) (facts : Facts) → IsRouting (graph_of (cells_of facts)) (routing_by rule (cells_of facts))
 
--- a rule depends only on the view's wires between switches, on its leaf switches, and on the most adapters at one switch
+-- a rule depends only on the view's wires between switches, and on how many adapters each switch has
 abbrev pub RulesStay : Type 0
 RulesStay = (rule : RuleValue) (x y : Facts) → graph_of (cells_of x) ≡ graph_of (cells_of y)
-    → leaf_switches_of (cells_of x) ≡ leaf_switches_of (cells_of y)
-    → most_adapters (cells_of x) ≡ most_adapters (cells_of y)
-    → routing_by rule (cells_of x) ≡ routing_by rule (cells_of y)
+    → adapters_of (cells_of x) ≡ adapters_of (cells_of y) → routing_by rule (cells_of x) ≡ routing_by rule (cells_of y)

@@ -1,18 +1,14 @@
 //! The numbers by which LIDs take their turns among ports.
 ghost use Rattle.std.specs.Prelude.{◌≡◌, ◌<◌, IfOk, length};
-ghost use Rattle.fact_store.specs.View.{cells_of};
-ghost use Rattle.subnet_view.specs.Graph.{graph_of};
-ghost use Rattle.spread_routes.specs.LeafSwitches.{leaf_switches_of};
 ghost use Rattle.lft_blocks.specs.Attachments.{AreWithin};
-ghost use Rattle.lft_blocks.specs.LidNumbers.{indexed_number, indexed_numbers, number_at, numbering_of};
+ghost use Rattle.lft_blocks.specs.LidNumbers.{indexed_number, indexed_numbers, number_at, numbering_by};
 
 use crate::attachment::Attachment;
 use attr_codec::Lmc;
-use smp_bytes::Guid;
 use spread_routes::{leaf_numbers, most_adapters};
 use std::alloc::{AllocError, Global};
 use std::marker::Model;
-use subnet_view::{SwitchGraph, Wires};
+use subnet_view::SwitchGraph;
 
 /// What the numbers of LIDs follow from.
 #[derive(Drop)]
@@ -20,7 +16,7 @@ pub(crate) struct Numbering {
     pub(crate) lmc: Lmc,
     /// The number of each switch among the leaf switches, by rising GUID.
     pub(crate) leaf_numbers: Vec<u16>,
-    /// The most adapter ports that are wired to one switch.
+    /// The most adapters that a switch has.
     pub(crate) most: u16,
 }
 
@@ -32,25 +28,22 @@ impl Model for Numbering {
     ghost view = { λ a. record { lmc = a.lmc; leaf_numbers = a.leaf_numbers.items; most = a.most } };
 }
 
-/// Finds what the numbers of LIDs follow from, given the leaf switches. Takes two searches for each port of a switch, and
-/// what the numbers of leaf switches take.
+/// Finds what the numbers of LIDs follow from, given the number of adapters at each switch, by rising GUID. Takes what the
+/// numbers of leaf switches take.
 pub(crate) fn find_numbering(
     alloc: Global,
-    wires: &Wires,
     graph: &SwitchGraph,
-    leaves: &[Guid],
+    adapters: &[u16],
     lmc: Lmc,
 ) -> Result<Numbering, AllocError>
-    requires graph { graph.now ≡ graph_of (cells_of wires.now) }
-    requires leaves { leaves.now ≡ leaf_switches_of (cells_of wires.now) }
-    ensures { IfOk result (λ numbering. numbering ≡ numbering_of lmc (cells_of wires.now)) }
+    requires { length adapters.now ≡ length graph.now }
+    ensures { IfOk result (λ numbering. numbering ≡ numbering_by lmc graph.now adapters.now) }
 {
-    let most = most_adapters(wires, graph.switches());
-    let leaf_numbers = leaf_numbers(alloc, graph, leaves)?;
+    let leaf_numbers = leaf_numbers(alloc, graph, adapters)?;
     Ok(Numbering {
         lmc,
         leaf_numbers,
-        most,
+        most: most_adapters(adapters),
     })
 }
 

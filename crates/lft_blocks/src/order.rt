@@ -6,7 +6,7 @@ ghost use Rattle.lft_blocks.specs.Rules.{order_of};
 
 use fact_store::{Refused, Store};
 use smp_bytes::Guid;
-use spread_routes::{SwitchOrder, leaf_switches, switches_in_order};
+use spread_routes::{SwitchOrder, adapters_of, switches_in_order};
 use std::alloc::Global;
 use subnet_view::{SwitchGraph, Wires};
 
@@ -19,6 +19,6 @@ pub fn switch_order(alloc: Global, store: &Store, order: &SwitchOrder) -> Result
 {
     let wires = Wires::of(alloc, store)?;
     let graph = SwitchGraph::of(alloc, &wires)?;
-    let leaves = leaf_switches(alloc, &wires, graph.switches())?;
-    Ok(switches_in_order(alloc, &graph, &leaves, order)?)
+    let adapters = adapters_of(alloc, &wires, graph.switches())?;
+    Ok(switches_in_order(alloc, &graph, &adapters, order)?)
 }

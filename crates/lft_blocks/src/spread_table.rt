@@ -3,7 +3,7 @@ ghost use Rattle.std.specs.Prelude.{◌≡◌, ◌<◌, ◌≤◌, ◌*◌, All,
 ghost use Rattle.std.specs.List.{range_with_len};
 ghost use Rattle.fact_store.specs.View.{cells_of};
 ghost use Rattle.subnet_view.specs.Graph.{graph_of, guids_of};
-ghost use Rattle.spread_routes.specs.LeafSwitches.{leaf_switches_of, most_adapters};
+ghost use Rattle.spread_routes.specs.Adapters.{adapters_of};
 ghost use Rattle.spread_routes.specs.Spread.{spread_at, spread_by};
 ghost use Rattle.spread_routes.specs.SwitchOrders.{order_value_of};
 ghost use Rattle.spread_routes.specs.Tables.{AreTowards};
@@ -18,7 +18,7 @@ use crate::table::Table;
 use crate::table_row::{TableRow, lids_by_switch};
 use attr_codec::Lmc;
 use smp_bytes::{Guid, Lid};
-use spread_routes::{Exits, Spread, SwitchOrder, Towards, leaf_switches};
+use spread_routes::{Exits, Spread, SwitchOrder, Towards, adapters_of};
 use std::alloc::{AllocError, Global};
 use std::mem;
 use subnet_view::{SwitchGraph, Wires};
@@ -41,15 +41,14 @@ pub(crate) fn spread_tables(
         (attachment_by_index (guids_of graph.now) attachments.now)
         (numbered (number_of (numbering_of lmc (cells_of wires.now)) (guids_of graph.now)
         (attachment_by_index (guids_of graph.now) attachments.now))
-        (spread_by graph.now (leaf_switches_of (cells_of wires.now)) (most_adapters (cells_of wires.now))
-        (order_value_of order.now))).next
+        (spread_by graph.now (adapters_of (cells_of wires.now)) (order_value_of order.now))).next
         count (guids_of graph.now)) }
 {
     let guids = graph.switches();
-    let leaves = leaf_switches(alloc, wires, guids)?;
-    let numbering = find_numbering(alloc, wires, graph, &leaves, lmc)?;
+    let adapters = adapters_of(alloc, wires, guids)?;
+    let numbering = find_numbering(alloc, graph, &adapters, lmc)?;
     let numbers = lid_numbers(alloc, &numbering, attachments)?;
-    let spread = Spread::of(alloc, graph, &leaves, usize::from(numbering.most), order)?;
+    let spread = Spread::of(alloc, graph, &adapters, order)?;
     let mut rows = rows(alloc, &spread, attachments, &numbers, guids.len())?;
     tables_of(alloc, guids, &mut rows, count)
 }

@@ -1,7 +1,13 @@
--- How many numbers of a range pass a test.
-use Rattle.std.proofs.Common.{◌≡◌, ◌+◌, ℕ, zero, suc, Bool, true, false, [], ◌∷◌, refl, ap, ◌∙◌, arith, cond, length}
+-- How many numbers of a range pass a test, and how many switches have a number of adapters.
+use Rattle.std.proofs.Common.{◌≡◌, sym, ◌+◌, ℕ, zero, suc, Bool, true, false, [], ◌∷◌, refl, ap, ◌∙◌, arith, cond, length}
 use Rattle.std.specs.Prelude.{filter}
 use Rattle.std.specs.List.{range_with_len}
+use Rattle.port_graph.proofs.Counts.{length_map}
+use Rattle.subnet_view.specs.Graph.{graph_of}
+use Rattle.subnet_view.specs.Reading.{Cells, switches}
+use Rattle.subnet_view.specs.SwitchEdges.{SwitchEdges}
+use Rattle.subnet_view.proofs.GraphSwitches.{graph_guids}
+use Rattle.spread_routes.specs.Adapters.{adapters_at, adapters_of}
 
 -- in a range with one number more one more passes, or none
 pub count_more : (f : ℕ → Bool) (b k : ℕ) (t : Bool) → f (b + k) ≡ t
@@ -20,3 +26,7 @@ count_more f b (suc k) t is =
       | true ↦ omega (arith, later)
       | false ↦ later
     ]
+
+pub adapters_long : (cells : Cells) → length (adapters_of cells) ≡ length (graph_of cells)
+adapters_long cells =
+    length_map (adapters_at cells) (switches cells) ∙ ap length (sym (graph_guids cells)) ∙ length_map (λ (s : SwitchEdges). s.guid) (graph_of cells)

@@ -5,7 +5,7 @@ use Rattle.fact_store.specs.View.{cells_of}
 use Rattle.subnet_view.specs.Graph.{guids_of}
 use Rattle.subnet_view.specs.Reading.{switches}
 use Rattle.subnet_view.proofs.GraphSwitches.{graph_guids}
-use Rattle.spread_routes.specs.LeafSwitches.{leaf_switches_of, most_adapters}
+use Rattle.spread_routes.specs.Adapters.{adapters_of}
 use Rattle.spread_routes.specs.Spread.{spread_by}
 use Rattle.spread_routes.specs.SwitchOrders.{order_value_of}
 use Rattle.lft_blocks.specs.declared.attachment.Attachment.{Attachment}
@@ -27,7 +27,6 @@ returns-clause-tables c =
     let cells = cells_of c.args.wires.now in
     let graph = c.in_ok-graph.graph in
     let attachments = attachment_of_lid cells c.args.lids.now in
-    let leaves = leaf_switches_of cells in
     let guids : guids_of graph ≡ switches cells = ap guids_of c.in_ok-graph.ensures ∙ graph_guids cells in
     let are = subst (λ (x : List ℕ × List (Option Attachment)). AreIndexed x.0 attachments x.1) (λ i. (c.switches.ensures i, sym c.deref.ensures.value i))
     c.in_ok-attachments.ensures.indexed in
@@ -36,4 +35,4 @@ returns-clause-tables c =
     ∙ (λ i. tables_of (same_attachments (guids_of graph) attachments c.deref.result.now are i)
     (numbered
     (number_of (numbering_of c.args.lmc cells) (guids_of (c.in_ok-graph.ensures i)) (same_attachments (guids_of graph) attachments c.deref.result.now are i))
-    (spread_by (c.in_ok-graph.ensures i) leaves (most_adapters cells) (order_value_of c.args.order.now))).next (counted i) (guids i))
+    (spread_by (c.in_ok-graph.ensures i) (adapters_of cells) (order_value_of c.args.order.now))).next (counted i) (guids i))

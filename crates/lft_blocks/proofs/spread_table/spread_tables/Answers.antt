@@ -10,34 +10,41 @@ use Rattle.subnet_view.specs.SwitchEdges.{SwitchEdges}
 use Rattle.subnet_view.specs.Graph.{guids_of}
 use Rattle.subnet_view.proofs.GraphSwitches.{graph_guids, switches_rise}
 use Rattle.spread_routes.specs.LeafNumbers.{leaf_number, leaf_numbers, least_neighbours}
-use Rattle.spread_routes.specs.LeafSwitches.{leaf_switches_of, most_adapters}
+use Rattle.spread_labels.specs.LeafVertices.{leaf_vertices}
+use Rattle.spread_routes.specs.Adapters.{adapters_of}
+use Rattle.spread_routes.proofs.AdapterCounts.{adapters_long}
 use Rattle.spread_routes.specs.Rule.{by_index}
-use Rattle.spread_routes.specs.Spread.{Grading, grading_of, indices_of, spread_at, spread_by}
+use Rattle.spread_routes.specs.Spread.{Grading, grading_of, spread_at, spread_by}
 use Rattle.spread_routes.specs.SwitchOrders.{order_value_of}
 use Rattle.lft_blocks.specs.Attachments.{AreWithin}
-use Rattle.lft_blocks.specs.LidNumbers.{Numbering, indexed_number, indexed_numbers, number_of, numbered, numbering_of}
+use Rattle.lft_blocks.specs.LidNumbers.{Numbering, indexed_number, indexed_numbers, number_of, numbered, numbering_by, numbering_of}
 use Rattle.lft_blocks.specs.Plan.{SwitchTable}
 use Rattle.lft_blocks.specs.TableRows.{AreRows, attachment_by_index, table_of_row}
 use Rattle.lft_blocks.proofs.LidNumbers.{number_same}
 use Rattle.lft_blocks.proofs.RowSteps.{tables_are}
 use Rattle.lft_blocks.proofs.spread_table.spread_tables.Goals as goal
 
-pub leaf_switches-requires : goal.leaf_switches-requires
-leaf_switches-requires c = c.switches-guids.ensures ∙ ap guids_of c.requires.graph ∙ graph_guids (cells_of c.args.wires.now)
+pub adapters_of-requires : goal.adapters_of-requires
+adapters_of-requires c = c.switches-guids.ensures ∙ ap guids_of c.requires.graph ∙ graph_guids (cells_of c.args.wires.now)
 
-pub find_numbering-requires-clause-leaves : goal.find_numbering-requires-clause-leaves
-find_numbering-requires-clause-leaves c = c.deref.ensures.value ∙ c.in_ok-leaves.ensures
+pub find_numbering-requires : goal.find_numbering-requires
+find_numbering-requires c =
+    ap length (c.deref.ensures.value ∙ c.in_ok-adapters.ensures) ∙ adapters_long (cells_of c.args.wires.now) ∙ sym (ap length c.requires.graph)
+
+pub of-requires : goal.of-requires
+of-requires c =
+    ap length (c.deref-2.ensures.value ∙ c.in_ok-adapters.ensures) ∙ adapters_long (cells_of c.args.wires.now) ∙ sym (ap length c.requires.graph)
 
 -- each switch has one
-numbers_of_leaves_long : (graph : List SwitchEdges) (leaves : List ℕ) → length (guids_of graph) ≡ length (leaf_numbers graph leaves)
-numbers_of_leaves_long graph leaves =
+numbers_of_leaves_long : (graph : List SwitchEdges) (adapters : List ℕ) → length (guids_of graph) ≡ length (leaf_numbers graph adapters)
+numbers_of_leaves_long graph adapters =
     length-map graph (λ (s : SwitchEdges). s.guid)
-    ∙ sym (numbers_long (leaf_number (least_neighbours (by_index graph)) (indices_of graph leaves)) 0 (length graph))
+    ∙ sym (numbers_long (leaf_number (least_neighbours (by_index graph)) (leaf_vertices adapters)) 0 (length graph))
 
 pub lid_numbers-requires : goal.lid_numbers-requires
 lid_numbers-requires c =
     let cells = cells_of c.args.wires.now in
-    let long = numbers_of_leaves_long c.args.graph.now (leaf_switches_of cells) ∙ (λ i. length (leaf_numbers (c.requires.graph i) (leaf_switches_of cells)))
+    let long = numbers_of_leaves_long c.args.graph.now c.deref.result.now
     ∙ ap (λ (p : Numbering). length p.leaf_numbers) (sym c.in_ok-numbering.ensures) in
     subst (λ (n : ℕ). AreWithin n c.args.attachments.now) long c.requires.within
 
@@ -52,23 +59,23 @@ returns c =
     let graph = c.args.graph.now in
     let guids = guids_of graph in
     let attachments = c.args.attachments.now in
-    let leaves = leaf_switches_of (cells_of c.args.wires.now) in
+    let adapters = adapters_of (cells_of c.args.wires.now) in
     let order = order_value_of c.args.order.now in
     let count = c.args.count in
-    let most = most_adapters (cells_of c.args.wires.now) in
-    let by = grading_of graph leaves most order in
+    let by = grading_of graph adapters order in
     let rows = c.in_ok-rows.rows.items in
     let theirs = c.switches-guids.ensures in
     let numbers = c.in_ok-numbers.numbers.items in
     let is : c.in_ok-spread.spread ≡ by =
-    c.in_ok-spread.ensures
-    ∙ (λ i. grading_of graph ((c.deref-2.ensures.value ∙ c.in_ok-leaves.ensures) i) ((c.from.ensures ∙ ap (λ (p : Numbering). p.most) (c.numbering.view_is ∙ c.in_ok-numbering.ensures)) i) order) in
+    c.in_ok-spread.ensures ∙ ap (λ counts. grading_of graph counts order) (c.deref-2.ensures.value ∙ c.in_ok-adapters.ensures) in
     let rising : IsStrictlyIncreasing guids =
     subst (λ (g : List SwitchEdges). IsStrictlyIncreasing (guids_of g)) (sym c.requires.graph) (switches_rise c.args.wires.now) in
     let numbering = numbering_of c.args.lmc (cells_of c.args.wires.now) in
+    let is_numbering : c.in_ok-numbering.numbering ≡ numbering =
+    c.in_ok-numbering.ensures ∙ (λ i. numbering_by c.args.lmc (c.requires.graph i) ((c.deref.ensures.value ∙ c.in_ok-adapters.ensures) i)) in
     let same : (lid : ℕ) → get_or c.deref-3.result.now lid 0 ≡ number_of numbering guids (attachment_by_index guids attachments) lid =
     number_same numbering guids rising attachments c.requires.within c.deref-3.result.now (c.deref-3.ensures.value ∙ c.in_ok-numbers.ensures
-    ∙ ap (λ p. indexed_numbers p attachments) c.in_ok-numbering.ensures) in
+    ∙ ap (λ p. indexed_numbers p attachments) is_numbering) in
     let number : ℕ → ℕ = number_of numbering guids (attachment_by_index guids attachments) in
     let next = (numbered number (spread_at by)).next in
     let are : AreRows next guids attachments (length guids) rows =
