@@ -6,7 +6,7 @@ use crate::waits::Waits;
 use std::alloc::{AllocError, Global};
 
 /// Returns a number for each channel that does not lead to a cycle, and 0 for the others. A round takes a step for each
-/// channel and each that follows it, and there are as many rounds as channels on the longest walk.
+/// channel and for each channel that follows it. There are as many rounds as channels on the longest walk.
 pub(crate) fn numbers(alloc: Global, waits: &Waits) -> Result<Vec<usize>, AllocError>
     ensures { IfOk result (λ numbers. AreGiven waits.now numbers.items) }
 {
