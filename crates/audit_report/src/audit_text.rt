@@ -29,7 +29,7 @@ use subnet_view::EndPort;
 /// - how many packets there are and how many arrive: of all, between adapter ports, and with a switch at one end;
 /// - how many packets are lost for each cause;
 /// - the first packets of each kind that do not arrive, by rising LID and then in the order of the end ports, and how
-/// many more there are;
+///   many more there are;
 /// - the first differences of each kind between tables and facts, and how many more there are;
 /// - how many facts are disputed, if any are;
 /// - the wires that packets between adapter ports take, and the loads of channels;

@@ -15,7 +15,7 @@ use audit::{NextHop, SwitchStep, is_at};
 use std::alloc::{AllocError, Global};
 use subnet_view::EndPort;
 
-/// What is known of each switch before any takes another entry.
+/// What is known of each switch before any switch changes its entry.
 #[derive(Drop)]
 struct SwitchFlags {
     /// For each switch, whether the held tables deliver the packet from there.
@@ -26,9 +26,9 @@ struct SwitchFlags {
     entered: Vec<bool>,
 }
 
-/// Returns the next entries of the switches towards an end port, from what each switch does by the held tables and by
-/// the goal's, and its position. Takes some steps for each switch and two walks, by the number of digits of the longest
-/// way's length.
+/// Returns the next entries of the switches towards `port`, from each switch's position and what it does by the held
+/// tables and by the goal's. Follows the walks from all switches twice. Each time takes some steps for each switch, in
+/// proportion to the number of binary digits of the longest way's length.
 pub(crate) fn ordered_entries(
     alloc: Global,
     port: &EndPort,
@@ -131,7 +131,8 @@ fn none_entered(alloc: Global, count: usize) -> Result<Vec<bool>, AllocError>
     vec![in alloc; false; count]
 }
 
-/// Notes that the packet comes down from the switch at `index`, if it does so by an entry that is not the goal's.
+/// Sets the flag of the switch to which the packet comes down from the switch at `index`, if it does so by an entry
+/// that is not the goal's.
 fn enter(
     entered: &mut [bool],
     positions: &[usize],
