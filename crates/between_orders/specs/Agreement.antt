@@ -69,8 +69,8 @@ GoalsGoFurther =
     → IsOnward (cells_of facts) held next by count later → AgreeTo (cells_of facts) held by count
     → AgreeTo (cells_of facts) next by later
 
--- a sequence of tables, each from the one before by a step or a goal. The first ones tell an order, and `reached m` counts
--- the goals until then
+-- a sequence of tables, each from the one before by a step or a goal. The first ones tell an order, and `reached m`
+-- counts the goals until then
 pub record AreOnTheWay (cells : Cells) (by : List ℕ) (tables : ℕ → HeldPlan) (reached : ℕ → ℕ) : Type 0 where
   pub told : TellsPositions cells (tables 0) by
   pub none_yet : reached 0 ≡ 0

@@ -1,4 +1,4 @@
--- The orders of switches by which a step goes from tables that tell an order by themselves: that order, and the next one.
+-- The two orders by which a step goes from tables that tell an order by themselves: that order, and the next one.
 use Rattle.std.specs.Prelude.{◌≡◌, ℕ, List, Option, None, Some, length, map, if◌then◌else◌}
 use Rattle.std.specs.List.{range_with_len}
 use Rattle.port_graph.specs.declared.edge.Edge.{Edge}
