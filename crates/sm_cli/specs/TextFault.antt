@@ -1,4 +1,4 @@
--- What is said of a text that is refused: the faulty line, if there is one, and a word.
+-- The message for a refused text: the faulty line, if there is one, and a word.
 use Rattle.std.specs.Prelude.{ℕ, Bool, true, false, List, [], ◌++◌, Option, None, Some, codes, decimal}
 use Rattle.topo_file.specs.declared.fault.TopoFault.TheVariants as topology
 use Rattle.topo_file.specs.TopoFault as topologies
