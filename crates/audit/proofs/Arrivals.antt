@@ -1,4 +1,4 @@
--- Where packets end whose walks come to a port, and the first that ends elsewhere.
+-- The ends of packets whose walks reach a port, and the first packet that ends elsewhere.
 use Rattle.std.proofs.Common.{◌≡◌, ◌<◌, ◌≤◌, ℕ, zero, suc, Bool, true, false, cond, List, [], ◌∷◌, length, get_or, Option, None, Some, refl, sym, ap, ◌∙◌, arith, map}
 use Rattle.std.specs.Prelude.{nat_lt, not, slice_index_or, ◌&&◌, ◌||◌}
 use Rattle.std.specs.List.{list_all, position, position_or_len}

@@ -1,4 +1,4 @@
--- The ends that are found are those of the walks by the tables held.
+-- The ends that are found are those of the walks by the held tables.
 use Rattle.std.proofs.Common.{◌≡◌, Bool, ℕ, zero, suc, ◌/◌, ◌%◌, List, [], ◌∷◌, length, Option, None, Some, Result, Ok, Err, refl, sym, ap, ◌∙◌, subst, arith}
 use Rattle.std.specs.Prelude.{map, slice_get, IfOk, ◌==◌}
 use Rattle.std.proofs.lemmas.List.Quantifiers.{position-Some}

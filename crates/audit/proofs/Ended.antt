@@ -1,4 +1,4 @@
--- Walks that have come to where they end, or go on.
+-- Walks that have reached their ends, or go on.
 use Rattle.std.proofs.Common.{◌≡◌, ℕ, zero, suc, ◌+◌, ◌<◌, ◌≤◌, true, false, cond, List, [], ◌∷◌, length, refl, sym, ap, ◌∙◌, arith, inl, inr}
 use Rattle.std.specs.Prelude.{map, count_by, slice_index_or}
 use Rattle.std.proofs.lemmas.Bool.{cases_lt}

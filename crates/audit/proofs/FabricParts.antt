@@ -1,4 +1,4 @@
--- What facts that cover a part of a fabric say of its switches and its wires.
+-- What facts that describe a part of a fabric say of its switches and its wires.
 use Rattle.std.proofs.Common.{◌≡◌, ◌≢◌, ℕ, ◌≤◌, true, false, List, length, get_or, None, Some, refl, sym, ap, ◌∙◌, subst, arith}
 use Rattle.std.specs.Prelude.{slice_get, is_some, Contains, ◌==◌}
 use Rattle.std.specs.List.{position_or_len}

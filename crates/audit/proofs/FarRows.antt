@@ -1,4 +1,4 @@
--- What a switch's row of far ends says of a port, and where the port is none of the switch.
+-- What a switch's row of far ends says of a port, also if the switch has no such port.
 use Rattle.std.proofs.Common.{◌≡◌, ℕ, ◌<◌, ◌≤◌, true, false, ◌||◌, None, Some, refl, sym, ap, ◌∙◌, subst, arith, inl, inr, ◌⊎◌}
 use Rattle.std.specs.Prelude.{nat_lt, slice_index_or, ◌==◌}
 use Rattle.std.proofs.lemmas.Bool.{cases_lt, eqb-true, ltb-true, ltb-false}

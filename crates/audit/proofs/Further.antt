@@ -1,4 +1,4 @@
--- Walks that go on from where they have come, one after the other, until none ends that has not ended before.
+-- Walks that go on, one after the other, until a round in which no more of them end.
 use Rattle.std.proofs.Common.{◌≡◌, ℕ, zero, suc, ◌+◌, ◌-◌, ◌<◌, ◌≤◌, true, false, List, [], ◌∷◌, length, refl, sym, ap, ◌∙◌, subst, arith, inl, inr}
 use Rattle.std.specs.Prelude.{count_by, slice_index_or, slice_set, take}
 use Rattle.std.proofs.lemmas.Bool.{cases_eq, cases_lt}

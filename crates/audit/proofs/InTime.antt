@@ -1,4 +1,4 @@
--- A walk that ends does so in no more steps than there are switches.
+-- A walk that ends takes no more steps than there are switches.
 use Rattle.std.proofs.Common.{◌≡◌, ℕ, zero, suc, ◌+◌, ◌-◌, ◌<◌, ◌≤◌, true, List, [], ◌∷◌, length, get_or, refl, sym, ap, ◌∙◌, subst, arith, inl, inr, ◌⊎◌}
 use Rattle.std.specs.Prelude.{map, slice_index_or, Option, None, Some}
 use Rattle.std.proofs.lemmas.Bool.{cases_lt}

@@ -1,4 +1,4 @@
--- An end port that holds a LID has a line, and that of a line holds its LID.
+-- An end port that holds a LID has a line for it, and the end port of a line holds the line's LID.
 use Rattle.std.proofs.Common.{◌≡◌, ℕ, true, false, cond, ◌||◌, List, [], ◌∷◌, refl, ap, ◌∙◌, inl, inr}
 use Rattle.std.specs.Prelude.{map, filter, Contains, ◌==◌}
 use Rattle.std.proofs.lemmas.Bool.{eqb-true, eq-eqb}

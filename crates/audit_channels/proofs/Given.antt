@@ -1,4 +1,4 @@
--- Numbers are given round by round.
+-- Numbers of channels, given round by round.
 use Rattle.std.proofs.Common.{◌≡◌, ◌≢◌, ◌<◌, ◌≤◌, ◌+◌, ℕ, zero, suc, Bool, true, false, cond, List, [], ◌∷◌, length, replicate, refl, sym, ap, ◌∙◌, subst, arith, inl, inr, ◌⊎◌}
 use Rattle.std.specs.Prelude.{count_by, slice_index_or, ◌==◌, not, ◌&&◌}
 use Rattle.std.specs.Prelude.{None, Some, position}

@@ -1,4 +1,4 @@
--- Packets that are counted one after another.
+-- Packets, counted one after the other.
 use Rattle.std.proofs.Common.{◌≡◌, ◌+◌, ℕ, List, [], ◌∷◌, ◌++◌, length, take, refl, sym, ap, ◌∙◌, subst, arith, Bool, true, false, cond}
 use Rattle.std.specs.Prelude.{Option, None, Some, count_by, filter, not, ◌&&◌}
 use Rattle.std.specs.List.{list_all}

@@ -1,4 +1,4 @@
--- Disputed cells, counted down from all cells.
+-- Disputed cells, counted as all cells minus the known ones.
 use Rattle.std.proofs.Common.{◌≡◌, ◌+◌, ◌-◌, ◌≤◌, ℕ, ◌∷◌, ap, arith, length, true, false, cond}
 use Rattle.std.proofs.lemmas.List.Sums.{sum_by-cons, count_by-le-length}
 use Rattle.fact_join.specs.declared.cell.Cell.{Cell}

@@ -1,4 +1,4 @@
--- The first of a list that pass a test, with one element more.
+-- The first elements of a list that pass a test, with one element more.
 use Rattle.std.proofs.Common.{◌≡◌, ◌<◌, ◌≤◌, ◌+◌, ℕ, List, [], ◌∷◌, ◌++◌, inl, inr, refl, sym, ap, ◌∙◌, arith, Bool, true, false, cond, length, take, get_or}
 use Rattle.std.specs.Prelude.{count_by, filter, nat_lt}
 use Rattle.std.proofs.Math.Nat.{add-zero}

@@ -1,4 +1,4 @@
--- The sites of end ports, and which of them is that of a port.
+-- The sites of end ports, and which of them is the site of a port.
 use Rattle.std.proofs.Common.{◌≡◌, ◌<◌, ◌≤◌, ℕ, zero, suc, List, [], ◌∷◌, refl, sym, ap, subst, ◌∙◌, Bool, true, false, cond, ◌&&◌, ◌||◌, length, get_or, arith}
 use Rattle.std.specs.Prelude.{Contains, Option, None, Some, count_by, find, map, slice_get}
 use Rattle.std.proofs.lemmas.Bool.{eq-eqb, eqb-true, ltb-false}

@@ -1,4 +1,4 @@
--- The packets of a line, end port by end port, and those of all lines.
+-- The packets of a line, end port by end port, and the packets of all lines.
 use Rattle.std.proofs.Common.{◌≡◌, ◌<◌, ◌≤◌, ◌+◌, ℕ, suc, List, [], ◌∷◌, ◌++◌, refl, sym, ap, ◌∙◌, subst, arith, Bool, true, false, cond, length, get_or, map, take, append_assoc}
 use Rattle.std.specs.Prelude.{Option, None, Some, count_by, filter, not, ◌&&◌}
 use Rattle.std.specs.List.{flat_map, list_all, position}

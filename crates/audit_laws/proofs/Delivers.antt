@@ -1,4 +1,4 @@
--- Where tables pass by facts, packets are delivered in the part of a fabric that the facts tell of.
+-- If tables pass by facts, packets are delivered in the part of a fabric that the facts describe.
 use Rattle.std.proofs.Common.{◌≡◌, ◌≢◌, ◌≤◌, ℕ, Bool, true, false, cond, ◌||◌, List, [], ◌∷◌, Option, None, Some, refl, sym, ap, ◌∙◌, subst}
 use Rattle.std.specs.Prelude.{Contains, is_some, nat_lt, option_and_then, option_map, slice_get, ◌==◌}
 use Rattle.std.specs.Option.{option_map_or}

@@ -1,4 +1,4 @@
--- The packets for a LID by the switches at which they come first, end port by end port.
+-- The packets for a LID, grouped by the switches that they reach first, end port by end port.
 use Rattle.std.proofs.Common.{◌≡◌, ◌<◌, ◌≤◌, ◌+◌, ◌*◌, ℕ, zero, suc, Bool, true, false, cond, List, [], ◌∷◌, ◌++◌, length, get_or, set, take, map, replicate, refl, sym, ap, ◌∙◌, subst, arith}
 use Rattle.std.specs.Prelude.{filter, Option, None, Some, ◌==◌}
 use Rattle.std.specs.List.{sum_by}

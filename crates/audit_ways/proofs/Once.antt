@@ -1,4 +1,4 @@
--- Sums over a list that leave out an element which stands there once.
+-- Sums over a list without an element that occurs once.
 use Rattle.std.proofs.Common.{◌≡◌, ◌+◌, ◌*◌, ℕ, suc, Bool, true, false, cond, List, [], ◌∷◌, inl, inr, refl, ap, ◌∙◌, subst, arith}
 use Rattle.std.specs.Prelude.{Contains, count_by, filter, not, ◌&&◌}
 use Rattle.std.specs.List.{AllPairs, sum_by}

@@ -1,4 +1,4 @@
--- What a search in a roster of the end ports finds.
+-- The result of a search in a roster of the end ports.
 use Rattle.std.proofs.Common.{◌≡◌, ◌<◌, ℕ, List, [], ◌∷◌, Bool, true, false, get_or, length, map, inl, inr, refl, sym, ap, ◌∙◌, subst, arith}
 use Rattle.std.specs.Prelude.{Contains, Option, None, Some, ◌&&◌, ◌||◌}
 use Rattle.std.specs.Result.{result_ok}

@@ -1,4 +1,4 @@
--- The packets for a LID where all arrive: those of all adapter ports but the LID's own.
+-- The packets for a LID if all arrive: those of all adapter ports except the LID's own.
 use Rattle.std.proofs.Common.{◌≡◌, ◌≤◌, ◌*◌, ℕ, zero, suc, Bool, true, false, List, [], ◌∷◌, get_or, refl, sym, ap, ◌∙◌, subst, arith}
 use Rattle.std.specs.Prelude.{Contains, IsSome, Option, None, Some, count_by, is_some, not, ◌&&◌}
 use Rattle.std.specs.List.{position, sum_by}

@@ -1,4 +1,4 @@
--- The channels of a way, one after another.
+-- The channels of a route, one after the other.
 use Rattle.std.proofs.Common.{◌≡◌, ◌≢◌, ◌<◌, ◌≤◌, ◌+◌, ◌-◌, ◌*◌, ℕ, zero, suc, true, false, cond, List, [], ◌∷◌, length, get_or, set, refl, sym, ap, ◌∙◌, arith, get_or-set_other, get_or-set_same}
 use Rattle.std.specs.Prelude.{Option, None, Some, count_by, slice_index_or, ◌==◌}
 use Rattle.std.specs.Option.{option_map_or}

@@ -1,4 +1,4 @@
--- Numbers that are chained, from the last one on.
+-- Chains of numbers, built from the last number on.
 use Rattle.std.proofs.Common.{◌≡◌, ℕ, zero, suc, ◌<◌, ◌≤◌, List, length, refl, sym, ap, ◌∙◌, subst, arith, inl, inr, Vec, Global}
 use Rattle.std.specs.Prelude.{replicate, slice_index_or, slice_set}
 use Rattle.std.proofs.lemmas.Bool.{cases_eq}

@@ -1,4 +1,4 @@
--- The text of a view's plan says the plan's LIDs with their owners, and its entries.
+-- The text of a view's plan has the plan's LIDs with their owners, and its entries.
 use Rattle.std.proofs.Common.{◌≡◌, ℕ, zero, suc, ◌+◌, ◌*◌, ◌/◌, ◌%◌, ◌≤◌, false, ◌||◌, List, [], ◌∷◌}
 use Rattle.std.proofs.Common.{get_or, Option, None, Some, refl, sym, ap, ◌∙◌, arith, cond}
 use Rattle.std.specs.Prelude.{slice_get, map, Contains, option_and_then, nat_lt, ◌==◌}

@@ -1,4 +1,4 @@
--- Blocks and switches of tables as a text holds them: each block is found at its switch's index.
+-- Blocks and switches of tables as a text has them: each block is found at its switch's index.
 use Rattle.std.proofs.Common.{◌≡◌, ℕ, zero, suc, ◌+◌, ◌<◌, ◌≤◌, Bool, true, false, List, [], ◌∷◌, ◌++◌, length, get_or}
 use Rattle.std.proofs.Common.{None, Some, refl, sym, ap, ◌∙◌, subst, arith, inl, inr, ◌⊎◌, add-zero}
 use Rattle.std.specs.Prelude.{slice_get, map, Contains, reverse, ◌==◌, ◌&&◌}

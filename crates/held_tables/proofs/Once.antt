@@ -1,4 +1,4 @@
--- Lines that tell each LID of an end port once.
+-- Lines that have each pair of a LID and an end port once.
 use Rattle.std.proofs.Common.{◌≡◌, ◌||◌, ◌&&◌, ◌==◌, ◌⊎◌, ℕ, Bool, true, false, List, [], ◌∷◌, ◌++◌, cond, map, refl, sym, ap, ◌∙◌, subst, inl, inr}
 use Rattle.std.specs.Prelude.{Contains, filter, not}
 use Rattle.std.specs.List.{list_any}

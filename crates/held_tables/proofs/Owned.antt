@@ -1,4 +1,4 @@
--- Who holds each LID: by one line more, and what is told of a LID.
+-- Who holds each LID: what one line more changes, and what the table says of a LID.
 use Rattle.std.proofs.Common.{◌≡◌, ◌<◌, ℕ, Bool, List, [], ◌∷◌, ◌++◌, length, map, cond, nat_lt, replicate, refl, sym, ap, ◌∙◌, arith, inl, inr}
 use Rattle.std.specs.Prelude.{count_by, filter, slice_index_or, slice_set, ◌==◌}
 use Rattle.std.proofs.lemmas.Grind.{get_or-set_at}

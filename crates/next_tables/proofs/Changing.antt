@@ -1,4 +1,5 @@
--- Why a packet arrives at the port while switches go over from the held tables to the next ones: by what each may do with it when it comes there.
+-- Why a packet arrives at the port while switches go over from the held tables to the next ones: by what each switch
+-- may do with the packet when it gets there.
 use Rattle.std.proofs.Common.{◌≡◌, ℕ, zero, suc, ◌+◌, ◌<◌, ◌≤◌, List, length, Some, sym, ap, ◌∙◌, arith, inl, inr, ◌⊎◌}
 use Rattle.std.proofs.lemmas.Option.{same_Some}
 use Rattle.subnet_view.specs.declared.end_port.EndPort.{EndPort}

@@ -1,4 +1,4 @@
--- What switches do by entries.
+-- What switches do by their entries.
 use Rattle.std.proofs.Common.{◌≡◌, ℕ, zero, suc, ◌<◌, true, false, ◌+◌, ◌*◌, cond, List, [], ◌∷◌, length, Option, None, Some, refl, sym, ap, ◌∙◌, subst, arith, inl, inr}
 use Rattle.std.specs.Option.{option_map_or}
 use Rattle.std.specs.Prelude.{slice_get, slice_index_or, ◌==◌, ◌/◌, ◌%◌}

@@ -1,4 +1,4 @@
--- Why no packet is lost between tables and the next ones: by what the switches do alone.
+-- Why no packet is lost between the held tables and the next ones, by what the switches do.
 use Rattle.std.proofs.Common.{◌≡◌, ℕ, zero, suc, ◌<◌, true, false, cond, List, length, refl, sym, ap, ◌∙◌, arith, inl, inr, ◌⊎◌}
 use Rattle.std.specs.Prelude.{slice_index_or}
 use Rattle.std.proofs.lemmas.Bool.{cases_lt}

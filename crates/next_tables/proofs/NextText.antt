@@ -1,4 +1,4 @@
--- The next tables are in their ranges, so their text is read as they are.
+-- The numbers of the next tables are in their ranges, so the text of these tables is read as what they are.
 use Rattle.std.proofs.Common.{◌≡◌, ℕ, zero, suc, ◌+◌, ◌*◌, ◌/◌, ◌%◌, ◌<◌, ◌≤◌, Bool, List, [], ◌∷◌, ◌++◌, length, get_or, Option, None, Some, refl, sym, ap, ◌∙◌, subst, arith, inl, inr, reverse}
 use Rattle.std.specs.Prelude.{Contains, map, slice_get, slice_index_or, nat_lt, ◌==◌, ◌||◌}
 use Rattle.std.specs.Option.{option_map_or}

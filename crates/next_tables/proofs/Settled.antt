@@ -1,4 +1,4 @@
--- A LID for which the tables held have the plan's entries, by which packets arrive from each switch.
+-- A LID for which the held tables have the plan's entries, by which packets arrive from each switch.
 use Rattle.std.proofs.Common.{◌≡◌, ◌<◌, ◌&&◌, ◌||◌, ℕ, zero, suc, Bool, true, false, cond, List, [], ◌∷◌, length, None, Some, refl, sym, ap, ◌∙◌, arith}
 use Rattle.std.proofs.Common.{inl, inr, not}
 use Rattle.std.specs.Prelude.{map, slice_index_or}

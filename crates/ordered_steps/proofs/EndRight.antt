@@ -1,4 +1,4 @@
--- Steps by an order end in tables that are right by each order by which the goal is.
+-- Steps by an order end in tables that are right by each order by which the goal is right.
 use Rattle.std.proofs.Common.{◌≡◌, ℕ, zero, suc, ◌<◌, ◌≤◌, ◌*◌, Bool, true, false, cond, length, refl, sym, ap, ◌∙◌, arith, inl, inr}
 use Rattle.std.proofs.lemmas.List.FromFn.{get_or-map-range_with_len}
 use Rattle.subnet_view.specs.Reading.{Cells, switches}

@@ -1,4 +1,4 @@
--- What is told of rightness is so.
+-- The test of rightness is exact.
 use Rattle.std.proofs.Common.{◌≡◌, ℕ, zero, suc, ◌+◌, ◌-◌, ◌<◌, ◌≤◌, Bool, true, false, cond, List, [], ◌∷◌, length, get_or, None, Some, refl, sym, ap, ◌∙◌, subst, arith, inl, inr, ◌&&◌}
 use Rattle.std.specs.Prelude.{not, map, slice_index_or, Option, Contains}
 use Rattle.std.specs.List.{list_all, range_with_len}

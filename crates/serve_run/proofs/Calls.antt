@@ -1,4 +1,4 @@
--- Calls of a manager, whole: it leaves a manager, and tells why it was refused.
+-- Calls of a manager as a whole: the manager that a call leaves, and why it was refused.
 use Rattle.std.proofs.Common.{◌≡◌, ◌∙◌, Bool, true, false, List, [], ℕ, Option, None, Some, Result, Ok, Err, refl, sym, ap, subst}
 use Rattle.std.specs.List.{flat_map}
 use Rattle.std.specs.Prelude.{OnOk}

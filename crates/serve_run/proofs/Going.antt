@@ -1,4 +1,4 @@
--- A server that goes on, piece by piece.
+-- Serving, piece by piece.
 use Rattle.std.proofs.Common.{◌≡◌, ◌∙◌, inl, inr, false, true, ℕ, ◌+◌, ◌-◌, ◌^◌, ◌≤◌, Bool, List, [], ◌++◌, Option, None, Some, Result, Ok, Err, IsTrue, ◌↔◌, length, length-append, refl, sym, ap, subst, arith, append-nil}
 use Rattle.std.specs.Io.KnownBytes.{Appends, Consumes}
 use Rattle.byte_io.proofs.Bytes.{Consumes-trans}

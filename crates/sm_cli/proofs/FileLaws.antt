@@ -1,4 +1,4 @@
--- A joined file stands for the files that it was made of, and the parts of a split one for the whole.
+-- A joined file stands for the files that it was made of, and the parts of a split file for the whole.
 use Rattle.std.proofs.Common.{◌≡◌, ℕ, max, List, [], ◌∷◌, ◌++◌, refl, ap, sym, ◌∙◌, append_assoc, arith}
 use Rattle.std.proofs.lemmas.List.Concat.{flat_map-append}
 use Rattle.std.specs.List.{flat_map}

@@ -1,4 +1,4 @@
--- Where a writing may begin there are numbers for its first phase.
+-- If a writing may begin, there are numbers for its first phase.
 use Rattle.std.proofs.Common.{◌≡◌, ◌≤◌, ◌+◌, ◌-◌, ◌^◌, ℕ, Bool, true, false, cond, List, [], ◌∷◌, length, refl, sym, ap, ◌∙◌, arith}
 use Rattle.std.proofs.lemmas.Bool.Decides.{nat_tests}
 use Rattle.std.specs.Prelude.{Option, Some, None, min, not, nat_le, ◌==◌, if◌then◌else◌}

@@ -1,4 +1,4 @@
--- How many of the requests that wait, and of the steps that are still to be sent, count.
+-- How many of the waiting requests, and of the steps still to be sent, count.
 use Rattle.std.proofs.Common.{◌≡◌, ◌≤◌, ◌+◌, ℕ, suc, Bool, true, false, cond, List, [], ◌∷◌, ◌++◌, length, refl, sym, ap, ◌∙◌, subst, arith}
 use Rattle.std.proofs.lemmas.Bool.{cond_both, eq-eqb, eqb-true}
 use Rattle.std.proofs.lemmas.List.{length-append}

@@ -1,4 +1,4 @@
--- Which request a packet can answer, and how many are steps as they come and go.
+-- Which request a packet can answer, and how many requests are steps as requests come and go.
 use Rattle.std.proofs.Common.{◌≡◌, ◌≢◌, ℕ, zero, suc, ◌+◌, ◌-◌, ◌≤◌, Bool, true, false, ◌&&◌, List, [], ◌∷◌, ◌++◌, length, refl, arith, ap, sym, ◌∙◌}
 use Rattle.std.specs.Prelude.{Some, filter, remove, slice_get, ◌==◌}
 use Rattle.std.proofs.lemmas.Bool.{cond-true, cond-false, ne_eqb}

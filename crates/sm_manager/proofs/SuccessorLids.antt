@@ -1,4 +1,4 @@
--- Where there is room, each end port has a LID.
+-- If there is room, each end port has a LID.
 use Rattle.std.proofs.Common.{◌≡◌, ℕ, ◌+◌, Bool, true, false, cond, List, [], ◌∷◌, ◌++◌, refl, sym, ap, ◌∙◌, subst}
 use Rattle.std.proofs.lemmas.Option.{same_Some}
 use Rattle.std.specs.Prelude.{◌^◌, Contains, IsSome, None, Option, Some, if◌then◌else◌, is_none, nat_le, option_and_then}

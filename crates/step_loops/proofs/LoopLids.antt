@@ -1,4 +1,4 @@
--- For which LIDs packets wait in a credit loop of a step, LID by LID up to the greatest top of both tables.
+-- The LIDs for which packets wait in a credit loop of a step, LID by LID up to the greatest top of both tables.
 use Rattle.std.proofs.Common.{length-append, ◌≡◌, ◌<◌, ◌≤◌, ◌+◌, ◌/◌, ℕ, zero, suc, true, false, List, [], ◌∷◌, ◌++◌, length, replicate, refl, sym, ap, ◌∙◌, subst, arith, max, inl, inr, ◌⊎◌, cond}
 use Rattle.std.specs.Prelude.{Option, None, Some, not, slice_index_or, slice_set, map, ◌==◌}
 use Rattle.std.proofs.lemmas.Bool.{and_parts, cases_eq, cases_lt, eq-eqb}

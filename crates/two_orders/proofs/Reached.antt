@@ -1,4 +1,4 @@
--- Each vertex has a label, where the second order grows over a tree of the first.
+-- Each vertex gets a label if the second order grows over a tree of the first.
 use Rattle.std.proofs.Common.{◌≡◌, ◌⊎◌, ◌∙◌, ◌<◌, ◌≤◌, ℕ, zero, suc, Option, Some, sym, ap, subst, arith, inl, inr}
 use Rattle.std.proofs.lemmas.Bool.{cases_lt}
 use Rattle.two_orders.specs.declared.labels.Sides.{Sides}

@@ -1,4 +1,4 @@
--- What each round of labels leaves: a vertex from which an edge leads on has a label.
+-- The result of each round of labels: a vertex from which an edge leads on has a label.
 use Rattle.std.proofs.Common.{◌≡◌, ◌⊎◌, ◌∙◌, ◌<◌, ◌≤◌, ◌&&◌, ◌||◌, ℕ, zero, suc, Bool, true, false, cond, not, List, [], ◌∷◌, length, Option, None, Some}
 use Rattle.std.proofs.Common.{refl, sym, ap, subst, arith, inl, inr}
 use Rattle.std.specs.Prelude.{Contains, slice_get, slice_index_or, slice_set}

@@ -1,4 +1,4 @@
--- By orders of which the second grows over the tree of the first each vertex gets a label.
+-- Each vertex gets a label by two orders, the second of which grows over the tree of the first.
 use Rattle.std.proofs.Common.{◌≡◌, ◌⊎◌, ◌∙◌, ◌<◌, ◌≤◌, ◌+◌, ◌-◌, ◌&&◌, ◌||◌, ◌==◌, ℕ, zero, suc, Bool, true, false, cond, not, List, [], ◌∷◌, length}
 use Rattle.std.proofs.Common.{Option, None, Some, refl, sym, ap, subst, arith, inl, inr}
 use Rattle.std.specs.Prelude.{Contains, map, nat_lt, reverse, slice_index_or}
