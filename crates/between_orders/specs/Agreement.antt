@@ -110,7 +110,7 @@ ComeEverywhere cells tables =
     (i j k : ℕ) → i < length (switches cells) → j < length (switches cells) → Walk (heads (edges_in cells)) i j k
     → (lid n : ℕ) × (1 ≤ lid) × ComeTo cells tables lid n i j
 
--- if packets come everywhere, tables are right by the order that grows by the one that they tell
+-- if packets get everywhere, tables are right by the order that grows by the one that they tell
 abbrev pub WholeTablesGrow : Type 0
 WholeTablesGrow =
     (facts : Facts) (tables : HeldPlan) (preferred taken : List ℕ) → ComeEverywhere (cells_of facts) tables

@@ -76,7 +76,7 @@ fn told_positions(alloc: Global, taken: &[usize], count: usize) -> Result<Vec<us
         .collect(alloc)
 }
 
-/// Returns how many vertices stand behind `vertex` in a list, or 0 if the list lacks it.
+/// Returns how many vertices come after `vertex` in a list, or 0 if the list lacks it.
 fn position_in(taken: &[usize], vertex: usize) -> usize
     ensures { result ≡ position_in taken.now vertex }
 {

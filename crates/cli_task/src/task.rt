@@ -100,7 +100,7 @@ fn task_behind(command: &str, words: &ArgMatches<'_>) -> Option<Task>
     }
 }
 
-/// Returns the audit that the words behind a subcommand ask for.
+/// Returns the audit that the words after a subcommand ask for.
 fn audit_of(words: &ArgMatches<'_>) -> Option<AuditAsked>
     ensures { result ≡ audit_asked (first_value (found_of words.now)) }
 {
@@ -113,7 +113,7 @@ fn audit_of(words: &ArgMatches<'_>) -> Option<AuditAsked>
     })
 }
 
-/// Returns whether the words behind a subcommand set the flag `name`.
+/// Returns whether the words after a subcommand set the flag `name`.
 fn is_set(words: &ArgMatches<'_>, name: &str) -> bool
     ensures { result ≡ is_set (first_value (found_of words.now) name.now) }
 {
@@ -123,8 +123,8 @@ fn is_set(words: &ArgMatches<'_>, name: &str) -> bool
     }
 }
 
-/// Returns the greatest load that passes, if the words behind a subcommand name one. Returns `None` if they name it by
-/// a word that is not a number of 32 bits.
+/// Returns the greatest load that passes, if the words after a subcommand name one. Returns `None` if they name it by a
+/// word that is not a number of 32 bits.
 fn max_load_of(words: &ArgMatches<'_>) -> Option<Option<u64>>
     ensures { result ≡ max_load_asked (first_value (found_of words.now) (codes "max-load")) }
 {
@@ -134,7 +134,7 @@ fn max_load_of(words: &ArgMatches<'_>) -> Option<Option<u64>>
     }
 }
 
-/// Returns the step that `words`, behind a subcommand, ask for.
+/// Returns the step that `words`, after a subcommand, ask for.
 fn step_of(words: &ArgMatches<'_>) -> Option<StepAsked>
     ensures { result ≡ step_asked (first_value (found_of words.now)) }
 {
@@ -148,7 +148,7 @@ fn step_of(words: &ArgMatches<'_>) -> Option<StepAsked>
     })
 }
 
-/// Returns the manager that `words`, behind a subcommand, ask for.
+/// Returns the manager that `words`, after a subcommand, ask for.
 fn serving_of(words: &ArgMatches<'_>) -> Option<Serving>
     ensures { result ≡ serving_asked (first_value (found_of words.now)) }
 {
@@ -335,7 +335,7 @@ pub fn names_of<'a>(
     }
 }
 
-/// Returns the names of the task's inputs, by the words behind the subcommand.
+/// Returns the names of the task's inputs, by the words after the subcommand.
 fn names_behind<'a>(
     alloc: Global,
     words: &ArgMatches<'a>,

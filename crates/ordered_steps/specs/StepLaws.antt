@@ -43,7 +43,8 @@ pub record IsStep (cells : Cells) (q : ℕ → ℕ) (held goal next : HeldPlan) 
   pub goal_right : (lid : ℕ) → 1 ≤ lid → AreRight cells q goal lid
   pub choice : (lid : ℕ) → 1 ≤ lid → IsChoice cells q held goal lid next
 
--- in a step the channels' numbers by the order rise from each channel to those that it waits for, whatever the mixtures
+-- in a step the channels' numbers by the order rise from each channel to the channels that it waits for, whatever the
+-- mixtures
 abbrev pub NumbersRiseByOrder : Type 0
 NumbersRiseByOrder =
     (cells : Cells) (q : ℕ → ℕ) (held goal next : HeldPlan) → IsStep cells q held goal next

@@ -58,8 +58,8 @@ fn far_image(store: &Store, sweep: &Sweep, guid: Guid, port: PortNum) -> Option<
     sweep.port_image(far_node, far_port)
 }
 
-/// Returns PortInfo as a Set carries it: as it was read, with defaults for what no manager has set, the MTU of the wire,
-/// and "no change" where what is read must not be written back; zeros if nothing was kept.
+/// Returns PortInfo as a Set carries it: as it was read, with defaults for what no manager has set, the MTU of the
+/// wire, and "no change" where what is read must not be written back; zeros if nothing was kept.
 pub(crate) fn carried_port(read: Option<PortRead>) -> PortInfo
     ensures { result ≡ carried_port read }
 {
@@ -93,8 +93,8 @@ fn carried_port_of(own: &[u8; 64], far: Option<PortInfo>) -> [u8; 64]
     bytes
 }
 
-/// Returns the lesser of the MTUs that the two ends of a wire can take, if both say one, and otherwise the port's own as
-/// it was read.
+/// Returns the lesser of the MTUs that the two ends of a wire can take, if both say one. Otherwise returns the port's
+/// own MTU as it was read.
 fn mtu_of(own: &[u8; 64], far: Option<PortInfo>) -> u8
     ensures value { result ≡ mtu_of own.now far }
     ensures fits { result < 16 }

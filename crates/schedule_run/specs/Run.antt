@@ -40,7 +40,7 @@ abbrev pub schedule_fault : ℕ → List Node → List ℕ → Option Fault
 schedule_fault input nodes text =
     if is_utf8 text then fault_of_script input (schedule_of nodes text) else Some (Text input NotUtf8)
 
--- what is wrong with the topology at `input` or, if it is sound, with the text of the schedule behind it
+-- what is wrong with the topology at `input` or, if it is sound, with the text of the schedule after it
 abbrev pub fault_behind : ℕ → Result Layout TopoFault → List ℕ → Option Fault
 fault_behind input (Ok layout) schedule = schedule_fault (input + 1) layout.nodes schedule
 fault_behind input (Err fault) schedule = Some (Text input (Topology fault))
@@ -72,7 +72,7 @@ abbrev pub HidesBelowManagers : List Node → List ℕ → Fault → Type 0
 HidesBelowManagers nodes schedule (Text input (Schedule schedules.Memory)) = IsSoundOrCrowded nodes (lines schedule)
 HidesBelowManagers nodes schedule _ = Unit {0}
 
--- the text of a schedule, behind the topology at `first`, is refused for its first fault, or memory was refused as it
+-- the text of a schedule, after the topology at `first`, is refused for its first fault, or memory was refused as it
 -- was judged
 pub record RefusesScript (first : ℕ) (nodes : List Node) (text : List ℕ) (fault : Fault) : Type 0 where
   pub refused : IsRefused first (schedule_fault (first + 1) nodes text) fault

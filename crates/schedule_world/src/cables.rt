@@ -1,4 +1,4 @@
-//! The commands about cables, and about traps that tell of them.
+//! The commands about cables, and about traps that report changes of cables.
 ghost use Rattle.std.specs.Prelude.{◌≡◌};
 ghost use Rattle.schedule_world.specs.Commands.{after_cut_line, after_plug_line, after_resend, after_resend_line};
 ghost use Rattle.schedule_world.specs.Commands.{after_tell, after_tell_ends, after_traps_line};

@@ -10,7 +10,7 @@ use Rattle.sm_cli.specs.declared.fault.Fault.TheVariants.{Open, File, Text, NoRo
 use Rattle.sm_cli.specs.declared.text_fault.TextFault.{TextFault}
 use Rattle.sm_cli.specs.TextFault.{is_of_text, said_of_text}
 
--- the name of a file, in front of what is said of it
+-- the name of a file, before what is said of it
 abbrev pub name_text : List ℕ → List ℕ
 name_text name = name ++ codes ": "
 

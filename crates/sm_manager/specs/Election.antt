@@ -38,7 +38,7 @@ abbrev pub info_pending : ℕ → Purpose → ℕ → Pending
 info_pending number purpose modifier =
     record { number = number; purpose = purpose; attribute = sm_info; modifier = modifier; path = None }
 
--- a poll over a path, or by LIDs if there is none, that waits for its answer
+-- a poll that waits for its answer: over a path, or by LIDs if there is none
 abbrev pub poll_pending : ℕ → Option (List ℕ) → Pending
 poll_pending number path = record (info_pending number purpose.Poll 0) { path = path }
 

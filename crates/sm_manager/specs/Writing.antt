@@ -48,7 +48,7 @@ abbrev pub without_empty_phases : List Phase → List Phase
 without_empty_phases [] = []
 without_empty_phases (p ∷ phases) = if length p.steps == 0 then without_empty_phases phases else p ∷ phases
 
--- the first phase, or one without steps if there is none
+-- the first phase, or a phase without steps if none is left
 abbrev pub next_phase : List Phase → Phase
 next_phase [] = record { counts = false; steps = [] }
 next_phase (p ∷ phases) = p

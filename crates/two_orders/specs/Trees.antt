@@ -10,7 +10,7 @@ use Rattle.two_orders.specs.Growth.{number_at}
 abbrev pub is_earlier : List ℕ → ℕ → ℕ → Bool
 is_earlier positions a b = nat_lt (number_at positions a) (number_at positions b)
 
--- the earliest among vertex v and its neighbors, those to which its edges lead
+-- the earliest among vertex v and its neighbors, the vertices that its edges lead to
 abbrev pub earliest_beside : List (List Edge) → List ℕ → ℕ → ℕ
 earliest_beside edges positions v = earliest (is_earlier positions) v (heads edges v)
 
