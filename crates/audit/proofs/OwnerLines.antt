@@ -52,7 +52,7 @@ lids_owner (x ∷ lids) line h =
       ])
     ] refl
 
--- so it is of the lines of tables
+-- a LID's owner by tables has a line there
 pub owner_line : (held : HeldPlan) (lid : ℕ) (e : EndPort) → is_owner (owners_of held lid) e ≡ true → LineOf held.lids lid e
 owner_line held lid e h =
     let l = lids_line (lines_of held) lid e h in

@@ -7,7 +7,7 @@ use Rattle.reply_facts.specs.declared.value.Value.{Value}
 use Rattle.subnet_view.specs.Reading.{Cells}
 use Rattle.audit_counts.specs.Disputed.{disputed, is_disputed}
 
--- those of the cells that were passed, and all that are left
+-- `count` is the number of disputed cells that were passed, plus all cells of `rest`
 abbrev pub CountedTo : ℕ → Cells → ℕ → Type 0
 CountedTo count rest all = count + disputed rest ≡ length rest + all
 

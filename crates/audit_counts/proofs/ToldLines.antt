@@ -20,7 +20,7 @@ before (t ∷ told) all zero less = refl
 before (t ∷ told) all (suc k) less = before told all k (omega arith)
 
 module _ (cells : Cells) (held : HeldPlan) (lines : List HeldLid) where
-  -- it is told rightly of the first lines
+  -- the marks of the first lines are right
   pub record ToldSoFar (n : ℕ) (told : List Bool) : Type 0 where
     pub as_many : length told ≡ n
     pub each : (k : ℕ) (line : HeldLid) → k < n → slice_get lines k ≡ Some line → slice_index_or told k false ≡ true → AllComeTo cells held line

@@ -140,7 +140,7 @@ in_list [] index some = absurd (omega arith)
 in_list (w ∷ weights) zero some = omega arith
 in_list (w ∷ weights) (suc index) some = let rest = in_list weights index some in omega arith
 
--- where a packet is
+-- a packet at a switch
 pub at_switch : (groups : Groups) (far : Far) (index : ℕ) → far ≡ Switch index → 1 ≤ packets_at groups (switch_over far) → 1
     ≤ get_or groups.weights.items index 0
 at_switch groups far index is some = subst (λ (f : Far). 1 ≤ packets_at groups (switch_over f)) is some

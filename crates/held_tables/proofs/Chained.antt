@@ -6,7 +6,7 @@ use Rattle.std.proofs.lemmas.List.{get_or-set_other, length-set}
 use Rattle.std.proofs.lemmas.Grind.{get_or-set_at}
 use Rattle.held_tables.specs.Chains.{AreChains, IsNext}
 
--- those from an index on
+-- the chains of the numbers from the index `from` on
 pub record ChainedFrom (numbers : List ℕ) (from : ℕ) (firsts nexts : List ℕ) : Type 0 where
   pub all_numbers : length firsts ≡ 65536
   pub as_many : length nexts ≡ length numbers

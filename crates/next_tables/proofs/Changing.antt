@@ -23,7 +23,7 @@ in_time port steps s c =
     let last = after (length steps) steps s in
     ended_there last (Taken port) (one_end steps s (end_of last) (Some (Taken port)) (ends_in_time steps s) c)
 
--- what a switch may do: as by the held tables or by the next ones, and anything where the held ones drop the packet
+-- what a switch may do: as by the held tables or by the next ones, and anything if it drops the packet by the held ones
 abbrev pub MayDo : List NextHop → List NextHop → ℕ → NextHop → Type 0
 MayDo held next i s = (s ≡ at held i) ⊎ ((s ≡ at next i) ⊎ ((g : ℕ) × (at held i ≡ dropped g)))
 

@@ -49,7 +49,7 @@ all_reverse P [] h = tt
 all_reverse P (x ∷ xs) h =
     subst (AllByRecursion P) (sym (reverse-append (x ∷ []) xs)) (all_append P (reverse xs) (x ∷ []) (all_reverse P xs h.1) (h.0, tt))
 
--- what is found has it, where anything is found
+-- a property of what is found, if anything is
 abbrev IfFound : {X : Type 0} (P : X → Type 0) → Option X → Type 0
 IfFound P None = Unit {0}
 IfFound P (Some x) = P x

@@ -59,7 +59,7 @@ module _ (q : ℕ → ℕ) (edges : List (Option Edge)) where
       ap (λ o. option_map_or (λ (e : Edge). not (is_down q i e.to && leaves_up q edges e.to)) o true) h
       ∙ ap (λ o. not (is_down q i first.to && option_map_or (λ (e : Edge). is_up q first.to e.to) o false)) k
 
-  -- an index is well where no two edges are bad
+  -- an index passes if no two edges there make a bad turn
   well : (i : ℕ) → ((first second : Edge) → slice_index_or edges i None ≡ Some first → slice_index_or edges first.to None ≡ Some second
       → is_bad q i first.to second.to ≡ false) → goes_well q edges i ≡ true
   well i none =

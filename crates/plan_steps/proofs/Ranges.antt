@@ -23,10 +23,10 @@ module _ {X : Type 0} (h : ℕ → Option X) (n : ℕ) (before found : List X) (
       ∙ ap (λ xs. before ++ (all ++ xs)) last
       ∙ ap (λ xs. before ++ xs) (sym (filter_map-append h (range_with_len 0 n) (n ∷ [])) ∙ ap (filter_map h) (sym (range_more n)))
 
-  -- what it gives of the number is put at the end
+  -- the result for the next number is appended
   pub given_some : (x : X) → h n ≡ Some x → found ++ x ∷ [] ≡ before ++ filter_map h (range_with_len 0 (n + 1))
   given_some x e = given_more (Some x) e
 
-  -- where it gives nothing, nothing is
+  -- if there is no result, nothing is appended
   pub given_none : h n ≡ None → found ≡ before ++ filter_map h (range_with_len 0 (n + 1))
   given_none e = sym (append-nil found) ∙ given_more None e

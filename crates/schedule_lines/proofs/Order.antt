@@ -92,7 +92,7 @@ module _ {X : Type 0} (lt : X → X → Bool) (o : IsStrictWeakOrder lt) where
   rises_in_order [] = tt
   rises_in_order (x ∷ xs) = rises_put x (in_order lt xs) (rises_in_order xs)
 
-  -- of two, where one is less, not both tie with a third
+  -- two of which one is less do not both tie with a third
   both_tie : (z x y : X) → ties lt z x ≡ true → ties lt z y ≡ true → lt y x ≡ false
   both_tie z x y e f = o.chain y z x (second (lt z y) (lt y z) f) (first (lt z x) (lt x z) e)
     where

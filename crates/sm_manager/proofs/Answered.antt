@@ -403,7 +403,7 @@ module _ (m : Manager) (w : Writing) (writing : m.writing ≡ Some w) (first : C
 
 -- all calls ---------------------------------------------------------------------------------------------
 
--- where none failed, those that were done and those that are left are all; else they are fewer
+-- if no step failed, the steps that were done and those that are left are all; else they are fewer
 record Balanced (total d : ℕ) (m : Manager) : Type 0 where
   now : Writing
   is : m.writing ≡ Some now

@@ -255,7 +255,7 @@ module _ (cells : Cells) (held next : HeldPlan) where
         (subst (λ (others : List ℕ). IsLeastUpTo count (slice_index_or cycle i 0) (slice_index_or others i 0) (slice_index_or lids i 0)) is (so.each i less));
   }
 
-  -- where each is known, they are the least
+  -- if each LID is known, they are the least
   pub known_lids : (count held_number next_number : ℕ) (held_rows next_rows : List (List ℕ)) (cycle after lids : List ℕ)
       → LidsUpTo count held_number next_number held_rows next_rows cycle after lids → after ≡ turned cycle → are_known lids ≡ true
       → AreLoopLids cells held next cycle lids

@@ -108,7 +108,7 @@ module _ (edges : List (List Edge)) (orders : TwoOrders) (sides : Sides) where
   closed labels (y ∷ xs) v w x s below (inr rest) there to led final follows =
       closed (labelled edges orders sides labels y) xs v w x s (omega (arith, below, one_long labels y)) rest there to led final follows
 
--- labels after all four rounds, where only targets have one at first
+-- labels after all four rounds, if only targets have one at first
 module _ (edges : List (List Edge)) (orders : TwoOrders) (firsts : List (Option Sides))
     (targets : (i : ℕ) (s : Sides) → label_at firsts i ≡ Some s → s ≡ both_down) where
   abbrev pub label_of : ℕ → Option Sides
