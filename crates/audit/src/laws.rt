@@ -9,8 +9,8 @@ pub fn ends_are_found()
     ensures law { EndsAreFound }
 {}
 
-/// A packet that an end port sends is delivered at the port that `Network::ends` gives as its end, or lost if that
-/// gives no port, if the facts describe the fabric exactly and it holds the tables.
+/// A packet for a LID that an end port sends is delivered at the port that `Network::ends` gives as its end, or lost if
+/// that gives no port, if the facts describe the fabric exactly and it holds the tables.
 pub fn packets_end_as_told()
     ensures law { PacketsEndAsTold }
 {}

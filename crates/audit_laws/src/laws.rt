@@ -10,9 +10,9 @@ pub fn plans_pass()
 {}
 
 /// If tables pass an audit by facts, the facts have the type and the number of ports of each node that a fact names,
-/// and the table room of each switch; and for each port that a fact names they have its GUID, and that it is down, or
-/// its wire as both ends report it, or that it is port 0 of a switch, unless lines `unjoined` name or count the port. A
-/// fact, disputed or not, names the node and the port that it is about. A known link also names the node and the port
+/// and the table room of each switch; and for each port that a fact names they have that it is down, or its wire as
+/// both ends report it, or that it is a switch's port 0, with its GUID, unless lines `unjoined` name or count the port.
+/// A fact, disputed or not, names the node and the port that it is about. A known link also names the node and the port
 /// to which it leads, and a node that is known to be a switch its port 0.
 pub fn passing_audits_know_all()
     ensures law { PassingAuditsKnowAll }

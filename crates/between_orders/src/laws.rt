@@ -71,9 +71,9 @@ pub fn goal_stands_still()
     ensures law { GoalStandsStill }
 {}
 
-/// Each switch from which the goal delivers has the goal's entry after twice as many steps as there are switches, if
-/// the steps go towards the goal between an order that grows and one that grows over its tree, and each entry was 255
-/// or delivered at first.
+/// Each switch from which the first goal delivers has that goal's entry after twice as many steps as there are
+/// switches, if the steps go towards the goal between an order that grows and one that grows over its tree, and each
+/// entry was 255 or delivered at first.
 pub fn goal_is_reached()
     ensures law { GoalIsReached }
 {}

@@ -123,8 +123,8 @@ fn is_set(words: &ArgMatches<'_>, name: &str) -> bool
     }
 }
 
-/// Returns the greatest load that passes, if the words after a subcommand name one. Returns `None` if they name it by a
-/// word that is not a number of 32 bits.
+/// Returns the greatest load that passes; the inner value is `None` if the words after a subcommand name none. Returns
+/// `None` if the word is not a number of 32 bits.
 fn max_load_of(words: &ArgMatches<'_>) -> Option<Option<u64>>
     ensures { result ≡ max_load_asked (first_value (found_of words.now) (codes "max-load")) }
 {

@@ -1,4 +1,5 @@
--- What becomes of packets in a fabric whose switches go over to other tables meanwhile: at a switch, and from an end port.
+-- What becomes of packets in a fabric whose switches go over to other tables meanwhile: at a switch, and from an end
+-- port.
 use Rattle.std.proofs.Common.{◌≡◌, ℕ, suc, ◌+◌, ◌*◌, ◌<◌, ◌≤◌, Bool, true, false, cond, ◌||◌, List, [], ◌∷◌, length, Option, None, Some, refl, sym, ap, ◌∙◌, subst, arith, inl, inr, ◌⊎◌}
 use Rattle.std.specs.Prelude.{nat_lt, map, slice_get, slice_index_or, ◌==◌}
 use Rattle.std.proofs.lemmas.Bool.{eqb-true, le-ltb}

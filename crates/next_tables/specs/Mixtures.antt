@@ -115,8 +115,7 @@ WaitsAcross cells before now lid a b = TakesBy (edges_of cells before lid) (edge
 abbrev pub WaitsInStep : Cells → HeldPlan → HeldPlan → ℕ → ℕ → ℕ → Type 0
 WaitsInStep cells held next lid a b = TakesInStep (edges_of cells held lid) (edges_of cells next lid) a b
 
--- if a channel waits for another in any mixtures, whichever each switch had, it does so by edges of the held or the
--- next tables
+-- if a channel waits for another in any mixtures, it does so by edges of the held or the next tables
 abbrev pub MixturesWaitSo : Type 0
 MixturesWaitSo =
     (cells : Cells) (held next before now : HeldPlan) (lid : ℕ) → IsMixed cells held next lid before

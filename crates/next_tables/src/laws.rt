@@ -88,10 +88,11 @@ pub fn steps_heal_in_two()
     ensures law { StepsHealInTwo }
 {}
 
-/// A packet that the held tables deliver is delivered while the fabric's switches go over to what `next_tables` returns
-/// by settled entries, each at its own time, if one end port alone holds its LID in the held tables and in the plan,
-/// the facts describe what is joined to an end port, and the end ports and switches there held the tables when the
-/// change began. The packet takes at most twice as many wires as there are usable switches, and one more.
+/// A packet that the held tables deliver is delivered at its LID's end port while the fabric's switches go over to what
+/// `next_tables` returns by settled entries, each at its own time, if one end port alone holds the LID in the held
+/// tables and in the plan, the facts describe what is joined to an end port, and the end ports and switches there held
+/// the tables when the change began. The packet takes at most twice as many wires as there are usable switches, and one
+/// more.
 pub fn packets_arrive_while_tables_change()
     ensures law { PacketsArriveWhileTablesChange }
 {}

@@ -20,8 +20,8 @@ use std::alloc::{AllocError, Global};
 ///
 /// # Errors
 ///
-/// `Moves`, with the first LID that the plan gives to an end port and the held tables to another; `Memory` only if
-/// there is no such LID.
+/// Returns `Moves` with the first LID that the plan gives to an end port and the held tables give to another. Returns
+/// `Memory` only if there is no such LID.
 pub fn next_tables(
     alloc: Global,
     rule: &StepRule,

@@ -79,7 +79,7 @@ impl Manager {
         }
     }
 
-    /// Returns the path of a poll without a LID, to the manager that is polled then.
+    /// Returns the path to the manager that a poll without a LID goes to.
     fn polled_path(&self) -> Option<&Path<63>>
         ensures { option_copied result ≡ polled_path self.now }
     {

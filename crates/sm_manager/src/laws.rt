@@ -21,9 +21,9 @@ pub fn same_taken_in_same_plan()
     ensures { SameTakenInSamePlan }
 {}
 
-/// If a writing begins after any calls and no other one follows, the plan is written exactly if all steps of its first
-/// three phases were answered as done. All means as many as there are: an answer to a step ends it, so no step is
-/// counted twice.
+/// If a writing begins after any calls and no other one follows, the plan is written exactly if as many steps of its
+/// first three phases were answered as done as these phases have. An answer to a step ends it, so no step is counted
+/// twice.
 pub fn written_is_each_step_done()
     ensures { WrittenIsEachStepDone }
 {}
