@@ -154,7 +154,7 @@ fn entry_among(rows: &[[u8; 64]], index: Option<usize>, lid: Lid) -> u8
     }
 }
 
-/// Returns the effective entry: 255 for LID 0 and above the top, and else `entry`.
+/// Returns the effective entry: 255 for LID 0 and above the top, otherwise `entry`.
 pub(crate) fn counted(lid: Lid, top: Lid, entry: u8) -> u8
     ensures { result ≡ counted lid top entry }
 {

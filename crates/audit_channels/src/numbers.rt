@@ -41,7 +41,7 @@ fn further(
     Ok(next)
 }
 
-/// Returns the number of a channel: `number` if it has none and each channel that follows it has one, and else `old`.
+/// Returns the number of a channel: `number` if it has none and each channel that follows it has one, otherwise `old`.
 fn next_number(following: &[usize], numbers: &[usize], old: usize, number: usize) -> usize
     ensures { result ≡ next_number following.now numbers.now old number }
 {

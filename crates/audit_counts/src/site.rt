@@ -103,7 +103,7 @@ fn adapter_count(sites: &[Site]) -> usize
 }
 
 /// Returns the number of end ports in the component of `owner`. Takes one step if all end ports lie in one component,
-/// and else a step for each.
+/// otherwise a step for each.
 pub(crate) fn joined_count(sites: &[Site], owner: &Site, census: Census) -> usize
     requires census { IsCensus sites.now census }
     requires listed { Contains sites.now owner.now }
@@ -115,8 +115,8 @@ pub(crate) fn joined_count(sites: &[Site], owner: &Site, census: Census) -> usiz
     sites.iter().filter(|site| site.is_joined_to(owner)).count()
 }
 
-/// Returns the number of adapter ports in the component of `owner` if `owner` is an adapter port, and else 0. Takes a
-/// step or two if all end ports lie in one component, and else a step for each.
+/// Returns the number of adapter ports in the component of `owner` if `owner` is an adapter port, otherwise 0. Takes a
+/// step or two if all end ports lie in one component, otherwise a step for each.
 pub(crate) fn joined_adapters(sites: &[Site], owner: &Site, census: Census) -> usize
     requires census { IsCensus sites.now census }
     requires listed { Contains sites.now owner.now }

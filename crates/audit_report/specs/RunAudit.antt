@@ -13,7 +13,7 @@ use Rattle.sm_cli.specs.declared.fault.Fault.TheVariants.{Write, Memory}
 use Rattle.sm_cli.specs.InputTables.{AreNoTablesAndFiles, AreTablesAndFiles}
 use Rattle.sm_cli.specs.declared.input_tables.TablesAndFacts.{TablesAndFacts}
 
--- the most lines of each kind: 2^64 - 1, which no list reaches, if `all`, and else 20
+-- the most lines of each kind: 2^64 - 1, which no list reaches, if `all`, otherwise 20
 abbrev pub most_told : Bool → ℕ
 most_told all = if all then 18446744073709551615 else 20
 

@@ -27,7 +27,7 @@ impl Labelled {
     }
 
     /// Replaces the labels by those that follow from `firsts`. Takes a step for each switch if the labels at first do
-    /// not change, and else what `label_all` takes.
+    /// not change, otherwise what `label_all` takes.
     pub fn relabel(
         &mut self,
         alloc: Global,

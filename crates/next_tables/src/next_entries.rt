@@ -144,7 +144,7 @@ fn mending(
 }
 
 /// Returns the next hop of a switch while mending: delivery at `port` if the held tables deliver from there, the held
-/// hop if the switch forwards the packet, and else the plan's hop.
+/// hop if the switch forwards the packet, otherwise the plan's hop.
 fn mending_by(
     port: &EndPort,
     delivered: &[NextHop],
@@ -160,14 +160,14 @@ fn mending_by(
     }
 }
 
-/// Returns the held hop if the switch forwards the packet, and else the plan's hop.
+/// Returns the held hop if the switch forwards the packet, otherwise the plan's hop.
 fn patch_by(held: &SwitchStep, plan: &SwitchStep) -> NextHop
     ensures { result ≡ patch_by (held.now, plan.now) }
 {
     if is_to(&held.hop) { held.hop } else { plan.hop }
 }
 
-/// Returns the held entry if the switch forwards the packet, and else the plan's entry.
+/// Returns the held entry if the switch forwards the packet, otherwise the plan's entry.
 fn patch_entry_by(held: &SwitchStep, plan: &SwitchStep) -> u8
     ensures { result ≡ patch_entry_by (held.now, plan.now) }
 {
@@ -199,7 +199,7 @@ fn chosen(
 }
 
 /// Returns the next entry of a switch: the plan's if it leads on, the held one if it delivers, the mending one if that
-/// arrives, and else 255.
+/// arrives, otherwise 255.
 fn next_by(
     port: &EndPort,
     settled: &[NextHop],

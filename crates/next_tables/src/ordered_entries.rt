@@ -151,7 +151,7 @@ fn enter(
     }
 }
 
-/// Returns the step that each switch tries: the goal's if it may change to that, and else the held one.
+/// Returns the step that each switch tries: the goal's if it may change to that, otherwise the held one.
 fn tried(
     alloc: Global,
     port: &EndPort,
@@ -236,7 +236,7 @@ fn flag(flags: &[bool], index: usize) -> bool
     flags.get(index).copied().unwrap_or(false)
 }
 
-/// Returns, for each switch, the entry that it tries if the tried entries deliver the packet from there, and else 255.
+/// Returns, for each switch, the entry that it tries if the tried entries deliver the packet from there, otherwise 255.
 fn entries_by(alloc: Global, port: &EndPort, tried: &[SwitchStep]) -> Result<Vec<u8>, AllocError>
     ensures { IfOk result (λ entries. entries.items ≡ entries_by port.now tried.now) }
 {
@@ -245,7 +245,7 @@ fn entries_by(alloc: Global, port: &EndPort, tried: &[SwitchStep]) -> Result<Vec
     entries_where(alloc, port, &ends, tried)
 }
 
-/// Returns, for each switch, the entry of its step if the walk from there arrives at `port`, and else 255. `ends` has
+/// Returns, for each switch, the entry of its step if the walk from there arrives at `port`, otherwise 255. `ends` has
 /// the ends of the walks.
 fn entries_where(
     alloc: Global,
@@ -263,7 +263,7 @@ fn entries_where(
         .collect(alloc)
 }
 
-/// Returns the entry of `step` if the walk from the switch at `index` arrives at `port`, and else 255. `ends` has the
+/// Returns the entry of `step` if the walk from the switch at `index` arrives at `port`, otherwise 255. `ends` has the
 /// ends of the walks.
 fn entry_by(port: &EndPort, ends: &[NextHop], index: usize, step: &SwitchStep) -> u8
     ensures { result ≡ entry_by (arrives_by port.now ends.now) (index, step.now) }

@@ -24,7 +24,7 @@ pub enum RuleAsked {
 impl RuleAsked {
     ghost use Rattle.sm_cli.specs.Asked.{texts_for};
 
-    /// Returns the number of texts that the rule takes: 1 if a text names its roots or its order, and else 0.
+    /// Returns the number of texts that the rule takes: 1 if a text names its roots or its order, otherwise 0.
     pub fn texts(self) -> usize
         ensures { result ≡ texts_for self }
     {

@@ -59,7 +59,7 @@ pub(crate) fn columns_of(
 
 /// Records that two channels follow each other if packets for the LID of `columns` take the one by either table, and
 /// then the other by either table. `before` has the columns of the previous LID, which have been added; equal ones are
-/// not added again. Takes a step for each switch if they are equal or if both tables have the same edges, and else
+/// not added again. Takes a step for each switch if they are equal or if both tables have the same edges, otherwise
 /// four. Each of these steps also walks the channels that follow the switch's own, if the next one is not known to.
 pub(crate) fn add_step(
     waits: &mut Waits,

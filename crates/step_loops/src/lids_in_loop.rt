@@ -90,8 +90,8 @@ fn note_lid(
     }
 }
 
-/// Returns `known` if it is not 0. Otherwise returns `lid` if its packets hold `channel` and wait for `other`, and else
-/// 0.
+/// Returns `known` if it is not 0. Otherwise returns `lid` if its packets hold `channel` and wait for `other`, or 0 if
+/// they do not.
 fn noted(
     channel: usize,
     other: usize,

@@ -53,7 +53,7 @@ fn earliest_beside(edges: &Adjacency, positions: &[usize], vertex: usize) -> usi
     found
 }
 
-/// Returns `other` if it is earlier than `found`, and else `found`.
+/// Returns `other` if it is earlier than `found`, otherwise `found`.
 fn earlier(positions: &[usize], found: usize, other: usize) -> usize
     ensures { result ≡ if is_earlier positions.now other found then other else found }
 {
