@@ -1,4 +1,4 @@
--- A manager takes over a subnet that holds a plan: it sweeps while no LID changes, and comes to this plan.
+-- A manager takes over a subnet that holds a plan: it sweeps while no LID changes, and its plan is the held one.
 use Rattle.std.specs.Prelude.{◌≡◌, ◌≤◌, ℕ, true, List, [], ◌∷◌, Some}
 use Rattle.fabric_model.specs.Fabric.{Fabric}
 use Rattle.fabric_model.specs.FabricWalks.{IsJoinedTo}
